@@ -1,3 +1,5 @@
 pub mod MemoryLaws
 mod StepLaws
 mod PassingLaws
+mod AmpleLaws
+mod AnswerLaws

@@ -1,6 +1,7 @@
 -- What a wire in memory tells follows the account of its calls.
-use Rattle.std.proofs.Common.{◌≡◌, ℕ, ◌≤◌, Bool, true, false, ◌||◌, cond, nat_eq, is_some, IsSome, IfSome, Option, Some, None, Result, Ok, Err, OnOk, List, [], ◌∷◌, ◌++◌, length, take, drop, refl, sym, ◌∙◌, ap, subst, append-nil}
+use Rattle.std.proofs.Common.{◌≡◌, ℕ, ◌≤◌, Bool, true, false, ◌||◌, cond, nat_eq, is_some, IsSome, IfSome, Option, Some, None, Result, Ok, Err, OnOk, List, [], ◌∷◌, ◌++◌, length, take, drop, vec_capacity, refl, sym, arith, ◌∙◌, ap, subst, append-nil}
 use Rattle.std.specs.List.{list_any}
+use Rattle.std.specs.Global.{Vec}
 use Rattle.std.specs.Option.{option_map}
 use Rattle.std.specs.Ordering.{nat_cmp, is_eq}
 use Rattle.std.specs.Cmp.{nat_cmp_total, eq_by_cmp_equiv, Equal-is}
@@ -14,7 +15,7 @@ use Rattle.irc_outbox.specs.declared.memory.Far.{Far}
 use Rattle.irc_outbox.specs.declared.wire.IoFault.{IoFault}
 use Rattle.irc_outbox.specs.declared.wire.Ready.{Ready}
 use Rattle.irc_outbox.specs.Calls.{Call, asks, reads, writes, closes, taken, taken_by, written, written_by, is_close_of}
-use Rattle.irc_outbox.specs.Memory.{WireTold, told_by_far, same_told, with_taken, with_written, with_close, far_at, told_at, IsTold, IsToldAt, AllFresh, AllWiresTold, Changes, at_far, no_far, IsFarAdded, StillTold, Gives, fresh_told}
+use Rattle.irc_outbox.specs.Memory.{WireTold, told_by_far, same_told, with_taken, with_written, with_close, far_at, told_at, IsTold, IsToldAt, AllFresh, AllWiresTold, Changes, at_far, no_far, KeepsMemory, IsFarAdded, StillTold, Gives, fresh_told}
 
 pub on_ok : {E : Type 0} (result : Result (Unit {0}) E) (P Q : Type 0) → (P → Q) → OnOk result P → OnOk result Q
 on_ok (Ok done) P Q so holds = so holds
@@ -51,11 +52,24 @@ by_order a b = by (is_eq (nat_cmp a b)) refl (nat_eq a b) refl
         sym e ∙ ap (λ n. is_eq (nat_cmp n b)) (one_number a b f) ∙ (eq_by_cmp_equiv nat_cmp_total).refl b
 
 pub changed : (conn : ℕ) (change : WireTold → WireTold) (old new : BTreeMap ℕ Far) (far now : Far) → Some far ≡ far_at old conn
-    → (IsSome (get_by (nat_cmp conn) old) → UpdatesBy nat_cmp (nat_cmp conn) old new (Some now)) → told_by_far now ≡ change (told_by_far far) → Changes conn change old new
-changed conn change old new far now is updates so =
+    → (IsSome (get_by (nat_cmp conn) old) → UpdatesBy nat_cmp (nat_cmp conn) old new (Some now)) → told_by_far now ≡ change (told_by_far far) → KeepsMemory far now → Changes conn change old new
+changed conn change old new far now is updates so keeps =
     at_far far now (sym is)
     (λ q. (updates (sym (ap is_some is))).0 q ∙ ap (λ b. cond b (Some now) (far_at old q)) (by_order conn q))
-    so
+    so keeps
+
+-- what comes first of the front of some bytes comes first of them all
+pub front_of_front : (n m : ℕ) (bytes : List ℕ) → n ≤ length (take m bytes) → take n (take m bytes) ≡ take n bytes
+front_of_front n m bytes within = sym (take-append-le n (take m bytes) (drop m bytes) within) ∙ ap (take n) (take-append-drop m bytes)
+
+le_refl : (n : ℕ) → n ≤ n
+le_refl n = omega arith
+
+pub same_memory : (far : Far) → KeepsMemory far (record far { closed = true })
+same_memory far = record { taken = le_refl (vec_capacity far.taken); written = le_refl (vec_capacity far.written) }
+
+pub more_taken : (far : Far) (taken : Vec ℕ) → vec_capacity far.taken ≤ vec_capacity taken → KeepsMemory far (record far { taken = taken })
+more_taken far taken more = record { taken = more; written = le_refl (vec_capacity far.written) }
 
 other_told : (q : ℕ) (far : Option Far) (calls more : List Call) → IsToldAt q far calls → ((t : WireTold) → IsTold q t calls → IsTold q t (calls ++ more))
     → IsToldAt q far (calls ++ more)
@@ -77,7 +91,7 @@ told_on conn change old new calls more here others (no_far none same) all = λ q
     by q None was t e is = tt
     by q (Some far) was true e is = let absent = ap (far_at old) (one_number conn q e) in cc
     by q (Some far) was false e is = others q e (told_by_far far) is
-told_on conn change old new calls more here others (at_far far now was set so) all = λ q.
+told_on conn change old new calls more here others (at_far far now was set so keeps) all = λ q.
     subst (λ (f : Option Far). IsToldAt q f (calls ++ more)) (sym (set q)) (by q (nat_eq conn q) refl)
   where
     mine : IsTold conn (told_by_far now) (calls ++ more)
@@ -152,10 +166,6 @@ gives conn bytes old new changes = λ calls room answer all.
     (sym (append-nil t.written)) (sym (or_false t.closed)) is)
     (λ q two t is. quiet q t calls (reads conn room answer bytes) (ap (λ b. cond b bytes []) two) refl refl is) changes all
 
--- what comes first of the front of some bytes comes first of them all
-pub front_of_front : (n m : ℕ) (bytes : List ℕ) → n ≤ length (take m bytes) → take n (take m bytes) ≡ take n bytes
-front_of_front n m bytes within = sym (take-append-le n (take m bytes) (drop m bytes) within) ∙ ap (take n) (take-append-drop m bytes)
-
 pub takes_none : (conn : ℕ) (bytes : List ℕ) (fault : IoFault) (old new : BTreeMap ℕ Far) → StillTold old new → (calls : List Call) → AllWiresTold old calls
     → AllWiresTold new (calls ++ writes conn bytes (Err fault) ∷ [])
 takes_none conn bytes fault old new stays = λ calls all.
@@ -179,7 +189,7 @@ closed_told conn old new changes = λ calls all.
     (λ q two t is. quiet q t calls (closes conn) refl refl two is) changes all
 
 unchanged_at : (conn : ℕ) (old new : BTreeMap ℕ Far) → Changes conn same_told old new → (q : ℕ) → told_at new q ≡ told_at old q
-unchanged_at conn old new (at_far far now was set so) q = ap (option_map told_by_far) (set q) ∙ by (nat_eq conn q) refl
+unchanged_at conn old new (at_far far now was set so keeps) q = ap (option_map told_by_far) (set q) ∙ by (nat_eq conn q) refl
   where
     by : (b : Bool) → nat_eq conn q ≡ b → option_map told_by_far (cond b (Some now) (far_at old q)) ≡ told_at old q
     by true e = ap Some so ∙ ap (option_map told_by_far) (sym was ∙ ap (far_at old) (one_number conn q e))

@@ -1,13 +1,15 @@
 -- Steps are passed over, one after another, up to the one that is served.
-use Rattle.std.proofs.Common.{◌≡◌, ℕ, ◌+◌, ◌<◌, ◌≤◌, suc, Bool, true, false, None, List, [], ◌∷◌, ◌++◌, length, drop, get_or, refl, sym, ◌∙◌, ap, subst, append-nil, drop-cons, add-one}
+use Rattle.std.proofs.Common.{◌≡◌, ℕ, ◌+◌, ◌<◌, ◌≤◌, suc, true, false, None, List, [], ◌∷◌, ◌++◌, length, drop, get_or, refl, sym, ◌∙◌, ap, subst, append-nil, drop-cons, add-one}
 use Rattle.std.specs.List.{list_any}
 use Rattle.std.proofs.lemmas.List.{append_assoc}
+use Rattle.circular_buffer.specs.Buffer.{Buffer}
 use Rattle.irc_outbox.specs.declared.memory.MemoryWire.{MemoryWire}
 use Rattle.irc_outbox.specs.declared.memory.WireStep.{WireStep}
 use Rattle.irc_outbox.specs.declared.wire.Ready.{Ready}
 use Rattle.irc_outbox.specs.declared.wire.Ready.TheVariants as ready
-use Rattle.irc_outbox.specs.Memory.{told_at, Changes}
-use Rattle.irc_outbox.specs.Steps.{step_bytes, step_conn, giver_of, is_served, left_of, meets, step_report, ServesNext, serves_step, serves_none}
+use Rattle.irc_outbox.specs.Memory.{told_at, AllWiresTold, Changes}
+use Rattle.irc_outbox.specs.Steps.{step_bytes, step_conn, giver_of, is_served, meets, step_report}
+use Rattle.irc_outbox.specs.Serving.{left_of, ServesNext, serves_step, serves_none}
 use Rattle.irc_outbox.specs.Loops.Passing.{HasPassed}
 use Rattle.irc_outbox.proofs.MemoryLaws.{still_told, still_on}
 use Rattle.irc_outbox.proofs.StepLaws.{meets_keeps, none_more, passed_over, served_alike, stood}
@@ -18,26 +20,38 @@ pub step_at : (steps : List WireStep) (at : ℕ) (step : WireStep) → at < leng
 step_at steps at step within is =
     drop-cons steps at step within ∙ ap (λ s. s ∷ drop (suc at) steps) (sym is) ∙ ap (λ n. step ∷ drop n steps) (sym (add-one at))
 
-pub none_passed : (wire : MemoryWire) → HasPassed wire (record wire { was_read = false })
-none_passed wire = record { passed = []; left = refl; none = refl; stands = λ q. refl; told = λ calls all. all; unread = refl; same = refl }
+pub none_passed : (wire now : MemoryWire) → left_of wire ≡ left_of now → now.fars ≡ wire.fars → now.steps ≡ wire.steps → now.hand ≡ wire.hand
+    → now.pending ≡ wire.pending → now.was_read ≡ false → HasPassed wire now
+none_passed wire now left fars steps hand pending unread = record {
+  passed = [];
+  left = left;
+  none = refl;
+  stands = λ q. ap (λ all. told_at all q) fars;
+  told = λ calls all. subst (λ all_fars. AllWiresTold all_fars calls) (sym fars) all;
+  unread = unread;
+  same_steps = steps;
+  same_hand = hand;
+  same_pending = pending;
+}
 
 -- one more is passed over
 pub passes_on : (old mid now : MemoryWire) (step : WireStep) → HasPassed old mid → left_of mid ≡ step ∷ left_of now
-    → Changes (step_conn step) (meets step) mid.fars now.fars → is_served mid.fars step ≡ false → now ≡ record mid { at = now.at; fars = now.fars }
-    → HasPassed old now
-passes_on old mid now step so left changes unserved same = record {
+    → Changes (step_conn step) (meets step) mid.fars now.fars → is_served mid.fars step ≡ false → now.steps ≡ mid.steps → now.hand ≡ mid.hand
+    → now.pending ≡ mid.pending → now.was_read ≡ mid.was_read → HasPassed old now
+passes_on old mid now step so left changes unserved same_steps same_hand same_pending same_read = record {
   passed = so.passed ++ step ∷ [];
   left = so.left ∙ ap (λ xs. so.passed ++ xs) left ∙ sym (append_assoc so.passed (step ∷ []) (left_of now));
   none = none_more (is_served old.fars) so.passed step so.none (served_alike step old.fars mid.fars so.stands ∙ unserved);
   stands = λ q. passed_over step mid.fars now.fars changes unserved q ∙ so.stands q;
   told = still_on old.fars mid.fars now.fars so.told (still_told (step_conn step) (meets step) mid.fars now.fars (meets_keeps step) changes);
-  unread = ap (λ (w : MemoryWire). w.was_read) same ∙ so.unread;
-  same = same ∙ ap (λ (w : MemoryWire). record w { at = now.at; fars = now.fars }) so.same
-      ∙ ap (λ (b : Bool). record old { at = now.at; fars = now.fars; was_read = b }) (sym (ap (λ (w : MemoryWire). w.was_read) same));
+  unread = same_read ∙ so.unread;
+  same_steps = same_steps ∙ so.same_steps;
+  same_hand = same_hand ∙ so.same_hand;
+  same_pending = same_pending ∙ so.same_pending;
 }
 
 same_capacity : (old mid : MemoryWire) → HasPassed old mid → mid.pending.capacity ≡ old.pending.capacity
-same_capacity old mid so = ap (λ (w : MemoryWire). w.pending.capacity) so.same
+same_capacity old mid so = ap (λ (buffer : Buffer ℕ). buffer.capacity) so.same_pending
 
 -- the next one is served
 pub serves_this : (old mid new : MemoryWire) (step : WireStep) (report : Ready) → HasPassed old mid → left_of mid ≡ step ∷ left_of new

@@ -4,6 +4,7 @@ use Rattle.std.specs.List.{list_any}
 use Rattle.std.specs.Option.{option_map}
 use Rattle.std.specs.BTreeMap.{BTreeMap}
 use Rattle.std.proofs.lemmas.Bool.{eqb-true}
+use Rattle.std.proofs.lemmas.List.{take_more}
 use Rattle.std.proofs.lemmas.List.Folds.{list_any-append}
 use Rattle.std.proofs.lemmas.List.Sums.{fold_more}
 use Rattle.irc_outbox.specs.declared.memory.Far.{Far}
@@ -11,7 +12,7 @@ use Rattle.irc_outbox.specs.declared.memory.WireStep.{WireStep}
 use Rattle.irc_outbox.specs.declared.memory.WireStep.TheVariants as step
 use Rattle.irc_outbox.specs.declared.memory.Way.{Way}
 use Rattle.irc_outbox.specs.declared.memory.Way.TheVariants as way
-use Rattle.irc_outbox.specs.Memory.{WireTold, told_by_far, told_at, far_at, Changes, at_far, no_far}
+use Rattle.irc_outbox.specs.Memory.{WireTold, told_by_far, told_at, told_or_none, far_at, Changes, at_far, no_far}
 use Rattle.irc_outbox.specs.Steps.{failed_once, is_reported, is_reported_at, is_served, longest_of, meets, step_bytes, step_conn, told_then}
 use Rattle.irc_outbox.proofs.MemoryLaws.{IsAlike, KeepsTold}
 
@@ -38,7 +39,7 @@ failed_keeps way.Out t = record { taken = refl; written = refl; closed = refl }
 -- what is told of each connection behind a change of one
 pub changed_at : (conn : ℕ) (change : WireTold → WireTold) (old new : BTreeMap ℕ Far) → Changes conn change old new → (q : ℕ)
     → told_at new q ≡ cond (nat_eq conn q) (option_map change (told_at old q)) (told_at old q)
-changed_at conn change old new (at_far far now was set so) q = ap (option_map told_by_far) (set q) ∙ by (nat_eq conn q) refl
+changed_at conn change old new (at_far far now was set so keeps) q = ap (option_map told_by_far) (set q) ∙ by (nat_eq conn q) refl
   where
     by : (b : Bool) → nat_eq conn q ≡ b
         → option_map told_by_far (cond b (Some now) (far_at old q)) ≡ cond b (option_map change (told_at old q)) (told_at old q)
@@ -58,6 +59,25 @@ unmet step (Some t) e = ap (λ b. Some (cond b (told_then step t) t)) e
 was_met : (step : WireStep) (t : Option WireTold) → is_reported_at step t ≡ true → option_map (meets step) t ≡ option_map (told_then step) t
 was_met step None e = refl
 was_met step (Some t) e = ap (λ b. Some (cond b (told_then step t) t)) e
+
+-- what a change of a connection leaves as it is
+pub still_so : {A : Type 0} (f : WireTold → A) (conn : ℕ) (change : WireTold → WireTold) (old new : BTreeMap ℕ Far)
+    → ((t : WireTold) → f (change t) ≡ f t) → Changes conn change old new → f (told_or_none (told_at new conn)) ≡ f (told_or_none (told_at old conn))
+still_so f conn change old new same changes =
+    ap (λ t. f (told_or_none t)) (changed_at conn change old new changes conn) ∙ by (nat_eq conn conn) (told_at old conn)
+  where
+    by : (b : Bool) (t : Option WireTold) → f (told_or_none (cond b (option_map change t) t)) ≡ f (told_or_none t)
+    by true None = refl
+    by true (Some t) = same t
+    by false t = refl
+
+pub failed_ends : (which : Way) (t : WireTold) → (failed_once which t).ended ≡ t.ended
+failed_ends way.In t = refl
+failed_ends way.Out t = refl
+
+pub failed_room : (which : Way) (t : WireTold) → (failed_once which t).room ≡ t.room
+failed_room way.In t = refl
+failed_room way.Out t = refl
 
 -- a step that is not reported changes nothing
 pub passed_over : (step : WireStep) (old new : BTreeMap ℕ Far) → Changes (step_conn step) (meets step) old new → is_served old step ≡ false → (q : ℕ)
@@ -95,6 +115,11 @@ pub longest_more : (steps : List WireStep) (i : ℕ) (step : WireStep) → i < l
     → longest_of (take (i + 1) steps) ≡ max (longest_of (take i steps)) (length (step_bytes step))
 longest_more steps i step within is =
     fold_more (λ n s. max n (length (step_bytes s))) 0 steps i step within ∙ ap (λ s. max (longest_of (take i steps)) (length (step_bytes s))) (sym is)
+
+-- one step more of some
+pub taken_more : (steps : List WireStep) (i : ℕ) (step : WireStep) → i < length steps → step ≡ get_or steps i step
+    → take (i + 1) steps ≡ take i steps ++ step ∷ []
+taken_more steps i step within is = take_more steps i step within ∙ ap (λ s. take i steps ++ s ∷ []) (sym is)
 
 -- a number that was reported before stays one that was
 pub known_so : (t : WireTold) → record t { known = true } ≡ cond (not t.known) (record t { known = true }) t

@@ -1,5 +1,5 @@
 -- What a wire in memory tells of a connection: what it gave and took, whether it was closed, and how it stands.
-use Rattle.std.specs.Prelude.{◌≡◌, ℕ, ◌-◌, ⊤, Bool, true, false, nat_eq, IfSome, Option, Some, None, Result, List, [], ◌∷◌, ◌++◌, length, if◌then◌else◌}
+use Rattle.std.specs.Prelude.{◌≡◌, ℕ, ◌-◌, ◌≤◌, vec_capacity, ⊤, Bool, true, false, nat_eq, IfSome, Option, Some, None, Result, List, [], ◌∷◌, ◌++◌, length, if◌then◌else◌}
 use Rattle.std.specs.List.{list_any}
 use Rattle.std.specs.Option.{option_map}
 use Rattle.std.specs.Ordering.{nat_cmp}
@@ -70,6 +70,10 @@ abbrev pub told_or_none : Option WireTold → WireTold
 told_or_none None = fresh_told
 told_or_none (Some t) = t
 
+-- whether it has ended
+abbrev pub ended_at : BTreeMap ℕ Far → ℕ → Bool
+ended_at fars conn = (told_or_none (told_at fars conn)).ended
+
 -- what is told of a connection is what the account says of it
 pub record IsTold (conn : ℕ) (t : WireTold) (calls : List Call) : Type 0 where
   pub taken_is : t.taken ≡ taken conn calls
@@ -88,10 +92,15 @@ AllWiresTold fars calls = (conn : ℕ) → IsToldAt conn (far_at fars conn) call
 abbrev pub AllFresh : BTreeMap ℕ Far → Type 0
 AllFresh fars = (conn : ℕ) → IfSome (told_at fars conn) (λ t. t ≡ fresh_told)
 
+-- the memory for what a connection gives and takes grows, or stays
+pub record KeepsMemory (old new : Far) : Type 0 where
+  pub taken : vec_capacity old.taken ≤ vec_capacity new.taken
+  pub written : vec_capacity old.written ≤ vec_capacity new.written
+
 -- what is told of one connection has changed so, if a step names it
 pub data Changes (conn : ℕ) (change : WireTold → WireTold) (old new : BTreeMap ℕ Far) : Type 0 where
   at_far : (far now : Far) → far_at old conn ≡ Some far → ((q : ℕ) → far_at new q ≡ (if nat_eq conn q then Some now else far_at old q)) → told_by_far now ≡ change (told_by_far far)
-      → Changes conn change old new
+      → KeepsMemory far now → Changes conn change old new
   no_far : far_at old conn ≡ None → ((q : ℕ) → far_at new q ≡ far_at old q) → Changes conn change old new
 
 -- a connection is there from now on

@@ -1,7 +1,8 @@
 //! A wire in memory: it serves a list of steps, and keeps what each connection gave and took.
-ghost use Rattle.std.specs.Prelude.{◌≡◌, ◌≤◌, ◌++◌, [], length, false, take, IfOk, OnOk};
-ghost use Rattle.irc_outbox.specs.Memory.{fresh_told, same_told, told_by_far, told_at, told_or_none, with_close, with_taken, with_written, AllFresh, AllWiresTold, Changes, Gives, IsFarAdded, StillTold};
-ghost use Rattle.irc_outbox.specs.Steps.{step_bytes, step_conn, failed_once, fails, fails_at, giver_of, again_of, is_at_hand, is_reported, is_reported_at, left_of, longest_of, meets, step_report, GivesFirst, Reports, ServesNext};
+ghost use Rattle.std.specs.Prelude.{◌≡◌, ◌+◌, ◌≤◌, ◌++◌, [], drop, length, false, min, take, vec_capacity, IfOk, IsSome, OnOk};
+ghost use Rattle.irc_outbox.specs.Ample.{ArePlanned, HasMemoryFor, HasMemoryOut, IsAmple, Plans, PlansAt, StayPlanned};
+ghost use Rattle.irc_outbox.specs.Memory.{ended_at, far_at, fresh_told, same_told, told_by_far, told_at, told_or_none, with_close, with_taken, with_written, AllFresh, Changes, IsFarAdded, KeepsMemory};
+ghost use Rattle.irc_outbox.specs.Steps.{step_bytes, step_conn, failed_once, fails, fails_at, giver_of, is_reported, is_reported_at, meets, step_report};
 
 use crate::wire::{Got, IoFault, Ready, Unreached, Wire};
 use circular_buffer::HeapCircularBuffer;
@@ -50,7 +51,7 @@ struct Far {
 }
 
 /// A wire in memory. It serves its steps in order, one for each report. It passes over steps of a number that was not reported yet, or that is
-/// closed, and over those that report a number again.
+/// closed, and over those that report a number again. The memory for all that they let it hold is taken at the start.
 #[derive(Drop)]
 pub struct MemoryWire {
     steps: Vec<WireStep, Global>,
@@ -62,6 +63,7 @@ pub struct MemoryWire {
     /// Whether that connection was read since the last report.
     was_read: bool,
     fars: BTreeMap<u64, Far, Global>,
+    ghost ample: { IsAmple fars hand pending.items (drop at steps.items) },
 }
 
 impl WireStep {
@@ -123,21 +125,30 @@ enum Way {
     Out,
 }
 
-/// Appends bytes, and tells how many: all of them, where there is memory.
-fn append(to: &mut Vec<u8, Global>, bytes: &[u8]) -> usize
-    ensures items { to.new.items ≡ to.old.items ++ take result bytes.now }
-    ensures within { result ≤ length bytes.now }
+/// Appends bytes for which there is memory.
+fn append(to: &mut Vec<u8, Global>, bytes: &[u8])
+    requires { length to.old.items + length bytes.now ≤ vec_capacity to.old }
+    ensures items { to.new.items ≡ to.old.items ++ bytes.now }
+    ensures memory { vec_capacity to.old ≤ vec_capacity to.new }
 {
-    match to.extend_from_slice(bytes) {
-        Ok(()) => bytes.len(),
-        Err(_) => 0,
-    }
+    let Ok(()) = to.extend_from_slice(bytes) else {
+        unreachable!();
+    };
+}
+
+/// The sum of two lengths. For one that is no length there is no memory.
+fn sum_of(length: usize, more: usize) -> Result<usize, AllocError>
+    ensures { IfOk result (λ sum. sum ≡ length + more) }
+{
+    length.checked_add(more).ok_or(AllocError)
 }
 
 impl Far {
     /// One that was not reported yet, and has given and taken nothing.
     fn new(alloc: Global) -> Self
-        ensures { told_by_far result ≡ fresh_told }
+        ensures told { told_by_far result ≡ fresh_told }
+        ensures inward { result.inward ≡ 0 }
+        ensures outward { result.outward ≡ 0 }
     {
         Far {
             known: false,
@@ -153,17 +164,19 @@ impl Far {
         }
     }
 
-    /// Makes the room for what a step gives or lets be written.
+    /// Takes the memory for what a step gives or lets be written.
     fn plan(&mut self, step: &WireStep) -> Result<(), AllocError>
-        ensures { told_by_far self.new ≡ told_by_far self.old }
+        ensures told { told_by_far self.new ≡ told_by_far self.old }
+        ensures planned { OnOk result (Plans step.now (step_conn step.now) self.old self.new) }
+        ensures memory { KeepsMemory self.old self.new }
     {
         match step {
             WireStep::Bytes(_, bytes) => {
-                self.inward = self.inward.saturating_add(bytes.len());
+                self.inward = sum_of(self.inward, bytes.len())?;
                 self.taken.reserve(self.inward)
             }
             WireStep::Room(_, room) => {
-                self.outward = self.outward.saturating_add(*room);
+                self.outward = sum_of(self.outward, *room)?;
                 self.written.reserve(self.outward)
             }
             _ => Ok(()),
@@ -174,6 +187,7 @@ impl Far {
     fn meet(&mut self, step: &WireStep) -> bool
         ensures reported { result ≡ is_reported step.now (told_by_far self.old) }
         ensures met { told_by_far self.new ≡ meets step.now (told_by_far self.old) }
+        ensures memory { KeepsMemory self.old self.new }
     {
         if let WireStep::Client(_, _) | WireStep::Linked(_, _) = step {
             return !replace(&mut self.known, true);
@@ -195,6 +209,7 @@ impl Far {
     fn fails_now(&mut self, way: Way) -> bool
         ensures fails { result ≡ fails way (told_by_far self.old) }
         ensures once { told_by_far self.new ≡ failed_once way (told_by_far self.old) }
+        ensures memory { KeepsMemory self.old self.new }
     {
         match way {
             Way::In => replace(&mut self.read_fails, false),
@@ -204,17 +219,23 @@ impl Far {
 
     /// Takes what it can of bytes that are written to it, and tells how many.
     fn take(&mut self, bytes: &[u8]) -> usize
+        requires { length self.old.written.items + self.old.room ≤ vec_capacity self.old.written }
         ensures told { told_by_far self.new ≡ with_written (take result bytes.now) (told_by_far self.old) }
-        ensures within { result ≤ length bytes.now }
-        ensures room { result ≤ self.old.room }
+        ensures count { result ≡ min self.old.room (length bytes.now) }
+        ensures memory { KeepsMemory self.old self.new }
     {
-        let count = append(&mut self.written, first_bytes(bytes, self.room));
-        self.room = self.room.saturating_sub(count);
-        count
+        let front = first_bytes(bytes, self.room);
+        append(&mut self.written, front);
+        self.room -= front.len();
+        front.len()
     }
 }
 
 impl MemoryWire {
+    ghost use Rattle.irc_outbox.specs.Memory.{AllWiresTold, Gives, StillTold};
+    ghost use Rattle.irc_outbox.specs.Serving.{again_of, given_now, is_at_hand, left_of, GivesFirst, Reports, ServesNext};
+    ghost use Rattle.irc_outbox.specs.Steps.{longest_of};
+
     /// A wire that serves these steps, with the room for all that they let it hold.
     ///
     /// # Errors
@@ -232,14 +253,30 @@ impl MemoryWire {
             plan(alloc, &mut fars, step)?;
         }
         let pending = HeapCircularBuffer::with_capacity(alloc, longest)?;
-        Ok(MemoryWire {
+        Ok(MemoryWire::at_first(steps, pending, fars))
+    }
+
+    /// A wire that has served no step.
+    fn at_first(
+        steps: Vec<WireStep, Global>,
+        pending: HeapCircularBuffer<u8, Global>,
+        fars: BTreeMap<u64, Far, Global>,
+    ) -> Self
+        requires fresh { AllFresh fars }
+        requires planned { ArePlanned steps.items fars }
+        ensures steps { result.steps ≡ steps }
+        ensures at { result.at ≡ 0 }
+        ensures pending { result.pending ≡ pending }
+        ensures fars { result.fars ≡ fars }
+    {
+        MemoryWire {
             steps,
             at: 0,
             hand: None,
             pending,
             was_read: false,
             fars,
-        })
+        }
     }
 
     /// What was read from a connection; nothing, where no step names it.
@@ -327,21 +364,24 @@ impl MemoryWire {
     /// Gives bytes of the step at hand, if it is one of this connection.
     fn give(&mut self, conn: u64, buffer: &mut [u8]) -> usize
         ensures gives { Gives conn (take result buffer.new) self.old.fars self.new.fars }
-        ensures within { result ≤ length buffer.old }
-        ensures first { GivesFirst conn (length buffer.old) result self.old self.new buffer.new }
+        ensures count { result ≡ given_now conn (length buffer.old) self.old }
+        ensures first { GivesFirst conn result self.old self.new buffer.new }
+        ensures ended { ended_at self.new.fars conn ≡ ended_at self.old.fars conn }
     {
         if self.hand != Some(conn) {
             return 0;
         }
         self.was_read = true;
         let count = self.pending.read_into(buffer);
-        keep(&mut self.fars, conn, &buffer[..count])
+        keep(&mut self.fars, conn, &buffer[..count]);
+        count
     }
 }
 
 /// These bytes are at hand from now on, in place of others.
 fn take_up(pending: &mut HeapCircularBuffer<u8, Global>, bytes: &[u8])
     ensures bytes { length bytes.now ≤ pending.old.capacity → pending.new.items ≡ bytes.now }
+    ensures within { length pending.new.items ≤ length bytes.now }
     ensures same_room { pending.new.capacity ≡ pending.old.capacity }
 {
     pending.clear();
@@ -350,18 +390,20 @@ fn take_up(pending: &mut HeapCircularBuffer<u8, Global>, bytes: &[u8])
 
 /// No connections.
 fn no_fars(alloc: Global) -> BTreeMap<u64, Far, Global>
-    ensures { AllFresh result }
+    ensures fresh { AllFresh result }
+    ensures planned { ArePlanned [] result }
 {
     BTreeMap::new(alloc)
 }
 
-/// Makes the room for what a step gives or lets be written.
+/// Takes the memory for what a step gives or lets be written.
 fn plan(
     alloc: Global,
     fars: &mut BTreeMap<u64, Far, Global>,
     step: &WireStep,
 ) -> Result<(), AllocError>
-    ensures { OnOk result (AllFresh fars.old → AllFresh fars.new) }
+    ensures fresh { OnOk result (AllFresh fars.old → AllFresh fars.new) }
+    ensures planned { OnOk result (PlansAt step.now fars.old fars.new) }
 {
     let conn = step.conn();
     ensure(alloc, fars, conn)?;
@@ -370,7 +412,9 @@ fn plan(
 
 /// A connection is there from now on, if it was not.
 fn ensure(alloc: Global, fars: &mut BTreeMap<u64, Far, Global>, conn: u64) -> Result<(), AllocError>
-    ensures { OnOk result (AllFresh fars.old → AllFresh fars.new) }
+    ensures fresh { OnOk result (AllFresh fars.old → AllFresh fars.new) }
+    ensures there { OnOk result (IsSome (far_at fars.new conn)) }
+    ensures planned { OnOk result (StayPlanned fars.old fars.new) }
 {
     if fars.contains_key(&conn) {
         return Ok(());
@@ -378,18 +422,21 @@ fn ensure(alloc: Global, fars: &mut BTreeMap<u64, Far, Global>, conn: u64) -> Re
     add(fars, conn, Far::new(alloc))
 }
 
-/// Makes the room for what a step of a connection gives or lets be written.
+/// Takes the memory for what a step of a connection gives or lets be written.
 fn reserve(
     fars: &mut BTreeMap<u64, Far, Global>,
     conn: u64,
     step: &WireStep,
 ) -> Result<(), AllocError>
-    ensures { Changes conn same_told fars.old fars.new }
+    requires there { IsSome (far_at fars.old conn) }
+    requires its_own { conn ≡ step_conn step.now }
+    ensures same { Changes conn same_told fars.old fars.new }
+    ensures planned { OnOk result (PlansAt step.now fars.old fars.new) }
 {
-    match fars.get_mut(&conn) {
-        Some(far) => far.plan(step),
-        None => Ok(()),
-    }
+    let Some(far) = fars.get_mut(&conn) else {
+        unreachable!();
+    };
+    far.plan(step)
 }
 
 /// A connection is there from now on.
@@ -424,22 +471,21 @@ fn fails_now(fars: &mut BTreeMap<u64, Far, Global>, conn: u64, way: Way) -> bool
     }
 }
 
-/// Keeps bytes that were read from a connection, and tells how many.
-fn keep(fars: &mut BTreeMap<u64, Far, Global>, conn: u64, bytes: &[u8]) -> usize
-    ensures kept { Changes conn (with_taken (take result bytes.now)) fars.old fars.new }
-    ensures within { result ≤ length bytes.now }
+/// Keeps bytes that were read from a connection.
+fn keep(fars: &mut BTreeMap<u64, Far, Global>, conn: u64, bytes: &[u8])
+    requires { HasMemoryFor (length bytes.now) conn fars.old }
+    ensures { Changes conn (with_taken bytes.now) fars.old fars.new }
 {
-    match fars.get_mut(&conn) {
-        Some(far) => append(&mut far.taken, bytes),
-        None => 0,
+    if let Some(far) = fars.get_mut(&conn) {
+        append(&mut far.taken, bytes);
     }
 }
 
 /// A connection takes what it can of bytes, and tells how many.
 fn take(fars: &mut BTreeMap<u64, Far, Global>, conn: u64, bytes: &[u8]) -> usize
+    requires { HasMemoryOut conn fars.old }
     ensures taken { Changes conn (with_written (take result bytes.now)) fars.old fars.new }
-    ensures within { result ≤ length bytes.now }
-    ensures room { result ≤ (told_or_none (told_at fars.old conn)).room }
+    ensures count { result ≡ min (told_or_none (told_at fars.old conn)).room (length bytes.now) }
 {
     match fars.get_mut(&conn) {
         Some(far) => far.take(bytes),
@@ -458,7 +504,7 @@ fn shut(fars: &mut BTreeMap<u64, Far, Global>, conn: u64)
 
 /// Whether a connection has ended.
 fn has_ended(fars: &BTreeMap<u64, Far, Global>, conn: u64) -> bool
-    ensures { result ≡ (told_or_none (told_at fars.now conn)).ended }
+    ensures { result ≡ ended_at fars.now conn }
 {
     match fars.get(&conn) {
         Some(far) => far.ended,
@@ -467,15 +513,20 @@ fn has_ended(fars: &BTreeMap<u64, Far, Global>, conn: u64) -> bool
 }
 
 impl Wire for MemoryWire {
-    ghost use Rattle.irc_outbox.specs.Memory.{AllWiresTold};
+    ghost use Rattle.irc_outbox.specs.Calls.{read_into, writes, Adds, FitsIn};
+    ghost use Rattle.irc_outbox.specs.Serving.{answer_of_read, answer_of_write, MayHaveAnswered};
 
-    ghost is_after = { λ wire calls. AllWiresTold wire.fars calls };
+    ghost is_after = { MayHaveAnswered };
 
     fn ready(&mut self) -> Result<Ready, IoFault> {
         Ok(self.report())
     }
 
-    fn read(&mut self, conn: u64, buffer: &mut [u8]) -> Result<Got, IoFault> {
+    fn read(&mut self, conn: u64, buffer: &mut [u8]) -> Result<Got, IoFault>
+        ensures account { Adds MayHaveAnswered self.old (read_into conn buffer.old result buffer.new) self.new }
+        ensures within { FitsIn result (length buffer.old) }
+        ensures answer { result ≡ answer_of_read conn (length buffer.old) self.old }
+    {
         if fails_now(&mut self.fars, conn, Way::In) {
             return Err(IoFault::Failed);
         }
@@ -486,7 +537,11 @@ impl Wire for MemoryWire {
         }
     }
 
-    fn write(&mut self, conn: u64, bytes: &[u8], _behind: usize) -> Result<usize, IoFault> {
+    fn write(&mut self, conn: u64, bytes: &[u8], _behind: usize) -> Result<usize, IoFault>
+        ensures account { Adds MayHaveAnswered self.old (writes conn bytes.now result) self.new }
+        ensures within { IfOk result (λ n. n ≤ length bytes.now) }
+        ensures answer { result ≡ answer_of_write conn (length bytes.now) self.old }
+    {
         if fails_now(&mut self.fars, conn, Way::Out) {
             return Err(IoFault::Failed);
         }

@@ -4,7 +4,8 @@ use Rattle.std.specs.List.{list_any}
 use Rattle.irc_outbox.specs.declared.memory.MemoryWire.{MemoryWire}
 use Rattle.irc_outbox.specs.declared.memory.WireStep.{WireStep}
 use Rattle.irc_outbox.specs.Memory.{told_at, StillTold}
-use Rattle.irc_outbox.specs.Steps.{is_served, left_of}
+use Rattle.irc_outbox.specs.Steps.{is_served}
+use Rattle.irc_outbox.specs.Serving.{left_of}
 
 -- So far some of the steps were passed over, and no more has happened.
 pub record HasPassed (old now : MemoryWire) : Type 0 where
@@ -14,4 +15,6 @@ pub record HasPassed (old now : MemoryWire) : Type 0 where
   pub stands : (q : ℕ) → told_at now.fars q ≡ told_at old.fars q
   pub told : StillTold old.fars now.fars
   pub unread : now.was_read ≡ false
-  pub same : now ≡ record old { at = now.at; fars = now.fars; was_read = now.was_read }
+  pub same_steps : now.steps ≡ old.steps
+  pub same_hand : now.hand ≡ old.hand
+  pub same_pending : now.pending ≡ old.pending
