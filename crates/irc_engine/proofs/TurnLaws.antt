@@ -4,11 +4,12 @@ use Rattle.irc_outbox.specs.declared.wire.Ready.{Ready}
 use Rattle.irc_outbox.specs.declared.wire.Ready.TheVariants.{Idle, Writable}
 use Rattle.irc_outbox.specs.Calls.{Call, asks, Adds, Keeps}
 use Rattle.irc_engine.specs.declared.engine.Core.{Core}
+use Rattle.irc_engine.specs.declared.engine.Engine.{Engine}
 use Rattle.irc_engine.specs.declared.engine.Rooms.{Rooms}
 use Rattle.irc_engine.specs.declared.engine.EngineFault.{EngineFault}
 use Rattle.irc_engine.specs.Running.{Moment, AllTold, Answers, Does, Flushes, IsInOrder}
 use Rattle.irc_engine.specs.Loops.Connections.{IsMarkedAt, KeepsNotes}
-use Rattle.irc_engine.specs.Loops.Moments.{moment_of}
+use Rattle.irc_engine.specs.Loops.Moments.{moment_of, ChangesWireAlone}
 use Rattle.irc_engine.proofs.RunLaws.{ran_none}
 use Rattle.irc_engine.specs.Turning.{EngineView, Taken, takes_it, runs_out, Turned, takes_turn, wants_memory, Turns, Runs, stopped}
 
@@ -26,6 +27,12 @@ module _ {W : Type 0} (is_after : W → List Call → Type 0) (old new : EngineV
       wants_memory ready asked serves failed account
       (λ order idle. busy (record { all_told = order.all_told; noted = order.noted; none_done = order.none_done })
       (record { nothing_ready = idle.nothing_ready; nothing_left = idle.nothing_left }))
+
+-- a turn for which the wire has told what is ready
+pub told_ready : {W : Type 0} (is_after : W → List Call → Type 0) (ready : Ready) (old new : EngineView W) (before after : Engine W)
+    (result : Result (Unit {0}) EngineFault) → Taken is_after ready old new result → ChangesWireAlone result before after
+told_ready is_after ready old new before after (Ok done) (takes_it still same does) = tt
+told_ready is_after ready old new before after (Err fault) (runs_out failed busy) = tt
 
 -- nothing is ready, or only that a connection takes bytes again
 pub nothing_to_do : {W : Type 0} (is_after : W → List Call → Type 0) (rooms : Rooms) (now : Moment W) (ready : Ready) → (ready ≡ Idle) ⊎ ((conn : ℕ) × (ready ≡ Writable conn))

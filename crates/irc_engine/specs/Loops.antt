@@ -3,3 +3,4 @@ pub mod Counts
 pub mod Connections
 pub mod Moments
 pub mod Flushing
+pub mod Turns

@@ -2,7 +2,7 @@
 ghost use Rattle.std.specs.Prelude.{◌≡◌, ◌≤◌, true, Ok, [], ◌∷◌, length, IfOk, OnOk};
 ghost use Rattle.irc_outbox.specs.Calls.{Keeps};
 ghost use Rattle.irc_engine.specs.Loops.Counts.{count_of};
-ghost use Rattle.irc_engine.specs.Loops.Moments.{came, engine_view, knows_at, yields_at, moment_of, passed_on, AsksFor, HearsFrom, IsNobodyNoted, KeepsOrder, KeepsTold, Spans};
+ghost use Rattle.irc_engine.specs.Loops.Moments.{came, engine_view, knows_at, yields_at, moment_of, passed_on, AsksFor, ChangesWireAlone, HearsFrom, IsNobodyNoted, KeepsOrder, KeepsTold, Spans};
 ghost use Rattle.irc_engine.specs.Loops.Connections.{KeepsMarks, KeepsNotes};
 ghost use Rattle.irc_engine.specs.Running.{AllTold, Answers, AsksOnce, Does, Flushes, PassesOn, RanOn, Reads, Starts, TellsLosses};
 ghost use Rattle.irc_engine.specs.Turning.{brings_nothing, HasFailed, IsNew, Runs, Taken, Turned};
@@ -118,6 +118,7 @@ impl<W: Wire> Engine<W> {
     pub fn turn(&mut self) -> Result<(), EngineFault>
         ensures turned { Turned W.is_after (engine_view self.old) (engine_view self.new) result }
         ensures failed_before { HasFailed (engine_view self.old) → self.new ≡ self.old }
+        ensures device { ChangesWireAlone result self.old self.new }
     {
         if self.failed {
             return Err(EngineFault::Failed);
@@ -148,7 +149,8 @@ impl<W: Wire> Engine<W> {
     /// # Errors
     /// As [`Engine::turn`], for that turn.
     pub fn run(&mut self, turns: u64) -> Result<(), EngineFault>
-        ensures { Runs W.is_after (engine_view self.old) turns (engine_view self.new) result }
+        ensures ran { Runs W.is_after (engine_view self.old) turns (engine_view self.new) result }
+        ensures failed_before { HasFailed (engine_view self.old) → self.new ≡ self.old }
     {
         for _turn in 0..turns {
             self.turn()?;

@@ -1,5 +1,5 @@
 -- The engine's parts as one moment.
-use Rattle.std.specs.Prelude.{◌≡◌, ℕ, Bool, true, false, Option, Some, None, Result, Ok, Err, List, [], ◌∷◌, take}
+use Rattle.std.specs.Prelude.{◌≡◌, ℕ, ⊤, Bool, true, false, Option, Some, None, Result, Ok, Err, List, [], ◌∷◌, take}
 use Rattle.irc_outbox.specs.declared.wire.Got.{Got}
 use Rattle.irc_outbox.specs.declared.wire.Got.TheVariants.{Bytes, Later, End}
 use Rattle.irc_outbox.specs.declared.wire.IoFault.{IoFault}
@@ -13,6 +13,8 @@ use Rattle.irc_routes.specs.Known.{is_known}
 use Rattle.irc_stage.specs.View.{View}
 use Rattle.irc_engine.specs.declared.engine.Core.{Core}
 use Rattle.irc_engine.specs.declared.engine.Engine.{Engine}
+use Rattle.irc_engine.specs.declared.engine.EngineFault.{EngineFault}
+use Rattle.irc_engine.specs.declared.engine.EngineFault.TheVariants.{Device}
 use Rattle.irc_engine.specs.declared.kind.Kind.{Kind}
 use Rattle.irc_engine.specs.Hearing.{line_event_of, nothing_of, only_of}
 use Rattle.irc_engine.specs.Running.{Moment, AllTold, IsInOrder, Ran}
@@ -46,6 +48,16 @@ HearsFrom is_after conn count old new = Ran is_after [] [] (only_of conn (take c
 -- an engine, as those who have one see it
 abbrev pub engine_view : {W : Type 0} → Engine W → EngineView W
 engine_view engine = record { failed = engine.failed; rooms = engine.rooms; now = moment_of engine.core }
+
+-- Where the wire could not tell what is ready, nothing but the wire has changed.
+abbrev pub with_wire : {W : Type 0} → W → Engine W → Engine W
+with_wire wire engine =
+    record engine { core = record engine.core { connections = record engine.core.connections { wire = wire } } }
+
+abbrev pub ChangesWireAlone : {W : Type 0}
+    → Result (Unit {0}) EngineFault → Engine W → Engine W → Type 0
+ChangesWireAlone (Err Device) old new = new ≡ with_wire new.core.connections.wire old
+ChangesWireAlone result old new = ⊤
 
 -- whether a server knows another, by any way, or is that one; one for which memory ran out is taken for one that does
 abbrev pub knows_at : Option View → List ℕ → Bool
