@@ -10,8 +10,9 @@ It counts sets by their worst end: a link that is closed, servers that differ at
 
 The wire at an end of a link:
     plain    gives each line on as it comes;
-    late     remembers the nicknames for which a KILL was put out by the link, each until the other end introduces or takes that name;
-             and the changes of nicknames put out by it, each until then, or until this end gives that name to another;
+    late     remembers the nicknames for which a KILL was put out by the link, each until the other end introduces or takes that name, and
+             of those by which the other end's NICK was met, that it has yet to kill, rename or lose the holder that it knows; and the
+             changes of nicknames put out by the link, each until either end introduces or takes one of its names;
     exact    knows of each line how many of this end's lines the other end had read when it wrote it (a PING behind each line that
              changes nicknames, answered in turn, would say so), and so whom each nickname meant there.
 """
@@ -60,6 +61,9 @@ class Wire:
         written back."""
         return [line], []
 
+    def turn_over(self):
+        """What the server puts out because of the line that came is put out."""
+
     def copied(self):
         return self
 
@@ -68,72 +72,78 @@ class Wire:
 
 
 class LateWire(Wire):
-    """Remembers whom this end has killed, and which of its nicknames were given up for which."""
+    """Remembers whom this end has killed, and which nicknames its users gave up, each with the one that its user has now; as irc_late does."""
 
     def __init__(self, own):
         super().__init__(own)
-        self.killed, self.given_up = frozenset(), {}
+        self.killed = {}        # each with whether the other end has yet to tell of it what it has done: it has crossed
+        self.now = {}
+        self.met = None         # the nickname of the NICK that the server has just been given
 
     def copied(self):
         other = type(self)(self.own)
-        other.killed, other.given_up = self.killed, dict(self.given_up)
+        other.killed, other.now, other.met = dict(self.killed), dict(self.now), self.met
         return other
 
     def key(self):
-        return self.killed, tuple(sorted(self.given_up.items()))
+        return tuple(sorted(self.killed.items())), tuple(sorted(self.now.items()))
 
-    def forget(self, nick):
-        self.killed -= {fold(nick)}
-        self.given_up.pop(fold(nick), None)
+    def has_another(self, nick):
+        """A nickname has another user now: changes from it and to it are not remembered any more."""
+        self.now = {old: new for old, new in self.now.items() if old != fold(nick) and fold(new) != fold(nick)}
 
     def put_out(self, line):
         prefix, command, words = parse(line)
         if command == b"KILL":
-            self.killed |= {fold(words[0])}
-            self.given_up.pop(fold(words[0]), None)
-        elif command == b"NICK":
-            self.given_up.pop(fold(words[0]), None)
-            if prefix is not None and fold(prefix) != fold(words[0]):
-                self.given_up[fold(prefix)] = words[0]
+            self.killed[fold(words[0])] = fold(words[0]) == self.met
+        elif command == b"NICK" and prefix is None:
+            self.has_another(words[0])
+        elif command == b"NICK" and fold(prefix) != fold(words[0]):
+            self.has_another(words[0])
+            self.now = {old: words[0] if fold(new) == fold(prefix) else new for old, new in self.now.items() if old != fold(prefix)}
+            self.now[fold(prefix)] = words[0]
+
+    def turn_over(self):
+        self.met = None
 
     def came(self, line, seen):
         prefix, command, words = parse(line)
-        if command == b"NICK" and prefix is None:
-            self.forget(words[0])
-            return [line], []
         if prefix is not None and fold(prefix) in self.killed:
-            return self.from_killed(command, prefix, words)
+            return self.from_killed(command, prefix, words), []
+        if command == b"KILL" and self.killed.get(fold(words[0])):
+            del self.killed[fold(words[0])]
+            return [], []
+        given = self.put_right(line, prefix, command, words)
         if command == b"NICK":
-            self.forget(words[0])
-        return [self.to_present(line, prefix, command, words)], []
+            self.has_another(words[0])
+            self.met = fold(words[0])
+        if command in (b"NICK", b"KILL"):
+            self.killed.pop(fold(words[0]), None)
+        if command == b"SQUIT":
+            self.killed = {nick: False for nick in self.killed}
+        return [given], []
 
     def from_killed(self, command, prefix, words):
         """A line of a user whom this end has killed: the KILL has not come there yet."""
-        if command == b"QUIT":
-            self.killed -= {fold(prefix)}
-        if command != b"NICK":
-            return [], []
-        self.killed -= {fold(prefix)}
-        return [], [b":" + self.own + b" KILL " + words[0] + b" :Nick collision"]
+        if command in (b"QUIT", b"NICK"):
+            del self.killed[fold(prefix)]
+        if command == b"NICK":
+            self.killed[fold(words[0])] = False
+        return []
 
-    def now(self, nick):
-        """The name that a user has whose nickname this was when the other end wrote it."""
-        seen = set()
-        while fold(nick) in self.given_up and fold(nick) not in seen:
-            seen.add(fold(nick))
-            nick = self.given_up[fold(nick)]
-        return nick
+    def has_now(self, nick):
+        return self.now.get(fold(nick), nick)
 
-    def to_present(self, line, prefix, command, words):
+    def put_right(self, line, prefix, command, words):
         """The line with the nicknames that this end's users have given up meanwhile put right."""
         if command == b"KICK":
-            words = [words[0], self.now(words[1]), *words[2:]]
+            words = [words[0], self.has_now(words[1]), *words[2:]]
         elif command in (b"KILL", b"INVITE") or command in (b"PRIVMSG", b"NOTICE") and not words[0].startswith(b"#"):
-            words = [self.now(words[0]), *words[1:]]
+            words = [self.has_now(words[0]), *words[1:]]
         elif command == b"MODE" and words[0].startswith(b"#"):
             module = MODULES[self.own]
             changes = module.changes_of(words[1:])
-            changes = [change._replace(word=self.now(change.word)) if change.letter in b"ov" else change for change in changes]
+            changes = [change._replace(word=self.has_now(change.word)) if change.letter in b"ov" else change for change in changes]
             words = [words[0], *module.changes_written(changes)]
         else:
             return line
@@ -325,6 +335,7 @@ class Net:
         for each in given:
             self.servers[reader].hear(self.number(reader, giver), each)
             self.put_out(reader)
+        self.wires[reader, giver].turn_over()
 
     def settle(self):
         while any(self.ways.values()):
