@@ -2,6 +2,8 @@ pub mod Ordered
 pub mod Named
 pub mod Calling
 pub mod NewNet
+pub mod StaysSetUp
 pub mod StaysOneRoom
 pub mod Settling
 pub mod AnswersReceived
+pub mod Running

@@ -1,7 +1,9 @@
 -- What a network keeps, and what it is to its clients then.
 use Rattle.std.proofs.Common.{◌≡◌, ◌+◌, ◌≤◌, min, ℕ, zero, suc, Bool, true, false, Option, Some, None, List, [], refl, sym, ◌∙◌, ap, subst, arith, if◌then◌else◌}
 use Rattle.std.specs.Option.{option_and_then, option_map}
+use Rattle.irc_world.specs.Owed.{owed_by_network}
 use Rattle.irc_world.specs.Stepping.{Item}
+use Rattle.irc_world.specs.World.{Setting, new_world}
 use Rattle.irc_world.specs.Refused.{Refusal, refused}
 use Rattle.irc_world.specs.WithinLimits.{IsItemWithin}
 use Rattle.irc_relay.specs.Relay.{IsFront}
@@ -10,19 +12,20 @@ use Rattle.irc_network.specs.Refusing.{fault_at_rest}
 use Rattle.irc_items.specs.Kept.{DeliveryKeepsSound, KeepsItems, TakenAreFew}
 use Rattle.irc_items.specs.Laws.{GivenStaysSound, IsGivenAtRest, NewLinkIsOpen, NewNetworkIsSound, NoLinkIsClosed, ReceivedIsFront, RefusalsAreTheWorlds, RestIsOneRoom, WaitingAreLines}
 use Rattle.irc_items.specs.OneRoom.{IsOneRoom}
-use Rattle.irc_items.specs.Sound.{IsSound, most_now, owed_now, world_now}
+use Rattle.irc_items.specs.Sound.{IsSound, most_now, most_of_last, owed_now, world_now}
 use Rattle.irc_items.specs.SetUp.{IsNew, settings_of}
 use Rattle.irc_byte_network.specs.ByteNetwork.{ByteCourse, ByteNetwork, byte_begun, bytes_come, course_in_lines, net_in_lines, is_byte_rest, item_given}
 use Rattle.irc_byte_network.specs.Turns.{TurnsGo, lines_in_turn, none_yet, turn_first, turn_taken}
 use Rattle.irc_byte_network.specs.Whole.{AreLinesWaiting, BytesComeAsLines, Delivers, GivenAsLines, NewIsWhole, RestAsLines, TurnAsLines, TurnsAsLines, no_line, no_more, no_wires, one_first, one_line}
 use Rattle.irc_byte_network.specs.Loops.Coming.{byte_course, come_between}
-use Rattle.irc_net.specs.Calls.{NetView}
-use Rattle.irc_net.specs.Laws.{StaysKept}
+use Rattle.irc_net.specs.Calls.{NetView, standing}
+use Rattle.irc_net.specs.Laws.{KeptIsOwed, StaysKept}
 use Rattle.irc_network.specs.declared.network.Ends.{Ends as KeptEnds}
 use Rattle.irc_network.specs.declared.receipt.Receipt.{Receipt as KeptReceipt}
 use Rattle.irc_net.specs.Faults.{fault_by, item_fault}
 use Rattle.irc_net.specs.declared.fault.NetFault.TheVariants as fault
 use Rattle.irc_net.specs.OneRoom.{IsKeptSound, IsOneRoomNet, IsOwed, RefusesAsTheWorld, TakesFew}
+use Rattle.irc_net.proofs.StaysSetUp.{settings_in_lines}
 
 -- what always holds of a network, while memory is there
 abbrev pub IsKept : NetView → Type 0
@@ -35,19 +38,40 @@ pub same_received : (net : ByteNetwork) (client : ℕ) → received_by (net_in_l
 same_received net zero = refl
 same_received net (suc earlier) = refl
 
+-- nor of what is owed: servers are set up as they are where links carry lines
+same_owed : (net : ByteNetwork) (client : ℕ) → owed_now (net_in_lines net) client ≡ owed_now net.network client
+same_owed net client = ap (λ (settings : List Setting). owed_by_network settings net.network.items client) (settings_in_lines net)
+
+same_most : (net : ByteNetwork) → most_now (net_in_lines net) ≡ most_now net.network
+same_most net = ap (λ (settings : List Setting). most_of_last settings new_world net.network.items) (settings_in_lines net)
+
+pub owed_front : ReceivedIsFront → (net : ByteNetwork) (client : ℕ) → IsKeptSound net
+    → IsFront (received_by net.network client) (owed_now net.network client)
+owed_front is_front net client kept =
+    subst (λ lines. IsFront lines (owed_now net.network client)) (same_received net client)
+    (subst (IsFront (received_by (net_in_lines net) client)) (same_owed net client) (is_front (net_in_lines net) client kept.sound))
+
+pub owed_all : RestIsOneRoom → RestAsLines → (net : ByteNetwork) (client : ℕ) → IsKeptSound net → is_byte_rest net ≡ true
+    → received_by net.network client ≡ owed_now net.network client
+owed_all one_room resting net client kept rest =
+    sym (same_received net client) ∙ (one_room (net_in_lines net) kept.sound (resting net kept.whole rest).at_rest).received client ∙ same_owed net client
+
 pub owed : ReceivedIsFront → RestIsOneRoom → RestAsLines → (net : NetView) (client : ℕ) (lines : List (List ℕ)) → IsKept net
     → lines ≡ received_by net.network.network client → IsOwed net client lines
 owed is_front one_room resting net client lines kept is = record {
-  front = λ stands. subst (λ ls. IsFront ls (owed_now (net_in_lines net.network) client)) (sym same) (is_front (net_in_lines net.network) client (kept stands).sound);
-  all = λ stands rest.
-      same ∙ (one_room (net_in_lines net.network) (kept stands).sound (resting net.network (kept stands).whole rest).at_rest).received client;
+  front = λ stands. subst (λ ls. IsFront ls (owed_now net.network.network client)) (sym is) (owed_front is_front net.network client (kept stands));
+  all = λ stands rest. is ∙ owed_all one_room resting net.network client (kept stands) rest;
 }
-  where
-    same : lines ≡ received_by (net_in_lines net.network) client
-    same = is ∙ sym (same_received net.network client)
+
+pub kept_owed : ReceivedIsFront → RestIsOneRoom → RestAsLines → KeptIsOwed
+kept_owed is_front one_room resting net client kept =
+    owed is_front one_room resting (standing net) client (received_by net.network client) (λ stands. kept) refl
+
+pub few_taken : TakenAreFew → (net : ByteNetwork) → IsKeptSound net → net.network.taken ≤ most_now net.network
+few_taken few net kept = subst (λ n. net.network.taken ≤ n) (same_most net) (few (net_in_lines net) kept.sound)
 
 pub takes_few : TakenAreFew → (net : NetView) (count : ℕ) → IsKept net → count ≡ net.network.network.taken → TakesFew net count
-takes_few few net count kept is stands = subst (λ n. n ≤ most_now (net_in_lines net.network)) (sym is) (few (net_in_lines net.network) (kept stands).sound)
+takes_few few net count kept is stands = subst (λ n. n ≤ most_now net.network.network) (sym is) (few_taken few net.network (kept stands))
 
 -- of what a network is before a call
 abbrev RefusesSo : Item → Network → Type 0

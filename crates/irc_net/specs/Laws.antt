@@ -1,15 +1,18 @@
 -- What holds of networks, and of what their calls answer.
-use Rattle.std.specs.Prelude.{◌≡◌, ℕ, Bool, None, Ok, List, ◌++◌}
+use Rattle.std.specs.Prelude.{◌≡◌, ℕ, Bool, None, Ok, List, [], ◌∷◌, ◌++◌}
 use Rattle.irc_relay.specs.Links.{Name}
 use Rattle.irc_world.specs.Stepping.{Item}
 use Rattle.irc_world.specs.WithinLimits.{IsItemWithin}
-use Rattle.irc_items.specs.SetUp.{IsNew}
+use Rattle.irc_items.specs.SetUp.{settings_of, IsNew}
+use Rattle.irc_server.specs.declared.config.Config.{Config}
 use Rattle.irc_byte_network.specs.ByteNetwork.{ByteNetwork, byte_begun, bytes_come, item_given}
 use Rattle.irc_byte_network.specs.Whole.{no_wires}
 use Rattle.irc_net.specs.declared.answer.Answer.{Answer}
 use Rattle.irc_net.specs.Calls.{BytesTaken, IsDelivered, IsGiven, IsSettled, NetView, Settles, standing}
 use Rattle.irc_net.specs.Faults.{item_fault}
-use Rattle.irc_net.specs.OneRoom.{IsKeptSound}
+use Rattle.irc_net.specs.Making.{AreSettingsOf, IsMadeOf}
+use Rattle.irc_net.specs.OneRoom.{IsKeptSound, IsOwed}
+use Rattle.irc_net.specs.Running.{HasRun, IsOneRoomOf}
 use Rattle.irc_network.specs.Network.{Network, Receipt, lines_of_client, received_by}
 use Rattle.irc_network.specs.Views.{receipts_of}
 
@@ -30,6 +33,28 @@ pub record AnswersAreReceived : Type 0 where
   pub settled : (old new : NetView) (counted : ℕ) (receipts : List Receipt) → IsSettled old (Ok (counted, receipts)) new
       → HasReceived old.network new.network receipts
 
+-- ---- how servers are set up, and what was given
+
+-- servers as their configurations have them, and no item yet
+pub record BeginsSetUp (configs : List Config) (net : ByteNetwork) : Type 0 where
+  pub settings : AreSettingsOf configs (settings_of net.network)
+  pub items_are : net.network.items ≡ []
+
+-- servers are set up as they were, and these are the items of which the network tells
+pub record StaysSetUp (old new : ByteNetwork) (items : List Item) : Type 0 where
+  pub settings : settings_of new.network ≡ settings_of old.network
+  pub items_are : new.network.items ≡ items
+
+-- Servers are set up by the configurations that a network is made of, and stay so, whatever is
+-- given, comes or settles. An item that is given stands behind those before it, and nothing else
+-- changes them.
+pub record SettingsStay : Type 0 where
+  pub made : (configs : List Config) (net : ByteNetwork) → IsMadeOf configs net → BeginsSetUp configs net
+  pub given : (net : ByteNetwork) (item : Item) → StaysSetUp net (item_given item net).net (net.network.items ++ item ∷ [])
+  pub come : (net : ByteNetwork) (from to count : ℕ) → StaysSetUp net (bytes_come from to count (byte_begun net)).net net.network.items
+  pub settled : (net last : ByteNetwork) (counted : ℕ) (receipts : List Receipt) → Settles net counted receipts (standing last)
+      → StaysSetUp net last net.network.items
+
 -- ---- what is kept
 
 -- A new network is sound, and it stays so by each item that is taken, by bytes that come, and as it settles.
@@ -49,3 +74,14 @@ pub record SettlesOnce (net : ByteNetwork) : Type 0 where
 
 abbrev pub EachSettles : Type 0
 EachSettles = (net : ByteNetwork) → IsKeptSound net → SettlesOnce net
+
+-- What a client has received of a network that is kept so is what it is owed there.
+abbrev pub KeptIsOwed : Type 0
+KeptIsOwed = (net : ByteNetwork) (client : ℕ) → IsKeptSound net → IsOwed (standing net) client (received_by net.network client)
+
+-- ---- all of it
+
+-- Whatever was given to a network of some configurations, and however lines were delivered, it is
+-- one room.
+abbrev pub EveryNetworkIsOneRoom : Type 0
+EveryNetworkIsOneRoom = (configs : List Config) (items : List Item) (net : NetView) → HasRun configs items net → IsOneRoomOf configs items net

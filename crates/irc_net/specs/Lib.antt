@@ -7,9 +7,10 @@ pub use Rattle.irc_network.specs.Laws as NetworkLaws
 pub use Rattle.irc_network.specs.declared.receipt
 pub use Rattle.irc_items.specs.Sound
 pub use Rattle.irc_items.specs.SetUp
-pub use Rattle.irc_items.specs.Laws as ItemLaws
 pub use Rattle.irc_items.specs.Lemmas as ItemLemmas
+pub use Rattle.irc_world.specs.Owed
 pub use Rattle.irc_world.specs.Stepping
+pub use Rattle.irc_world.specs.World
 pub use Rattle.irc_world.specs.WithinLimits
 pub use Rattle.irc_server.specs.declared.config
 pub use Rattle.irc_stage.specs.View
@@ -20,4 +21,5 @@ pub mod Calls
 pub mod Making
 pub mod Loops
 pub mod OneRoom
+pub mod Running
 pub mod Laws

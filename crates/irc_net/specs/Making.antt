@@ -10,6 +10,8 @@ use Rattle.irc_server.specs.Configuring.{config_fault, made_view}
 use Rattle.irc_server.specs.declared.config.Config.{Config}
 use Rattle.irc_server.specs.declared.config.ConfigFault.{ConfigFault}
 use Rattle.irc_server.specs.declared.config.ConfigFault.TheVariants as one
+use Rattle.irc_stage.specs.View.{known_peer}
+use Rattle.irc_world.specs.World.{Setting}
 use Rattle.irc_net.specs.declared.making.NetConfigFault.{NetConfigFault}
 use Rattle.irc_net.specs.declared.making.NetConfigFault.TheVariants.{BadName, DoubleName, TooMany, Memory}
 use Rattle.irc_net.specs.Calls.{NetView}
@@ -59,6 +61,22 @@ new_site config = record { server = Some (made_view config); queues = empty }
 -- servers in this order: no link, and nobody connected
 abbrev pub made_of : List Config → Network
 made_of ordered = record { names = map config_name ordered; sites = map new_site ordered; links = []; homes = []; received = []; items = []; taken = 0 }
+
+-- how the server of a configuration is set up
+abbrev pub setting_given : Config → Setting
+setting_given config = record {
+  name = config_name config;
+  info = config.own.info.items;
+  created = config.own.created.items;
+  peers = map known_peer config.peers.items;
+}
+
+-- the settings of servers with these configurations, in order of name
+pub record AreSettingsOf (configs : List Config) (settings : List Setting) : Type 0 where
+  pub ordered : List Config
+  pub same_ones : IsPermutation configs ordered
+  pub in_order : IsSortedByKey config_name (slice_cmp nat_cmp) ordered
+  pub settings_are : settings ≡ map setting_given ordered
 
 -- in order of name, and nothing is on its way
 pub record IsMadeOf (configs : List Config) (net : ByteNetwork) : Type 0 where

@@ -23,8 +23,8 @@ pub record IsKeptSound (net : ByteNetwork) : Type 0 where
 
 -- What a client has received is at every moment a front of what it is owed, and at rest all of it.
 pub record IsOwed (net : NetView) (client : ℕ) (lines : List (List ℕ)) : Type 0 where
-  pub front : net.failed ≡ false → IsFront lines (owed_now (net_in_lines net.network) client)
-  pub all : net.failed ≡ false → is_byte_rest net.network ≡ true → lines ≡ owed_now (net_in_lines net.network) client
+  pub front : net.failed ≡ false → IsFront lines (owed_now net.network.network client)
+  pub all : net.failed ≡ false → is_byte_rest net.network ≡ true → lines ≡ owed_now net.network.network client
 
 -- At rest just that is refused which the network as its people know it refuses.
 abbrev pub RefusesAsTheWorld : NetView → Item → Type 0
@@ -33,7 +33,7 @@ RefusesAsTheWorld net item = net.failed ≡ false → is_byte_rest net.network �
 
 -- No more lines were taken since the last item than servers need at most to tell each other of it.
 abbrev pub TakesFew : NetView → ℕ → Type 0
-TakesFew net count = net.failed ≡ false → count ≤ most_now (net_in_lines net.network)
+TakesFew net count = net.failed ≡ false → count ≤ most_now net.network.network
 
 -- Whatever is on its way, once all lines that are coming to a server are taken it is what it has to be, and its clients have received what they are owed
 -- (IsSound); at rest that is so already (IsOneRoom). And no server closes a link, upon a line that comes or as it is made. What is on its way as bytes is the

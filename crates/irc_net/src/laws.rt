@@ -1,11 +1,21 @@
 //! What holds of networks, and of what their calls answer. A law is a function that does nothing, and its contract is the law.
-ghost use Rattle.irc_net.specs.Laws.{AnswersAreReceived, EachSettles, StaysKept};
+ghost use Rattle.irc_net.specs.Laws.{AnswersAreReceived, EachSettles, EveryNetworkIsOneRoom, KeptIsOwed, SettingsStay, StaysKept};
 
 /// The lines that an item, bytes that come, a delivery or a settling answer are just those that clients have received by it.
 pub fn answers_are_received()
     ensures { AnswersAreReceived }
 {
     irc_network::laws::receipts_are_received();
+}
+
+/// Servers are set up by the configurations that a network is made of, and stay so; and just what
+/// is given is kept.
+pub fn settings_stay()
+    ensures { SettingsStay }
+{
+    irc_server::laws::keeps_its_setting();
+    irc_network::laws::given_is_kept();
+    irc_items::laws::given_keeps_settings();
 }
 
 /// A new network is sound, and stays so whatever is given to it and whatever comes, in whatever pieces.
@@ -32,5 +42,31 @@ pub fn each_settles()
     irc_items::laws::waiting_are_lines();
     irc_byte_network::laws::turn_as_lines();
     irc_byte_network::laws::each_comes_to_line();
+    irc_byte_network::laws::rest_as_lines();
+}
+
+/// What a client of a sound network has received is a front of what it is owed, and at rest all of
+/// it.
+pub fn kept_is_owed()
+    ensures { KeptIsOwed }
+{
+    irc_items::laws::received_is_front();
+    irc_items::laws::rest_is_one_room();
+    irc_byte_network::laws::rest_as_lines();
+}
+
+/// A network is one room: whatever was given to one that was made of some configurations, and in
+/// whatever order and pieces lines were delivered.
+pub fn every_network_is_one_room()
+    ensures { EveryNetworkIsOneRoom }
+{
+    networks_stay_sound();
+    settings_stay();
+    irc_items::laws::received_is_front();
+    irc_items::laws::rest_is_one_room();
+    irc_items::laws::taken_are_few();
+    irc_items::laws::refusals_are_the_worlds();
+    irc_items::laws::no_link_is_closed();
+    irc_items::laws::new_link_is_open();
     irc_byte_network::laws::rest_as_lines();
 }

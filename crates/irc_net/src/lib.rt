@@ -12,8 +12,6 @@ mod tests;
 
 pub use answer::Answer;
 pub use fault::NetFault;
-pub use irc_byte_network::laws as byte_laws;
-pub use irc_items::laws as item_laws;
 pub use irc_network::{Item, Receipt, laws as network_laws};
 pub use irc_server::{Config, Peer};
 pub use irc_sites::LinkQueue;

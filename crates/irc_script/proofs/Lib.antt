@@ -14,6 +14,7 @@ pub mod LinesSaid
 pub mod Peering
 pub mod Receiving
 pub mod EntriesPrinted
+pub mod StaysSetUp
 pub mod StaysSound
 pub mod ReadWithin
 pub mod FirstIsNew

@@ -2,47 +2,52 @@
 use Rattle.std.proofs.Common.{◌≡◌, ℕ, zero, suc, Ok, List, [], ◌++◌, ap, sym, subst, refl, ◌∙◌}
 use Rattle.std.specs.List.{AllByRecursion}
 use Rattle.irc_relay.specs.Relay.{IsFront}
-use Rattle.irc_net.specs.ItemLaws.{ReceivedIsFront, RestIsOneRoom}
-use Rattle.irc_net.specs.Sound.{owed_now}
-use Rattle.irc_net.specs.ByteNetwork.{ByteNetwork, net_in_lines}
-use Rattle.irc_net.specs.Whole.{RestAsLines}
-use Rattle.irc_net.specs.Laws.{AnswersAreReceived, StaysKept}
+use Rattle.irc_net.specs.ByteNetwork.{ByteNetwork}
+use Rattle.irc_net.specs.Laws.{AnswersAreReceived, KeptIsOwed, SettingsStay, StaysKept}
 use Rattle.irc_net.specs.OneRoom.{IsKeptSound}
+use Rattle.irc_net.specs.Owed.{owed_by_network}
+use Rattle.irc_net.specs.SetUp.{settings_of}
+use Rattle.irc_net.specs.Sound.{owed_now}
 use Rattle.irc_net.specs.NetworkLaws.{ReceiptsAreReceived}
 use Rattle.irc_net.specs.Network.{received_by}
-use Rattle.irc_script.specs.Networks.{first_net, first_network}
-use Rattle.irc_script.specs.OneRoom.{lines_shown_to, IsPrintedOf}
+use Rattle.irc_script.specs.Networks.{first_net, first_network, script_settings}
+use Rattle.irc_script.specs.OneRoom.{lines_shown_to, owed_in, IsPrintedOf}
 use Rattle.irc_script.specs.RunLaws.{PrintsOneRoom}
 use Rattle.irc_script.specs.Runs.{Runs}
 use Rattle.irc_script.specs.Scripts.{ScriptAsked, Request, script_lines, script_read}
 use Rattle.irc_script.proofs.EntriesPrinted.{Shows, runs_shown}
 use Rattle.irc_script.proofs.FirstIsNew.{AreServers, first_is_new, servers_named}
 use Rattle.irc_script.proofs.ReadWithin.{front_within, read_within, servers_read}
+use Rattle.irc_script.proofs.StaysSetUp.{first_set_up, runs_set_up}
 use Rattle.irc_script.proofs.StaysSound.{IsRequestWithin, runs_kept}
 
 -- of what holds of networks, what is needed of them
 pub record AreOneRoom : Type 0 where
-  pub front : ReceivedIsFront
-  pub room : RestIsOneRoom
-  pub rest : RestAsLines
+  pub owed : KeptIsOwed
+  pub set_up : SettingsStay
 
 nothing_received : (names : List (List ℕ)) (client : ℕ) → received_by (first_network names) client ≡ []
 nothing_received names zero = refl
 nothing_received names (suc earlier) = refl
 
-printed_of : AreOneRoom → (names : List (List ℕ)) (net : ByteNetwork) (text : List ℕ) → IsKeptSound net → Shows (first_net names) net text
-    → IsPrintedOf net text
-printed_of laws names net text kept shown = record {
+printed_of : AreOneRoom → (names : List (List ℕ)) (net : ByteNetwork) (text : List ℕ) → IsKeptSound net
+    → settings_of net.network ≡ script_settings names → Shows (first_net names) net text → IsPrintedOf names net text
+printed_of laws names net text kept set_up shown = record {
   entries = shown.entries;
   text_is = shown.text_is;
   received = received;
-  front = λ client. subst (λ lines. IsFront lines (owed_now (net_in_lines net) client)) (sym (received client)) (laws.front (net_in_lines net) client kept.sound);
-  at_rest = λ rest client. received client ∙ (laws.room (net_in_lines net) kept.sound (laws.rest net kept.whole rest).at_rest).received client;
+  front = λ client. subst (λ lines. IsFront lines (owed_in names net client)) (sym (received client))
+      (subst (IsFront (received_by net.network client)) (same client) ((laws.owed net client kept).front refl));
+  at_rest = λ rest client. received client ∙ (laws.owed net client kept).all refl rest ∙ same client;
+  settings = set_up;
   sound = kept.sound;
 }
   where
     received : (client : ℕ) → lines_shown_to client shown.entries ≡ received_by net.network client
     received client = sym (shown.received client ∙ ap (λ ls. ls ++ lines_shown_to client shown.entries) (nothing_received names client))
+
+    same : (client : ℕ) → owed_now net.network client ≡ owed_in names net client
+    same client = ap (λ settings. owed_by_network settings net.network.items client) set_up
 
 -- the network with which a script that is read begins is sound,
 pub first_kept : StaysKept → (text : List ℕ) (asked : ScriptAsked) → script_read text ≡ Ok asked → IsKeptSound (first_net asked.servers)
@@ -61,4 +66,5 @@ sound_behind keeping text asked requests left net printed read parts runs = runs
 pub prints_one_room : StaysKept → AreOneRoom → ReceiptsAreReceived → AnswersAreReceived → PrintsOneRoom
 prints_one_room keeping laws receipts answers text asked requests left net printed read parts runs =
     printed_of laws asked.servers net printed (sound_behind keeping text asked requests left net printed read parts runs)
+    (runs_set_up laws.set_up runs ∙ first_set_up asked.servers)
     (runs_shown receipts answers runs)

@@ -13,6 +13,7 @@ use Rattle.irc_relay.specs.Links.{Name, same}
 use Rattle.irc_room.specs.Laws.{no_room}
 use Rattle.irc_routes.specs.Known.{alone_known}
 use Rattle.irc_net.specs.View.{KnownPeer, View}
+use Rattle.irc_net.specs.World.{Setting}
 
 -- the password that any two servers of a script keep for each other
 abbrev pub script_password : List ℕ
@@ -25,6 +26,10 @@ peer_of server other = if same other server then None else Some (record { name =
 -- the peers of one of these servers: all others
 abbrev pub peers_for : Name → List Name → List KnownPeer
 peers_for server names = filter_map (peer_of server) names
+
+-- how the server of a name is set up
+abbrev pub script_setting : List Name → Name → Setting
+script_setting names server = record { name = server; info = codes "Test server"; created = codes "2024-01-01"; peers = peers_for server names }
 
 -- one of these servers: no link, and nobody connected
 abbrev pub first_view : List Name → Name → View
@@ -56,6 +61,10 @@ name_put_in name (first ∷ names) = if exceeds name first then first ∷ name_p
 abbrev pub in_name_order : List Name → List Name
 in_name_order [] = []
 in_name_order (name ∷ names) = name_put_in name (in_name_order names)
+
+-- how the servers with these names are set up, in their order
+abbrev pub script_settings : List Name → List Setting
+script_settings names = map (script_setting names) (in_name_order names)
 
 -- the servers with which a script begins, in the order of their names
 abbrev pub first_network : List Name → Network

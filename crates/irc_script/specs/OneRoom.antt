@@ -1,11 +1,15 @@
 -- What the clients of a script see, whatever it asks for: one room.
 use Rattle.std.specs.Prelude.{◌≡◌, ℕ, true, nat_eq, Option, Some, None, List, if◌then◌else◌}
 use Rattle.std.specs.List.{filter_map, flat_map}
+use Rattle.irc_relay.specs.Links.{Name}
 use Rattle.irc_relay.specs.Relay.{IsFront}
 use Rattle.irc_net.specs.ByteNetwork.{ByteNetwork, net_in_lines, is_byte_rest}
 use Rattle.irc_net.specs.Network.{Receipt, received_by}
-use Rattle.irc_net.specs.Sound.{owed_now, IsSound}
+use Rattle.irc_net.specs.Owed.{owed_by_network}
+use Rattle.irc_net.specs.SetUp.{settings_of}
+use Rattle.irc_net.specs.Sound.{IsSound}
 use Rattle.irc_net.specs.declared.fault.NetFault.{NetFault}
+use Rattle.irc_script.specs.Networks.{script_settings}
 use Rattle.irc_script.specs.Printing.{count_line, fault_number, printed, refusal_line}
 
 -- What is printed, entry by entry: a line that a client receives; how many lines or bytes came, `= K`; a refusal, `! NUMBER`.
@@ -29,12 +33,19 @@ line_to client (refuses fault) = None
 abbrev pub lines_shown_to : ℕ → List Entry → List (List ℕ)
 lines_shown_to client entries = filter_map (line_to client) entries
 
--- What is printed by the time the network is this: each client has received a front of what it is owed there, line by line, and at rest all of it. What is on
--- its way as bytes is the lines that these will complete (in_lines).
-pub record IsPrintedOf (net : ByteNetwork) (text : List ℕ) : Type 0 where
+-- what a client is owed by all that was given, where servers of these names are set up as those of
+-- a script are
+abbrev pub owed_in : List Name → ByteNetwork → ℕ → List (List ℕ)
+owed_in names net client = owed_by_network (script_settings names) net.network.items client
+
+-- What is printed by the time the network of these servers is this: each client has received a
+-- front of what it is owed there, line by line, and at rest all of it. Servers are set up as they
+-- were. What is on its way as bytes is the lines that these will complete (in_lines).
+pub record IsPrintedOf (names : List Name) (net : ByteNetwork) (text : List ℕ) : Type 0 where
   pub entries : List Entry
   pub text_is : text ≡ flat_map entry_text entries
   pub received : (client : ℕ) → lines_shown_to client entries ≡ received_by net.network client
-  pub front : (client : ℕ) → IsFront (lines_shown_to client entries) (owed_now (net_in_lines net) client)
-  pub at_rest : is_byte_rest net ≡ true → (client : ℕ) → lines_shown_to client entries ≡ owed_now (net_in_lines net) client
+  pub front : (client : ℕ) → IsFront (lines_shown_to client entries) (owed_in names net client)
+  pub at_rest : is_byte_rest net ≡ true → (client : ℕ) → lines_shown_to client entries ≡ owed_in names net client
+  pub settings : settings_of net.network ≡ script_settings names
   pub sound : IsSound (net_in_lines net)

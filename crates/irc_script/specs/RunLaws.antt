@@ -45,7 +45,7 @@ OrderIsSo = (names : List Name) → IsInOrder names (in_name_order names)
 -- What a script prints is what its clients receive of one room, at its end and behind each of its requests.
 abbrev pub PrintsOneRoom : Type 0
 PrintsOneRoom = (text : List ℕ) (asked : ScriptAsked) (requests left : List Request) (net : ByteNetwork) (printed : List ℕ)
-    → script_read text ≡ Ok asked → asked.requests ≡ requests ++ left → Runs (first_net asked.servers) requests net printed → IsPrintedOf net printed
+    → script_read text ≡ Ok asked → asked.requests ≡ requests ++ left → Runs (first_net asked.servers) requests net printed → IsPrintedOf asked.servers net printed
 
 -- Behind a `settle` nothing is on its way.
 abbrev pub SettlesToRest : Type 0

@@ -86,7 +86,7 @@ pub record Finished (remaining old new : Option (List ℕ)) : Type 0 where
   pub last : ByteNetwork
   pub printed : List ℕ
   pub runs : Runs (first_net asked.servers) asked.requests last printed
-  pub one_room : IsPrintedOf last printed
+  pub one_room : IsPrintedOf asked.servers last printed
   pub appended : Appends old new printed
 
 -- a script was refused for this line, and nothing was printed
@@ -110,7 +110,7 @@ pub record CutShort (remaining old new : Option (List ℕ)) : Type 0 where
   pub last : ByteNetwork
   pub whole : List ℕ
   pub runs : Runs (first_net asked.servers) asked.requests last whole
-  pub one_room : IsPrintedOf last whole
+  pub one_room : IsPrintedOf asked.servers last whole
   pub printed : List ℕ
   pub appended : Appends old new printed
   pub front : IsFront printed whole

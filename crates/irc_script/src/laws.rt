@@ -47,9 +47,8 @@ pub fn scripts_print_one_room()
     irc_net::laws::networks_stay_sound();
     irc_net::laws::answers_are_received();
     irc_net::network_laws::receipts_are_received();
-    irc_net::item_laws::received_is_front();
-    irc_net::item_laws::rest_is_one_room();
-    irc_net::byte_laws::rest_as_lines();
+    irc_net::laws::kept_is_owed();
+    irc_net::laws::settings_stay();
 }
 
 /// Behind a `settle` nothing is on its way.

@@ -4,5 +4,4 @@ use Rattle.irc_script.proofs.laws.scripts_print_one_room.Goals as goal
 pub returns : goal.returns
 returns c =
     prints_one_room c.networks_stay_sound.ensures
-    (record { front = c.received_is_front.ensures; room = c.rest_is_one_room.ensures; rest = c.rest_as_lines.ensures.lines })
-    c.receipts_are_received.ensures c.answers_are_received.ensures
+    (record { owed = c.kept_is_owed.ensures; set_up = c.settings_stay.ensures }) c.receipts_are_received.ensures c.answers_are_received.ensures
