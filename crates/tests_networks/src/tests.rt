@@ -1,0 +1,74 @@
+//! A network of two servers, of which one calls the other.
+use crate::{begun, give, let_come, lines, lines_taken, rooms, settle};
+use irc_names::{Host, ServerName};
+use irc_net::{Config, Item, Net, NetFault, Peer};
+use irc_routes::Own;
+use std::alloc::{AllocError, Global};
+
+const ONE: &[u8] = b"a.net";
+
+const OTHER: &[u8] = b"b.net";
+
+/// A server that has another as its peer.
+fn config(alloc: Global, name: &[u8], peer: &[u8]) -> Result<Config, AllocError> {
+    let own = Own {
+        name: Vec::from_slice(alloc, name)?,
+        info: Vec::from_slice(alloc, b"Test server")?,
+        created: Vec::from_slice(alloc, b"2024-01-01")?,
+    };
+    let mut peers = Vec::new(alloc);
+    peers.push(Peer {
+        name: Vec::from_slice(alloc, peer)?,
+        password: Vec::from_slice(alloc, b"pw")?,
+    })?;
+    Ok(Config { own, peers })
+}
+
+fn two(alloc: Global) -> Result<Vec<Config, Global>, AllocError> {
+    let mut configs = Vec::new(alloc);
+    configs.push(config(alloc, ONE, OTHER)?)?;
+    configs.push(config(alloc, OTHER, ONE)?)?;
+    Ok(configs)
+}
+
+/// They are linked, byte by byte at first; nothing is given while a byte is on its way, and
+/// somebody can connect then.
+fn meet(
+    net: &mut Net,
+    one: &ServerName,
+    other: &ServerName,
+    host: &Host,
+) -> Result<bool, NetFault> {
+    give(net, Item::Link(one.copy(), other.copy()))?;
+    for _ in 0..20 {
+        let_come(net, one, other, 1)?;
+    }
+    let early = give(net, Item::Connect(one.copy(), host.copy()));
+    settle(net)?;
+    let answer = give(net, Item::Connect(one.copy(), host.copy()))?;
+    let gone = give(net, Item::Gone(2));
+    rooms(net);
+    Ok(
+        matches!(early, Err(NetFault::NotAtRest))
+            && answer.client == Some(1)
+            && matches!(gone, Err(NetFault::NoSuchClient))
+            && lines_taken(net) == 0
+            && lines(net, 1).is_empty(),
+    )
+}
+
+fn two_meet(alloc: Global) -> Option<bool> {
+    let mut net = begun(alloc, two(alloc).ok()?).ok()?;
+    meet(
+        &mut net,
+        &ServerName::read(ONE)?,
+        &ServerName::read(OTHER)?,
+        &Host::read(b"h")?,
+    )
+    .ok()
+}
+
+#[test]
+fn two_servers_meet(rt: HostRuntime) {
+    assert!(rt; two_meet(rt.alloc()) == Some(true));
+}
