@@ -1,5 +1,6 @@
 #!/usr/bin/env python3
-"""Lists what a reader of the headline reads: the files of definitions to which the contracts of `Net::received`, `Net::item` and `Net::deliver_bytes` lead.
+"""Lists what a reader of the headline reads: the files of definitions to which the law `every_network_is_one_room` and the contracts of `Net::received`,
+`Net::item` and `Net::deliver_bytes` lead.
 
 It follows the words of these contracts through the `ghost use` and `use` lines, definition by definition, down to the last one of this repository. A word of the
 kit (`Rattle.std` and the like) is followed no further, nor is the type of a field; of a type of the code it reads the declaration, and what it is in a clause.
@@ -8,7 +9,7 @@ A variable that is named like a word in scope counts as that word, so there may 
     python3 tests/reading.py [--words] [--check] [FUNCTION..]
 
 It prints crate by crate, from the network down to bytes, each file, its number of lines, and how many words of it are read; with --words which ones. What one
-server does, to which the word `site_asked` leads, comes apart, behind all others. Other functions of `Net` may be named. With --check it prints what
+server does, to which the word `site_asked` leads, comes apart, behind all others. Other functions of `Net`, or laws, may be named. With --check it prints what
 docs/THEOREM.md has wrong of the list, and then its status is 1: a file that is not there or is not read, one that is left out, another number of lines.
 """
 
@@ -21,11 +22,13 @@ import sys
 REPOSITORY = pathlib.Path(__file__).resolve().parent.parent
 CRATES = REPOSITORY / "crates"
 NET = CRATES / "irc_net/src/net.rt"
+LAWS = CRATES / "irc_net/src/laws.rt"
 USE = re.compile(r"^ *(?:ghost |pub )?use Rattle\.(?P<crate>\w+)\.specs\.(?P<module>\w+(?:\.\w+)*)"
                  r"(?:\.\{(?P<words>[^}]*)\}|(?: as (?P<alias>\w+))?);?$", re.MULTILINE)
 HEAD = re.compile(r"(?:(?:abbrev|unfoldable|pub|record|data) )*([A-Za-z_][\w-]*)(?=[ :])")
 WORD = re.compile(r"(?<![\w.])[A-Za-z_][\w-]*(?:\.[A-Za-z_]\w*)?")
-SERVER = "site_asked"
+# what one server does, and what it has
+SERVER = ("site_asked", "IsOneRoomNet")
 # a file and its number of lines, with its folder or behind one of the same folder
 NAMED = re.compile(r"(irc_\w+/(?:specs|src)/)?(\w+(?:/\w+)*\.(?:antt|rt))(?: (\d+))?")
 
@@ -119,27 +122,27 @@ def words_of(file, text):
 
 
 def contract(name):
-    """What a function of `Net` asks for and promises."""
-    text = re.search(rf"^    pub fn {name}\(.*?^    \{{$", file_at(NET).text, re.MULTILINE | re.DOTALL)
-    if not text:
-        sys.exit(f"{NET}: no function {name}")
-    return "\n".join(re.findall(r"^ +(?:requires|ensures) .*", text[0], re.MULTILINE))
+    """What a function of `Net`, or a law, asks for and promises: the words of that."""
+    for file in (file_at(NET), file_at(LAWS)):
+        if text := re.search(rf"^ *pub fn {name}\(.*?^ *\{{$", file.text, re.MULTILINE | re.DOTALL):
+            return words_of(file, "\n".join(re.findall(r"^ +(?:requires|ensures) .*", text[0], re.MULTILINE)))
+    sys.exit(f"{NET}, {LAWS}: no function {name}")
 
 
-def read_from(places, leave=""):
-    """The words that are read, by their files: these and all to which they lead, but not what leads on from a word that is left."""
+def read_from(places, leave=()):
+    """The words that are read, by their files: these and all to which they lead, but not what leads on from words that are left."""
     waiting, seen = list(places), {}
     while waiting:
         path, word = waiting.pop(0)
         if word not in seen.setdefault(path, []):
             seen[path].append(word)
-            waiting += words_of(file_at(path), file_at(path).definitions[word]) if word != leave else []
+            waiting += words_of(file_at(path), file_at(path).definitions[word]) if word not in leave else []
     return seen
 
 
 def both_parts(functions):
     """What is read of all but the servers, and the files that are read of those alone."""
-    places = [(NET, "Net")] + [place for name in functions for place in words_of(file_at(NET), contract(name))]
+    places = [(NET, "Net")] + [place for name in functions for place in contract(name)]
     first, all_of_it = read_from(places, SERVER), read_from(places)
     return first, {path: words for path, words in all_of_it.items() if path not in first}
 
@@ -185,7 +188,7 @@ def main():
     options = argparse.ArgumentParser(description="Lists what a reader of the headline reads.")
     options.add_argument("--words", action="store_true")
     options.add_argument("--check", action="store_true")
-    options.add_argument("functions", nargs="*", default=["received", "item", "deliver_bytes"])
+    options.add_argument("functions", nargs="*", default=["every_network_is_one_room", "received", "item", "deliver_bytes"])
     given = options.parse_args()
     first, servers = both_parts(given.functions)
     if given.check:
