@@ -19,7 +19,7 @@ use Rattle.irc_net.specs.declared.answer.Answer.{Answer}
 use Rattle.irc_net.specs.declared.fault.NetFault.TheVariants as fault
 use Rattle.irc_net.specs.Calls.{BytesTaken, Delivers, IsDelivered, IsGiven, IsSettled, NetView, Settles, delivers_it, given_it, line_between, piece_between, settles_it, standing, takes_them, wire_between}
 use Rattle.irc_net.specs.Faults.{fault_by, item_fault}
-use Rattle.irc_net.specs.Laws.{EveryNetworkIsOneRoom, SettingsStay, StaysKept, StaysSetUp}
+use Rattle.irc_net.specs.Laws.{EachSettles, EveryNetworkIsOneRoom, SettingsStay, StaysKept, StaysSetUp}
 use Rattle.irc_net.specs.Making.{AreSettingsOf, IsNetMade, made_of}
 use Rattle.irc_net.specs.OneRoom.{IsKeptSound}
 use Rattle.irc_net.specs.Running.{HasRun, delivered, given, made, settled, taken}
@@ -132,6 +132,7 @@ pub record AreOneRoom : Type 0 where
   pub set_up : SettingsStay
   pub front : ReceivedIsFront
   pub room : RestIsOneRoom
+  pub settle : EachSettles
   pub few : TakenAreFew
   pub refusals : RefusalsAreTheWorlds
   pub closes_none : NoLinkIsClosed
@@ -157,6 +158,7 @@ every_network laws configs items net has_run =
       front = λ client. subst (λ taken_now. IsFront (received_by net.network.network client) (owed_by_network settings taken_now client)) same
           (owed_front laws.front net.network client kept);
       all = λ rest client. owed_all laws.room laws.rest net.network client kept rest ∙ ap (λ taken_now. owed_by_network settings taken_now client) same;
+      settles = laws.settle net.network kept;
       few = subst (λ taken_now. net.network.network.taken ≤ most_of_last settings new_world taken_now) same (few_taken laws.few net.network kept);
       refuses = λ rest item. at_rest_fault net.network item rest
           ∙ ap (option_map fault_by) (refuses laws.refusals laws.rest net net item (λ stands. kept) refl so.stands rest

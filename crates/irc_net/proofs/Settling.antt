@@ -6,7 +6,7 @@ use Rattle.irc_byte_network.specs.ByteNetwork.{ByteCourse, ByteNetwork, byte_beg
 use Rattle.irc_byte_network.specs.Turns.{ComesToLine, GoesToLine, TurnsGo, lines_in_turn, none_yet, turn_first, turn_in, turn_taken}
 use Rattle.irc_byte_network.specs.Whole.{ComesToSome, EachComesToLine, NoByteRests}
 use Rattle.irc_net.specs.Calls.{NetView, Settles, standing}
-use Rattle.irc_net.specs.Laws.{SettlesOnce}
+use Rattle.irc_net.specs.Running.{SettlesOnce}
 use Rattle.irc_net.specs.Loops.Settling.{GoesCounted, SettlesAt}
 use Rattle.irc_net.specs.OneRoom.{IsKeptSound}
 use Rattle.irc_net.proofs.StaysOneRoom.{AreTurning, IsTurnOf, next_line, nothing, turn_is, turns_kept}

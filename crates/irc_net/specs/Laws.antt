@@ -12,7 +12,7 @@ use Rattle.irc_net.specs.Calls.{BytesTaken, IsDelivered, IsGiven, IsSettled, Net
 use Rattle.irc_net.specs.Faults.{item_fault}
 use Rattle.irc_net.specs.Making.{AreSettingsOf, IsMadeOf}
 use Rattle.irc_net.specs.OneRoom.{IsKeptSound, IsOwed}
-use Rattle.irc_net.specs.Running.{HasRun, IsOneRoomOf}
+use Rattle.irc_net.specs.Running.{HasRun, IsOneRoomOf, SettlesOnce}
 use Rattle.irc_network.specs.Network.{Network, Receipt, lines_of_client, received_by}
 use Rattle.irc_network.specs.Views.{receipts_of}
 
@@ -66,12 +66,6 @@ pub record StaysKept : Type 0 where
       → IsKeptSound last
 
 -- and it does settle
-pub record SettlesOnce (net : ByteNetwork) : Type 0 where
-  pub counted : ℕ
-  pub receipts : List Receipt
-  pub last : ByteNetwork
-  pub settles : Settles net counted receipts (standing last)
-
 abbrev pub EachSettles : Type 0
 EachSettles = (net : ByteNetwork) → IsKeptSound net → SettlesOnce net
 

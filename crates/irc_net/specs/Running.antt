@@ -13,9 +13,9 @@ use Rattle.irc_world.specs.Stepping.{Item}
 use Rattle.irc_world.specs.WithinLimits.{IsItemWithin}
 use Rattle.irc_world.specs.World.{Setting, new_world}
 use Rattle.irc_network.specs.Network.{Receipt, received_by}
-use Rattle.irc_byte_network.specs.ByteNetwork.{is_byte_rest}
+use Rattle.irc_byte_network.specs.ByteNetwork.{ByteNetwork, is_byte_rest}
 use Rattle.irc_net.specs.declared.answer.Answer.{Answer}
-use Rattle.irc_net.specs.Calls.{BytesTaken, IsDelivered, IsGiven, IsSettled, NetView}
+use Rattle.irc_net.specs.Calls.{BytesTaken, IsDelivered, IsGiven, IsSettled, NetView, Settles, standing}
 use Rattle.irc_net.specs.Faults.{fault_by, item_fault}
 use Rattle.irc_net.specs.Making.{AreSettingsOf, IsNetMade}
 use Rattle.irc_net.specs.OneRoom.{IsOneRoomNet}
@@ -34,8 +34,16 @@ pub data HasRun (configs : List Config) : List Item → NetView → Type 0 where
   settled : {old new : NetView} {items : List Item} {counted : ℕ} {receipts : List Receipt} → HasRun configs items old
       → IsSettled old (Ok (counted, receipts)) new → HasRun configs items new
 
+-- Lines that are on their way come to their end: it can be settled.
+pub record SettlesOnce (net : ByteNetwork) : Type 0 where
+  pub counted : ℕ
+  pub receipts : List Receipt
+  pub last : ByteNetwork
+  pub settles : Settles net counted receipts (standing last)
+
 -- What each client has received is at every moment a front of what it is owed by these items in a
--- network of servers that are set up so, and at rest all of it. No more lines were taken since the
+-- network of servers that are set up so, and at rest all of it; and it can come to rest. Its settings,
+-- items, `front`, `all` and `settles` are README's sentence. No more lines were taken since the
 -- last item than servers need at most to tell each other of it. At rest just that is refused which
 -- the network as its people know it refuses, and for the same cause. IsOneRoomNet says what servers
 -- have.
@@ -47,6 +55,7 @@ pub record IsOneRoomOf (configs : List Config) (items : List Item) (net : NetVie
   pub given : net.network.network.items ≡ items
   pub front : (client : ℕ) → IsFront (received_by net.network.network client) (owed_by_network settings items client)
   pub all : is_byte_rest net.network ≡ true → (client : ℕ) → received_by net.network.network client ≡ owed_by_network settings items client
+  pub settles : SettlesOnce net.network
   pub few : net.network.network.taken ≤ most_of_last settings new_world items
   pub refuses : is_byte_rest net.network ≡ true → (item : Item)
       → item_fault net.network item ≡ option_map fault_by (refused settings (world_of settings items) item)

@@ -61,6 +61,7 @@ pub fn every_network_is_one_room()
     ensures { EveryNetworkIsOneRoom }
 {
     networks_stay_sound();
+    each_settles();
     settings_stay();
     irc_items::laws::received_is_front();
     irc_items::laws::rest_is_one_room();

@@ -7,6 +7,7 @@ returns c = every_network (record {
   set_up = c.settings_stay.ensures;
   front = c.received_is_front.ensures;
   room = c.rest_is_one_room.ensures;
+  settle = c.each_settles.ensures;
   few = c.taken_are_few.ensures;
   refusals = c.refusals_are_the_worlds.ensures;
   closes_none = c.no_link_is_closed.ensures;
