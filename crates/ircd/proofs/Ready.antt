@@ -3,6 +3,7 @@ use Rattle.std.proofs.Common.{◌≡◌, ◌∙◌, ℕ, Option, Result, Ok, Err
 use Rattle.std.specs.Prelude.{⊤}
 use Rattle.std.specs.Io.KnownBytes.{Appends}
 use Rattle.irc_outbox.specs.Calls.{Call}
+use Rattle.irc_late.specs.declared.late_wire.LateWire.{LateWire}
 use Rattle.irc_sockets.specs.declared.mio_wire.MioWire.{MioWire}
 use Rattle.irc_engine.specs.declared.engine.EngineFault.{EngineFault}
 use Rattle.irc_engine.specs.Turning.{EngineView}
@@ -70,7 +71,7 @@ not_opened text turns (Err e) stop held said is failed =
     subst (λ s. ServesText text turns (Err s) held held said said) (sym (failed ∙ is)) (unprinted refl refl)
 
 -- what it sets up is served
-pub text_served : (turns : ℕ) (first last : EngineView MioWire) (text : List ℕ) (setup : Setup) (held after said said_after : Option (List ℕ)) (r : Result (Unit {0}) Stop)
+pub text_served : (turns : ℕ) (first last : EngineView (LateWire MioWire)) (text : List ℕ) (setup : Setup) (held after said said_after : Option (List ℕ)) (r : Result (Unit {0}) Stop)
     → IsTextOf text setup → IsOpened setup first → Serves (λ wire calls. ⊤) turns first last held after said said_after r
     → ServesText text turns r held after said said_after
 text_served turns first last text setup held after said said_after (Ok _) is opened serves = record {

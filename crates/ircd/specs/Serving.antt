@@ -14,6 +14,8 @@ use Rattle.irc_stage.specs.View.{KnownPeer, known_peer}
 use Rattle.irc_engine.specs.Turning.{EngineView, IsNew}
 use Rattle.irc_engine.specs.Telling.{ToldTurns}
 use Rattle.irc_journal.specs.Saying.{AreSomeSaid}
+use Rattle.irc_late.specs.declared.late_wire.LateWire.{LateWire}
+use Rattle.irc_late.specs.Around.{IsAround}
 use Rattle.irc_turns.specs.Spreads.{name_spread}
 use Rattle.irc_sockets.specs.declared.calls.Callee.{Callee}
 use Rattle.irc_sockets.specs.declared.listening.Listening.{Listening}
@@ -124,13 +126,15 @@ abbrev pub listening_of : Setup → Listening
 listening_of setup =
     record { clients = setup.clients; links = setup.links; connections_per_address = setup.connections_per_address }
 
--- An engine is open: it has served nobody, its server is the one that was set up, an outbox has room for as much as was set up, and its wire listens where that
--- was, and calls whom that was to call, again by that spread.
-pub record IsOpened (setup : Setup) (engine : EngineView MioWire) : Type 0 where
-  pub wire : MioWire
-  pub listens : ListensAt (listening_of setup) wire
-  pub callees : wire.calls.asked ≡ setup.callees
-  pub spread : wire.calls.retries.spread ≡ setup.spread
+-- An engine is open: it has served nobody, its server is the one that was set up, an outbox has room for as much as was set up, and its wire is one around a
+-- wire that listens where that was, and calls whom that was to call, again by that spread.
+pub record IsOpened (setup : Setup) (engine : EngineView (LateWire MioWire)) : Type 0 where
+  pub wire : LateWire MioWire
+  pub sockets : MioWire
+  pub is_around : IsAround sockets wire
+  pub listens : ListensAt (listening_of setup) sockets
+  pub callees : sockets.calls.asked ≡ setup.callees
+  pub spread : sockets.calls.retries.spread ≡ setup.spread
   pub is_new : IsNew setup.server wire setup.client_room setup.link_room engine
 
 -- `ready` was printed, all turns were taken, and behind each what there was to tell of links was said; else a front of `ready` was printed, the
@@ -156,8 +160,8 @@ pub data IsCutShort (text : List ℕ) (printed printed_after errors errors_after
 pub record IsServed (text : List ℕ) (turns : ℕ) (printed printed_after errors errors_after : Option (List ℕ)) : Type 0 where
   pub setup : Setup
   pub is_text_of : IsTextOf text setup
-  pub first : EngineView MioWire
-  pub last : EngineView MioWire
+  pub first : EngineView (LateWire MioWire)
+  pub last : EngineView (LateWire MioWire)
   pub is_opened : IsOpened setup first
   pub is_ready : Appends printed printed_after ready_text
   pub taken : ToldTurns (λ wire calls. ⊤) first errors turns last errors_after

@@ -7,6 +7,7 @@ ghost use Rattle.ircd.specs.Serving.{ServesFile, ServesText};
 use crate::setup::{Setup, read_setup};
 use irc_endings::{Stop, say_ready};
 use irc_engine::Engine;
+use irc_late::LateWire;
 use irc_outbox::Wire;
 use irc_sockets::{Listening, MioWire};
 use std::alloc::Global;
@@ -63,7 +64,7 @@ fn serve_text<T: AllocGlobal + Net, W: Write, E: Write>(
 }
 
 /// An engine that listens, and has called whom it is to call.
-fn open<T: Net>(net: &T, alloc: Global, setup: Setup) -> Result<Engine<MioWire>, Stop>
+fn open<T: Net>(net: &T, alloc: Global, setup: Setup) -> Result<Engine<LateWire<MioWire>>, Stop>
     ensures { Opens setup result }
 {
     let listening = Listening {
@@ -77,7 +78,7 @@ fn open<T: Net>(net: &T, alloc: Global, setup: Setup) -> Result<Engine<MioWire>,
     let engine = Engine::new(
         alloc,
         setup.server,
-        wire,
+        LateWire::new(alloc, wire),
         setup.client_room,
         setup.link_room,
     )?;

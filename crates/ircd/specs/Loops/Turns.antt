@@ -1,6 +1,7 @@
 -- What comes of opening a server, and of turns, one after another.
 use Rattle.std.specs.Prelude.{◌≡◌, ℕ, ◌⊎◌, Option, Result, Ok, Err, List}
 use Rattle.irc_outbox.specs.Calls.{Call}
+use Rattle.irc_late.specs.declared.late_wire.LateWire.{LateWire}
 use Rattle.irc_sockets.specs.declared.mio_wire.MioWire.{MioWire}
 use Rattle.irc_engine.specs.declared.engine.Engine.{Engine}
 use Rattle.irc_engine.specs.Turning.{EngineView}
@@ -13,7 +14,7 @@ use Rattle.ircd.specs.declared.setup.Setup.{Setup}
 use Rattle.ircd.specs.Serving.{IsOpened, Serves}
 
 -- what was set up is open, or the program failed
-abbrev pub Opens : Setup → Result (Engine MioWire) Stop → Type 0
+abbrev pub Opens : Setup → Result (Engine (LateWire MioWire)) Stop → Type 0
 Opens setup (Ok engine) = IsOpened setup (engine_view engine)
 Opens setup (Err stop) = stop ≡ Failed
 

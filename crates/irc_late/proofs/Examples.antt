@@ -1,0 +1,24 @@
+-- Lines in known forms.
+use Rattle.std.proofs.Common.{refl}
+use Rattle.irc_line.specs.Bytes.{cut}
+use Rattle.irc_line.specs.Messages.{line_text}
+use Rattle.irc_line.specs.Reading.{read_of}
+use Rattle.irc_names.specs.Fold.{fold, fold_table}
+use Rattle.irc_names.specs.Names.{is_nick}
+use Rattle.irc_late.specs.Laws.{KeyStays, KickIsPutRight, KilledIsLeftOut, ModeIsPutRight}
+
+pub killed_is_left_out : KilledIsLeftOut
+unfolding read_of is_nick fold fold_table
+killed_is_left_out = refl
+
+pub kick_is_put_right : KickIsPutRight
+unfolding read_of is_nick fold fold_table line_text cut
+kick_is_put_right = refl
+
+pub mode_is_put_right : ModeIsPutRight
+unfolding read_of is_nick fold fold_table line_text cut
+mode_is_put_right = refl
+
+pub key_stays : KeyStays
+unfolding read_of is_nick fold fold_table
+key_stays = refl

@@ -1,0 +1,38 @@
+-- A line that is written again fits.
+use Rattle.std.proofs.Common.{◌≡◌, ◌+◌, ◌≤◌, Result, Ok, Err, length, take, subst, arith, length-append, length-take}
+use Rattle.std.specs.Bool.{⊤}
+use Rattle.std.specs.Cmp.Lexicographic.{pointwise}
+use Rattle.std.specs.Str.{bytes_eq}
+use Rattle.irc_line.specs.Bytes.{crlf, cut}
+use Rattle.irc_line.specs.Limits.{max_line, max_text}
+use Rattle.irc_line.specs.Messages.{Parsed, Written, joined_text, line_text, text}
+use Rattle.irc_line.specs.Reading.{read_of}
+use Rattle.irc_line.specs.declared.reading.LineFault.{LineFault}
+use Rattle.irc_late.specs.declared.hearing.Heard.{Heard}
+use Rattle.irc_late.specs.declared.hearing.Heard.TheVariants.{Unchanged, Changed, LeftOut}
+use Rattle.irc_late.specs.Remembering.{Remembered}
+use Rattle.irc_late.specs.Late.{is_late, is_met_kill, params_put_right, read_heard, with_params}
+use Rattle.irc_late.specs.Laws.{ChangedFits}
+use Rattle.irc_late.proofs.Naming.{each_way}
+
+-- what is written in place of a line has room, if something is
+abbrev Fits : Heard → Type 0
+Fits (Changed changed) = length changed.items ≤ max_text
+Fits Unchanged = ⊤
+Fits LeftOut = ⊤
+
+text_fits : (parts : Written) → length (text parts) ≤ max_text
+unfolding line_text cut
+text_fits parts =
+    let all : length (text parts) ≡ length (take max_line (joined_text parts)) + 2 = length-append (take max_line (joined_text parts)) crlf in
+    omega (arith, all, length-take max_line (joined_text parts))
+
+read_fits : (memory : Remembered) (read : Result Parsed LineFault) → Fits (read_heard memory read)
+read_fits memory (Ok message) =
+    let params = params_put_right memory message.command message.params in
+    each_way Fits (is_late memory message) (is_met_kill memory message) (pointwise bytes_eq params message.params) LeftOut LeftOut Unchanged
+    (Changed (record { items = text (with_params message params) })) tt tt tt (text_fits (with_params message params))
+read_fits memory (Err fault) = tt
+
+pub changed_fits : ChangedFits
+changed_fits memory line changed is = subst Fits is (read_fits memory (read_of line))

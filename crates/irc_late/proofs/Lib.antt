@@ -1,0 +1,15 @@
+mod Examples
+mod Fitting
+mod Giving
+mod HeldBack
+mod LinkSets
+mod Naming
+mod NextLine
+mod Nothing
+mod NothingKept
+mod Placing
+mod ReadOn
+mod Servers
+mod Told
+mod Turning
+mod WrittenAgain

@@ -1,0 +1,15 @@
+use Rattle.std.proofs.Common.{◌-◌, ◌+◌, arith}
+use Rattle.irc_late.specs.Remembering.{is_from_other, moved}
+use Rattle.irc_late.proofs.Turning.{turned_through, turns_next}
+use Rattle.irc_late.proofs.memory.lead_on.Goals as goal
+
+pub loop-preserved : goal.loop-preserved
+loop-preserved c =
+    turns_next (is_from_other c.args.old.now) (moved c.args.old.now c.args.new.now) c.args.changes.now c.loop.changes c.lead_first.new.changes
+    (c.len-end.result - c.loop.counter) (c.len-end.result - (c.loop.counter + 1)) (omega (arith, c.loop-test.true)) c.loop.invariant
+    c.lead_first.ensures.turned c.lead_first.ensures.fits
+
+pub returns : goal.returns
+returns c =
+    turned_through (is_from_other c.args.old.now) (moved c.args.old.now c.args.new.now) c.args.changes.now c.loop.changes
+    (c.len-end.result - c.loop.counter) (omega (arith, c.loop-test.false)) c.loop.invariant

@@ -1,0 +1,93 @@
+-- What holds of late lines, whatever is remembered and whatever comes.
+use Rattle.std.specs.Prelude.{◌≡◌, ℕ, ◌≤◌, Bool, true, false, ◌||◌, Some, Ok, List, [], ◌++◌, codes, length}
+use Rattle.std.specs.List.{list_all, list_any}
+use Rattle.std.specs.Option.{is_some}
+use Rattle.arrayvec.specs.ArrayVec.{ArrayVec}
+use Rattle.irc_line.specs.Bytes.{crlf}
+use Rattle.irc_line.specs.Limits.{max_text}
+use Rattle.irc_line.specs.Messages.{Parsed}
+use Rattle.irc_line.specs.Reading.{read_of}
+use Rattle.irc_names.specs.Names.{IsServer, is_nick}
+use Rattle.irc_link_words.specs.Words.{is_command}
+use Rattle.irc_late.specs.declared.hearing.Heard.{Heard}
+use Rattle.irc_late.specs.declared.hearing.Heard.TheVariants.{Unchanged, Changed, LeftOut}
+use Rattle.irc_late.specs.declared.memory.Killed.{Killed}
+use Rattle.irc_late.specs.Remembering.{Remembered, is_killed, nick_now, nothing_remembered}
+use Rattle.irc_late.specs.Late.{after_hearing, heard, is_late, line_put_out, names_first, word_at}
+
+-- ---- nothing is remembered
+
+-- no nickname is remembered as killed, and none as given up
+pub record RemembersNothing (memory : Remembered) : Type 0 where
+  pub killed : memory.killed ≡ []
+  pub changes : memory.changes ≡ []
+
+-- Then each line is given on as it came,
+abbrev pub NothingIsUnchanged : Type 0
+NothingIsUnchanged = (memory : Remembered) (line : List ℕ) → RemembersNothing memory → heard memory line ≡ Unchanged
+
+-- and none is remembered behind it.
+abbrev pub NothingIsNoted : Type 0
+NothingIsNoted = (memory : Remembered) (line : List ℕ) → RemembersNothing memory → RemembersNothing (after_hearing memory line)
+
+-- ---- nobody is named who is remembered
+
+-- whether one of this end's users has given up a nickname
+abbrev pub is_given_up : Remembered → List ℕ → Bool
+is_given_up memory word = is_some (nick_now memory word)
+
+-- A message from nobody who was killed, whose first word is no nickname that was killed, and none of whose words is one that was given up.
+pub record NamesNobody (memory : Remembered) (message : Parsed) : Type 0 where
+  pub sender : is_late memory message ≡ false
+  pub first : is_killed memory (word_at 0 message) ≡ false
+  pub words : list_any (is_given_up memory) message.params ≡ false
+
+-- It is given on as it came.
+abbrev pub NobodyIsUnchanged : Type 0
+NobodyIsUnchanged = (memory : Remembered) (line : List ℕ) (message : Parsed) → read_of line ≡ Ok message → NamesNobody memory message
+    → heard memory line ≡ Unchanged
+
+-- ---- servers
+
+-- whether a parameter of a command may be a nickname that is put right
+abbrev pub names_nicks : List ℕ → Bool
+names_nicks command = is_command (codes "KICK") command || (names_first command || is_command (codes "MODE") command)
+
+-- what is remembered as killed are nicknames
+abbrev pub are_nicks : List Killed → Bool
+are_nicks killed = list_all (λ (k : Killed). is_nick k.nick) killed
+
+-- A line from a server, of a command that names nobody, is given on as it came: no nickname is a server's name.
+abbrev pub ServersAreUnchanged : Type 0
+ServersAreUnchanged = (memory : Remembered) (line : List ℕ) (message : Parsed) (server : List ℕ) → read_of line ≡ Ok message
+    → message.prefix ≡ Some server → IsServer server → are_nicks memory.killed ≡ true → names_nicks message.command ≡ false
+    → heard memory line ≡ Unchanged
+
+-- ---- what is written again
+
+-- It has no more bytes than a line with its CR LF has room for.
+abbrev pub ChangedFits : Type 0
+ChangedFits = (memory : Remembered) (line : List ℕ) (changed : ArrayVec ℕ) → heard memory line ≡ Changed changed → length changed.items ≤ max_text
+
+-- ---- examples
+
+-- with this line put out, that one comes
+abbrev pub heard_after : (out line : List ℕ) → Heard
+heard_after out line = heard (line_put_out nothing_remembered out) line
+
+-- a line in place of the one that has come
+abbrev pub changed_to : List ℕ → Heard
+changed_to line = Changed (record { items = line ++ crlf })
+
+abbrev pub KilledIsLeftOut : Type 0
+KilledIsLeftOut = heard_after (codes ":a.net KILL zed :Nick collision") (codes ":zed JOIN #c") ≡ LeftOut
+
+abbrev pub KickIsPutRight : Type 0
+KickIsPutRight = heard_after (codes ":al NICK ally") (codes ":bo KICK #c al :out") ≡ changed_to (codes ":bo KICK #c ally :out")
+
+abbrev pub ModeIsPutRight : Type 0
+ModeIsPutRight = heard_after (codes ":al NICK ally") (codes ":bo MODE #c +ol al 5") ≡ changed_to (codes ":bo MODE #c +ol ally :5")
+
+-- a key that is spelled like a nickname
+abbrev pub KeyStays : Type 0
+KeyStays = heard_after (codes ":al NICK ally") (codes ":bo MODE #c +k al") ≡ Unchanged

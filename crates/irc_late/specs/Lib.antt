@@ -1,0 +1,10 @@
+pub mod Around
+pub mod AroundCalls
+pub mod Coming
+pub mod Late
+pub mod Laws
+pub mod LinkEnds
+pub mod LinkLaws
+pub mod Links
+pub mod Loops
+pub mod Remembering

@@ -1,0 +1,33 @@
+//! What holds of late lines, whatever is remembered and whatever comes. Each law is a function that does nothing, and its contract is
+//! the law: the check proves it, and a crate above may cite it.
+ghost use Rattle.irc_late.specs.Laws.{ChangedFits, KeyStays, KickIsPutRight, KilledIsLeftOut, ModeIsPutRight, NobodyIsUnchanged, NothingIsNoted, NothingIsUnchanged, ServersAreUnchanged};
+
+/// With nothing remembered each line is given on as it came, and nothing is remembered behind it.
+pub fn nothing_remembered()
+    ensures unchanged { NothingIsUnchanged }
+    ensures noted { NothingIsNoted }
+{}
+
+/// A line that names nobody who is remembered is given on as it came.
+pub fn nobody_is_unchanged()
+    ensures { NobodyIsUnchanged }
+{}
+
+/// So is a line from a server, of a command that names nobody.
+pub fn servers_are_unchanged()
+    ensures { ServersAreUnchanged }
+{}
+
+/// A line that is written again has room for its CR LF.
+pub fn changed_fits()
+    ensures { ChangedFits }
+{}
+
+/// Lines in known forms: one of a user who was killed, a KICK and a MODE for a nickname that was given up, and a key that is spelled
+/// like one.
+pub fn late_lines()
+    ensures left_out { KilledIsLeftOut }
+    ensures kick { KickIsPutRight }
+    ensures mode { ModeIsPutRight }
+    ensures key { KeyStays }
+{}

@@ -1,0 +1,270 @@
+//! What one end of a link remembers of nicknames.
+ghost use Rattle.std.specs.Prelude.{◌≡◌, ◌≤◌, IfOk, length};
+ghost use Rattle.std.specs.Option.{option_copied};
+ghost use Rattle.irc_late.specs.Remembering.{is_from_other, is_of, is_of_others, is_other_killed, moved, not_crossed};
+ghost use Rattle.irc_late.specs.Loops.Turned.{ChangesAll, Sifts, TurnsAll, TurnsOne, as_it_is, every};
+
+use circular_buffer::HeapCircularBuffer;
+use irc_names::{Nick, same};
+use std::alloc::{AllocError, Global};
+use std::marker::Model;
+
+/// How many killed nicknames, and how many changes, are remembered.
+const MAX_REMEMBERED: usize = 1024;
+
+/// A nickname for which a KILL was put out.
+#[derive(Drop)]
+pub struct Killed {
+    pub nick: Nick,
+    /// Whether the other end has still to tell of whoever had it there: it had given it to a user of its own before it knew of this end's.
+    pub crossed: bool,
+}
+
+/// A user's change of its nickname.
+#[derive(Drop)]
+pub struct Change {
+    /// The nickname that it had.
+    pub given_up: Nick,
+    /// The one that it has now.
+    pub now: Nick,
+}
+
+/// What one end of a link remembers of what it has told the other one, each the oldest first.
+#[derive(Drop)]
+pub struct Memory {
+    killed: HeapCircularBuffer<Killed, Global>,
+    changes: HeapCircularBuffer<Change, Global>,
+    /// The nickname that the line at hand introduces or takes.
+    met: Option<Nick>,
+}
+
+impl Model for Memory {
+    ghost use Rattle.std.specs.Prelude.{◌≡◌};
+    ghost use Rattle.irc_late.specs.Remembering.{Remembered};
+
+    ghost Value = { Remembered };
+
+    ghost view = { λ memory. record { killed = memory.killed.items; changes = memory.changes.items; met = memory.met } };
+
+    ghost invariant = { λ memory. (memory.killed.capacity ≡ 1024) × (memory.changes.capacity ≡ 1024) };
+}
+
+impl Memory {
+    ghost use Rattle.irc_late.specs.Remembering.{nothing_remembered, has_crossed, is_killed, is_met, nick_now, none_crossed, with_killed, with_change, with_met, with_none_met, without_changes, without_killed};
+
+    /// Nothing.
+    ///
+    /// # Errors
+    /// Where memory runs out.
+    pub fn new(alloc: Global) -> Result<Self, AllocError>
+        ensures { IfOk result (λ memory. memory ≡ nothing_remembered) }
+    {
+        Ok(Memory {
+            killed: HeapCircularBuffer::with_capacity(alloc, MAX_REMEMBERED)?,
+            changes: HeapCircularBuffer::with_capacity(alloc, MAX_REMEMBERED)?,
+            met: None,
+        })
+    }
+
+    /// Whether a KILL was put out for a nickname.
+    pub fn is_killed(&self, nick: &[u8]) -> bool
+        ensures { result ≡ is_killed self.now nick.now }
+    {
+        self.killed
+            .iter()
+            .any(|killed| same(killed.nick.as_bytes(), nick))
+    }
+
+    /// Whether that KILL has crossed, and the other end has still to tell of whoever had the nickname there.
+    pub fn has_crossed(&self, nick: &[u8]) -> bool
+        ensures { result ≡ has_crossed self.now nick.now }
+    {
+        self.killed.iter().any(|killed| killed.crossed && same(killed.nick.as_bytes(), nick))
+    }
+
+    /// Whether the line at hand introduces or takes a nickname.
+    pub fn is_met(&self, nick: &[u8]) -> bool
+        ensures { result ≡ is_met self.now nick.now }
+    {
+        match &self.met {
+            Some(met) => same(met.as_bytes(), nick),
+            None => false,
+        }
+    }
+
+    /// The line at hand introduces or takes a nickname.
+    pub fn meet(&mut self, nick: &[u8])
+        ensures { self.new ≡ with_met nick.now self.old }
+    {
+        self.met = Nick::read(nick);
+    }
+
+    /// What is put out from now on meets no line that has come.
+    pub fn end_turn(&mut self)
+        ensures { self.new ≡ with_none_met self.old }
+    {
+        self.met = None;
+    }
+
+    /// No KILL is taken for one that has crossed any more.
+    pub fn forget_crossed(&mut self)
+        ensures { self.new ≡ none_crossed self.old }
+    {
+        mark_not_crossed(&mut self.killed);
+    }
+
+    /// The nickname now of the user that has given up this one, if one has.
+    pub fn nick_now(&self, nick: &[u8]) -> Option<&Nick>
+        ensures { option_copied result ≡ nick_now self.now nick.now }
+    {
+        let change = self
+            .changes
+            .iter()
+            .find(|change| same(change.given_up.as_bytes(), nick))?;
+        Some(&change.now)
+    }
+
+    /// A KILL is put out for a nickname, if it is one.
+    pub fn kill(&mut self, nick: &[u8], crossed: bool)
+        ensures { self.new ≡ with_killed nick.now crossed self.old }
+    {
+        if let Some(nick) = Nick::read(nick) {
+            forget_name(&mut self.killed, nick.as_bytes());
+            let _oldest = self.killed.push_back(Killed { nick, crossed });
+        }
+    }
+
+    /// A nickname is not remembered as killed any more.
+    pub fn forget_killed(&mut self, nick: &[u8])
+        ensures { self.new ≡ without_killed nick.now self.old }
+    {
+        forget_name(&mut self.killed, nick);
+    }
+
+    /// A nickname has another user now.
+    pub fn forget_changes(&mut self, nick: &[u8])
+        ensures { self.new ≡ without_changes nick.now self.old }
+    {
+        forget_nick(&mut self.changes, nick);
+    }
+
+    /// A user takes another nickname.
+    pub fn rename(&mut self, old: &[u8], new: &[u8])
+        ensures { self.new ≡ with_change old.now new.now self.old }
+    {
+        if same(old, new) {
+            return;
+        }
+        if let Some(given_up) = Nick::read(old)
+            && let Some(now) = Nick::read(new)
+        {
+            forget_nick(&mut self.changes, new);
+            lead_on(&mut self.changes, old, &now);
+            let _oldest = self.changes.push_back(Change { given_up, now });
+        }
+    }
+}
+
+/// Killed nicknames without this one.
+fn forget_name(killed: &mut HeapCircularBuffer<Killed, Global>, nick: &[u8])
+    ensures { Sifts (is_other_killed nick.now) killed.old killed.new }
+{
+    for _ in 0..killed.len() {
+        turn_name(killed, nick);
+    }
+}
+
+/// The first goes behind the others, or out if it is this nickname.
+fn turn_name(killed: &mut HeapCircularBuffer<Killed, Global>, nick: &[u8])
+    requires { length killed.old.items ≤ killed.old.capacity }
+    ensures turned { TurnsOne (is_other_killed nick.now) as_it_is killed.old killed.new }
+    ensures fits { length killed.new.items ≤ killed.new.capacity }
+{
+    if let Some(first) = killed.pop_front() {
+        if !same(first.nick.as_bytes(), nick) {
+            let _none = killed.push_back(first);
+        }
+    }
+}
+
+/// Killed nicknames of which none has crossed.
+fn mark_not_crossed(killed: &mut HeapCircularBuffer<Killed, Global>)
+    ensures { ChangesAll not_crossed killed.old killed.new }
+{
+    for _ in 0..killed.len() {
+        mark_first(killed);
+    }
+}
+
+/// The first goes behind the others, as one that has not crossed.
+fn mark_first(killed: &mut HeapCircularBuffer<Killed, Global>)
+    requires { length killed.old.items ≤ killed.old.capacity }
+    ensures turned { TurnsOne every not_crossed killed.old killed.new }
+    ensures fits { length killed.new.items ≤ killed.new.capacity }
+{
+    if let Some(mut first) = killed.pop_front() {
+        first.crossed = false;
+        let _none = killed.push_back(first);
+    }
+}
+
+/// Changes without those from or to a nickname.
+fn forget_nick(changes: &mut HeapCircularBuffer<Change, Global>, nick: &[u8])
+    ensures { Sifts (is_of_others nick.now) changes.old changes.new }
+{
+    for _ in 0..changes.len() {
+        turn_change(changes, nick);
+    }
+}
+
+/// The first change goes behind the others, or out if it is from or to this nickname.
+fn turn_change(changes: &mut HeapCircularBuffer<Change, Global>, nick: &[u8])
+    requires { length changes.old.items ≤ changes.old.capacity }
+    ensures turned { TurnsOne (is_of_others nick.now) as_it_is changes.old changes.new }
+    ensures fits { length changes.new.items ≤ changes.new.capacity }
+{
+    if let Some(change) = changes.pop_front() {
+        if !is_of(nick, &change) {
+            let _none = changes.push_back(change);
+        }
+    }
+}
+
+/// Whoever had this nickname has that one; who has given it up is not found by it any more.
+fn lead_on(changes: &mut HeapCircularBuffer<Change, Global>, old: &[u8], new: &Nick)
+    ensures { TurnsAll (is_from_other old.now) (moved old.now new.now) changes.old changes.new }
+{
+    for _ in 0..changes.len() {
+        lead_first(changes, old, new);
+    }
+}
+
+/// The first change goes behind the others as it leads then, or out if it is from this nickname.
+fn lead_first(changes: &mut HeapCircularBuffer<Change, Global>, old: &[u8], new: &Nick)
+    requires { length changes.old.items ≤ changes.old.capacity }
+    ensures turned { TurnsOne (is_from_other old.now) (moved old.now new.now) changes.old changes.new }
+    ensures fits { length changes.new.items ≤ changes.new.capacity }
+{
+    if let Some(mut change) = changes.pop_front() {
+        if !same(change.given_up.as_bytes(), old) {
+            lead(&mut change, old, new);
+            let _none = changes.push_back(change);
+        }
+    }
+}
+
+/// Whether a change is from or to a nickname.
+fn is_of(nick: &[u8], change: &Change) -> bool
+    ensures { result ≡ is_of nick.now change.entry.now }
+{
+    same(change.given_up.as_bytes(), nick) || same(change.now.as_bytes(), nick)
+}
+
+/// If it leads to this nickname, it leads to that one.
+fn lead(change: &mut Change, old: &[u8], new: &Nick)
+    ensures { change.new ≡ moved old.now new.now change.old }
+{
+    if same(change.now.as_bytes(), old) {
+        change.now = new.copy();
+    }
+}
