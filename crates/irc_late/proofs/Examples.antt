@@ -5,7 +5,7 @@ use Rattle.irc_line.specs.Messages.{line_text}
 use Rattle.irc_line.specs.Reading.{read_of}
 use Rattle.irc_names.specs.Fold.{fold, fold_table}
 use Rattle.irc_names.specs.Names.{is_nick}
-use Rattle.irc_late.specs.Laws.{KeyStays, KickIsPutRight, KilledIsLeftOut, ModeIsPutRight}
+use Rattle.irc_late.specs.Laws.{CrossedKillIsLeftOut, CrossedNickIsKilled, CrossedRenameIsLeftOut, KeyStays, KickIsPutRight, KilledIsLeftOut, ModeIsPutRight}
 
 pub killed_is_left_out : KilledIsLeftOut
 unfolding read_of is_nick fold fold_table
@@ -22,3 +22,15 @@ mode_is_put_right = refl
 pub key_stays : KeyStays
 unfolding read_of is_nick fold fold_table
 key_stays = refl
+
+pub crossed_kill_is_left_out : CrossedKillIsLeftOut
+unfolding read_of is_nick fold fold_table
+crossed_kill_is_left_out = refl
+
+pub crossed_nick_is_killed : CrossedNickIsKilled
+unfolding read_of is_nick fold fold_table
+crossed_nick_is_killed = refl
+
+pub crossed_rename_is_left_out : CrossedRenameIsLeftOut
+unfolding read_of is_nick fold fold_table
+crossed_rename_is_left_out = refl

@@ -1,5 +1,5 @@
 -- A line that is written again fits.
-use Rattle.std.proofs.Common.{◌≡◌, ◌+◌, ◌≤◌, Result, Ok, Err, length, take, subst, arith, length-append, length-take}
+use Rattle.std.proofs.Common.{◌≡◌, ◌+◌, ◌≤◌, ℕ, List, Result, Ok, Err, length, take, subst, arith, length-append, length-take, Bool, true, false, ◌&&◌, [], if◌then◌else◌, unwrap_or}
 use Rattle.std.specs.Bool.{⊤}
 use Rattle.std.specs.Cmp.Lexicographic.{pointwise}
 use Rattle.std.specs.Str.{bytes_eq}
@@ -8,10 +8,11 @@ use Rattle.irc_line.specs.Limits.{max_line, max_text}
 use Rattle.irc_line.specs.Messages.{Parsed, Written, joined_text, line_text, text}
 use Rattle.irc_line.specs.Reading.{read_of}
 use Rattle.irc_line.specs.declared.reading.LineFault.{LineFault}
+use Rattle.irc_names.specs.Names.{is_nick}
 use Rattle.irc_late.specs.declared.hearing.Heard.{Heard}
-use Rattle.irc_late.specs.declared.hearing.Heard.TheVariants.{Unchanged, Changed, LeftOut}
-use Rattle.irc_late.specs.Remembering.{Remembered}
-use Rattle.irc_late.specs.Late.{is_late, is_met_kill, params_put_right, read_heard, with_params}
+use Rattle.irc_late.specs.declared.hearing.Heard.TheVariants.{Unchanged, Changed, LeftOut, KillBack}
+use Rattle.irc_late.specs.Remembering.{Remembered, was_introduced}
+use Rattle.irc_late.specs.Late.{is_late, is_met_kill, is_nick_line, word_at, params_put_right, read_heard, with_params}
 use Rattle.irc_late.specs.Laws.{ChangedFits}
 use Rattle.irc_late.proofs.Naming.{each_way}
 
@@ -20,6 +21,7 @@ abbrev Fits : Heard → Type 0
 Fits (Changed changed) = length changed.items ≤ max_text
 Fits Unchanged = ⊤
 Fits LeftOut = ⊤
+Fits (KillBack nick) = ⊤
 
 text_fits : (parts : Written) → length (text parts) ≤ max_text
 unfolding line_text cut
@@ -27,11 +29,18 @@ text_fits parts =
     let all : length (text parts) ≡ length (take max_line (joined_text parts)) + 2 = length-append (take max_line (joined_text parts)) crlf in
     omega (arith, all, length-take max_line (joined_text parts))
 
+late_fits : (back : Bool) (nick : List ℕ) → Fits (if back then KillBack nick else LeftOut)
+late_fits true nick = tt
+late_fits false nick = tt
+
 read_fits : (memory : Remembered) (read : Result Parsed LineFault) → Fits (read_heard memory read)
 read_fits memory (Ok message) =
     let params = params_put_right memory message.command message.params in
-    each_way Fits (is_late memory message) (is_met_kill memory message) (pointwise bytes_eq params message.params) LeftOut LeftOut Unchanged
-    (Changed (record { items = text (with_params message params) })) tt tt tt (text_fits (with_params message params))
+    let nick = word_at 0 message in
+    let back = is_nick_line message && (was_introduced memory (unwrap_or message.prefix []) && is_nick nick) in
+    each_way Fits (is_late memory message) (is_met_kill memory message) (pointwise bytes_eq params message.params)
+    (if back then KillBack nick else LeftOut) LeftOut Unchanged (Changed (record { items = text (with_params message params) })) (late_fits back nick) tt tt
+    (text_fits (with_params message params))
 read_fits memory (Err fault) = tt
 
 pub changed_fits : ChangedFits

@@ -2,9 +2,10 @@
 use Rattle.std.proofs.Common.{◌≡◌, ℕ, ◌-◌, Bool, true, false, not, ◌&&◌, ◌||◌, nat_eq, nat_le, List, [], ◌∷◌, ◌++◌, refl, sym, ◌∙◌, ap, append-nil, append_assoc}
 use Rattle.irc_line.specs.Lines.{begun_behind, completed}
 use Rattle.irc_outbox.specs.Calls.{is_some_bytes}
+use Rattle.irc_outbox.specs.Outboxes.{Held}
 use Rattle.irc_late.specs.Coming.{Coming}
 use Rattle.irc_late.specs.Late.{after_hearing, heard}
-use Rattle.irc_late.specs.Links.{all_given, all_heard, goes_on, is_alone, last_alone, none_behind, text_given, waits, Gives, HearsNext, HearsOne}
+use Rattle.irc_late.specs.Links.{all_given, all_heard, all_kills_behind, goes_on, is_alone, kill_behind, last_alone, none_behind, text_given, waits, Gives, HearsNext, HearsOne}
 use Rattle.irc_late.specs.Remembering.{Remembered}
 
 not_false : true ≡ false → ⊥
@@ -22,6 +23,11 @@ heard_one : (memory : Remembered) (lines : List (List ℕ)) (line : List ℕ) �
 heard_one memory [] line = refl
 heard_one memory (first ∷ lines) line = heard_one (after_hearing memory first) lines line
 
+kills_one : (own : List ℕ) (memory : Remembered) (lines : List (List ℕ)) (line : List ℕ) (held : Held)
+    → all_kills_behind own memory (lines ++ line ∷ []) held ≡ kill_behind own (heard (all_heard memory lines) line) (all_kills_behind own memory lines held)
+kills_one own memory [] line held = refl
+kills_one own memory (first ∷ lines) line held = kills_one own (after_hearing memory first) lines line (kill_behind own (heard memory first) held)
+
 last_one : (before : Bool) (memory : Remembered) (lines : List (List ℕ)) (line : List ℕ) → last_alone before memory (lines ++ line ∷ []) ≡ is_alone line (heard (all_heard memory lines) line)
 last_one before memory [] line = refl
 last_one before memory (first ∷ lines) line = last_one (is_alone first (heard memory first)) (after_hearing memory first) lines line
@@ -38,11 +44,12 @@ none_one before memory (first ∷ lines) line none last =
     (none_behind (is_alone first (heard memory first)) (after_hearing memory first) (lines ++ line ∷ []))
     (λ so. none_one (is_alone first (heard memory first)) (after_hearing memory first) lines line so last) none
 
-module _ (old : Coming) (memory : Remembered) (given : List ℕ) (mid : Coming) (m : Remembered) (gives : Gives old memory given mid m) where
-  pub more_given : (next : Coming) (memory_after : Remembered) (given_after : List ℕ) (new : Coming) → HearsOne mid m next memory_after
+module _ (own : List ℕ) (old : Coming) (memory : Remembered) (back : Held) (given : List ℕ) (mid : Coming) (m : Remembered) (b : Held)
+    (gives : Gives own old memory back given mid m b) where
+  pub more_given : (next : Coming) (memory_after : Remembered) (back_after : Held) (given_after : List ℕ) (new : Coming) → HearsOne own mid m b next memory_after back_after
       → mid.line ≡ [] → mid.is_last ≡ false → given ++ next.line ≡ given_after ++ new.line → new ≡ record next { line = new.line }
-      → Gives old memory given_after new memory_after
-  more_given next memory_after given_after new hears none last more new_is =
+      → Gives own old memory back given_after new memory_after back_after
+  more_given next memory_after back_after given_after new hears none last more new_is =
       let line = hears.line in
       let lines = gives.lines in
       let said = text_given line (heard (all_heard memory lines) line) in
@@ -61,6 +68,7 @@ module _ (old : Coming) (memory : Remembered) (given : List ℕ) (mid : Coming) 
             ∙ ap (λ bytes. given ++ bytes) (sym (hears.given_on ∙ ap (text_given line) same))
             ∙ more;
         remembered = hears.remembered ∙ ap (λ (r : Remembered). after_hearing r line) gives.remembered ∙ sym (heard_one memory lines line);
+        written_back = hears.written_back ∙ (λ i. kill_behind own (same i) (gives.written_back i)) ∙ sym (kills_one own memory lines line back);
         alone = none_one (waits old) memory lines line gives.alone (sym gives.last ∙ last);
         last = ap (λ (c : Coming). c.is_last) new_is ∙ hears.alone ∙ ap (is_alone line) same ∙ sym (last_one (waits old) memory lines line);
       }
@@ -70,10 +78,10 @@ module _ (old : Coming) (memory : Remembered) (given : List ℕ) (mid : Coming) 
 pub same_but : (old new : Coming) (line : List ℕ) → new ≡ record old { line = line } → new ≡ record old { line = new.line }
 same_but old new line is = is ∙ ap (λ bytes. record old { line = bytes }) (sym (ap (λ (c : Coming). c.line) is))
 
-pub hears_one : (mid : Coming) (m : Remembered) (result : Bool) (next : Coming) (memory_after : Remembered) → result ≡ true → HearsNext mid m result next memory_after
-    → HearsOne mid m next memory_after
-hears_one mid m true next memory_after so hears = hears
-hears_one mid m false next memory_after so hears = absurd (not_false (sym so))
+pub hears_one : (own : List ℕ) (mid : Coming) (m : Remembered) (b : Held) (result : Bool) (next : Coming) (memory_after : Remembered) (back_after : Held) → result ≡ true
+    → HearsNext own mid m b result next memory_after back_after → HearsOne own mid m b next memory_after back_after
+hears_one own mid m b true next memory_after back_after so hears = hears
+hears_one own mid m b false next memory_after back_after so hears = absurd (not_false (sym so))
 
 none_some : (some last rest : Bool) → (not some && (not last && rest)) ≡ true → some ≡ false
 none_some true last rest goes = sym goes

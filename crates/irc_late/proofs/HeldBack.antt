@@ -7,9 +7,10 @@ use borrow.Rule.Slice.PartMut.{put_mid}
 use Rattle.irc_outbox.specs.Calls.{Call, read_into, reads, is_some_bytes, Adds}
 use Rattle.irc_outbox.specs.declared.wire.Got.{Got}
 use Rattle.irc_outbox.specs.declared.wire.Got.TheVariants.{Bytes}
+use Rattle.irc_outbox.specs.Outboxes.{Held}
 use Rattle.irc_late.specs.Coming.{Coming}
 use Rattle.irc_late.specs.Late.{after_hearing, heard}
-use Rattle.irc_late.specs.Links.{is_alone, text_given, EndsNone, EndsOne, FillsFrom, GivesLine, HearsNone, HearsOne}
+use Rattle.irc_late.specs.Links.{is_alone, kill_behind, text_given, EndsNone, EndsOne, FillsFrom, GivesLine, HearsNone, HearsOne}
 use Rattle.irc_late.specs.Remembering.{Remembered}
 
 none_left : (used size : ℕ) → 0 ≡ size - used → size ≤ used
@@ -98,14 +99,14 @@ pub shorter : (used used_after : ℕ) (bytes : List ℕ) → used < used_after �
 shorter used used_after bytes on within =
     fewer_than (length (drop used_after bytes)) (length (drop used bytes)) used used_after (length bytes) (length-drop used_after bytes) (length-drop used bytes) on within
 
-pub heard_none : (memory : Remembered) (inside old new : Coming) → inside ≡ old → EndsNone inside.framer inside.input new.framer new.input → new.line ≡ inside.line
-    → new.is_last ≡ inside.is_last → HearsNone old memory new memory
-heard_none memory inside old new is ends line last =
-    subst (λ (o : Coming). HearsNone o memory new memory) is (record { ends = ends; line = line; alone = last; remembered = refl })
+pub heard_none : (memory : Remembered) (back : Held) (inside old new : Coming) → inside ≡ old → EndsNone inside.framer inside.input new.framer new.input → new.line ≡ inside.line
+    → new.is_last ≡ inside.is_last → HearsNone old memory back new memory back
+heard_none memory back inside old new is ends line last =
+    subst (λ (o : Coming). HearsNone o memory back new memory back) is (record { ends = ends; line = line; alone = last; remembered = refl; written_back = refl })
 
-pub heard_one : (memory memory_after : Remembered) (inside old new : Coming) (line : List ℕ) → inside ≡ old → EndsOne inside.framer inside.input line new.framer new.input
+pub heard_one : (own : List ℕ) (memory memory_after : Remembered) (back back_after : Held) (inside old new : Coming) (line : List ℕ) → inside ≡ old → EndsOne inside.framer inside.input line new.framer new.input
     → new.line ≡ text_given line (heard memory line) → new.is_last ≡ is_alone line (heard memory line) → memory_after ≡ after_hearing memory line
-    → length new.input < length inside.input → HearsOne old memory new memory_after
-heard_one memory memory_after inside old new line is ends given last after fewer =
-    subst (λ (o : Coming). HearsOne o memory new memory_after) is
-    (record { line = line; ends = ends; given_on = given; alone = last; remembered = after; fewer = fewer })
+    → back_after ≡ kill_behind own (heard memory line) back → length new.input < length inside.input → HearsOne own old memory back new memory_after back_after
+heard_one own memory memory_after back back_after inside old new line is ends given last after kills fewer =
+    subst (λ (o : Coming). HearsOne own o memory back new memory_after back_after) is
+    (record { line = line; ends = ends; given_on = given; alone = last; remembered = after; written_back = kills; fewer = fewer })

@@ -12,4 +12,5 @@ mod ReadOn
 mod Servers
 mod Told
 mod Turning
+mod Written
 mod WrittenAgain

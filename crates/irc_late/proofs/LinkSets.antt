@@ -8,8 +8,8 @@ use Rattle.std.specs.Option.{option_map}
 use Rattle.std.specs.Ordering.{nat_cmp, is_eq}
 use Rattle.std.proofs.lemmas.Bool.{eq-eqb, eqb-true}
 use Rattle.irc_late.specs.declared.late_link.LateLink.{LateLink}
-use Rattle.irc_late.specs.Around.{Links, at_link, link_at, there, to_link, Changes, ReadsAt, Sets, WritesAt}
-use Rattle.irc_late.specs.LinkEnds.{ReadsLink, WritesLink}
+use Rattle.irc_late.specs.Around.{Links, at_link, back_to_link, link_at, there, to_link, Changes, ReadsAt, Sets, WritesAt, WritesBackAt}
+use Rattle.irc_late.specs.LinkEnds.{ReadsLink, WritesBack, WritesLink}
 use Rattle.irc_outbox.specs.Calls.{Call}
 use Rattle.irc_outbox.specs.declared.wire.Got.{Got}
 use Rattle.irc_outbox.specs.declared.wire.IoFault.{IoFault}
@@ -52,7 +52,12 @@ module _ (conn : ℕ) (old new : Links) (link now : Box LateLink) (is : Some lin
   written_to is_after bytes wire wire_after result lent lent_is writes =
       to_link link.value now.value at_it (subst (λ (l : LateLink). WritesLink is_after conn bytes l wire result now.value wire_after) lent_is writes) set_through
 
-  pub read_from : {W : Type 0} (is_after : W → List Call → Type 0) (wire wire_after : W) (buffer buffer_after : List ℕ) (result : Result Got IoFault) (lent : LateLink) → lent ≡ link.value
-      → ReadsLink is_after conn lent wire buffer result buffer_after now.value wire_after → ReadsAt is_after conn old wire buffer result buffer_after new wire_after
-  read_from is_after wire wire_after buffer buffer_after result lent lent_is reads =
-      at_link link.value now.value at_it (subst (λ (l : LateLink). ReadsLink is_after conn l wire buffer result buffer_after now.value wire_after) lent_is reads) set_through
+  pub read_from : {W : Type 0} (is_after : W → List Call → Type 0) (own : List ℕ) (wire wire_after : W) (buffer buffer_after : List ℕ) (result : Result Got IoFault) (lent : LateLink) → lent ≡ link.value
+      → ReadsLink is_after conn own lent wire buffer result buffer_after now.value wire_after → ReadsAt is_after conn own old wire buffer result buffer_after new wire_after
+  read_from is_after own wire wire_after buffer buffer_after result lent lent_is reads =
+      at_link link.value now.value at_it (subst (λ (l : LateLink). ReadsLink is_after conn own l wire buffer result buffer_after now.value wire_after) lent_is reads) set_through
+
+  pub written_back : {W : Type 0} (is_after : W → List Call → Type 0) (wire wire_after : W) (result : Result ℕ IoFault) (lent : LateLink) → lent ≡ link.value
+      → WritesBack is_after conn lent wire result now.value wire_after → WritesBackAt is_after conn old wire result new wire_after
+  written_back is_after wire wire_after result lent lent_is writes =
+      back_to_link link.value now.value at_it (subst (λ (l : LateLink). WritesBack is_after conn l wire result now.value wire_after) lent_is writes) set_through

@@ -11,7 +11,7 @@ use Rattle.irc_late.specs.declared.hearing.Heard.TheVariants.{Unchanged, Changed
 use Rattle.irc_late.specs.declared.memory.Killed.{Killed}
 use Rattle.irc_names.specs.Fold.{same}
 use Rattle.irc_late.specs.Remembering.{Remembered, has_crossed, nick_now}
-use Rattle.irc_late.specs.Late.{has_word, heard_with, is_kill_line, is_late, is_met_kill, members_put_right, message_heard, modes_put_right, names_first, names_member, params_put_right, put_right, put_right_at, read_heard, with_params, word_at}
+use Rattle.irc_late.specs.Late.{has_word, heard_with, is_kill_line, is_late, is_met_kill, late_heard, members_put_right, message_heard, modes_put_right, names_first, names_member, params_put_right, put_right, put_right_at, read_heard, with_params, word_at}
 use Rattle.irc_late.specs.Laws.{NobodyIsUnchanged, is_given_up}
 
 -- ---- tests that are false
@@ -104,7 +104,7 @@ heard_with_same message params is =
 abbrev pub in_time : (memory : Remembered) (message : Parsed) → is_late memory message ≡ false → is_met_kill memory message ≡ false
     → params_put_right memory message.command message.params ≡ message.params → message_heard memory message ≡ Unchanged
 in_time memory message not_late not_met is =
-    (λ i. if not_late i then LeftOut
+    (λ i. if not_late i then late_heard memory (unwrap_or message.prefix []) message
     else (if not_met i then LeftOut else heard_with message (params_put_right memory message.command message.params)))
     ∙ heard_with_same message (params_put_right memory message.command message.params) is
 

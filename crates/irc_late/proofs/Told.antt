@@ -16,17 +16,19 @@ module _ {W : Type 0} (is_after : W → List Call → Type 0) (old begun : LateW
     told = subst (λ asked. IsTold is_after asked begun.links begun.wire (Ok (Readable conn)) begun.links begun.wire) (sym is) (refl, refl, refl);
     asked = refl;
     reading = refl;
+    own = refl;
   }
 
   pub told_below : (new : LateWire W) (result answer : Result Ready IoFault) (between : W) → begun.asked ≡ None → Adds is_after begun.wire (asks answer) between
-      → MeetsAnswer is_after answer begun.links between result new.links new.wire → new.asked ≡ begun.asked → new.reading ≡ begun.reading → IsReady is_after old result new
-  told_below new result answer between none account meets asked reading = record {
+      → MeetsAnswer is_after answer begun.links between result new.links new.wire → new.asked ≡ begun.asked → new.reading ≡ begun.reading → new.own ≡ begun.own → IsReady is_after old result new
+  told_below new result answer between none account meets asked reading own = record {
     begun = begun;
     begins = begins;
     told = subst (λ held. IsTold is_after held begun.links begun.wire result new.links new.wire) (sym none)
         (record { answer = answer; between = between; account = account; meets = meets });
     asked = asked;
     reading = reading;
+    own = own;
   }
 
 pub err_so : {X : Type 0} (result : Result X IoFault) (fault : IoFault) → IsErrAnd result (λ e. e ≡ fault) → result ≡ Err fault

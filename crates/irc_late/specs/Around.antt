@@ -1,5 +1,5 @@
 -- A wire around a wire: the links that it has, and what becomes of them.
-use Rattle.std.specs.Prelude.{◌≡◌, ℕ, Bool, true, false, nat_eq, Option, Some, None, Result, List, [], if◌then◌else◌}
+use Rattle.std.specs.Prelude.{◌≡◌, ℕ, Bool, true, false, nat_eq, Option, Some, None, Result, Ok, Err, List, [], if◌then◌else◌}
 use Rattle.std.specs.Global.{Box}
 use Rattle.std.specs.List.{find}
 use Rattle.std.specs.Option.{option_map, option_map_or}
@@ -7,12 +7,12 @@ use Rattle.std.specs.Ordering.{nat_cmp}
 use Rattle.std.specs.BTreeMap.{BTreeMap, get, keys}
 use Rattle.irc_outbox.specs.Calls.{Call, closes, read_into, writes, Adds}
 use Rattle.irc_outbox.specs.declared.wire.Ready.{Ready}
-use Rattle.irc_outbox.specs.declared.wire.Ready.TheVariants.{Idle, Linked}
+use Rattle.irc_outbox.specs.declared.wire.Ready.TheVariants.{Idle, Linked, Writable}
 use Rattle.irc_outbox.specs.declared.wire.Got.{Got}
 use Rattle.irc_outbox.specs.declared.wire.IoFault.{IoFault}
 use Rattle.irc_late.specs.declared.late_link.LateLink.{LateLink}
 use Rattle.irc_late.specs.declared.late_wire.LateWire.{LateWire}
-use Rattle.irc_late.specs.LinkEnds.{begun, ReadsLink, WritesLink}
+use Rattle.irc_late.specs.LinkEnds.{begun, ReadsLink, WritesBack, WritesLink}
 use Rattle.irc_late.specs.Links.{holds_back}
 
 -- the links, by their numbers
@@ -56,17 +56,26 @@ unless None conn = None
 unless (Some asked) conn = if nat_eq asked conn then None else Some asked
 
 -- a connection is read: as a link, or as it is
-pub data ReadsAt {W : Type 0} (is_after : W → List Call → Type 0) (conn : ℕ) (old : Links)
-    (wire : W) (buffer : List ℕ) (result : Result Got IoFault) (buffer_after : List ℕ)
+pub data ReadsAt {W : Type 0} (is_after : W → List Call → Type 0) (conn : ℕ) (own : List ℕ)
+    (old : Links) (wire : W) (buffer : List ℕ) (result : Result Got IoFault) (buffer_after : List ℕ)
     (new : Links) (wire_after : W)
     : Type 0 where
   at_link : (link now : LateLink) → link_at old conn ≡ Some link
-      → ReadsLink is_after conn link wire buffer result buffer_after now wire_after
+      → ReadsLink is_after conn own link wire buffer result buffer_after now wire_after
       → Sets conn (Some now) old new
-      → ReadsAt is_after conn old wire buffer result buffer_after new wire_after
+      → ReadsAt is_after conn own old wire buffer result buffer_after new wire_after
   no_link : link_at old conn ≡ None
       → Adds is_after wire (read_into conn buffer result buffer_after) wire_after → new ≡ old
-      → ReadsAt is_after conn old wire buffer result buffer_after new wire_after
+      → ReadsAt is_after conn own old wire buffer result buffer_after new wire_after
+
+-- what is to be written back to a link is written, if it is one
+pub data WritesBackAt {W : Type 0} (is_after : W → List Call → Type 0) (conn : ℕ) (old : Links)
+    (wire : W) (result : Result ℕ IoFault) (new : Links) (wire_after : W) : Type 0 where
+  back_to_link : (link now : LateLink) → link_at old conn ≡ Some link
+      → WritesBack is_after conn link wire result now wire_after
+      → Sets conn (Some now) old new → WritesBackAt is_after conn old wire result new wire_after
+  back_to_none : link_at old conn ≡ None → result ≡ Ok 0 → wire_after ≡ wire → new ≡ old
+      → WritesBackAt is_after conn old wire result new wire_after
 
 -- a connection is written to: as a link, or as it is
 pub data WritesAt {W : Type 0} (is_after : W → List Call → Type 0) (conn : ℕ) (bytes : List ℕ)
@@ -82,9 +91,11 @@ pub data WritesAt {W : Type 0} (is_after : W → List Call → Type 0) (conn : �
 
 -- ---- the wire around
 
--- around one that has reported nothing: there are no links
-pub record IsAround {W : Type 0} (wire : W) (late : LateWire W) : Type 0 where
+-- around one that has reported nothing: there are no links, and KILLs are written back from this
+-- server
+pub record IsAround {W : Type 0} (wire : W) (own : List ℕ) (late : LateWire W) : Type 0 where
   pub wire_is : late.wire ≡ wire
+  pub own_is : late.own ≡ own
   pub no_links : late.links.entries ≡ []
   pub unasked : late.asked ≡ None
   pub unread : late.reading ≡ None
@@ -98,10 +109,20 @@ MeetsLink is_after conn name old wire Idle new wire_after =
     (new.entries ≡ old.entries) × Adds is_after wire (closes conn) wire_after
 MeetsLink is_after conn name old wire result new wire_after = ⊥
 
--- What the wire has reported is told; a link that begins is there from now on.
-abbrev pub Meets : {W : Type 0} → (W → List Call → Type 0) → Ready → Links → W → Ready → Links
-    → W → Type 0
-Meets is_after (Linked conn name) old wire result new wire_after =
+-- what comes of a write for what is told
+abbrev pub told_behind : {X : Type 0} → X → Result ℕ IoFault → Result X IoFault
+told_behind told (Ok count) = Ok told
+told_behind told (Err fault) = Err fault
+
+-- What the wire has reported is told; a link that begins is there from now on, and to one that
+-- takes bytes again is written what is to be written back.
+abbrev pub Meets : {W : Type 0} → (W → List Call → Type 0) → Ready → Links → W
+    → Result Ready IoFault → Links → W → Type 0
+Meets is_after (Linked conn name) old wire (Ok result) new wire_after =
     MeetsLink is_after conn name old wire result new wire_after
+Meets is_after (Linked conn name) old wire (Err fault) new wire_after = ⊥
+Meets is_after (Writable conn) old wire result new wire_after =
+    (written : Result ℕ IoFault) × WritesBackAt is_after conn old wire written new wire_after
+    × (result ≡ told_behind (Writable conn) written)
 Meets is_after ready old wire result new wire_after =
-    (result ≡ ready) × (new ≡ old) × (wire_after ≡ wire)
+    (result ≡ Ok ready) × (new ≡ old) × (wire_after ≡ wire)

@@ -6,7 +6,7 @@ use Rattle.irc_outbox.specs.declared.wire.IoFault.{IoFault}
 use Rattle.irc_outbox.specs.declared.wire.Ready.{Ready}
 use Rattle.irc_outbox.specs.declared.wire.Ready.TheVariants.{Readable}
 use Rattle.irc_late.specs.declared.late_wire.LateWire.{LateWire}
-use Rattle.irc_late.specs.Around.{Links, first_held, unless, Changes, ChangesIf, Meets, ReadsAt, Sets, WritesAt}
+use Rattle.irc_late.specs.Around.{Links, first_held, told_behind, unless, Changes, ChangesIf, Meets, ReadsAt, Sets, WritesAt, WritesBackAt}
 use Rattle.irc_late.specs.LinkEnds.{with_offered, with_turn_over, without_held}
 
 -- ---- what is ready
@@ -14,9 +14,8 @@ use Rattle.irc_late.specs.LinkEnds.{with_offered, with_turn_over, without_held}
 -- the wire below is asked, and what it reports is met
 abbrev pub MeetsAnswer : {W : Type 0} → (W → List Call → Type 0) → Result Ready IoFault → Links
     → W → Result Ready IoFault → Links → W → Type 0
-MeetsAnswer is_after (Ok ready) old wire (Ok result) new wire_after =
+MeetsAnswer is_after (Ok ready) old wire result new wire_after =
     Meets is_after ready old wire result new wire_after
-MeetsAnswer is_after (Ok ready) old wire (Err fault) new wire_after = ⊥
 MeetsAnswer is_after (Err fault) old wire result new wire_after =
     (result ≡ Err fault) × (new ≡ old) × (wire_after ≡ wire)
 
@@ -44,6 +43,7 @@ pub record Begins {W : Type 0} (old new : LateWire W) : Type 0 where
   pub asked : new.asked ≡ first_held new.links
   pub reading : new.reading ≡ None
   pub wire : new.wire ≡ old.wire
+  pub own : new.own ≡ old.own
 
 pub record IsReady {W : Type 0} (is_after : W → List Call → Type 0) (old : LateWire W)
     (result : Result Ready IoFault) (new : LateWire W) : Type 0 where
@@ -52,17 +52,33 @@ pub record IsReady {W : Type 0} (is_after : W → List Call → Type 0) (old : L
   pub told : IsTold is_after begun.asked begun.links begun.wire result new.links new.wire
   pub asked : new.asked ≡ begun.asked
   pub reading : new.reading ≡ begun.reading
+  pub own : new.own ≡ begun.own
 
 -- ---- what is read
+
+-- what is to be written back because of what was read is written at once
+abbrev pub WritesBehindRead : {W : Type 0} → (W → List Call → Type 0) → ℕ → Result Got IoFault
+    → Links → W → Result Got IoFault → Links → W → Type 0
+WritesBehindRead is_after conn (Err fault) old wire result new wire_after =
+    (result ≡ Err fault) × (new ≡ old) × (wire_after ≡ wire)
+WritesBehindRead is_after conn (Ok got) old wire result new wire_after =
+    (written : Result ℕ IoFault) × WritesBackAt is_after conn old wire written new wire_after
+    × (result ≡ told_behind got written)
 
 pub record ReadsFrom {W : Type 0} (is_after : W → List Call → Type 0) (conn : ℕ)
     (old : LateWire W) (buffer : List ℕ) (result : Result Got IoFault) (buffer_after : List ℕ)
     (new : LateWire W) : Type 0 where
   pub links : Links
   pub over : ChangesIf old.reading with_turn_over old.links links
-  pub reads : ReadsAt is_after conn links old.wire buffer result buffer_after new.links new.wire
+  pub between : Links
+  pub wire_between : W
+  pub answer : Result Got IoFault
+  pub reads :
+      ReadsAt is_after conn old.own links old.wire buffer answer buffer_after between wire_between
+  pub behind : WritesBehindRead is_after conn answer between wire_between result new.links new.wire
   pub asked : new.asked ≡ unless old.asked conn
   pub reading : new.reading ≡ Some conn
+  pub own : new.own ≡ old.own
 
 -- ---- what is written
 
@@ -80,6 +96,7 @@ pub record WritesTo {W : Type 0} (is_after : W → List Call → Type 0) (conn :
   pub written :
       WritesUnheld is_after conn bytes (first_held links) links old.wire result new.links new.wire
   pub asked : new.asked ≡ old.asked
+  pub own : new.own ≡ old.own
   pub reading : new.reading ≡ old.reading
 
 -- ---- what is closed
@@ -89,4 +106,5 @@ pub record Closes {W : Type 0} (is_after : W → List Call → Type 0) (conn : �
   pub account : Adds is_after old.wire (closes conn) new.wire
   pub gone : Sets conn None old.links new.links
   pub asked : new.asked ≡ old.asked
+  pub own : new.own ≡ old.own
   pub reading : new.reading ≡ old.reading

@@ -1,28 +1,37 @@
--- What becomes of a line that comes by a link, by what this end remembers of it, and what is remembered then.
+-- What becomes of a line that comes by a link, by what this end remembers of it, and what is
+-- remembered then.
 --
 -- a.net has killed zed of b.net, and that KILL is still on its way when b.net writes
---   `:zed JOIN #c`             left out: zed is nobody any more, and who may have the name by now is another
---   `:zed NICK zoe`            left out, and zoe is remembered as killed: b.net puts the KILL right (below)
---   `:zed QUIT :bye`           left out, and zed is no longer remembered
---   `NICK zed 1 u h 1 + :Z`    unchanged, and zed is no longer remembered: this is somebody else
--- Both have introduced zed at once, and a.net has killed them because of `NICK zed 1 u h 1 + :Z`; then b.net writes
---   `:b.net KILL zed :..`      left out: it has met a.net's, and who may have the name by now is another
+--   `:zed JOIN #c`            left out: zed is nobody any more, and who may have the name by now
+--                             is another
+--   `:zed NICK zoe`           left out, and zoe is remembered as killed: b.net puts the KILL right
+--                             (below)
+--   `:zed QUIT :bye`          left out, and zed is no longer remembered
+--   `NICK zed 1 u h 1 + :Z`   unchanged, and zed is no longer remembered: this is somebody else
+-- Both have introduced zed at once, and a.net has killed them because of `NICK zed 1 u h 1 + :Z`;
+-- then b.net writes
+--   `:b.net KILL zed :..`     left out: it has met a.net's, and who may have the name by now
+--                             is another
+--   `:zed NICK zoe`           left out, and a KILL for zoe is to be written back: that of zed finds
+--                             a.net's own on b.net
 -- al of a.net has become ally, and b.net does not know it yet when it writes
---   `:bo KICK #c al :out`      becomes `:bo KICK #c ally :out`; so do a KILL, an INVITE, and a PRIVMSG or NOTICE for al
---   `:bo MODE #c +ol al 5`     becomes `:bo MODE #c +ol ally :5`; a key that is spelled `al` stays as it is
+--   `:bo KICK #c al :out`     becomes `:bo KICK #c ally :out`; so do a KILL, an INVITE, and a
+--                             PRIVMSG or NOTICE for al
+--   `:bo MODE #c +ol al 5`    becomes `:bo MODE #c +ol ally :5`; a key that is spelled `al` stays
 -- Each other line is given on byte for byte.
 use Rattle.std.specs.Prelude.{ℕ, zero, suc, ◌-◌, Bool, true, false, ◌&&◌, ◌||◌, Option, Some, None, Result, Ok, Err, List, [], ◌∷◌, codes, length, take, get_or, nat_eq, unwrap_or, if◌then◌else◌}
 use Rattle.std.specs.List.{slice_get}
-use Rattle.std.specs.Option.{option_map_or}
+use Rattle.std.specs.Option.{is_none, option_map_or}
 use Rattle.std.specs.Cmp.Lexicographic.{pointwise}
 use Rattle.std.specs.Str.{bytes_eq}
 use Rattle.irc_line.specs.declared.reading.LineFault.{LineFault}
 use Rattle.irc_line.specs.Messages.{Parsed, Sender, Written, nobody, named, text}
 use Rattle.irc_line.specs.Reading.{read_of}
+use Rattle.irc_names.specs.Names.{is_nick}
 use Rattle.irc_link_words.specs.Words.{is_command, is_for_channel}
 use Rattle.irc_late.specs.declared.hearing.Heard.{Heard}
-use Rattle.irc_late.specs.declared.hearing.Heard.TheVariants.{Unchanged, Changed, LeftOut}
-use Rattle.irc_late.specs.Remembering.{Remembered, has_crossed, is_killed, is_met, nick_now, none_crossed, with_change, with_killed, with_met, without_changes, without_killed}
+use Rattle.irc_late.specs.declared.hearing.Heard.TheVariants.{Unchanged, Changed, LeftOut, KillBack}
+use Rattle.irc_late.specs.Remembering.{Remembered, has_crossed, is_killed, is_met, is_met_new, nick_now, none_crossed, with_change, with_killed, with_met, was_introduced, without_changes, without_killed}
 
 -- a word of a line; no bytes where the line has fewer
 abbrev pub word_at : ℕ → Parsed → List ℕ
@@ -49,7 +58,7 @@ nick_put_out (Some old) nick memory = with_change old nick memory
 
 abbrev pub message_put_out : Remembered → Parsed → Remembered
 message_put_out memory message =
-    if is_kill_line message then with_killed (word_at 0 message) (is_met memory (word_at 0 message)) memory
+    if is_kill_line message then with_killed (word_at 0 message) (is_met memory (word_at 0 message)) (is_met_new memory (word_at 0 message)) memory
     else (if is_nick_line message then nick_put_out message.prefix (word_at 0 message) memory
     else memory)
 
@@ -79,7 +88,8 @@ put_right_at memory zero (word ∷ words) = put_right memory word ∷ words
 put_right_at memory (suc place) [] = []
 put_right_at memory (suc place) (word ∷ words) = word ∷ put_right_at memory place words
 
--- whether a letter has a word behind the sign, and whether that is a member's nickname (RFC 2811 section 4): `k`, `b`, `o` and `v` always, `l` where it is set
+-- whether a letter has a word behind the sign, and whether that is a member's nickname (RFC 2811
+-- section 4): `k`, `b`, `o` and `v` always, `l` where it is set
 abbrev pub names_member : ℕ → Bool
 names_member letter = nat_eq letter 0x6f || nat_eq letter 0x76
 
@@ -109,7 +119,8 @@ names_first command =
     is_command (codes "KILL") command || (is_command (codes "INVITE") command
     || (is_command (codes "PRIVMSG") command || is_command (codes "NOTICE") command))
 
--- the parameters of a command, with each nickname that one of this end's users has given up put right
+-- the parameters of a command, with each nickname that one of this end's users has given up put
+-- right
 abbrev pub params_put_right : Remembered → List ℕ → List (List ℕ) → List (List ℕ)
 params_put_right memory command params =
     if is_command (codes "KICK") command then put_right_at memory 1 params
@@ -156,8 +167,16 @@ put_right_heard memory message = heard_with message (words_put_right memory mess
 abbrev pub other_heard : Remembered → Parsed → Heard
 other_heard memory message = if is_met_kill memory message then LeftOut else put_right_heard memory message
 
+-- A line of somebody who was killed is left out. Where it takes another nickname, and the KILL
+-- has crossed the line that has introduced it, a KILL for that nickname is to be written back:
+-- the one for the old nickname finds this end's own user there.
+abbrev pub late_heard : Remembered → List ℕ → Parsed → Heard
+late_heard memory name message =
+    if is_nick_line message && (was_introduced memory name && is_nick (word_at 0 message)) then KillBack (word_at 0 message) else LeftOut
+
 abbrev pub message_heard : Remembered → Parsed → Heard
-message_heard memory message = if is_late memory message then LeftOut else other_heard memory message
+message_heard memory message =
+    if is_late memory message then late_heard memory (unwrap_or message.prefix []) message else other_heard memory message
 
 abbrev pub read_heard : Remembered → Result Parsed LineFault → Heard
 read_heard memory (Ok message) = message_heard memory message
@@ -172,16 +191,16 @@ heard memory line = read_heard memory (read_of line)
 -- Somebody who was killed takes another nickname, and is to be killed under that one; or leaves.
 abbrev pub after_late : Remembered → List ℕ → Parsed → Remembered
 after_late memory name message =
-    if is_nick_line message then with_killed (word_at 0 message) false (without_killed name memory)
+    if is_nick_line message then with_killed (word_at 0 message) false false (without_killed name memory)
     else (if is_quit_line message then without_killed name memory
     else memory)
 
--- The other end introduces or takes a nickname, or has killed its holder: it says no more of whoever had it. Where it loses a server, users
--- leave of whom nothing more is said.
+-- The other end introduces or takes a nickname, or has killed its holder: it says no more of
+-- whoever had it. Where it loses a server, users leave of whom nothing more is said.
 abbrev pub after_message : Remembered → Parsed → Remembered
 after_message memory message =
     if is_nick_line message then
-    with_met (word_at 0 message) (without_killed (word_at 0 message) (without_changes (word_at 0 message) memory))
+    with_met (word_at 0 message) (is_none message.prefix) (without_killed (word_at 0 message) (without_changes (word_at 0 message) memory))
     else (if is_kill_line message then without_killed (word_at 0 message) memory
     else (if is_squit_line message then none_crossed memory
     else memory))
@@ -194,7 +213,8 @@ after_read memory (Err fault) = memory
 abbrev pub after_hearing : Remembered → List ℕ → Remembered
 after_hearing memory line = after_read memory (read_of line)
 
--- Whether a line may meet another user of a nickname: what the server puts out because of it has to be known before the next line is read.
+-- Whether a line may meet another user of a nickname: what the server puts out because of it has
+-- to be known before the next line is read.
 abbrev pub is_read_as_nick : Result Parsed LineFault → Bool
 is_read_as_nick (Ok message) = is_nick_line message
 is_read_as_nick (Err fault) = false

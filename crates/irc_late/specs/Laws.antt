@@ -10,7 +10,7 @@ use Rattle.irc_line.specs.Reading.{read_of}
 use Rattle.irc_names.specs.Names.{IsServer, is_nick}
 use Rattle.irc_link_words.specs.Words.{is_command}
 use Rattle.irc_late.specs.declared.hearing.Heard.{Heard}
-use Rattle.irc_late.specs.declared.hearing.Heard.TheVariants.{Unchanged, Changed, LeftOut}
+use Rattle.irc_late.specs.declared.hearing.Heard.TheVariants.{Unchanged, Changed, LeftOut, KillBack}
 use Rattle.irc_late.specs.declared.memory.Killed.{Killed}
 use Rattle.irc_late.specs.Remembering.{Remembered, is_killed, nick_now, nothing_remembered}
 use Rattle.irc_late.specs.Late.{after_hearing, heard, is_late, line_put_out, names_first, word_at}
@@ -36,7 +36,8 @@ NothingIsNoted = (memory : Remembered) (line : List ℕ) → RemembersNothing me
 abbrev pub is_given_up : Remembered → List ℕ → Bool
 is_given_up memory word = is_some (nick_now memory word)
 
--- A message from nobody who was killed, whose first word is no nickname that was killed, and none of whose words is one that was given up.
+-- A message from nobody who was killed, whose first word is no nickname that was killed, and none
+-- of whose words is one that was given up.
 pub record NamesNobody (memory : Remembered) (message : Parsed) : Type 0 where
   pub sender : is_late memory message ≡ false
   pub first : is_killed memory (word_at 0 message) ≡ false
@@ -57,7 +58,8 @@ names_nicks command = is_command (codes "KICK") command || (names_first command 
 abbrev pub are_nicks : List Killed → Bool
 are_nicks killed = list_all (λ (k : Killed). is_nick k.nick) killed
 
--- A line from a server, of a command that names nobody, is given on as it came: no nickname is a server's name.
+-- A line from a server, of a command that names nobody, is given on as it came: no nickname is a
+-- server's name.
 abbrev pub ServersAreUnchanged : Type 0
 ServersAreUnchanged = (memory : Remembered) (line : List ℕ) (message : Parsed) (server : List ℕ) → read_of line ≡ Ok message
     → message.prefix ≡ Some server → IsServer server → are_nicks memory.killed ≡ true → names_nicks message.command ≡ false
@@ -91,3 +93,22 @@ ModeIsPutRight = heard_after (codes ":al NICK ally") (codes ":bo MODE #c +ol al 
 -- a key that is spelled like a nickname
 abbrev pub KeyStays : Type 0
 KeyStays = heard_after (codes ":al NICK ally") (codes ":bo MODE #c +k al") ≡ Unchanged
+
+-- what becomes of a line, where the other end's line has crossed one that is put out because of it
+abbrev pub heard_crossed : (came out line : List ℕ) → Heard
+heard_crossed came out line = heard (line_put_out (after_hearing nothing_remembered came) out) line
+
+-- a KILL that has crossed this end's
+abbrev pub CrossedKillIsLeftOut : Type 0
+CrossedKillIsLeftOut =
+    heard_crossed (codes "NICK zed 1 u h 1 + :Z") (codes ":a.net KILL zed :Nick collision") (codes ":b.net KILL zed :Nick collision") ≡ LeftOut
+
+-- somebody who was introduced as this end put out the KILL, and has another nickname now
+abbrev pub CrossedNickIsKilled : Type 0
+CrossedNickIsKilled =
+    heard_crossed (codes "NICK zed 1 u h 1 + :Z") (codes ":a.net KILL zed :Nick collision") (codes ":zed NICK zoe") ≡ KillBack (codes "zoe")
+
+-- somebody who took the nickname as this end put out the KILL
+abbrev pub CrossedRenameIsLeftOut : Type 0
+CrossedRenameIsLeftOut =
+    heard_crossed (codes ":al NICK zed") (codes ":a.net KILL zed :Nick collision") (codes ":zed NICK zoe") ≡ LeftOut

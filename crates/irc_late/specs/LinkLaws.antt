@@ -1,7 +1,8 @@
 -- Where nothing is remembered the wire is the wire below.
-use Rattle.std.specs.Prelude.{◌≡◌, ℕ, List, [], ◌++◌}
+use Rattle.std.specs.Prelude.{◌≡◌, ℕ, List, ◌++◌}
 use Rattle.std.specs.List.{flat_map}
 use Rattle.irc_line.specs.Bytes.{crlf}
+use Rattle.irc_late.specs.Laws.{RemembersNothing}
 use Rattle.irc_late.specs.Links.{all_given, all_heard}
 use Rattle.irc_late.specs.Remembering.{nothing_remembered}
 
@@ -13,10 +14,6 @@ abbrev pub LinesAreGivenOn : Type 0
 LinesAreGivenOn =
     (lines : List (List ℕ)) → all_given nothing_remembered lines ≡ flat_map with_line_end lines
 
--- and nothing is remembered then, but for what the last of them has met
-pub record IsNothingKept (lines : List (List ℕ)) : Type 0 where
-  pub none_killed : (all_heard nothing_remembered lines).killed ≡ []
-  pub none_changed : (all_heard nothing_remembered lines).changes ≡ []
-
+-- and nothing is remembered then
 abbrev pub NothingIsKept : Type 0
-NothingIsKept = (lines : List (List ℕ)) → IsNothingKept lines
+NothingIsKept = (lines : List (List ℕ)) → RemembersNothing (all_heard nothing_remembered lines)

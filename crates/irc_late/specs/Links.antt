@@ -1,16 +1,21 @@
 -- One end of a link, between its bytes and the server: what it puts out is read as it is offered,
 -- and what comes is given on line by line.
-use Rattle.std.specs.Prelude.{◌≡◌, ℕ, ◌+◌, ◌-◌, ◌<◌, ◌≤◌, Bool, true, false, not, ◌&&◌, ◌||◌, Option, Some, None, Result, List, [], ◌∷◌, ◌++◌, length, take, drop, max, nat_eq, nat_le}
+use Rattle.std.specs.Prelude.{◌≡◌, ℕ, ◌+◌, ◌-◌, ◌<◌, ◌≤◌, Bool, true, false, not, ◌&&◌, ◌||◌, Option, Some, None, Result, List, [], ◌∷◌, ◌++◌, length, take, drop, max, nat_eq, nat_le, if◌then◌else◌}
+use Rattle.std.specs.List.{slice_get}
+use Rattle.std.specs.Option.{option_map_or}
 use Rattle.arrayvec.specs.ArrayVec.{ArrayVec}
 use Rattle.irc_line.specs.Bytes.{crlf}
 use Rattle.irc_line.specs.Lines.{Begun, nothing_begun, begun_behind, completed}
+use Rattle.irc_line.specs.Messages.{text}
+use Rattle.irc_burst_lines.specs.DeedLines.{kill_parts}
 use Rattle.irc_outbox.specs.Calls.{Call, reads, is_some_bytes, Adds}
+use Rattle.irc_outbox.specs.Outboxes.{Held, holding}
 use Rattle.irc_outbox.specs.declared.wire.Got.{Got}
 use Rattle.irc_outbox.specs.declared.wire.Got.TheVariants.{Bytes}
 use Rattle.irc_outbox.specs.declared.wire.IoFault.{IoFault}
 use Rattle.irc_late.specs.declared.outgoing.Outgoing.{Outgoing}
 use Rattle.irc_late.specs.declared.hearing.Heard.{Heard}
-use Rattle.irc_late.specs.declared.hearing.Heard.TheVariants.{Unchanged, Changed, LeftOut}
+use Rattle.irc_late.specs.declared.hearing.Heard.TheVariants.{Unchanged, Changed, LeftOut, KillBack}
 use Rattle.irc_late.specs.Coming.{Coming}
 use Rattle.irc_late.specs.Remembering.{Remembered}
 use Rattle.irc_late.specs.Late.{after_hearing, heard, may_meet}
@@ -18,7 +23,7 @@ use Rattle.irc_late.specs.Late.{after_hearing, heard, may_meet}
 -- ---- what is put out
 
 abbrev pub nothing_put_out : Outgoing
-nothing_put_out = record { framer = nothing_begun; ahead = 0 }
+nothing_put_out = record { framer = nothing_begun; ahead = 0; is_between_lines = true }
 
 -- bytes are offered, of which some may have been offered before
 abbrev pub offered : List ℕ → Outgoing → Outgoing
@@ -27,9 +32,17 @@ offered bytes out = record out {
   ahead = max out.ahead (length bytes);
 }
 
--- the link has taken so many of the bytes that were offered
-abbrev pub taken_off : ℕ → Outgoing → Outgoing
-taken_off count out = record out { ahead = out.ahead - count }
+-- whether a line ends with these bytes; where they are none, whether one had ended before
+abbrev pub ends_line : List ℕ → Bool → Bool
+ends_line bytes before =
+    option_map_or (λ byte. nat_eq byte 10) (slice_get bytes (length bytes - 1)) before
+
+-- the link has taken these bytes of those that were offered
+abbrev pub taken_off : List ℕ → Outgoing → Outgoing
+taken_off taken out = record out {
+  ahead = out.ahead - length taken;
+  is_between_lines = ends_line taken out.is_between_lines;
+}
 
 -- ---- the next line of bytes
 
@@ -82,6 +95,7 @@ abbrev pub text_given : List ℕ → Heard → List ℕ
 text_given line Unchanged = line ++ crlf
 text_given line (Changed other) = other.items
 text_given line LeftOut = []
+text_given line (KillBack nick) = []
 
 -- what is given on of lines that come in turn
 abbrev pub all_given : Remembered → List (List ℕ) → List ℕ
@@ -93,6 +107,25 @@ all_given memory (line ∷ lines) =
 abbrev pub all_heard : Remembered → List (List ℕ) → Remembered
 all_heard memory [] = memory
 all_heard memory (line ∷ lines) = all_heard (after_hearing memory line) lines
+
+-- bytes are put behind others where there is room for all of them
+abbrev pub put_behind : List ℕ → Held → Held
+put_behind bytes held =
+    if nat_le (length held.bytes + length bytes) held.room
+    then holding (held.bytes ++ bytes) held.room
+    else held
+
+-- the KILL that is to be written back because of a line, if one is
+abbrev pub kill_behind : List ℕ → Heard → Held → Held
+kill_behind own (KillBack nick) held = put_behind (text (kill_parts own nick)) held
+kill_behind own other held = held
+
+-- the same of lines that come in turn
+abbrev pub all_kills_behind : List ℕ → Remembered → List (List ℕ) → Held → Held
+all_kills_behind own memory [] held = held
+all_kills_behind own memory (line ∷ lines) held =
+    all_kills_behind own (after_hearing memory line) lines
+    (kill_behind own (heard memory line) held)
 
 -- whether the server is to have a line before another is heard: it is given on, and what the
 -- server puts out because of it may be remembered
@@ -114,13 +147,14 @@ none_behind before memory (line ∷ lines) =
 
 -- Bytes are given on: of some lines that have come, in order, each as it is heard, behind what
 -- was left of the line before.
-pub record Gives (old : Coming) (memory : Remembered) (given : List ℕ) (new : Coming)
-    (memory_after : Remembered) : Type 0 where
+pub record Gives (own : List ℕ) (old : Coming) (memory : Remembered) (back : Held)
+    (given : List ℕ) (new : Coming) (memory_after : Remembered) (back_after : Held) : Type 0 where
   pub lines : List (List ℕ)
   pub come : completed old.framer old.input ≡ lines ++ completed new.framer new.input
   pub left : begun_behind old.framer old.input ≡ begun_behind new.framer new.input
   pub given_on : old.line ++ all_given memory lines ≡ given ++ new.line
   pub remembered : memory_after ≡ all_heard memory lines
+  pub written_back : back_after ≡ all_kills_behind own memory lines back
   pub alone : none_behind (waits old) memory lines ≡ true
   pub last : new.is_last ≡ last_alone (waits old) memory lines
 
@@ -145,23 +179,28 @@ pub record GivesLine (count : ℕ) (buffer : List ℕ) (old : Coming) (result : 
   pub size : length buffer_after ≡ length buffer
 
 -- the next line that has come is heard
-pub record HearsOne (old : Coming) (memory : Remembered) (new : Coming)
-    (memory_after : Remembered) : Type 0 where
+pub record HearsOne (own : List ℕ) (old : Coming) (memory : Remembered) (back : Held)
+    (new : Coming) (memory_after : Remembered) (back_after : Held) : Type 0 where
   pub line : List ℕ
   pub ends : EndsOne old.framer old.input line new.framer new.input
   pub given_on : new.line ≡ text_given line (heard memory line)
   pub alone : new.is_last ≡ is_alone line (heard memory line)
   pub remembered : memory_after ≡ after_hearing memory line
+  pub written_back : back_after ≡ kill_behind own (heard memory line) back
   pub fewer : length new.input < length old.input
 
 -- no line is there
-pub record HearsNone (old : Coming) (memory : Remembered) (new : Coming)
-    (memory_after : Remembered) : Type 0 where
+pub record HearsNone (old : Coming) (memory : Remembered) (back : Held) (new : Coming)
+    (memory_after : Remembered) (back_after : Held) : Type 0 where
   pub ends : EndsNone old.framer old.input new.framer new.input
   pub line : new.line ≡ old.line
   pub alone : new.is_last ≡ old.is_last
   pub remembered : memory_after ≡ memory
+  pub written_back : back_after ≡ back
 
-abbrev pub HearsNext : Coming → Remembered → Bool → Coming → Remembered → Type 0
-HearsNext old memory true new memory_after = HearsOne old memory new memory_after
-HearsNext old memory false new memory_after = HearsNone old memory new memory_after
+abbrev pub HearsNext : List ℕ → Coming → Remembered → Held → Bool → Coming → Remembered → Held
+    → Type 0
+HearsNext own old memory back true new memory_after back_after =
+    HearsOne own old memory back new memory_after back_after
+HearsNext own old memory back false new memory_after back_after =
+    HearsNone old memory back new memory_after back_after

@@ -1,8 +1,11 @@
--- What one end of a link remembers of what it has told the other one (RFC 2813 section 5.7 asks servers to track changes of
--- nicknames for KILL, MODE and KICK). a.net remembers of its link to b.net; al is a user of a.net, zed was one of b.net:
+-- What one end of a link remembers of what it has told the other one (RFC 2813 section 5.7 asks
+-- servers to track changes of nicknames for KILL, MODE and KICK). a.net remembers of its link to
+-- b.net; al is a user of a.net, zed was one of b.net:
 --
---     a.net -> b.net   `:a.net KILL zed :Nick collision`   zed is killed: what still comes from zed was said before
---     a.net -> b.net   `:al NICK ally`                     al is ally now: a KICK of al that still comes is meant for ally
+--     a.net -> b.net   `:a.net KILL zed :Nick collision`
+--                      zed is killed: what still comes from zed was said before
+--     a.net -> b.net   `:al NICK ally`
+--                      al is ally now: a KICK of al that still comes is meant for ally
 use Rattle.std.specs.Prelude.{ℕ, ◌-◌, Bool, false, not, ◌&&◌, ◌||◌, Option, Some, None, List, [], ◌∷◌, ◌++◌, length, drop, filter, map, if◌then◌else◌}
 use Rattle.std.specs.List.{find, list_any}
 use Rattle.std.specs.Option.{option_map, option_map_or}
@@ -10,6 +13,7 @@ use Rattle.irc_names.specs.Fold.{same}
 use Rattle.irc_names.specs.Names.{is_nick}
 use Rattle.irc_late.specs.declared.memory.Change.{Change}
 use Rattle.irc_late.specs.declared.memory.Killed.{Killed}
+use Rattle.irc_late.specs.declared.memory.Met.{Met}
 
 -- what an end of a link remembers, the oldest first
 pub record Remembered : Type 0 where
@@ -17,8 +21,9 @@ pub record Remembered : Type 0 where
   pub killed : List Killed
   -- the nicknames that users have given up, each with the one that its user has now
   pub changes : List Change
-  -- the nickname that the line at hand introduces or takes: a KILL for it that is put out now meets that line
-  pub met : Option (List ℕ)
+  -- the nickname that the line at hand introduces or takes: a KILL for it that is put out now
+  -- meets that line
+  pub met : Option Met
 
 abbrev pub nothing_remembered : Remembered
 nothing_remembered = record { killed = []; changes = []; met = None }
@@ -33,9 +38,9 @@ newest items = drop (length items - 1024) items
 abbrev pub is_killed : Remembered → List ℕ → Bool
 is_killed memory nick = list_any (λ (k : Killed). same k.nick nick) memory.killed
 
--- Whether that KILL has crossed: the other end gave the nickname to a user of its own before it knew of
--- this end's. It learns of that now, and kills both, unless its own has left or has another nickname by
--- then; so just one line of these three is still to come.
+-- Whether that KILL has crossed: the other end gave the nickname to a user of its own before it
+-- knew of this end's. It learns of that now, and kills both, unless its own has left or has
+-- another nickname by then; so just one line of these three is still to come.
 abbrev pub has_crossed : Remembered → List ℕ → Bool
 has_crossed memory nick = list_any (λ (k : Killed). k.crossed && same k.nick nick) memory.killed
 
@@ -49,11 +54,18 @@ is_other_killed nick killed = is_other nick killed.nick
 abbrev pub without_killed : List ℕ → Remembered → Remembered
 without_killed nick memory = record memory { killed = filter (is_other_killed nick) memory.killed }
 
+-- Whether it has crossed the line by which the other end has introduced its user. If that user
+-- has another nickname by then, the KILL finds this end's own user there.
+abbrev pub was_introduced : Remembered → List ℕ → Bool
+was_introduced memory nick = list_any (λ (k : Killed). k.crossed && (k.introduced && same k.nick nick)) memory.killed
+
 -- a KILL is put out for a nickname; a word that is none is nobody's
-abbrev pub with_killed : List ℕ → Bool → Remembered → Remembered
-with_killed nick crossed memory =
+abbrev pub with_killed : List ℕ → (crossed introduced : Bool) → Remembered → Remembered
+with_killed nick crossed introduced memory =
     if is_nick nick then
-    record memory { killed = newest ((without_killed nick memory).killed ++ (record { nick = nick; crossed = crossed }) ∷ []) }
+    record memory {
+      killed = newest ((without_killed nick memory).killed ++ (record { nick = nick; crossed = crossed; introduced = introduced }) ∷ []);
+    }
     else memory
 
 abbrev pub not_crossed : Killed → Killed
@@ -67,10 +79,14 @@ none_crossed memory = record memory { killed = map not_crossed memory.killed }
 
 -- whether the line at hand introduces or takes a nickname
 abbrev pub is_met : Remembered → List ℕ → Bool
-is_met memory nick = option_map_or (λ met. same met nick) memory.met false
+is_met memory nick = option_map_or (λ (met : Met). same met.nick nick) memory.met false
 
-abbrev pub with_met : List ℕ → Remembered → Remembered
-with_met nick memory = record memory { met = if is_nick nick then Some nick else None }
+-- whether it introduces its user
+abbrev pub is_met_new : Remembered → List ℕ → Bool
+is_met_new memory nick = option_map_or (λ (met : Met). met.introduced && same met.nick nick) memory.met false
+
+abbrev pub with_met : List ℕ → Bool → Remembered → Remembered
+with_met nick introduced memory = record memory { met = if is_nick nick then Some (record { nick = nick; introduced = introduced }) else None }
 
 -- what is put out from now on meets no line that has come
 abbrev pub with_none_met : Remembered → Remembered
@@ -93,7 +109,8 @@ is_of_others nick change = not (is_of nick change)
 abbrev pub is_from_other : List ℕ → Change → Bool
 is_from_other nick change = is_other nick change.given_up
 
--- A nickname has another user now: who had given it up is not to be found by it, and who had it is gone.
+-- A nickname has another user now: who had given it up is not to be found by it, and who had it
+-- is gone.
 abbrev pub without_changes : List ℕ → Remembered → Remembered
 without_changes nick memory = record memory { changes = filter (is_of_others nick) memory.changes }
 
@@ -101,7 +118,8 @@ without_changes nick memory = record memory { changes = filter (is_of_others nic
 abbrev pub moved : (old new : List ℕ) → Change → Change
 moved old new change = if same change.now old then record change { now = new } else change
 
--- A user takes another nickname. What it had given up before leads to the new one, too; another spelling is no other nickname.
+-- A user takes another nickname. What it had given up before leads to the new one, too; another
+-- spelling is no other nickname.
 abbrev pub with_change : (old new : List ℕ) → Remembered → Remembered
 with_change old new memory =
     if is_nick old && (is_nick new && not (same old new)) then

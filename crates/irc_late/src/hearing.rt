@@ -6,7 +6,7 @@ ghost use Rattle.irc_line.specs.Limits.{max_parameters};
 ghost use Rattle.irc_line.specs.MessageViews.{optional_now, parsed, params_now};
 ghost use Rattle.irc_line.specs.Messages.{text};
 ghost use Rattle.irc_line.specs.PartViews.{sender, words_now};
-ghost use Rattle.irc_late.specs.Late.{after_hearing, after_late, after_message, heard, heard_with, line_put_out, may_meet, names_first, other_heard, params_put_right, put_right, put_right_at, put_right_heard, sender_again, with_params, word_at, words_put_right};
+ghost use Rattle.irc_late.specs.Late.{after_hearing, after_late, after_message, heard, heard_with, late_heard, line_put_out, may_meet, names_first, other_heard, params_put_right, put_right, put_right_at, put_right_heard, sender_again, with_params, word_at, words_put_right};
 
 use crate::memory::Memory;
 use crate::mode_words::put_modes_right;
@@ -14,6 +14,7 @@ use arrayvec::ArrayVec;
 use irc_line::limits::MAX_PARAMETERS;
 use irc_line::{Message, Parts, Prefix, Text, parse, write_message};
 use irc_link_words::is_command;
+use irc_names::Nick;
 
 /// The words of a line.
 pub(crate) type Words<'a> = ArrayVec<&'a [u8], MAX_PARAMETERS>;
@@ -27,6 +28,8 @@ pub enum Heard {
     Changed(Text),
     /// It is left out.
     LeftOut,
+    /// It is left out, and a KILL for this nickname is to be written back.
+    KillBack(Nick),
 }
 
 impl Memory {
@@ -39,8 +42,8 @@ impl Memory {
         };
         let nick = word_at(&message, 0);
         if is_command(b"KILL", message.command) {
-            let crossed = self.is_met(nick);
-            self.kill(nick, crossed);
+            let (crossed, introduced) = (self.is_met(nick), self.is_met_new(nick));
+            self.kill(nick, crossed, introduced);
         } else if is_command(b"NICK", message.command) {
             match message.prefix {
                 Some(old) => self.rename(old, nick),
@@ -60,21 +63,35 @@ impl Memory {
         if let Some(name) = message.prefix
             && self.is_killed(name)
         {
+            let heard = self.hear_late(name, &message);
             self.note_late(name, &message);
-            return Heard::LeftOut;
+            return heard;
         }
         let heard = self.hear_other(&message);
         self.note(&message);
         heard
     }
 
-    /// A line comes from somebody whom this end has killed.
+    /// What becomes of a line of somebody whom this end has killed.
+    fn hear_late(&self, name: &[u8], message: &Message<'_>) -> Heard
+        ensures { result ≡ late_heard self.now name.now (parsed message.now) }
+    {
+        if is_command(b"NICK", message.command)
+            && self.was_introduced(name)
+            && let Some(nick) = Nick::read(word_at(message, 0))
+        {
+            return Heard::KillBack(nick);
+        }
+        Heard::LeftOut
+    }
+
+    /// What such a line tells of nicknames.
     fn note_late(&mut self, name: &[u8], message: &Message<'_>)
         ensures { self.new ≡ after_late self.old name.now (parsed message.now) }
     {
         if is_command(b"NICK", message.command) {
             self.forget_killed(name);
-            self.kill(word_at(message, 0), false);
+            self.kill(word_at(message, 0), false, false);
         } else if is_command(b"QUIT", message.command) {
             self.forget_killed(name);
         }
@@ -98,7 +115,7 @@ impl Memory {
         if is_command(b"NICK", message.command) {
             self.forget_changes(nick);
             self.forget_killed(nick);
-            self.meet(nick);
+            self.meet(nick, message.prefix.is_none());
         } else if is_command(b"KILL", message.command) {
             self.forget_killed(nick);
         } else if is_command(b"SQUIT", message.command) {
@@ -144,7 +161,8 @@ fn words_put_right<'a>(memory: &'a Memory, message: &Message<'a>) -> Words<'a>
     words
 }
 
-/// The parameters of a command, with each nickname that one of this end's users has given up put right.
+/// The parameters of a command, with each nickname that one of this end's users has given up put
+/// right.
 fn put_words_right<'a>(memory: &'a Memory, command: &[u8], words: &mut [&'a [u8]])
     ensures { words_now words.new ≡ params_put_right memory.now command.now (words_now words.old) }
 {
@@ -176,7 +194,8 @@ pub(crate) fn put_right_at<'a>(memory: &'a Memory, place: usize, words: &mut [&'
     }
 }
 
-/// The nickname now of whom a word names; the word itself, where it names nobody who has given it up.
+/// The nickname now of whom a word names; the word itself, where it names nobody who has given it
+/// up.
 fn put_word_right<'a>(memory: &'a Memory, word: &'a [u8]) -> &'a [u8]
     ensures { result.now ≡ put_right memory.now word.now }
 {

@@ -1,17 +1,18 @@
 //! What comes from the other end of a link, held back and given on line by line.
-ghost use Rattle.std.specs.Prelude.{◌≡◌, ◌≤◌, ◌++◌, true, length, take, IfOk};
+ghost use Rattle.std.specs.Prelude.{◌≡◌, ◌≤◌, ◌++◌, true, false, [], length, take, IfOk};
 ghost use Rattle.irc_line.specs.Bytes.{crlf};
 ghost use Rattle.irc_line.specs.Limits.{max_line};
 ghost use Rattle.irc_outbox.specs.Calls.{is_some_bytes};
 ghost use Rattle.irc_late.specs.Late.{after_hearing, heard};
-ghost use Rattle.irc_late.specs.Links.{dropped, goes_on, has_to_wait, holds_back, is_alone, nothing_come, text_given, waits, FillsFrom, Gives, GivesLine, HearsNext};
+ghost use Rattle.irc_late.specs.Links.{dropped, goes_on, has_to_wait, holds_back, is_alone, kill_behind, nothing_come, put_behind, text_given, waits, FillsFrom, Gives, GivesLine, HearsNext};
 
 use crate::hearing::{Heard, may_meet};
 use crate::memory::Memory;
 use crate::taking::take_line;
+use irc_burst_lines::kill_text;
 use irc_line::{Framer, Text};
-use irc_names::copied;
-use irc_outbox::{Got, IoFault, Wire};
+use irc_names::{ServerName, copied};
+use irc_outbox::{Got, IoFault, Outbox, Wire};
 use std::alloc::{AllocError, Global};
 use std::marker::Model;
 
@@ -119,8 +120,15 @@ impl Incoming {
 
     /// Gives lines on to the front of a buffer, up to one that may meet another user of a
     /// nickname, and tells how many bytes.
-    pub fn give(&mut self, memory: &mut Memory, buffer: &mut [u8]) -> usize
-        ensures gives { Gives self.old memory.old (take result buffer.new) self.new memory.new }
+    pub fn give(
+        &mut self,
+        memory: &mut Memory,
+        back: &mut Outbox,
+        own: &ServerName,
+        buffer: &mut [u8],
+    ) -> usize
+        ensures gives { Gives own.now self.old memory.old back.old (take result buffer.new)
+            self.new memory.new back.new }
         ensures within { result ≤ length buffer.new }
         ensures size { length buffer.new ≡ length buffer.old }
         ensures until { has_to_wait (length buffer.old) result self.new ≡ true }
@@ -128,7 +136,7 @@ impl Incoming {
         self.settle();
         let mut count = self.give_line(buffer, 0);
         while self.goes_on(buffer.len(), count) {
-            if !self.next_line(memory) {
+            if !self.next_line(memory, back, own) {
                 return count;
             }
             count = self.give_line(buffer, count);
@@ -164,14 +172,15 @@ impl Incoming {
     }
 
     /// Hears the next line of what was read, if it has one.
-    fn next_line(&mut self, memory: &mut Memory) -> bool
-        ensures { HearsNext self.old memory.old result self.new memory.new }
+    fn next_line(&mut self, memory: &mut Memory, back: &mut Outbox, own: &ServerName) -> bool
+        ensures { HearsNext own.now self.old memory.old back.old result
+            self.new memory.new back.new }
     {
         let bytes = &self.input[..self.filled];
         let Some(line) = take_line(&mut self.framer, bytes, &mut self.used) else {
             return false;
         };
-        let next = hear(memory, line.as_slice());
+        let next = hear(memory, back, own, line.as_slice());
         self.line = next.text;
         self.given = 0;
         self.is_last = next.is_last;
@@ -187,12 +196,13 @@ struct Given {
     is_last: bool,
 }
 
-/// Hears a line.
-fn hear(memory: &mut Memory, line: &[u8]) -> Given
+/// Hears a line. A KILL that is to be written back is left out where there is no room for it.
+fn hear(memory: &mut Memory, back: &mut Outbox, own: &ServerName, line: &[u8]) -> Given
     requires fits { length line.now ≤ max_line }
     ensures text { result.text.items ≡ text_given line.now (heard memory.old line.now) }
     ensures is_last { result.is_last ≡ is_alone line.now (heard memory.old line.now) }
     ensures remembered { memory.new ≡ after_hearing memory.old line.now }
+    ensures back { back.new ≡ kill_behind own.now (heard memory.old line.now) back.old }
 {
     match memory.hear(line) {
         Heard::Unchanged => Given {
@@ -203,11 +213,30 @@ fn hear(memory: &mut Memory, line: &[u8]) -> Given
             text,
             is_last: false,
         },
-        Heard::LeftOut => Given {
-            text: Text::new(),
-            is_last: false,
-        },
+        Heard::LeftOut => nothing_given(),
+        Heard::KillBack(nick) => {
+            push_behind(back, kill_text(own, &nick).as_slice());
+            nothing_given()
+        }
     }
+}
+
+/// Nothing is given on of a line.
+fn nothing_given() -> Given
+    ensures text { result.text.items ≡ [] }
+    ensures is_last { result.is_last ≡ false }
+{
+    Given {
+        text: Text::new(),
+        is_last: false,
+    }
+}
+
+/// Bytes are put behind others where there is room for all of them.
+fn push_behind(held: &mut Outbox, bytes: &[u8])
+    ensures { held.new ≡ put_behind bytes.now held.old }
+{
+    let _full = held.push(bytes);
 }
 
 /// A line with its CR LF.

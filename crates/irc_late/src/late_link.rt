@@ -2,13 +2,17 @@
 ghost use Rattle.std.specs.Prelude.{◌≡◌, ◌≤◌, length, IfOk};
 ghost use Rattle.irc_outbox.specs.Calls.{FitsIn};
 ghost use Rattle.irc_late.specs.Links.{holds_back};
-ghost use Rattle.irc_late.specs.LinkEnds.{begun, got, with_offered, with_turn_over, without_held, GivesGot, ReadsLink, WritesLink};
+ghost use Rattle.irc_late.specs.LinkEnds.{begun, got, has_to_write_back, with_offered, with_turn_over, without_held, GivesGot, ReadsLink, WritesBack, WritesLink};
 
 use crate::incoming::Incoming;
 use crate::memory::Memory;
 use crate::outgoing::Outgoing;
-use irc_outbox::{Got, IoFault, Wire};
+use irc_names::ServerName;
+use irc_outbox::{Got, IoFault, Outbox, Wire};
 use std::alloc::{AllocError, Global};
+
+/// How many bytes of KILLs may wait to be written back.
+const BACK_SIZE: usize = 4096;
 
 /// One end of a link.
 #[derive(Drop)]
@@ -16,6 +20,8 @@ pub(crate) struct LateLink {
     pub memory: Memory,
     pub outgoing: Outgoing,
     pub incoming: Incoming,
+    /// KILLs that are to be written back.
+    pub back: Outbox,
 }
 
 impl LateLink {
@@ -30,6 +36,7 @@ impl LateLink {
             memory: Memory::new(alloc)?,
             outgoing: Outgoing::new(),
             incoming: Incoming::new(alloc)?,
+            back: Outbox::with_capacity(alloc, BACK_SIZE)?,
         })
     }
 
@@ -61,7 +68,7 @@ impl LateLink {
         self.outgoing.offer(&mut self.memory, bytes);
     }
 
-    /// Writes to the link, of what was offered.
+    /// Writes to the link, behind what is to be written back.
     ///
     /// # Errors
     /// Where the device failed.
@@ -76,9 +83,34 @@ impl LateLink {
             result self.new wire.new }
         ensures within { IfOk result (λ n. n ≤ length bytes.now) }
     {
+        self.write_back(wire, conn)?;
+        if self.is_blocked() {
+            return Ok(0);
+        }
         let count = wire.write(conn, bytes, behind)?;
-        self.outgoing.take_off(count);
+        self.outgoing.take_off(&bytes[..count]);
         Ok(count)
+    }
+
+    /// Whether something is to be written back, and may be: no line is begun.
+    fn is_blocked(&self) -> bool
+        ensures { result ≡ has_to_write_back self.now }
+    {
+        self.outgoing.is_between_lines && self.back.len() > 0
+    }
+
+    /// Writes once of what is to be written back, where no line is begun, and tells how many
+    /// bytes were taken.
+    ///
+    /// # Errors
+    /// Where the device failed.
+    pub fn write_back<W: Wire>(&mut self, wire: &mut W, conn: u64) -> Result<usize, IoFault>
+        ensures { WritesBack W.is_after conn self.old wire.old result self.new wire.new }
+    {
+        if !self.is_blocked() {
+            return Ok(0);
+        }
+        self.back.write_some(wire, conn)
     }
 
     /// Reads of the link, where nothing is held back, and gives lines on.
@@ -89,26 +121,30 @@ impl LateLink {
         &mut self,
         wire: &mut W,
         conn: u64,
+        own: &ServerName,
         buffer: &mut [u8],
     ) -> Result<Got, IoFault>
-        ensures account { ReadsLink W.is_after conn self.old wire.old
+        ensures account { ReadsLink W.is_after conn own.now self.old wire.old
             buffer.old result buffer.new self.new wire.new }
         ensures within { FitsIn result (length buffer.old) }
     {
         if self.incoming.is_held() {
-            return Ok(self.give(buffer));
+            return Ok(self.give(own, buffer));
         }
         match self.incoming.fill(wire, conn)? {
-            Got::Bytes(_) => Ok(self.give(buffer)),
+            Got::Bytes(_) => Ok(self.give(own, buffer)),
             other => Ok(other),
         }
     }
 
     /// Gives lines on of what is there.
-    fn give(&mut self, buffer: &mut [u8]) -> Got
-        ensures { GivesGot self.old buffer.old result buffer.new self.new }
+    fn give(&mut self, own: &ServerName, buffer: &mut [u8]) -> Got
+        ensures { GivesGot own.now self.old buffer.old result buffer.new self.new }
     {
-        got(self.incoming.give(&mut self.memory, buffer))
+        got(
+            self.incoming
+                .give(&mut self.memory, &mut self.back, own, buffer),
+        )
     }
 }
 

@@ -2,7 +2,7 @@
 ghost use Rattle.std.specs.Prelude.{◌≡◌, ◌≤◌, ⊤, None, length, IfOk};
 ghost use Rattle.irc_outbox.specs.Calls.{FitsIn};
 ghost use Rattle.irc_late.specs.LinkEnds.{with_offered, with_turn_over, without_held};
-ghost use Rattle.irc_late.specs.Around.{first_held, is_held, unless, Changes, ChangesIf, IsAdded, IsAround, Meets, MeetsLink, ReadsAt, Sets, WritesAt};
+ghost use Rattle.irc_late.specs.Around.{first_held, is_held, unless, Changes, ChangesIf, IsAdded, IsAround, Meets, MeetsLink, ReadsAt, Sets, WritesAt, WritesBackAt};
 ghost use Rattle.irc_late.specs.AroundCalls.{Begins, Closes, IsReady, ReadsFrom, WritesTo};
 
 use crate::late_link::LateLink;
@@ -23,6 +23,8 @@ type Links = BTreeMap<u64, Box<LateLink, Global>, Global>;
 #[derive(Drop)]
 pub struct LateWire<W: Wire> {
     wire: W,
+    /// This server, from which KILLs are written back.
+    own: ServerName,
     links: Links,
     /// The link of which was told that more is to be read, and that was not read since.
     asked: Option<u64>,
@@ -32,12 +34,13 @@ pub struct LateWire<W: Wire> {
 }
 
 impl<W: Wire> LateWire<W> {
-    /// Around a wire that has reported nothing.
-    pub fn new(alloc: Global, wire: W) -> Self
-        ensures { IsAround wire result }
+    /// Around a wire that has reported nothing, for the server of this name.
+    pub fn new(alloc: Global, wire: W, own: ServerName) -> Self
+        ensures { IsAround wire own result }
     {
         LateWire {
             wire,
+            own,
             links: BTreeMap::new(alloc),
             asked: None,
             reading: None,
@@ -70,10 +73,10 @@ impl<W: Wire> LateWire<W> {
             return Ok(Ready::Readable(conn));
         }
         let ready = self.wire.ready()?;
-        Ok(meet(&mut self.links, &mut self.wire, self.alloc, ready))
+        meet(&mut self.links, &mut self.wire, self.alloc, ready)
     }
 
-    /// Reads of a connection.
+    /// Reads of a connection. What is written back because of that is written at once.
     ///
     /// # Errors
     /// Where the device failed.
@@ -84,7 +87,9 @@ impl<W: Wire> LateWire<W> {
         end_turn(&mut self.links, self.reading);
         self.reading = Some(conn);
         self.asked = unless(self.asked, conn);
-        read_at(&mut self.links, &mut self.wire, conn, buffer)
+        let got = read_at(&mut self.links, &mut self.wire, conn, &self.own, buffer)?;
+        write_back_at(&mut self.links, &mut self.wire, conn)?;
+        Ok(got)
     }
 
     /// Writes to a connection, once nothing is held back of any link.
@@ -121,13 +126,26 @@ fn unless(asked: Option<u64>, conn: u64) -> Option<u64>
     }
 }
 
-/// What the wire has reported is told, once a link that begins is there.
-fn meet<W: Wire>(links: &mut Links, wire: &mut W, alloc: Global, ready: Ready) -> Ready
+/// What the wire has reported is told: a link that begins is there, and to one that takes bytes
+/// again is written what is to be written back.
+///
+/// # Errors
+/// Where the device failed.
+fn meet<W: Wire>(
+    links: &mut Links,
+    wire: &mut W,
+    alloc: Global,
+    ready: Ready,
+) -> Result<Ready, IoFault>
     ensures { Meets W.is_after ready links.old wire.old result links.new wire.new }
 {
     match ready {
-        Ready::Linked(conn, name) => meet_link(links, wire, alloc, conn, name),
-        other => other,
+        Ready::Linked(conn, name) => Ok(meet_link(links, wire, alloc, conn, name)),
+        Ready::Writable(conn) => {
+            write_back_at(links, wire, conn)?;
+            Ok(Ready::Writable(conn))
+        }
+        other => Ok(other),
     }
 }
 
@@ -238,19 +256,33 @@ fn remove(links: &mut Links, conn: u64)
     links.remove(&conn);
 }
 
+/// Writes what is to be written back to a link, if it is one.
+///
+/// # Errors
+/// Where the device failed.
+fn write_back_at<W: Wire>(links: &mut Links, wire: &mut W, conn: u64) -> Result<usize, IoFault>
+    ensures { WritesBackAt W.is_after conn links.old wire.old result links.new wire.new }
+{
+    match links.get_mut(&conn) {
+        Some(link) => link.write_back(wire, conn),
+        None => Ok(0),
+    }
+}
+
 /// Reads of a connection.
 fn read_at<W: Wire>(
     links: &mut Links,
     wire: &mut W,
     conn: u64,
+    own: &ServerName,
     buffer: &mut [u8],
 ) -> Result<Got, IoFault>
-    ensures account { ReadsAt W.is_after conn links.old wire.old
+    ensures account { ReadsAt W.is_after conn own.now links.old wire.old
         buffer.old result buffer.new links.new wire.new }
     ensures within { FitsIn result (length buffer.old) }
 {
     match links.get_mut(&conn) {
-        Some(link) => link.read(wire, conn, buffer),
+        Some(link) => link.read(wire, conn, own, buffer),
         None => wire.read(conn, buffer),
     }
 }

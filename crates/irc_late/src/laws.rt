@@ -1,6 +1,7 @@
-//! What holds of late lines, whatever is remembered and whatever comes. Each law is a function that does nothing, and its contract is
-//! the law: the check proves it, and a crate above may cite it.
-ghost use Rattle.irc_late.specs.Laws.{ChangedFits, KeyStays, KickIsPutRight, KilledIsLeftOut, ModeIsPutRight, NobodyIsUnchanged, NothingIsNoted, NothingIsUnchanged, ServersAreUnchanged};
+//! What holds of late lines, whatever is remembered and whatever comes. Each law is a function
+//! that does nothing, and its contract is the law: the check proves it, and a crate above may
+//! cite it.
+ghost use Rattle.irc_late.specs.Laws.{ChangedFits, CrossedKillIsLeftOut, CrossedNickIsKilled, CrossedRenameIsLeftOut, KeyStays, KickIsPutRight, KilledIsLeftOut, ModeIsPutRight, NobodyIsUnchanged, NothingIsNoted, NothingIsUnchanged, ServersAreUnchanged};
 
 /// With nothing remembered each line is given on as it came, and nothing is remembered behind it.
 pub fn nothing_remembered()
@@ -23,11 +24,19 @@ pub fn changed_fits()
     ensures { ChangedFits }
 {}
 
-/// Lines in known forms: one of a user who was killed, a KICK and a MODE for a nickname that was given up, and a key that is spelled
-/// like one.
+/// Lines in known forms: one of a user who was killed, a KICK and a MODE for a nickname that was
+/// given up, and a key that is spelled like one.
 pub fn late_lines()
     ensures left_out { KilledIsLeftOut }
     ensures kick { KickIsPutRight }
     ensures mode { ModeIsPutRight }
     ensures key { KeyStays }
+{}
+
+/// Lines where the other end's has crossed a KILL: its own KILL, and a change of the nickname by
+/// somebody who was introduced just then, or has taken it.
+pub fn crossed_lines()
+    ensures kill { CrossedKillIsLeftOut }
+    ensures nick { CrossedNickIsKilled }
+    ensures rename { CrossedRenameIsLeftOut }
 {}

@@ -16,8 +16,19 @@ const MAX_REMEMBERED: usize = 1024;
 #[derive(Drop)]
 pub struct Killed {
     pub nick: Nick,
-    /// Whether the other end has still to tell of whoever had it there: it had given it to a user of its own before it knew of this end's.
+    /// Whether the other end has still to tell of whoever had it there: it had given it to a user
+    /// of its own before it knew of this end's.
     pub crossed: bool,
+    /// Whether it has introduced that user just then.
+    pub introduced: bool,
+}
+
+/// A nickname that a line of the other end introduces or takes.
+#[derive(Drop)]
+pub struct Met {
+    pub nick: Nick,
+    /// Whether the line introduces its user.
+    pub introduced: bool,
 }
 
 /// A user's change of its nickname.
@@ -35,7 +46,7 @@ pub struct Memory {
     killed: HeapCircularBuffer<Killed, Global>,
     changes: HeapCircularBuffer<Change, Global>,
     /// The nickname that the line at hand introduces or takes.
-    met: Option<Nick>,
+    met: Option<Met>,
 }
 
 impl Model for Memory {
@@ -50,7 +61,7 @@ impl Model for Memory {
 }
 
 impl Memory {
-    ghost use Rattle.irc_late.specs.Remembering.{nothing_remembered, has_crossed, is_killed, is_met, nick_now, none_crossed, with_killed, with_change, with_met, with_none_met, without_changes, without_killed};
+    ghost use Rattle.irc_late.specs.Remembering.{nothing_remembered, has_crossed, is_killed, is_met, is_met_new, nick_now, none_crossed, with_killed, with_change, with_met, with_none_met, was_introduced, without_changes, without_killed};
 
     /// Nothing.
     ///
@@ -75,11 +86,21 @@ impl Memory {
             .any(|killed| same(killed.nick.as_bytes(), nick))
     }
 
-    /// Whether that KILL has crossed, and the other end has still to tell of whoever had the nickname there.
+    /// Whether that KILL has crossed, and the other end has still to tell of whoever had the
+    /// nickname there.
     pub fn has_crossed(&self, nick: &[u8]) -> bool
         ensures { result ≡ has_crossed self.now nick.now }
     {
         self.killed.iter().any(|killed| killed.crossed && same(killed.nick.as_bytes(), nick))
+    }
+
+    /// Whether it has crossed the line by which the other end has introduced that user.
+    pub fn was_introduced(&self, nick: &[u8]) -> bool
+        ensures { result ≡ was_introduced self.now nick.now }
+    {
+        self.killed.iter().any(|killed| killed.crossed
+            && killed.introduced
+            && same(killed.nick.as_bytes(), nick))
     }
 
     /// Whether the line at hand introduces or takes a nickname.
@@ -87,16 +108,26 @@ impl Memory {
         ensures { result ≡ is_met self.now nick.now }
     {
         match &self.met {
-            Some(met) => same(met.as_bytes(), nick),
+            Some(met) => same(met.nick.as_bytes(), nick),
+            None => false,
+        }
+    }
+
+    /// Whether it introduces the user of a nickname.
+    pub fn is_met_new(&self, nick: &[u8]) -> bool
+        ensures { result ≡ is_met_new self.now nick.now }
+    {
+        match &self.met {
+            Some(met) => met.introduced && same(met.nick.as_bytes(), nick),
             None => false,
         }
     }
 
     /// The line at hand introduces or takes a nickname.
-    pub fn meet(&mut self, nick: &[u8])
-        ensures { self.new ≡ with_met nick.now self.old }
+    pub fn meet(&mut self, nick: &[u8], introduced: bool)
+        ensures { self.new ≡ with_met nick.now introduced self.old }
     {
-        self.met = Nick::read(nick);
+        self.met = Nick::read(nick).map(|nick| Met { nick, introduced });
     }
 
     /// What is put out from now on meets no line that has come.
@@ -125,12 +156,16 @@ impl Memory {
     }
 
     /// A KILL is put out for a nickname, if it is one.
-    pub fn kill(&mut self, nick: &[u8], crossed: bool)
-        ensures { self.new ≡ with_killed nick.now crossed self.old }
+    pub fn kill(&mut self, nick: &[u8], crossed: bool, introduced: bool)
+        ensures { self.new ≡ with_killed nick.now crossed introduced self.old }
     {
         if let Some(nick) = Nick::read(nick) {
             forget_name(&mut self.killed, nick.as_bytes());
-            let _oldest = self.killed.push_back(Killed { nick, crossed });
+            let _oldest = self.killed.push_back(Killed {
+                nick,
+                crossed,
+                introduced,
+            });
         }
     }
 

@@ -8,6 +8,8 @@ use crate::memory::Memory;
 use crate::taking::take_line;
 use irc_line::Framer;
 
+const LINE_FEED: u8 = b'\n';
+
 /// What this end puts out. Bytes that are offered and not taken are offered again; each is read
 /// once.
 #[derive(Drop)]
@@ -16,6 +18,8 @@ pub(crate) struct Outgoing {
     framer: Framer,
     /// How many of the bytes that are offered next were read already.
     ahead: usize,
+    /// Whether what the link has taken ends with a line.
+    pub is_between_lines: bool,
 }
 
 impl Outgoing {
@@ -26,6 +30,7 @@ impl Outgoing {
         Outgoing {
             framer: Framer::new(),
             ahead: 0,
+            is_between_lines: true,
         }
     }
 
@@ -42,10 +47,13 @@ impl Outgoing {
         self.ahead = self.ahead.max(bytes.len());
     }
 
-    /// The link has taken so many of the bytes that were offered.
-    pub fn take_off(&mut self, count: usize)
-        ensures { self.new ≡ taken_off count self.old }
+    /// The link has taken these bytes of those that were offered.
+    pub fn take_off(&mut self, taken: &[u8])
+        ensures { self.new ≡ taken_off taken.now self.old }
     {
-        self.ahead = self.ahead.saturating_sub(count);
+        self.ahead = self.ahead.saturating_sub(taken.len());
+        if let Some(last) = taken.last() {
+            self.is_between_lines = *last == LINE_FEED;
+        }
     }
 }

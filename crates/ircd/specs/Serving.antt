@@ -74,13 +74,14 @@ pub record Configures (settings : Settings) (config : Config) : Type 0 where
   pub created : config.own.created.items ≡ string_bytes settings.created
   pub peers : map known_peer config.peers.items ≡ map peer_set settings.peers.items
 
--- The server is made of the settings, without clients; where it listens, whom it calls, and again when, by its own name too, how many connections an address
+-- The server is made of the settings, without clients, and of their name; where it listens, whom it calls, and again when, by its own name too, how many connections an address
 -- may have and how much may wait is theirs.
 pub record IsSetUp (settings : Settings) (setup : Setup) : Type 0 where
   pub config : Config
   pub configures : Configures settings config
   pub no_fault : config_fault config ≡ None
   pub server_is : setup.server ≡ Some (made_view config)
+  pub own : setup.own ≡ string_bytes settings.name
   pub clients : IsSocketText (string_bytes settings.listen) setup.clients
   pub links : IsAddress (option_map string_bytes settings.listen_links) setup.links
   pub called : AreCalled settings.peers.items setup.callees.items
@@ -89,11 +90,12 @@ pub record IsSetUp (settings : Settings) (setup : Setup) : Type 0 where
   pub client_room : setup.client_room ≡ settings.client_room
   pub link_room : setup.link_room ≡ settings.link_room
 
--- why nothing is set up by settings: an address that is none, a peer that cannot be called, or a server that is refused
+-- why nothing is set up by settings: an address that is none, a peer that cannot be called, a name that is no server's, or a server that is refused
 pub data IsRefused (settings : Settings) : Type 0 where
   clients : IsNoAddress (string_bytes settings.listen) → IsRefused settings
   links : {text : List ℕ} → option_map string_bytes settings.listen_links ≡ Some text → IsNoAddress text → IsRefused settings
   called : IsSomeUncalled settings.peers.items → IsRefused settings
+  own_name : ¬ (IsServer (string_bytes settings.name)) → IsRefused settings
   server : (config : Config) → Configures settings config → is_some (config_fault config) ≡ true → IsRefused settings
 
 -- what comes of settings
@@ -127,11 +129,11 @@ listening_of setup =
     record { clients = setup.clients; links = setup.links; connections_per_address = setup.connections_per_address }
 
 -- An engine is open: it has served nobody, its server is the one that was set up, an outbox has room for as much as was set up, and its wire is one around a
--- wire that listens where that was, and calls whom that was to call, again by that spread.
+-- wire that listens where that was, and calls whom that was to call, again by that spread; KILLs are written back from the server of that name.
 pub record IsOpened (setup : Setup) (engine : EngineView (LateWire MioWire)) : Type 0 where
   pub wire : LateWire MioWire
   pub sockets : MioWire
-  pub is_around : IsAround sockets wire
+  pub is_around : IsAround sockets setup.own wire
   pub listens : ListensAt (listening_of setup) sockets
   pub callees : sockets.calls.asked ≡ setup.callees
   pub spread : sockets.calls.retries.spread ≡ setup.spread

@@ -78,7 +78,7 @@ fn open<T: Net>(net: &T, alloc: Global, setup: Setup) -> Result<Engine<LateWire<
     let engine = Engine::new(
         alloc,
         setup.server,
-        LateWire::new(alloc, wire),
+        LateWire::new(alloc, wire, setup.own),
         setup.client_room,
         setup.link_room,
     )?;

@@ -20,6 +20,8 @@ use std::net::SocketAddr;
 pub struct Setup {
     /// The server, which nobody is connected to.
     pub server: Server,
+    /// Its name.
+    pub own: ServerName,
     /// Where it listens for clients.
     pub clients: SocketAddr,
     /// Where it listens for servers, if it does.
@@ -57,6 +59,7 @@ fn set_up(alloc: Global, settings: &Settings) -> Result<Setup, Stop>
         clients: address(settings.listen.as_str())?,
         links: optional_address(settings.listen_links.as_ref())?,
         server: Server::new(alloc, config(alloc, settings)?)?,
+        own: server_name(settings.name.as_str())?,
         spread: own_spread(settings),
         connections_per_address: settings.connections_per_address,
         client_room: settings.client_room,

@@ -10,6 +10,7 @@ returns-then-is_some-clause-account g c = record {
       (ap is_some (sym c.first_held.ensures) ∙ sym c.is_some.ensures ∙ c.if-is_some.true);
   asked = refl;
   reading = refl;
+  own = refl;
 }
 
 pub returns-clause-account : goal.returns-clause-account
@@ -20,4 +21,5 @@ returns-clause-account g c = record {
       (ap is_some (sym c.first_held.ensures) ∙ sym c.is_some.ensures ∙ c.if-is_some.false) c.write_at.ensures.account;
   asked = refl;
   reading = refl;
+  own = refl;
 }

@@ -11,6 +11,7 @@ invariant-loop-line l = record {
   told : lines_put_out l.memory (completed l.self.framer (drop l.used l.bytes))
       ≡ lines_put_out l.fn.memory (completed l.fn.self.framer (drop l.fn.self.ahead l.bytes));
   same : l.self.ahead ≡ l.fn.self.ahead;
+  between : l.self.is_between_lines ≡ l.fn.self.is_between_lines;
 }
 
 abbrev pub decreases-loop-line : goal.decreases-loop-line
