@@ -53,8 +53,8 @@ module _ {W : Type 0} (is_after : W → List Call → Type 0) (conn : ℕ) (byte
         subst (λ r. WritesLink is_after conn bytes old wire r between wire_after) (sym failed)
         (written_behind (Err fault) between wire_after is account (ap (λ (o : Outgoing). record between { outgoing = o }) (none_taken between.outgoing)))
 
-pub met_writable : {W : Type 0} (is_after : W → List Call → Type 0) (ready : Ready) (conn : ℕ) (old : Links) (wire : W) (result : Result Ready IoFault) (new : Links) (wire_after : W)
-    (written : Result ℕ IoFault) → ready ≡ Writable conn → WritesBackAt is_after conn old wire written new wire_after → result ≡ told_behind (Writable conn) written
+pub met_writable : {W : Type 0} (is_after : W → List Call → Type 0) (ready : Ready) (conn : ℕ) (old : Links) (wire : W) (result : Ready) (new : Links) (wire_after : W)
+    (written : Result ℕ IoFault) → ready ≡ Writable conn → WritesBackAt is_after conn old wire written new wire_after → result ≡ Writable conn
     → Meets is_after ready old wire result new wire_after
 met_writable is_after ready conn old wire result new wire_after written is back told =
     subst (λ (r : Ready). Meets is_after r old wire result new wire_after) (sym is) (written, back, told)

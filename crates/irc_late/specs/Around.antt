@@ -115,14 +115,14 @@ told_behind told (Ok count) = Ok told
 told_behind told (Err fault) = Err fault
 
 -- What the wire has reported is told; a link that begins is there from now on, and to one that
--- takes bytes again is written what is to be written back.
-abbrev pub Meets : {W : Type 0} → (W → List Call → Type 0) → Ready → Links → W
-    → Result Ready IoFault → Links → W → Type 0
-Meets is_after (Linked conn name) old wire (Ok result) new wire_after =
+-- takes bytes again is written what is to be written back. Where that fails, its next read or write
+-- tells so: no other connection is to suffer by it.
+abbrev pub Meets : {W : Type 0} → (W → List Call → Type 0) → Ready → Links → W → Ready → Links
+    → W → Type 0
+Meets is_after (Linked conn name) old wire result new wire_after =
     MeetsLink is_after conn name old wire result new wire_after
-Meets is_after (Linked conn name) old wire (Err fault) new wire_after = ⊥
 Meets is_after (Writable conn) old wire result new wire_after =
     (written : Result ℕ IoFault) × WritesBackAt is_after conn old wire written new wire_after
-    × (result ≡ told_behind (Writable conn) written)
+    × (result ≡ Writable conn)
 Meets is_after ready old wire result new wire_after =
-    (result ≡ Ok ready) × (new ≡ old) × (wire_after ≡ wire)
+    (result ≡ ready) × (new ≡ old) × (wire_after ≡ wire)

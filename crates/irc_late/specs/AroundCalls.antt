@@ -14,8 +14,9 @@ use Rattle.irc_late.specs.LinkEnds.{with_offered, with_turn_over, without_held}
 -- the wire below is asked, and what it reports is met
 abbrev pub MeetsAnswer : {W : Type 0} → (W → List Call → Type 0) → Result Ready IoFault → Links
     → W → Result Ready IoFault → Links → W → Type 0
-MeetsAnswer is_after (Ok ready) old wire result new wire_after =
+MeetsAnswer is_after (Ok ready) old wire (Ok result) new wire_after =
     Meets is_after ready old wire result new wire_after
+MeetsAnswer is_after (Ok ready) old wire (Err fault) new wire_after = ⊥
 MeetsAnswer is_after (Err fault) old wire result new wire_after =
     (result ≡ Err fault) × (new ≡ old) × (wire_after ≡ wire)
 

@@ -73,7 +73,7 @@ impl<W: Wire> LateWire<W> {
             return Ok(Ready::Readable(conn));
         }
         let ready = self.wire.ready()?;
-        meet(&mut self.links, &mut self.wire, self.alloc, ready)
+        Ok(meet(&mut self.links, &mut self.wire, self.alloc, ready))
     }
 
     /// Reads of a connection. What is written back because of that is written at once.
@@ -128,24 +128,17 @@ fn unless(asked: Option<u64>, conn: u64) -> Option<u64>
 
 /// What the wire has reported is told: a link that begins is there, and to one that takes bytes
 /// again is written what is to be written back.
-///
-/// # Errors
-/// Where the device failed.
-fn meet<W: Wire>(
-    links: &mut Links,
-    wire: &mut W,
-    alloc: Global,
-    ready: Ready,
-) -> Result<Ready, IoFault>
+fn meet<W: Wire>(links: &mut Links, wire: &mut W, alloc: Global, ready: Ready) -> Ready
     ensures { Meets W.is_after ready links.old wire.old result links.new wire.new }
 {
     match ready {
-        Ready::Linked(conn, name) => Ok(meet_link(links, wire, alloc, conn, name)),
+        Ready::Linked(conn, name) => meet_link(links, wire, alloc, conn, name),
         Ready::Writable(conn) => {
-            write_back_at(links, wire, conn)?;
-            Ok(Ready::Writable(conn))
+            // where this fails, the link's next read or write tells so
+            let _failed = write_back_at(links, wire, conn);
+            Ready::Writable(conn)
         }
-        other => Ok(other),
+        other => other,
     }
 }
 

@@ -14,5 +14,5 @@ returns-in_err-ready g c =
 
 pub returns : goal.returns
 returns g c =
-    told_below g.W.Wire.is_after c.args.self.now c.begin_turn.new.self c.begin_turn.ensures.begins _ c.meet.result (Ok c.in_ok-ready.ready) c.ready.new.self
+    told_below g.W.Wire.is_after c.args.self.now c.begin_turn.new.self c.begin_turn.ensures.begins _ (Ok c.meet.result) (Ok c.in_ok-ready.ready) c.ready.new.self
     (sym c.begin_turn.ensures.asked ∙ c.in_default.is) c.in_ok-ready.ensures c.meet.ensures refl refl refl
