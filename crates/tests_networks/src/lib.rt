@@ -75,10 +75,8 @@ pub fn settle(net: &mut Net) -> Result<(), NetFault>
     ensures goes { OnOk result (GoesOn net.old net.new) }
     ensures rest { OnOk result (is_byte_rest net.new.network ≡ true) }
 {
-    match net.settle() {
-        Ok(_) => Ok(()),
-        Err(fault) => Err(fault),
-    }
+    net.settle()?;
+    Ok(())
 }
 
 /// What a client has received: a front of what it is owed by all that was given, and at rest all
