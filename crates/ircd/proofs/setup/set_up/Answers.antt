@@ -26,7 +26,7 @@ returns-in_err-new c =
 pub returns-in_err-server_name : goal.returns-in_err-server_name
 returns-in_err-server_name c =
     own_refused c.args.settings.now c.from_residual-in_err-server_name.result c.in_err-server_name.field-0.0
-    (subst (λ text. FindsName text (Err c.in_err-server_name.field-0.0)) c.as_str-server_name.ensures.value c.in_err-server_name.ensures)
+    (subst (λ text. FindsName text (Err c.in_err-server_name.field-0.0)) c.as_str-2.ensures.value c.in_err-server_name.ensures)
     c.from_residual-in_err-server_name.ensures.1
 
 pub returns : goal.returns
@@ -35,7 +35,7 @@ returns c = record {
   configures = c.in_ok-config.ensures;
   no_fault = c.in_ok-new.ensures.0;
   server_is = c.in_ok-new.ensures.1;
-  own = c.in_ok-server_name.ensures ∙ c.as_str-server_name.ensures.value;
+  own = c.in_ok-server_name.ensures ∙ c.as_str-2.ensures.value;
   clients = subst (λ text. IsSocketText text c.in_ok-address.field-0) c.as_str.ensures.value c.in_ok-address.ensures;
   links = found_in c.as_ref.result c.args.settings.now.listen_links (Ok c.in_ok-optional_address.field-0) c.as_ref.ensures.value
       c.in_ok-optional_address.ensures;
