@@ -78,15 +78,17 @@ class LateWire(Wire):
         super().__init__(own)
         self.killed = {}        # each with whether the other end has yet to tell of it what it has done: it has crossed
         self.now = {}
-        self.met = None         # the nickname of the NICK that the server has just been given
+        self.introduced = set() # of these, those whose introduction by the other end was met
+        self.met = None         # the nickname of the NICK that the server has just been given, and whether it introduces a user
 
     def copied(self):
         other = type(self)(self.own)
         other.killed, other.now, other.met = dict(self.killed), dict(self.now), self.met
+        other.introduced = set(self.introduced)
         return other
 
     def key(self):
-        return tuple(sorted(self.killed.items())), tuple(sorted(self.now.items()))
+        return tuple(sorted(self.killed.items())), tuple(sorted(self.introduced)), tuple(sorted(self.now.items()))
 
     def has_another(self, nick):
         """A nickname has another user now: changes from it and to it are not remembered any more."""
@@ -95,7 +97,10 @@ class LateWire(Wire):
     def put_out(self, line):
         prefix, command, words = parse(line)
         if command == b"KILL":
-            self.killed[fold(words[0])] = fold(words[0]) == self.met
+            self.killed[fold(words[0])] = self.met is not None and fold(words[0]) == self.met[0]
+            self.introduced.discard(fold(words[0]))
+            if self.met == (fold(words[0]), True):
+                self.introduced.add(fold(words[0]))
         elif command == b"NICK" and prefix is None:
             self.has_another(words[0])
         elif command == b"NICK" and fold(prefix) != fold(words[0]):
@@ -109,27 +114,31 @@ class LateWire(Wire):
     def came(self, line, seen):
         prefix, command, words = parse(line)
         if prefix is not None and fold(prefix) in self.killed:
-            return self.from_killed(command, prefix, words), []
+            return [], self.from_killed(command, prefix, words)
         if command == b"KILL" and self.killed.get(fold(words[0])):
             del self.killed[fold(words[0])]
             return [], []
         given = self.put_right(line, prefix, command, words)
         if command == b"NICK":
             self.has_another(words[0])
-            self.met = fold(words[0])
+            self.met = fold(words[0]), prefix is None
         if command in (b"NICK", b"KILL"):
             self.killed.pop(fold(words[0]), None)
         if command == b"SQUIT":
             self.killed = {nick: False for nick in self.killed}
+            self.introduced = set()
         return [given], []
 
     def from_killed(self, command, prefix, words):
-        """A line of a user whom this end has killed: the KILL has not come there yet."""
+        """A line of a user whom this end has killed, whose KILL has not come there yet: it is left out; and what is written back."""
+        was_introduced = fold(prefix) in self.introduced
         if command in (b"QUIT", b"NICK"):
             del self.killed[fold(prefix)]
+            self.introduced.discard(fold(prefix))
         if command == b"NICK":
             self.killed[fold(words[0])] = False
-        return []
+            self.introduced.discard(fold(words[0]))
+        return [b":" + self.own + b" KILL " + words[0] + b" :Nick collision"] if command == b"NICK" and was_introduced else []
 
     def has_now(self, nick):
         return self.now.get(fold(nick), nick)
