@@ -552,6 +552,8 @@ def wild(program):
 # of how many users a peer is told that does not read, and of how many new names at most
 CROWD = 1000
 MOST_NAMES = 400_000
+# how many seconds they may take to be served
+SERVED = 180
 
 
 def deaf(program):
@@ -568,6 +570,12 @@ def deaf(program):
             for number, one in enumerate(crowd):
                 one.says(f"NICK m{number}", f"NICK k{number}")
             names += 2 * len(crowd)
+            longest = max(longest, bo.answers())
+            for one in crowd:
+                one.is_open()
+        # the names that were said are yet to be served
+        end = time.monotonic() + SERVED
+        while bo.times(lost) == 0 and time.monotonic() < end:
             longest = max(longest, bo.answers())
             for one in crowd:
                 one.is_open()
