@@ -37,7 +37,7 @@ TakesFew net count = net.failed ≡ false → count ≤ most_now net.network.net
 
 -- Whatever is on its way, once all lines that are coming to a server are taken it is what it has to be, and its clients have received what they are owed
 -- (IsSound); at rest that is so already (IsOneRoom). And no server closes a link, upon a line that comes or as it is made. What is on its way as bytes is the
--- lines that these will complete, however they are cut (in_lines).
+-- lines that these will complete, however they are cut (net_in_lines).
 pub record IsOneRoomNet (net : NetView) : Type 0 where
   pub coming : net.failed ≡ false → IsSound (net_in_lines net.network)
   pub at_rest : net.failed ≡ false → is_byte_rest net.network ≡ true → IsOneRoom net.network.network

@@ -22,7 +22,8 @@ use Rattle.irc_registering.specs.CommandNames.{command_of}
 use Rattle.irc_registering.specs.OwnLines.{is_from}
 use Rattle.irc_registering.specs.Closing.{error_line}
 
--- the same of a connection that is not registered, what it has given now, and whether it is registered
+-- What comes of a line of a connection that is not registered: what it has given so far, the steps that are taken, whether it is
+-- registered by this, and whether it is closed behind these steps.
 pub record Registered : Type 0 where
   pub pending : Pending
   pub steps : List Act

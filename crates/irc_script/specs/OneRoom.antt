@@ -40,7 +40,7 @@ owed_in names net client = owed_by_network (script_settings names) net.network.i
 
 -- What is printed by the time the network of these servers is this: each client has received a
 -- front of what it is owed there, line by line, and at rest all of it. Servers are set up as they
--- were. What is on its way as bytes is the lines that these will complete (in_lines).
+-- were. What is on its way as bytes is the lines that these will complete (net_in_lines).
 pub record IsPrintedOf (names : List Name) (net : ByteNetwork) (text : List ℕ) : Type 0 where
   pub entries : List Entry
   pub text_is : text ≡ flat_map entry_text entries

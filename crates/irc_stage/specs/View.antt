@@ -41,13 +41,14 @@ without_end link view = record view { ends = remove view.ends link }
 abbrev pub new_view : Known → List Peer → View
 new_view routes peers = record { routes = routes; peers = map known_peer peers; ends = empty; clients = empty; room = no_room }
 
--- the password that a server and a peer give each other; servers' names have one spelling
+-- whether a peer has this name; servers' names have one spelling
 abbrev pub is_peer_named : List ℕ → Peer → Bool
 is_peer_named name peer = pointwise nat_eq peer.name.items name
 
 abbrev pub is_named : List ℕ → KnownPeer → Bool
 is_named name peer = pointwise nat_eq peer.name name
 
+-- the password that a server and the peer of a name give each other, if there is such a peer
 abbrev pub password_for : View → List ℕ → Option (List ℕ)
 password_for view name = option_map (λ (peer : KnownPeer). peer.password) (find (is_named name) view.peers)
 

@@ -1,4 +1,4 @@
--- What each client of the network is owed over a list of items, and how many lines servers may need to tell each other of one.
+-- What each client of the network is owed over a list of items.
 use Rattle.std.specs.Prelude.{ℕ, List, [], ◌∷◌, ◌++◌}
 use Rattle.irc_world.specs.World.{Setting, World, new_world}
 use Rattle.irc_world.specs.Stepping.{Item, step}

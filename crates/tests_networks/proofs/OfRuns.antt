@@ -1,9 +1,9 @@
 -- By what the calls of a network promise, what is read of it is what its items make for servers
 -- that are set up by its configurations.
 use Rattle.std.proofs.Common.{◌≡◌, ◌≤◌, ℕ, true, false, true≢false, Option, Some, None, Result, Ok, Err, OnOk, List, option_map, refl, sym, ◌∙◌, ap, subst, if◌then◌else◌}
-use Rattle.irc_byte_network.specs.ByteNetwork.{is_byte_rest}
-use Rattle.irc_items.specs.SetUp.{settings_of}
-use Rattle.irc_items.specs.Sound.{most_of_last}
+use Rattle.irc_net.specs.ByteNetwork.{is_byte_rest}
+use Rattle.irc_net.specs.SetUp.{settings_of}
+use Rattle.irc_net.specs.Sound.{most_of_last}
 use Rattle.irc_net.specs.declared.answer.Answer.{Answer}
 use Rattle.irc_net.specs.declared.fault.NetFault.{NetFault}
 use Rattle.irc_net.specs.declared.fault.NetFault.TheVariants as fault
@@ -14,15 +14,15 @@ use Rattle.irc_net.specs.Laws.{EveryNetworkIsOneRoom}
 use Rattle.irc_net.specs.Making.{IsNetMade}
 use Rattle.irc_net.specs.OneRoom.{IsOneRoomNet, IsOwed, RefusesAsTheWorld, TakesFew}
 use Rattle.irc_net.specs.Running.{IsOneRoomOf, given, made, settled, taken}
-use Rattle.irc_network.specs.Network.{Receipt}
-use Rattle.irc_network.specs.Refusing.{fault_at_rest}
-use Rattle.irc_relay.specs.Links.{Name}
-use Rattle.irc_relay.specs.Relay.{IsFront}
-use Rattle.irc_server.specs.declared.config.Config.{Config}
-use Rattle.irc_world.specs.Owed.{owed_by_network, world_of}
-use Rattle.irc_world.specs.Refused.{Refusal, refused}
-use Rattle.irc_world.specs.Stepping.{Item}
-use Rattle.irc_world.specs.World.{Setting, new_world}
+use Rattle.irc_net.specs.Network.{Receipt}
+use Rattle.irc_net.specs.Refusing.{fault_at_rest}
+use Rattle.irc_net.specs.Links.{Name}
+use Rattle.irc_net.specs.Relay.{IsFront}
+use Rattle.irc_net.specs.declared.config.Config.{Config}
+use Rattle.irc_net.specs.Owed.{owed_by_network, world_of}
+use Rattle.irc_net.specs.Refused.{Refusal, refused}
+use Rattle.irc_net.specs.Stepping.{Item}
+use Rattle.irc_net.specs.World.{Setting, new_world}
 use Rattle.tests_networks.specs.Played.{Answered, AnswersAsOwed, Begins, GoesOn, IsWhole, PlaysOn, ReadsOwed, RunsAreOwed, TookFew}
 
 -- ---- what is done

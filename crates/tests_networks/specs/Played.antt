@@ -2,10 +2,10 @@
 -- one after another, with bytes that came in between.
 use Rattle.std.specs.Prelude.{◌≡◌, ⊤, ℕ, ◌≤◌, true, None, Some, Option, Result, Ok, Err, List, [], ◌∷◌, ◌++◌}
 use Rattle.std.specs.Option.{option_map}
-use Rattle.irc_byte_network.specs.ByteNetwork.{is_byte_rest, net_in_lines}
-use Rattle.irc_items.specs.Laws.{ClosesNoLink, OpensBothEnds}
-use Rattle.irc_items.specs.OneRoom.{IsOneRoom}
-use Rattle.irc_items.specs.Sound.{most_of_last, IsSound}
+use Rattle.irc_net.specs.ByteNetwork.{is_byte_rest, net_in_lines}
+use Rattle.irc_net.specs.ItemLaws.{ClosesNoLink, OpensBothEnds}
+use Rattle.irc_net.specs.RoomsAtRest.{IsOneRoom}
+use Rattle.irc_net.specs.Sound.{most_of_last, IsSound}
 use Rattle.irc_net.specs.declared.answer.Answer.{Answer}
 use Rattle.irc_net.specs.declared.fault.NetFault.{NetFault}
 use Rattle.irc_net.specs.declared.fault.NetFault.TheVariants.{Memory}
@@ -14,16 +14,16 @@ use Rattle.irc_net.specs.Calls.{NetView}
 use Rattle.irc_net.specs.Faults.{fault_by, item_fault}
 use Rattle.irc_net.specs.Making.{AreSettingsOf}
 use Rattle.irc_net.specs.Running.{HasRun}
-use Rattle.irc_network.specs.Network.{received_by}
-use Rattle.irc_network.specs.Refusing.{fault_at_rest}
-use Rattle.irc_relay.specs.Links.{Name}
-use Rattle.irc_relay.specs.Relay.{IsFront}
-use Rattle.irc_server.specs.declared.config.Config.{Config}
-use Rattle.irc_world.specs.Owed.{owed_by_network, world_of}
-use Rattle.irc_world.specs.Refused.{Refusal, refused}
-use Rattle.irc_world.specs.Stepping.{Item, link}
-use Rattle.irc_world.specs.WithinLimits.{IsItemWithin}
-use Rattle.irc_world.specs.World.{Setting, new_world}
+use Rattle.irc_net.specs.Network.{received_by}
+use Rattle.irc_net.specs.Refusing.{fault_at_rest}
+use Rattle.irc_net.specs.Links.{Name}
+use Rattle.irc_net.specs.Relay.{IsFront}
+use Rattle.irc_net.specs.declared.config.Config.{Config}
+use Rattle.irc_net.specs.Owed.{owed_by_network, world_of}
+use Rattle.irc_net.specs.Refused.{Refusal, refused}
+use Rattle.irc_net.specs.Stepping.{Item, link}
+use Rattle.irc_net.specs.WithinLimits.{IsItemWithin}
+use Rattle.irc_net.specs.World.{Setting, new_world}
 
 -- what is so of a network, whatever configurations and items it has come from
 abbrev pub OfEachRun : NetView → (List Config → List Item → Type 0) → Type 0
