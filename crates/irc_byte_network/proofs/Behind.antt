@@ -8,7 +8,7 @@ use Rattle.irc_server.specs.Served.{Occurrence}
 use Rattle.irc_stage.specs.View.{View}
 use Rattle.irc_network.specs.Network.{Course, Network, Reply, Site, all_sent_out, site_asked, asked_at, site_changed_at, has_received, has_received_at, server_place, line_queued, reply, sent_out, site_at, site_view, with_reply, with_site}
 use Rattle.irc_byte_network.specs.Behind.{Ahead, net_behind, course_behind, site_behind, sites_behind}
-use Rattle.irc_byte_network.proofs.Ways.{queued_behind}
+use Rattle.irc_byte_network.specs.Lemmas.Ways.{queued_behind}
 
 -- ---- sites by place
 

@@ -13,14 +13,16 @@ use Rattle.irc_byte_network.specs.ByteNetwork.{ByteNetwork, all_heard, all_writt
 use Rattle.irc_byte_network.specs.Loops.Writing.{IsWritten}
 use Rattle.irc_byte_network.specs.Whole.{AreLinesWaiting, BytesComeAsLines, ComeAsLines, Delivers, IsWhole, IsWholeNet, has_way, no_more, one_first}
 use Rattle.irc_byte_network.proofs.Behind.{at-behind}
-use Rattle.irc_byte_network.proofs.Calls.{rows_after_lines}
+use Rattle.irc_byte_network.specs.Lemmas.Rows.{rows_after_lines}
 use Rattle.irc_byte_network.proofs.Delivered.{IsLeftOn, one_delivered, same_sites}
 use Rattle.irc_byte_network.proofs.GivenLines.{none_there, with_net}
-use Rattle.irc_byte_network.proofs.Refilled.{emptied_waits, emptied_ways, refilled}
-use Rattle.irc_byte_network.proofs.RowsWritten.{is_written, lean_with}
-use Rattle.irc_byte_network.proofs.Ways.{waiting_behind}
+use Rattle.irc_byte_network.proofs.Refilled.{refilled}
+use Rattle.irc_byte_network.specs.Lemmas.Emptied.{emptied_waits, emptied_ways}
+use Rattle.irc_byte_network.specs.Lemmas.RowsWritten.{is_written, lean_with}
+use Rattle.irc_byte_network.specs.Lemmas.Ways.{waiting_behind}
 use Rattle.irc_byte_network.proofs.WaysStay.{heard_ways}
-use Rattle.irc_byte_network.proofs.WireLines.{AreWritten, IsKnownOfStreams, advanced_is_whole, all_are_written, lines_parted, new_has_none, new_is_real, new_is_whole}
+use Rattle.irc_byte_network.proofs.WireLines.{AreWritten, IsKnownOfStreams, advanced_is_whole, all_are_written, lines_parted, new_has_none, new_is_whole}
+use Rattle.irc_byte_network.specs.Lemmas.NewFramer.{new_is_real}
 
 -- ---- lines that are ahead on one way
 

@@ -9,7 +9,7 @@ use Rattle.irc_stage.specs.Lemmas.Numbers.{get-with, one_number, same_number, sa
 use Rattle.irc_network.specs.Network.{Course, Site, site_asked, line_counted, delivered, left, site_at, taken_of, waiting, with_site, heard}
 use Rattle.irc_byte_network.specs.Behind.{Ahead, net_behind, course_behind, each_way, site_behind, sites_behind}
 use Rattle.irc_byte_network.proofs.Behind.{asked-behind, at-behind}
-use Rattle.irc_byte_network.proofs.Ways.{get-each_way, same_ways, waiting_behind}
+use Rattle.irc_byte_network.specs.Lemmas.Ways.{get-each_way, same_ways, waiting_behind}
 
 -- other lines are ahead on one way alone
 pub record IsLeftOn (from to : ℕ) (rest : List (List ℕ)) (ahead now : Ahead) : Type 0 where

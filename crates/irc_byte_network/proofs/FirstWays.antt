@@ -14,7 +14,7 @@ use Rattle.irc_stage.specs.Lemmas.Numbers.{one_number, same_number, same_number-
 use Rattle.irc_network.specs.Network.{Direction as LineDirection, Site, direction, first_among, first_way, is_nothing, waiting, waits}
 use Rattle.irc_wires.specs.Wires.{Direction, Wire, Wires, first_from, first_in, has_byte, new_wire, wire_at, wire_in}
 use Rattle.irc_byte_network.specs.Behind.{Ahead, site_behind, sites_behind}
-use Rattle.irc_byte_network.proofs.Ways.{get-each_way, none_waiting, waiting_behind}
+use Rattle.irc_byte_network.specs.Lemmas.Ways.{get-each_way, none_waiting, waiting_behind}
 
 -- ---- the first of rising numbers that passes
 

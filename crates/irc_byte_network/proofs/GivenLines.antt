@@ -11,9 +11,10 @@ use Rattle.irc_byte_network.specs.Behind.{net_behind}
 use Rattle.irc_byte_network.specs.ByteNetwork.{ByteNetwork, all_written, cut_ends, net_in_lines, is_byte_rest, item_given, lines_ahead, waiting_at, wires_after, queues_written}
 use Rattle.irc_byte_network.specs.Loops.Writing.{IsWritten}
 use Rattle.irc_byte_network.specs.Whole.{AreLinesWaiting, GivenAsLines, IsGivenAsLines, IsTidy, IsWhole, IsWholeNet, has_way}
-use Rattle.irc_byte_network.proofs.Calls.{rows_after_item}
-use Rattle.irc_byte_network.proofs.Refilled.{alone, emptied_waits, emptied_ways, refilled}
-use Rattle.irc_byte_network.proofs.RowsWritten.{is_written, lean_along}
+use Rattle.irc_byte_network.specs.Lemmas.Rows.{rows_after_item}
+use Rattle.irc_byte_network.proofs.Refilled.{alone, refilled}
+use Rattle.irc_byte_network.specs.Lemmas.Emptied.{emptied_waits, emptied_ways}
+use Rattle.irc_byte_network.specs.Lemmas.RowsWritten.{is_written, lean_along}
 use Rattle.irc_byte_network.proofs.StillWires.{all_new, nothing_lost}
 use Rattle.irc_byte_network.proofs.WireLines.{IsKnownOfStreams, all_are_written, new_has_none, new_is_whole}
 

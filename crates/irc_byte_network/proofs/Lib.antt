@@ -11,11 +11,8 @@ pub mod NewNetwork
 pub mod NothingWritten
 pub mod Refilled
 pub mod Resting
-pub mod RowsWritten
-pub mod SitesStay
 pub mod StillWires
 pub mod TurnLines
-pub mod Ways
 pub mod WaysStay
 pub mod WireLines
 pub mod WritingOut

@@ -14,7 +14,8 @@ use Rattle.irc_byte_network.specs.ByteNetwork.{lines_ahead}
 use Rattle.irc_byte_network.specs.Whole.{IsWhole, NewIsWhole}
 use Rattle.irc_byte_network.proofs.Refilled.{alone}
 use Rattle.irc_byte_network.proofs.StillWires.{all_new}
-use Rattle.irc_byte_network.proofs.WireLines.{IsKnownOfStreams, new_has_none, new_is_real, new_is_whole}
+use Rattle.irc_byte_network.proofs.WireLines.{IsKnownOfStreams, new_has_none, new_is_whole}
+use Rattle.irc_byte_network.specs.Lemmas.NewFramer.{new_is_real}
 
 row_still : are_still_in (from_entries []) ≡ true
 row_still = ap (λ (es : List (ℕ × Wire)). list_all (λ to. is_still (wire_in to (from_entries []))) (keys_of es)) (listed [] tt)

@@ -15,8 +15,9 @@ use Rattle.irc_wires.specs.Lemmas.PutWires.{get-put}
 use Rattle.irc_byte_network.specs.ByteNetwork.{ByteCourse, ByteNetwork, all_heard, all_written, bytes_come, completed_in, course_without_wires, course_written, row_written, rows_written, waiting_at, wires_come, queues_written}
 use Rattle.irc_byte_network.specs.Turns.{bytes_in_turn, lines_in, lines_in_turn, turn_in, turn_taken}
 use Rattle.irc_byte_network.specs.Whole.{IsTidy}
-use Rattle.irc_byte_network.proofs.RowsWritten.{lean_with}
-use Rattle.irc_byte_network.proofs.WritingOut.{rest_is_emptied, rows_stay}
+use Rattle.irc_byte_network.specs.Lemmas.RowsWritten.{lean_with}
+use Rattle.irc_byte_network.proofs.WritingOut.{rest_is_emptied}
+use Rattle.irc_byte_network.specs.Lemmas.Rows.{rows_stay}
 
 abbrev Row : Type 0
 Row = FinMap nat_cmp Wire

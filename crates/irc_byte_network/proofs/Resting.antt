@@ -13,7 +13,8 @@ use Rattle.irc_byte_network.specs.ByteNetwork.{lines_ahead}
 use Rattle.irc_byte_network.specs.Whole.{IsWhole, NoByteRests, RestAsLines}
 use Rattle.irc_byte_network.proofs.Refilled.{alone}
 use Rattle.irc_byte_network.proofs.StillWires.{all_new}
-use Rattle.irc_byte_network.proofs.WireLines.{IsKnownOfStreams, new_has_none, new_is_real}
+use Rattle.irc_byte_network.proofs.WireLines.{IsKnownOfStreams, new_has_none}
+use Rattle.irc_byte_network.specs.Lemmas.NewFramer.{new_is_real}
 
 abbrev way : ℕ → ℕ → Direction
 way place to = record { from = place; to = to }

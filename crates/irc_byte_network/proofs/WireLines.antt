@@ -3,22 +3,19 @@ use Rattle.std.proofs.Common.{◌≡◌, ℕ, ◌+◌, ◌≤◌, true, false, L
 use Rattle.std.proofs.Math.Seq.{drop-length, drop-nil, take-nil}
 use Rattle.std.proofs.lemmas.List.{drop-append-le, take-append-le}
 use Rattle.std.specs.List.{AllByRecursion}
-use Rattle.irc_line.specs.Bytes.{crlf, cut}
+use Rattle.irc_line.specs.Bytes.{crlf}
 use Rattle.irc_line.specs.Laws.{LinesAreCompleted, PiecesCompleteTheSame}
-use Rattle.irc_line.specs.Lines.{Begun, HasTaken, IsLine, begun_behind, completed, nothing_begun, stream_for, tail}
+use Rattle.irc_line.specs.Lines.{Begun, HasTaken, IsLine, begun_behind, completed, nothing_begun, stream_for}
 use Rattle.irc_wires.specs.Wires.{Wire, advanced, is_none, lines_by, lines_to_come, new_wire, through_line_feed, written}
 use Rattle.irc_byte_network.specs.ByteNetwork.{all_written}
 use Rattle.irc_byte_network.specs.Whole.{IsWhole, ends_in_feed}
+use Rattle.irc_byte_network.specs.Lemmas.NewFramer.{new_is_real}
 use Rattle.irc_byte_network.proofs.Feeds.{IsOf, append_ends, drop_ends, is_of, past_all, some_left, through_first, within_all}
 
 -- what is known of framers
 pub record IsKnownOfStreams : Type 0 where
   pub pieces : PiecesCompleteTheSame
   pub lines : LinesAreCompleted
-
-pub new_is_real : HasTaken nothing_begun (stream_for nothing_begun)
-unfolding cut tail
-new_is_real = refl
 
 -- a framer to which some stream led
 abbrev IsReal : Begun → Type 0

@@ -14,8 +14,9 @@ use Rattle.irc_wires.specs.Lemmas.PutWires.{IsSetAt, get_set, it, nowhere, other
 use Rattle.irc_byte_network.specs.Behind.{each_way, emptied, emptied_site}
 use Rattle.irc_byte_network.specs.ByteNetwork.{all_written, waiting_at}
 use Rattle.irc_byte_network.specs.Loops.Writing.{IsWriting, IsWritten}
-use Rattle.irc_byte_network.proofs.Ways.{get-each_way, same_ways}
-use Rattle.irc_byte_network.proofs.Refilled.{no_line}
+use Rattle.irc_byte_network.specs.Lemmas.Ways.{get-each_way, same_ways}
+use Rattle.irc_byte_network.specs.Lemmas.Emptied.{no_line}
+use Rattle.irc_byte_network.specs.Lemmas.Rows.{length_set, rows_stay}
 
 abbrev Row : Type 0
 Row = FinMap nat_cmp Wire
@@ -143,18 +144,6 @@ row_there (row ∷ wires) (first ∷ sites) (suc place) site same at = row_there
   where
     one_less : (a b : ℕ) → suc a ≡ suc b → a ≡ b
     one_less a b is = cc is
-
-pub length_set : {X : Type 0} (xs : List X) (place : ℕ) (x : X) → length (slice_set xs place x) ≡ length xs
-length_set [] place x = refl
-length_set (first ∷ xs) zero x = refl
-length_set (first ∷ xs) (suc place) x = ap suc (length_set xs place x)
-
-pub rows_stay : (from to : ℕ) (wire : Wire) (wires : Wires) → length (with_wire from to wire wires) ≡ length wires
-rows_stay from to wire wires = by (slice_get wires from)
-  where
-    by : (o : Option Row) → length (option_map_or (λ row. slice_set wires from (put_in to wire row)) o wires) ≡ length wires
-    by None = refl
-    by (Some row) = length_set wires from (put_in to wire row)
 
 wire_here : (wires : Wires) (from to : ℕ) (wire : Wire) (row : Row) → slice_get wires from ≡ Some row → wire_at (with_wire from to wire wires) from to ≡ wire
 wire_here wires from to wire row is =

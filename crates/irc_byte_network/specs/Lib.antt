@@ -4,3 +4,4 @@ pub mod Calls
 pub mod Turns
 pub mod Whole
 pub mod Loops
+pub mod Lemmas

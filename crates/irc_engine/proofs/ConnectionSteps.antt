@@ -14,14 +14,14 @@ use Rattle.irc_engine.specs.declared.kind.Kind.{Kind}
 use Rattle.irc_engine.specs.declared.connection_table.Connection.{Connection}
 use Rattle.irc_line.specs.Lines.{Begun}
 use Rattle.irc_engine.specs.Hearing.{Hears}
-use Rattle.irc_engine.proofs.HearingLaws.{hears_gone, hears_same}
+use Rattle.irc_engine.specs.Lemmas.HearingLaws.{hears_gone, hears_same}
 use Rattle.irc_engine.specs.Carrying.{bytes_owed, is_closed_by, is_exchange, AddsAll, Passage, finished}
 use Rattle.irc_engine.specs.Loops.Counts.{count_of}
 use Rattle.irc_engine.specs.Loops.Tables.{connection_count, connection_of, is_done_at, AreSame, at_connection, no_connection, IsPushedAt, IsClosedAt}
 use Rattle.irc_engine.specs.Loops.Connections.{lost_at, lost_by, IsLostAs, Ends, Loses, EndsOrWaits, ended, stayed, Carries}
 use Rattle.irc_engine.proofs.TableLaws.{nat_eq-refl, IsQueuedAt}
 use Rattle.irc_engine.proofs.KindLaws.{kind_kept, kind_forgotten, kind_gone}
-use Rattle.irc_engine.proofs.CarryingLaws.{IsElsewhere, nothing_owed, passage_as, passage_on, untouched, still, kept_none, kept_some}
+use Rattle.irc_engine.specs.Lemmas.CarryingLaws.{IsElsewhere, nothing_owed, passage_as, passage_on, untouched, still, kept_none, kept_some}
 use Rattle.irc_engine.proofs.EachConnection.{adds_none, adds_both, at_once, by_number, set_here, set_other, nothing_else, close_elsewhere, line_elsewhere, closed_elsewhere, ends_fewer, last_close, line_drops}
 
 and_false : (o : Bool) → (o && false) ≡ false

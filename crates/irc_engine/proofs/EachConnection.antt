@@ -12,9 +12,9 @@ use Rattle.irc_engine.specs.Loops.Counts.{count_of}
 use Rattle.irc_engine.specs.Loops.Tables.{connection_count, connection_of, IsSet}
 use Rattle.irc_engine.specs.Loops.Connections.{lost_at, lost_by, IsLostAs, Ends, Loses, Carries}
 use Rattle.irc_engine.proofs.TableLaws.{one_number, nat_eq-refl}
-use Rattle.irc_engine.proofs.HearingLaws.{hears_gone}
+use Rattle.irc_engine.specs.Lemmas.HearingLaws.{hears_gone}
 use Rattle.irc_engine.proofs.KindLaws.{kind_of_lost, some_lost, lost_by_open, lost_by_close, open_some}
-use Rattle.irc_engine.proofs.CarryingLaws.{IsElsewhere, untouched, elsewhere_both}
+use Rattle.irc_engine.specs.Lemmas.CarryingLaws.{IsElsewhere, untouched, elsewhere_both}
 
 -- accounts
 

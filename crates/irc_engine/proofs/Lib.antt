@@ -1,8 +1,6 @@
 pub mod NotingLaws
-pub mod HearingLaws
 pub mod TableLaws
 pub mod KindLaws
-pub mod CarryingLaws
 pub mod EachConnection
 pub mod ConnectionSteps
 pub mod MarkLaws

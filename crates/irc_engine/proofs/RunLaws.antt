@@ -30,7 +30,7 @@ use Rattle.irc_engine.specs.Noting.{event_signs, out_signs}
 use Rattle.irc_engine.specs.Running.{Moment, Asked, AreAsked, asked, asked_at, AsksOnce, IsNews, a_line, an_end, Ran, RanOn, Standing, standing_of, TellsServer}
 use Rattle.irc_engine.specs.Writing.{one_if}
 use Rattle.irc_engine.proofs.NotingLaws.{enters_both}
-use Rattle.irc_engine.proofs.HearingLaws.{lines_by-append, times_gone-append, hears_on, hears_kept, hears_same, hears_gone, hears_deaf}
+use Rattle.irc_engine.specs.Lemmas.HearingLaws.{lines_by-append, times_gone-append, hears_on, hears_kept, hears_same, hears_gone, hears_deaf}
 use Rattle.irc_engine.specs.Loops.Tables.{connection_of, at_connection, no_connection, FramesAt}
 use Rattle.irc_engine.specs.Loops.Connections.{has, lost_at, lost_by, Carries, Loses}
 use Rattle.irc_engine.specs.Loops.Moments.{came, passed_on}
@@ -38,7 +38,7 @@ use Rattle.irc_engine.proofs.EachConnection.{adds_none, adds_both, at_once, set_
 use Rattle.irc_engine.proofs.TableLaws.{one_number, nat_eq-refl}
 use Rattle.irc_engine.proofs.KindLaws.{kind_kept, kind_of_lost, some_lost}
 use Rattle.arrayvec.specs.ArrayVec.{ArrayVec}
-use Rattle.irc_engine.proofs.CarryingLaws.{is_closed_by-append, IsElsewhere, elsewhere_both, fate_on, same_fate, untouched_fate, nothing_owed, still}
+use Rattle.irc_engine.specs.Lemmas.CarryingLaws.{is_closed_by-append, IsElsewhere, elsewhere_both, fate_on, same_fate, untouched_fate, nothing_owed, still}
 
 pub on_ok : {E : Type 0} (result : Result (Unit {0}) E) (P Q : Type 0) → (P → Q) → OnOk result P → OnOk result Q
 on_ok (Ok done) P Q so holds = so holds

@@ -11,8 +11,8 @@ use Rattle.irc_engine.specs.Loops.Connections.{has, lost_at, lost_by, AreWrites,
 use Rattle.irc_engine.proofs.EachConnection.{adds_both, at_once, set_here, set_other, write_elsewhere, write_drops}
 use Rattle.irc_engine.proofs.ConnectionSteps.{carries_none, carries_on, one_connection, ended_or_waits}
 use Rattle.irc_engine.proofs.KindLaws.{kind_kept}
-use Rattle.irc_engine.proofs.CarryingLaws.{nothing_owed, still, kept_some}
-use Rattle.irc_engine.proofs.HearingLaws.{hears_same}
+use Rattle.irc_engine.specs.Lemmas.CarryingLaws.{nothing_owed, still, kept_some}
+use Rattle.irc_engine.specs.Lemmas.HearingLaws.{hears_same}
 use Rattle.irc_engine.proofs.MarkLaws.{unmarks_gone, unmarks_written}
 
 some_pushed : (bytes front : List ℕ) → IsFront bytes front → is_some_bytes bytes ≡ true → is_some_bytes front ≡ true

@@ -6,4 +6,5 @@ pub mod Running
 pub mod Turning
 pub mod Telling
 pub mod Loops
+pub mod Lemmas
 pub mod Laws

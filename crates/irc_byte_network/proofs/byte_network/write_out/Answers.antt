@@ -1,7 +1,7 @@
 use Rattle.std.proofs.Common.{◌∙◌, ap}
 use Rattle.irc_wires.specs.Wires.{wire_at, with_wire, written}
 use Rattle.irc_byte_network.specs.ByteNetwork.{queues_written}
-use Rattle.irc_byte_network.proofs.RowsWritten.{is_written, same_written}
+use Rattle.irc_byte_network.specs.Lemmas.RowsWritten.{is_written, same_written}
 use Rattle.irc_byte_network.proofs.WritingOut.{last_written, one_written}
 use Rattle.irc_byte_network.proofs.byte_network.write_out.Goals as goal
 

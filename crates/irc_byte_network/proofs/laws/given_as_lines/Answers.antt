@@ -1,5 +1,5 @@
 use Rattle.irc_byte_network.proofs.GivenLines.{given_as_lines}
-use Rattle.irc_byte_network.proofs.WireLines.{new_is_real}
+use Rattle.irc_byte_network.specs.Lemmas.NewFramer.{new_is_real}
 use Rattle.irc_byte_network.proofs.laws.given_as_lines.Goals as goal
 
 pub returns : goal.returns

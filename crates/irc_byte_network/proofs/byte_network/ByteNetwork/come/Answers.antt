@@ -5,7 +5,8 @@ use Rattle.irc_network.specs.Views.{receipts_of}
 use Rattle.irc_wires.specs.Wires.{lines_by, wire_at}
 use Rattle.irc_byte_network.specs.ByteNetwork.{ByteNetwork, HasRows, all_heard}
 use Rattle.irc_byte_network.specs.Loops.Coming.{byte_course, come_between}
-use Rattle.irc_byte_network.proofs.Calls.{have_come, rows_after_lines}
+use Rattle.irc_byte_network.proofs.Calls.{have_come}
+use Rattle.irc_byte_network.specs.Lemmas.Rows.{rows_after_lines}
 use Rattle.irc_byte_network.proofs.byte_network.ByteNetwork.come.Goals as goal
 
 pub write_out-requires : goal.write_out-requires

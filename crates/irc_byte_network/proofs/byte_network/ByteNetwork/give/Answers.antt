@@ -4,7 +4,8 @@ use Rattle.irc_network.specs.Network.{Course}
 use Rattle.irc_network.specs.Views.{item_of, receipts_of}
 use Rattle.irc_byte_network.specs.ByteNetwork.{ByteNetwork, HasRows, cut_ends, item_given, lost_along}
 use Rattle.irc_byte_network.specs.Loops.Coming.{byte_course}
-use Rattle.irc_byte_network.proofs.Calls.{on_ok, rows_after_item, was_given}
+use Rattle.irc_byte_network.proofs.Calls.{on_ok, was_given}
+use Rattle.irc_byte_network.specs.Lemmas.Rows.{rows_after_item}
 use Rattle.irc_byte_network.proofs.byte_network.ByteNetwork.give.Goals as goal
 
 pub write_out-requires : goal.write_out-requires

@@ -47,7 +47,7 @@ all_stay : (place : ℕ) (out : List Sent) (course : Course) → servers (all_se
 all_stay place [] course = refl
 all_stay place (sent ∷ out) course = all_stay place out (sent_out place sent course) ∙ sent_stays place sent course
 
-asked_stays : (place : ℕ) (occurrence : Occurrence) (course : Course) → servers (site_asked place occurrence course).net ≡ servers course.net
+pub asked_stays : (place : ℕ) (occurrence : Occurrence) (course : Course) → servers (site_asked place occurrence course).net ≡ servers course.net
 unfolding site_asked
 asked_stays place occurrence course = by_site (site_at course.net place)
   where

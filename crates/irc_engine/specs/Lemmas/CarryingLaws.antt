@@ -8,7 +8,7 @@ use Rattle.irc_batch.specs.Batches.{Sent, end_of, end_of_link, line_on, line_to}
 use Rattle.irc_engine.specs.declared.kind.Kind.{Kind}
 use Rattle.irc_engine.specs.declared.connection_table.Connection.{Connection}
 use Rattle.irc_engine.specs.Hearing.{begun_at}
-use Rattle.irc_engine.proofs.HearingLaws.{hears_on, hears_kept}
+use Rattle.irc_engine.specs.Lemmas.HearingLaws.{hears_on, hears_kept}
 use Rattle.irc_engine.specs.Carrying.{answers, is_closing, is_closed_by, bytes_owed, ends_at, is_cut_off, Silent, Stays, Why, finished, cut_off, overflowed, Leaves, Fate, is_lost_after, Passage}
 
 pub written-append : (conn : ℕ) (a b : List Call) → written conn (a ++ b) ≡ written conn a ++ written conn b

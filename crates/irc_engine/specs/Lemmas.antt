@@ -1,0 +1,3 @@
+-- Lemmas that crates above cite.
+pub mod HearingLaws
+pub mod CarryingLaws
