@@ -1,4 +1,5 @@
 pub mod AllOf
+pub mod Connected
 pub mod LinesEnd
 pub mod MetEnds
 pub mod OwnClosings

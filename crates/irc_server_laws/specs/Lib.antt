@@ -1,3 +1,4 @@
 pub mod Own
 pub mod LineEnds
 pub mod Closings
+pub mod Connected

@@ -1,5 +1,6 @@
 //! What holds of one server with links, whatever happens.
 ghost use Rattle.irc_server_laws.specs.Closings.{ServedClosesItsOwn};
+ghost use Rattle.irc_server_laws.specs.Connected.{WhoIsConnected};
 ghost use Rattle.irc_server_laws.specs.LineEnds.{ServedLinesEnd};
 ghost use Rattle.irc_server_laws.specs.Own.{ServedGoesToItsOwn, ServedKeepsEnds};
 
@@ -22,4 +23,9 @@ pub fn served_lines_end()
 /// peer has (RFC 2813 section 4.1). Whatever else happens closes no link.
 pub fn served_closes_its_own()
     ensures { ServedClosesItsOwn }
+{}
+
+/// A client or a link is there from when it comes until it goes or is closed, and nobody else comes or goes.
+pub fn who_is_connected()
+    ensures { WhoIsConnected }
 {}
