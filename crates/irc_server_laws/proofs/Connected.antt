@@ -1,9 +1,8 @@
 -- Just those are connected who were, or come, and neither go nor are closed.
-use Rattle.std.proofs.Common.{◌≡◌, ℕ, Bool, true, false, cond, not, T, option_map, ◌&&◌, ◌||◌, nat_eq, is_none, is_some, Option, Some, None, Result, Ok, Err, List, [], ◌∷◌, ◌++◌, refl, sym, ◌∙◌, ap, subst, filter_map, if◌then◌else◌}
+use Rattle.std.proofs.Common.{◌≡◌, ℕ, Bool, true, false, cond, not, T, option_map, ◌&&◌, ◌||◌, nat_eq, is_none, is_some, Option, Some, None, Ok, Err, List, [], ◌∷◌, ◌++◌, refl, sym, ◌∙◌, ap, subst, filter_map, if◌then◌else◌}
 use Rattle.std.proofs.lemmas.Bool.{eq-eqb, eqb-true}
 use Rattle.std.proofs.lemmas.List.Folds.{list_any-append}
 use Rattle.std.specs.FinMap.{entries, entries_sorted, find, get, get-entries, insert, is_sorted, remove, retain_keys}
-use Rattle.std.specs.FinMap.Entries.{below_all}
 use Rattle.std.specs.List.{cons_option, flat_map, list_all, list_any}
 use Rattle.std.specs.Option.{option_map_or}
 use Rattle.std.specs.Ordering.{nat_cmp}
@@ -13,7 +12,6 @@ use Rattle.irc_batch.specs.declared.close_reason.CloseReason.TheVariants as reas
 use Rattle.irc_burst.specs.DeedsMeant.{Told, a_deed, a_server}
 use Rattle.irc_burst_lines.specs.DeedLines.{deed_parts}
 use Rattle.irc_commands.specs.Decide.{decide}
-use Rattle.irc_line.specs.declared.reading.LineFault.{LineFault}
 use Rattle.irc_line.specs.Messages.{Parsed, Written, text}
 use Rattle.irc_merge.specs.Deeds.{Deed, does, gains, loses, kills, brings, sets, tops, effects_of}
 use Rattle.irc_merge.specs.Quits.{collision_text}
@@ -36,23 +34,22 @@ use Rattle.irc_links.specs.Ends.{End, Ends, fresh_end}
 use Rattle.irc_links.specs.Ways.{but, met_links}
 use Rattle.irc_stage.specs.declared.clients.Client.{Client}
 use Rattle.irc_stage.specs.declared.clients.Client.TheVariants.{Registering, Registered}
-use Rattle.irc_stage.specs.RoomMachine.{Clients, client_of, each_client}
+use Rattle.irc_stage.specs.RoomMachine.{Clients, client_of}
 use Rattle.irc_stage.specs.View.{View, machine_of, password_for, with_end}
 use Rattle.irc_stage.specs.Handle.{Happening, connects, says, goes, client_after, clients_after, fresh, is_client, lost_text, renamed_in, to_viewer, user_of}
 use Rattle.irc_stage.specs.EffectTold.{Served, all_changed, changed, changed_if, client_ended, counts, effect_came, effect_told, ends_of, in_silence, is_another, is_elsewhere, on_links, quit_by, shown_at, taken_out, ways_at, with_sent}
 use Rattle.irc_stage.specs.Linked.{is_taken, told_on_all, unlinked, with_far, with_password, with_row}
 use Rattle.irc_stage.specs.ClientTold.{client_told, closed_told, message_told, quit_told, seated, step_told, steps_told, unseated, user_told}
 use Rattle.irc_stage.specs.Lemmas.Counting.{get-kept}
-use Rattle.irc_stage.specs.Lemmas.Numbers.{get-each, get-with, get-without, none_behind, one_number, same_number, same_number-is, same_number-refl}
+use Rattle.irc_stage.specs.Lemmas.Numbers.{get-each, get-with, get-without, none_behind, one_number, same_number, same_number-is}
 use Rattle.irc_deeds.specs.DeedTold.{all_told, arrival_of, deed_told, deeds_told, forgotten, gain_told, link_lost, lost_behind, titled_view, told_by}
 use Rattle.irc_deeds.specs.Heard.{Heard, ignored, closes, password, meets, tells, heard}
 use Rattle.irc_deeds.specs.LinkServed.{after_heard, line_served, link_opened, met_by, on_link, opening_parts, owes}
 use Rattle.irc_server.specs.Served.{Occurrence, of_client, link_up, link_says, link_down, served}
-use Rattle.irc_server_laws.specs.Connected.{AreConnectedAfter, WhoIsConnected, client_comes, client_goes, ends_client, ends_link, has_client, has_link, is_client_ended, is_link_ended, is_there_after, link_comes, link_goes}
+use Rattle.irc_server_laws.specs.Connected.{AreConnectedAfter, WhoIsConnected, client_comes, client_goes, ends_client, has_client, has_link, is_client_ended, is_link_ended, is_there_after, link_comes, link_goes}
 use Rattle.irc_server_laws.specs.Closings.{closing_by_line, closing_heard, closings_due, link_closings}
-use Rattle.irc_server_laws.specs.Own.{IsNewLink}
 use Rattle.irc_server_laws.proofs.OwnClosings.{closes_its_own}
-use Rattle.irc_server_laws.proofs.AllOf.{all-append, all-each, all-flat, all-one, all-picked, all_entries}
+use Rattle.irc_server_laws.proofs.AllOf.{all-append, all-each, all-flat, all-picked, all_entries}
 
 -- ---- numbers, and lists of what is put out
 

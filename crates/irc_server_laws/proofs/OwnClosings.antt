@@ -1,5 +1,5 @@
 -- Whatever is served, just the link by which a line came is closed that has a reason to be, or one that is opened to nobody known.
-use Rattle.std.proofs.Common.{◌≡◌, ℕ, Bool, true, false, is_none, Option, Some, None, Result, List, [], ◌∷◌, ◌++◌, append-nil, filter_map, refl, ◌∙◌, ap, if◌then◌else◌}
+use Rattle.std.proofs.Common.{◌≡◌, ℕ, Bool, true, false, is_none, Option, Some, None, Result, List, [], ◌∷◌, ◌++◌, append-nil, refl, ◌∙◌, ap, if◌then◌else◌}
 use Rattle.std.proofs.lemmas.List.Elements.{filter_map-append}
 use Rattle.std.specs.FinMap.{get}
 use Rattle.std.specs.List.{list_all}
