@@ -18,7 +18,7 @@ use Rattle.irc_net.specs.Network.{received_by}
 use Rattle.irc_net.specs.Refusing.{fault_at_rest}
 use Rattle.irc_net.specs.Links.{Name}
 use Rattle.irc_net.specs.Relay.{IsFront}
-use Rattle.irc_net.specs.declared.config.Config.{Config}
+use Rattle.irc_net.specs.config.Config.{Config}
 use Rattle.irc_net.specs.Owed.{owed_by_network, world_of}
 use Rattle.irc_net.specs.Refused.{Refusal, refused}
 use Rattle.irc_net.specs.Stepping.{Item, link}
