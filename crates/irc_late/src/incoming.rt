@@ -10,6 +10,7 @@ use crate::hearing::{Heard, may_meet};
 use crate::memory::Memory;
 use crate::taking::take_line;
 use irc_burst_lines::kill_text;
+use irc_line::limits::MAX_TEXT;
 use irc_line::{Framer, Text};
 use irc_names::{ServerName, copied};
 use irc_outbox::{Got, IoFault, Outbox, Wire};
@@ -18,9 +19,6 @@ use std::marker::Model;
 
 /// How many bytes are read of a link at once.
 const READ_SIZE: usize = 4096;
-
-/// The most bytes that a line has with its CR LF.
-const LINE_SIZE: usize = 512;
 
 const LINE_END: &[u8] = b"\r\n";
 
@@ -155,7 +153,7 @@ impl Incoming {
     fn goes_on(&self, size: usize, count: usize) -> bool
         ensures { result ≡ goes_on size count self.now }
     {
-        !self.has_line() && !self.is_last && (count == 0 || size.saturating_sub(count) >= LINE_SIZE)
+        !self.has_line() && !self.is_last && (count == 0 || size.saturating_sub(count) >= MAX_TEXT)
     }
 
     /// Gives on what is left of a line, or as much as there is room for, behind so many bytes of
