@@ -1,5 +1,5 @@
 -- What has come and was not given on, in the code's fields.
-use Rattle.std.proofs.Common.{◌≡◌, ℕ, suc, ◌+◌, ◌-◌, ◌<◌, ◌≤◌, min, nat_lt, Ok, List, [], ◌∷◌, ◌++◌, length, take, drop, refl, sym, ◌∙◌, ap, subst, arith, append_assoc, length-append, length-drop, length-take-le}
+use Rattle.std.proofs.Common.{◌≡◌, ℕ, suc, ◌+◌, ◌-◌, ◌<◌, ◌≤◌, Bool, false, ◌||◌, min, nat_lt, Ok, List, [], ◌∷◌, ◌++◌, length, take, drop, refl, sym, ◌∙◌, ap, subst, arith, append_assoc, length-append, length-drop, length-take-le}
 use Rattle.std.proofs.lemmas.Bool.{le-ltb, lt-ltb}
 use Rattle.std.proofs.lemmas.List.{drop-drop, drop_min, take-append-drop}
 use Rattle.std.proofs.lemmas.Slice.{take-put_mid}
@@ -22,6 +22,10 @@ some_left more used size is = omega arith
 pub shown : (used size : ℕ) (bytes : List ℕ) → length bytes ≡ size - used → nat_lt used size ≡ is_some_bytes bytes
 shown used size [] is = le-ltb used size (none_left used size is)
 shown used size (byte ∷ bytes) is = lt-ltb used size (some_left (length bytes) used size is)
+
+-- where no line is begun, something is held back if some bytes are
+pub held_bytes : (line bytes tells : Bool) → line ≡ false → tells ≡ bytes → tells ≡ (line || bytes)
+held_bytes line bytes tells none is = is ∙ sym (ap (λ b. b || bytes) none)
 
 -- a line is copied to a buffer
 

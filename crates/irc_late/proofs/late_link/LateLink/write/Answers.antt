@@ -1,5 +1,4 @@
-use Rattle.std.proofs.Common.{◌∙◌, Ok, ap, sym}
-use Rattle.irc_late.specs.declared.outgoing.Outgoing.{Outgoing}
+use Rattle.std.proofs.Common.{◌∙◌, Ok, sym}
 use Rattle.irc_late.proofs.Told.{err_so}
 use Rattle.irc_late.proofs.Written.{back_failed, failed_behind, still_back, written_behind}
 use Rattle.irc_late.proofs.late_link.LateLink.write.Goals as goal
@@ -25,4 +24,4 @@ pub returns-clause-account : goal.returns-clause-account
 returns-clause-account g c =
     written_behind g.W.Wire.is_after c.args.conn c.args.bytes.now c.args.self.now c.args.wire.now c.write_back.new.self c.write_back.new.wire
     _ c.in_ok-write_back.ensures (Ok c.in_ok-count.count) _ _ (sym c.is_blocked.ensures ∙ c.if-is_blocked.false) c.in_ok-count.ensures.account
-    (ap (λ (o : Outgoing). record c.write_back.new.self { outgoing = o }) c.take_off.ensures)
+    (cc c.take_off.ensures)
