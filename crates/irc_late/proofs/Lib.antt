@@ -3,6 +3,7 @@ mod Fitting
 mod Giving
 mod HeldBack
 mod LinkSets
+mod Marked
 mod Naming
 mod NextLine
 mod Nothing

@@ -7,4 +7,5 @@ pub mod LinkEnds
 pub mod LinkLaws
 pub mod Links
 pub mod Loops
+pub mod Marks
 pub mod Remembering

@@ -10,6 +10,7 @@ mod late_link;
 mod late_wire;
 pub mod laws;
 pub mod link_laws;
+mod marks;
 mod memory;
 mod mode_words;
 mod outgoing;

@@ -1,9 +1,11 @@
 //! What one end of a link remembers of nicknames.
 ghost use Rattle.std.specs.Prelude.{◌≡◌, ◌≤◌, IfOk, length};
+ghost use Rattle.std.specs.List.{list_any};
 ghost use Rattle.std.specs.Option.{option_copied};
 ghost use Rattle.irc_late.specs.Remembering.{is_from_other, is_of, is_of_others, is_other_killed, moved, not_crossed};
 ghost use Rattle.irc_late.specs.Loops.Turned.{ChangesAll, Sifts, TurnsAll, TurnsOne, as_it_is, every};
 
+use crate::marks::{MarkedNick, Sought};
 use circular_buffer::HeapCircularBuffer;
 use irc_names::{Nick, same};
 use std::alloc::{AllocError, Global};
@@ -35,9 +37,9 @@ pub struct Met {
 #[derive(Drop)]
 pub struct Change {
     /// The nickname that it had.
-    pub given_up: Nick,
+    pub given_up: MarkedNick,
     /// The one that it has now.
-    pub now: Nick,
+    pub now: MarkedNick,
 }
 
 /// What one end of a link remembers of what it has told the other one, each the oldest first.
@@ -148,11 +150,12 @@ impl Memory {
     pub fn nick_now(&self, nick: &[u8]) -> Option<&Nick>
         ensures { option_copied result ≡ nick_now self.now nick.now }
     {
+        let nick = Sought::of(nick);
         let change = self
             .changes
             .iter()
-            .find(|change| same(change.given_up.as_bytes(), nick))?;
-        Some(&change.now)
+            .find(|change| change.given_up.is(&nick))?;
+        Some(change.now.as_nick())
     }
 
     /// A KILL is put out for a nickname, if it is one.
@@ -180,7 +183,7 @@ impl Memory {
     pub fn forget_changes(&mut self, nick: &[u8])
         ensures { self.new ≡ without_changes nick.now self.old }
     {
-        forget_nick(&mut self.changes, nick);
+        forget_nick(&mut self.changes, &Sought::of(nick));
     }
 
     /// A user takes another nickname.
@@ -193,8 +196,9 @@ impl Memory {
         if let Some(given_up) = Nick::read(old)
             && let Some(now) = Nick::read(new)
         {
-            forget_nick(&mut self.changes, new);
-            lead_on(&mut self.changes, old, &now);
+            let (given_up, now) = (MarkedNick::of(given_up), MarkedNick::of(now));
+            forget_nick(&mut self.changes, &Sought::of(new));
+            lead_on(&mut self.changes, &Sought::of(old), &now);
             let _oldest = self.changes.push_back(Change { given_up, now });
         }
     }
@@ -244,16 +248,19 @@ fn mark_first(killed: &mut HeapCircularBuffer<Killed, Global>)
 }
 
 /// Changes without those from or to a nickname.
-fn forget_nick(changes: &mut HeapCircularBuffer<Change, Global>, nick: &[u8])
+fn forget_nick(changes: &mut HeapCircularBuffer<Change, Global>, nick: &Sought<'_>)
     ensures { Sifts (is_of_others nick.now) changes.old changes.new }
 {
+    if !is_any_of(nick, changes) {
+        return;
+    }
     for _ in 0..changes.len() {
         turn_change(changes, nick);
     }
 }
 
 /// The first change goes behind the others, or out if it is from or to this nickname.
-fn turn_change(changes: &mut HeapCircularBuffer<Change, Global>, nick: &[u8])
+fn turn_change(changes: &mut HeapCircularBuffer<Change, Global>, nick: &Sought<'_>)
     requires { length changes.old.items ≤ changes.old.capacity }
     ensures turned { TurnsOne (is_of_others nick.now) as_it_is changes.old changes.new }
     ensures fits { length changes.new.items ≤ changes.new.capacity }
@@ -266,40 +273,50 @@ fn turn_change(changes: &mut HeapCircularBuffer<Change, Global>, nick: &[u8])
 }
 
 /// Whoever had this nickname has that one; who has given it up is not found by it any more.
-fn lead_on(changes: &mut HeapCircularBuffer<Change, Global>, old: &[u8], new: &Nick)
+fn lead_on(changes: &mut HeapCircularBuffer<Change, Global>, old: &Sought<'_>, new: &MarkedNick)
     ensures { TurnsAll (is_from_other old.now) (moved old.now new.now) changes.old changes.new }
 {
+    if !is_any_of(old, changes) {
+        return;
+    }
     for _ in 0..changes.len() {
         lead_first(changes, old, new);
     }
 }
 
 /// The first change goes behind the others as it leads then, or out if it is from this nickname.
-fn lead_first(changes: &mut HeapCircularBuffer<Change, Global>, old: &[u8], new: &Nick)
+fn lead_first(changes: &mut HeapCircularBuffer<Change, Global>, old: &Sought<'_>, new: &MarkedNick)
     requires { length changes.old.items ≤ changes.old.capacity }
     ensures turned { TurnsOne (is_from_other old.now) (moved old.now new.now) changes.old changes.new }
     ensures fits { length changes.new.items ≤ changes.new.capacity }
 {
     if let Some(mut change) = changes.pop_front() {
-        if !same(change.given_up.as_bytes(), old) {
+        if !change.given_up.is(old) {
             lead(&mut change, old, new);
             let _none = changes.push_back(change);
         }
     }
 }
 
+/// Whether some change is from or to a nickname. Mostly none is, and then none has to move.
+fn is_any_of(nick: &Sought<'_>, changes: &HeapCircularBuffer<Change, Global>) -> bool
+    ensures { result ≡ list_any (is_of nick.now) changes.now.items }
+{
+    changes.iter().any(|change| is_of(nick, change))
+}
+
 /// Whether a change is from or to a nickname.
-fn is_of(nick: &[u8], change: &Change) -> bool
+fn is_of(nick: &Sought<'_>, change: &Change) -> bool
     ensures { result ≡ is_of nick.now change.entry.now }
 {
-    same(change.given_up.as_bytes(), nick) || same(change.now.as_bytes(), nick)
+    change.given_up.is(nick) || change.now.is(nick)
 }
 
 /// If it leads to this nickname, it leads to that one.
-fn lead(change: &mut Change, old: &[u8], new: &Nick)
+fn lead(change: &mut Change, old: &Sought<'_>, new: &MarkedNick)
     ensures { change.new ≡ moved old.now new.now change.old }
 {
-    if same(change.now.as_bytes(), old) {
+    if change.now.is(old) {
         change.now = new.copy();
     }
 }
