@@ -2,7 +2,7 @@
 use Rattle.std.proofs.Common.{ℕ, ◌≡◌, ◌≢◌, Bool, true, false, true≢false, not, ◌||◌, List, [], ◌∷◌, map, filter, fold, refl, sym, ap, cond, ◌∙◌}
 use Rattle.std.specs.List.{list_any}
 use Rattle.circular_buffer.specs.Buffer.{Buffer, buffer}
-use Rattle.irc_names.specs.Fold.{key, same}
+use Rattle.irc_names.specs.Fold.{same}
 use Rattle.irc_names.specs.FoldLaws.{same-tells}
 use Rattle.irc_late.specs.declared.memory.Change.{Change}
 use Rattle.irc_late.specs.Marks.{mark_behind, mark_of}
