@@ -7,5 +7,6 @@ pub mod MarkLaws
 pub mod WriteSteps
 pub mod FlushLaws
 pub mod RunLaws
+pub mod KnowingLaws
 pub mod TurnLaws
 pub mod TellingLaws

@@ -12,7 +12,6 @@ use Rattle.irc_outbox.specs.declared.wire.IoFault.{IoFault}
 use Rattle.irc_outbox.specs.Calls.{Call, reads, closes, bytes_got, Adds, FitsIn}
 use Rattle.irc_server.specs.declared.event.Event.{Event}
 use Rattle.irc_batch.specs.Batches.{Sent}
-use Rattle.irc_server.specs.declared.event.ServerFault.{ServerFault}
 use Rattle.irc_stage.specs.View.{View}
 use Rattle.irc_server.specs.Happening.{IsHandled}
 use Rattle.irc_engine.specs.declared.connections.Connections.{Connections}
@@ -56,7 +55,6 @@ pub asked_on : (old mid new : Asked) (a b : List Event) (x y : List Sent) → Ar
 asked_on old mid new [] b x y one other =
     subst (λ (o : Asked). AreAsked o b (x ++ y) new) one.1 (subst (λ (os : List Sent). AreAsked mid b (os ++ y) new) (sym one.0) other)
 asked_on old mid new (event ∷ a) b x y one other = record {
-  result = one.result;
   between = one.between;
   first = one.first;
   more = one.more ++ y;
@@ -366,20 +364,19 @@ module _ {W : Type 0} (is_after : W → List Call → Type 0) where
   }
 
   -- what the server put out by an event is done
-  ran_event : (server after : Option View) (journal entered written : Journal) (room : ℕ) (old new : Connections W) (event : Event) (result : Result (Unit {0}) ServerFault) (before outs : List Sent) → before ≡ []
-      → IsHandled server event before result after outs → EntersAll (event_signs event after) journal entered → EntersAll (out_signs outs) entered written
+  ran_event : (server after : Option View) (journal entered written : Journal) (room : ℕ) (old new : Connections W) (event : Event) (before outs : List Sent) → before ≡ []
+      → IsHandled server event before (Ok tt) after outs → EntersAll (event_signs event after) journal entered → EntersAll (out_signs outs) entered written
       → Carries is_after [] old outs new
       → Ran is_after [] (event ∷ []) nothing_of (at_connections server journal room old) (at_connections after written room new)
-  ran_event server after journal entered written room old new event result before outs none handled noted closed carries = record {
+  ran_event server after journal entered written room old new event before outs none handled noted closed carries = record {
     events = [];
     outs = outs;
     calls = carries.calls;
     are_asked = record {
-      result = result;
       between = asked after written;
       first = outs;
       more = [];
-      is_handled = subst (λ (os : List Sent). IsHandled server event os result after outs) none handled;
+      is_handled = subst (λ (os : List Sent). IsHandled server event os (Ok tt) after outs) none handled;
       is_noted = enters_both (event_signs event after) (out_signs outs) journal entered written noted closed;
       outs_are = sym (append-nil outs);
       rest_is = (refl, refl);
@@ -394,12 +391,12 @@ module _ {W : Type 0} (is_after : W → List Call → Type 0) where
     same_room = refl;
   }
 
-  pub asked_once : (server after : Option View) (journal entered written : Journal) (room : ℕ) (old new : Connections W) (event : Event) (result : Result (Unit {0}) ServerFault) (before outs : List Sent)
-      → before ≡ [] → IsHandled server event before result after outs → EntersAll (event_signs event after) journal entered → EntersAll (out_signs outs) entered written
+  pub asked_once : (server after : Option View) (journal entered written : Journal) (room : ℕ) (old new : Connections W) (event : Event) (before outs : List Sent)
+      → before ≡ [] → IsHandled server event before (Ok tt) after outs → EntersAll (event_signs event after) journal entered → EntersAll (out_signs outs) entered written
       → Carries is_after [] old outs new → AsksOnce is_after event (at_connections server journal room old) (at_connections after written room new)
   unfolding ran_event
-  asked_once server after journal entered written room old new event result before outs none handled noted closed carries =
-      (ran_event server after journal entered written room old new event result before outs none handled noted closed carries, refl)
+  asked_once server after journal entered written room old new event before outs none handled noted closed carries =
+      (ran_event server after journal entered written room old new event before outs none handled noted closed carries, refl)
 
   -- the event by which the server is asked, called otherwise
   pub asks_as : (event told : Event) (old new : Moment W) → event ≡ told → AsksOnce is_after event old new → AsksOnce is_after told old new

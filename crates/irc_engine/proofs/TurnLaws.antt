@@ -9,7 +9,8 @@ use Rattle.irc_engine.specs.declared.engine.Rooms.{Rooms}
 use Rattle.irc_engine.specs.declared.engine.EngineFault.{EngineFault}
 use Rattle.irc_engine.specs.Running.{Moment, AllTold, Answers, Does, Flushes, IsInOrder}
 use Rattle.irc_engine.specs.Loops.Connections.{IsMarkedAt, KeepsNotes}
-use Rattle.irc_engine.specs.Loops.Moments.{moment_of, ChangesWireAlone}
+use Rattle.irc_engine.specs.Loops.Moments.{moment_of}
+use Rattle.irc_engine.specs.Loops.Engines.{ChangesWireAlone}
 use Rattle.irc_engine.proofs.RunLaws.{ran_none}
 use Rattle.irc_engine.specs.Turning.{EngineView, Taken, takes_it, runs_out, Turned, takes_turn, wants_memory, Turns, Runs, stopped}
 

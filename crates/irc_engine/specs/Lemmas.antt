@@ -1,3 +1,4 @@
 -- Lemmas that crates above cite.
 pub mod HearingLaws
 pub mod CarryingLaws
+pub mod NewServers

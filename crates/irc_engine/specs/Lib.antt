@@ -2,6 +2,7 @@ pub mod Carrying
 pub mod Hearing
 pub mod Writing
 pub mod Noting
+pub mod Knowing
 pub mod Running
 pub mod Turning
 pub mod Telling

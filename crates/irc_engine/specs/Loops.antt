@@ -2,5 +2,7 @@ pub mod Tables
 pub mod Counts
 pub mod Connections
 pub mod Moments
+pub mod Faults
+pub mod Engines
 pub mod Flushing
 pub mod Turns

@@ -10,7 +10,6 @@ use Rattle.irc_outbox.specs.Calls.{Call, asks, reads, Adds}
 use Rattle.irc_server.specs.declared.event.Event.{Event}
 use Rattle.irc_server.specs.declared.event.Event.TheVariants.{Connect, LinkUp}
 use Rattle.irc_batch.specs.Batches.{Sent}
-use Rattle.irc_server.specs.declared.event.ServerFault.{ServerFault}
 use Rattle.irc_stage.specs.View.{View}
 use Rattle.irc_server.specs.Happening.{IsHandled}
 use Rattle.irc_engine.specs.declared.engine.Rooms.{Rooms}
@@ -73,13 +72,12 @@ asked server journal = record { server = server; journal = journal }
 abbrev pub asked_at : {W : Type 0} → Moment W → Asked
 asked_at now = asked now.server now.journal
 
--- the server is asked for an event, what comes to light of links by it is entered in the journal, and then it is asked for others
+-- the server is asked for an event, and refuses it not; what comes to light of links by it is entered in the journal, and then it is asked for others
 pub record AskedFirst (old : Asked) (event : Event) (outs : List Sent) (rest : Asked → List Sent → Type 0) : Type 0 where
-  pub result : Result (Unit {0}) ServerFault
   pub between : Asked
   pub first : List Sent
   pub more : List Sent
-  pub is_handled : IsHandled old.server event [] result between.server first
+  pub is_handled : IsHandled old.server event [] (Ok tt) between.server first
   pub is_noted : EntersAll (signs_by event between.server first) old.journal between.journal
   pub outs_are : outs ≡ first ++ more
   pub rest_is : rest between more

@@ -18,7 +18,7 @@ use std::collections::{BTreeMap, BTreeSet};
 
 /// The connections of an engine, and its wire.
 #[derive(Drop)]
-pub(crate) struct Connections<W: Wire> {
+pub(crate) struct Connections<W> {
     /// What carries the bytes.
     pub wire: W,
     /// Each connection, by its number.

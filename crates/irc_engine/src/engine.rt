@@ -1,9 +1,12 @@
 //! An engine: one server over a wire.
-ghost use Rattle.std.specs.Prelude.{◌≡◌, ◌≤◌, true, Ok, [], ◌∷◌, length, IfOk, OnOk};
+ghost use Rattle.std.specs.Prelude.{◌≡◌, ◌≤◌, true, false, Ok, [], ◌∷◌, length, IfOk, OnOk};
 ghost use Rattle.irc_outbox.specs.Calls.{Keeps};
 ghost use Rattle.irc_engine.specs.Loops.Counts.{count_of};
-ghost use Rattle.irc_engine.specs.Loops.Moments.{came, engine_view, knows_at, yields_at, moment_of, passed_on, AsksFor, ChangesWireAlone, HearsFrom, IsNobodyNoted, KeepsOrder, KeepsTold, Spans};
-ghost use Rattle.irc_engine.specs.Loops.Connections.{KeepsMarks, KeepsNotes};
+ghost use Rattle.irc_engine.specs.Knowing.{HasNobody, IsArrival, IsSettled};
+ghost use Rattle.irc_engine.specs.Loops.Moments.{came, knows_at, yields_at, moment_of, passed_on, AsksFor, HearsFrom, IsAtOneIn, IsNobodyNoted, IsOpenAs, IsSettledIn, IsToHearIn, KeepsOrder, KeepsTold, Spans};
+ghost use Rattle.irc_engine.specs.Loops.Faults.{is_out_of_memory};
+ghost use Rattle.irc_engine.specs.Loops.Tables.{connection_of};
+ghost use Rattle.irc_engine.specs.Loops.Connections.{lost_at, KeepsMarks, KeepsNotes};
 ghost use Rattle.irc_engine.specs.Running.{AllTold, Answers, AsksOnce, Does, Flushes, PassesOn, RanOn, Reads, Starts, TellsLosses};
 ghost use Rattle.irc_engine.specs.Turning.{brings_nothing, HasFailed, IsNew, Runs, Taken, Turned};
 
@@ -50,15 +53,17 @@ pub struct Rooms {
 
 /// One server and the wire that it runs over.
 #[derive(Drop)]
-pub struct Engine<W: Wire> {
+pub struct Engine<W> {
     failed: bool,
     rooms: Rooms,
     pub(crate) core: Core<W>,
+    /// The server has just the connections that are open.
+    ghost settled: { failed ≡ false → IsSettled core.server (connection_of core.connections.table) (lost_at core.connections.lost) },
 }
 
 /// What an engine is made of.
 #[derive(Drop)]
-pub(crate) struct Core<W: Wire> {
+pub(crate) struct Core<W> {
     pub server: Server,
     /// What comes to light of its links.
     pub journal: Journal,
@@ -71,6 +76,8 @@ pub(crate) struct Core<W: Wire> {
 }
 
 impl<W: Wire + Drop> Engine<W> {
+    ghost use Rattle.irc_engine.specs.Loops.Engines.{engine_view};
+
     /// An engine for a server that has no connection and no link, over a wire that has reported nothing. An outbox of a client has room for
     /// `client_room` bytes, and that of a link for `link_room`.
     ///
@@ -83,6 +90,7 @@ impl<W: Wire + Drop> Engine<W> {
         client_room: usize,
         link_room: usize,
     ) -> Result<Self, AllocError>
+        requires nobody { HasNobody server }
         ensures { IfOk result (λ engine. IsNew server wire client_room link_room (engine_view engine)) }
     {
         let buffer = vec![in alloc; 0u8; READ_SIZE]?;
@@ -110,6 +118,8 @@ impl<W: Wire + Drop> Engine<W> {
 }
 
 impl<W: Wire> Engine<W> {
+    ghost use Rattle.irc_engine.specs.Loops.Engines.{engine_view, ChangesWireAlone};
+
     /// Takes one turn: asks what is ready and does it, then writes once from each outbox that is not empty, in order of number.
     ///
     /// # Errors
@@ -132,6 +142,7 @@ impl<W: Wire> Engine<W> {
 
     /// Does what is ready, and writes.
     fn take(&mut self, ready: Ready) -> Result<(), EngineFault>
+        requires { self.old.failed ≡ false }
         ensures { Taken W.is_after ready (engine_view self.old) (engine_view self.new) result }
     {
         self.failed = true;
@@ -162,6 +173,8 @@ impl<W: Wire> Engine<W> {
 impl<W: Wire> Core<W> {
     /// Does what is ready, and writes.
     fn turn(&mut self, ready: Ready, rooms: Rooms) -> Result<(), AllocError>
+        requires { IsSettledIn self.old }
+        ensures settled { OnOk result (IsSettledIn self.new) }
         ensures done { OnOk result (Spans (Does W.is_after rooms ready) self.old self.new) }
         ensures quiet { brings_nothing ready ≡ true → IsNobodyNoted self.old → result ≡ Ok tt }
     {
@@ -171,6 +184,9 @@ impl<W: Wire> Core<W> {
 
     /// Does what is ready.
     fn answer(&mut self, ready: Ready, rooms: Rooms) -> Result<(), AllocError>
+        requires at_one { IsAtOneIn self.old }
+        requires told { AllTold (moment_of self.old) }
+        ensures at_one { OnOk result (IsAtOneIn self.new) }
         ensures done { OnOk result (Spans (Answers W.is_after rooms ready) self.old self.new) }
         ensures told { OnOk result (KeepsTold self.old self.new) }
         ensures notes { OnOk result (KeepsNotes self.old.connections self.new.connections) }
@@ -195,6 +211,10 @@ impl<W: Wire> Core<W> {
 
     /// A client has connected, or a link is open, and the server is told. A number that is in use is passed over.
     fn start(&mut self, conn: u64, kind: Kind, room: usize, event: &Event) -> Result<(), AllocError>
+        requires at_one { IsAtOneIn self.old }
+        requires told { AllTold (moment_of self.old) }
+        requires arrival { IsArrival kind conn event.now }
+        ensures at_one { OnOk result (IsAtOneIn self.new) }
         ensures done { OnOk result (Spans (Starts W.is_after kind room conn event.now) self.old self.new) }
         ensures told { OnOk result (KeepsTold self.old self.new) }
         ensures notes { OnOk result (KeepsNotes self.old.connections self.new.connections) }
@@ -208,6 +228,8 @@ impl<W: Wire> Core<W> {
 
     /// A connection has bytes, or has ended. One that the server has closed is read no more.
     fn read(&mut self, conn: u64) -> Result<(), AllocError>
+        requires { IsAtOneIn self.old }
+        ensures at_one { OnOk result (IsAtOneIn self.new) }
         ensures done { OnOk result (Spans (Reads W.is_after conn) self.old self.new) }
         ensures told { OnOk result (KeepsTold self.old self.new) }
         ensures marks { OnOk result (KeepsMarks self.old.connections self.new.connections) }
@@ -226,7 +248,9 @@ impl<W: Wire> Core<W> {
 
     /// Passes on each line that so many bytes at the front of the buffer complete, as long as the connection is open.
     fn take_lines(&mut self, conn: u64, count: usize) -> Result<(), AllocError>
-        requires { count ≤ length self.old.buffer.items }
+        requires within { count ≤ length self.old.buffer.items }
+        requires at_one { IsAtOneIn self.old }
+        ensures at_one { OnOk result (IsAtOneIn self.new) }
         ensures ran { OnOk result (HearsFrom W.is_after conn count self.old self.new) }
         ensures told { OnOk result (KeepsTold self.old self.new) }
         ensures marks { OnOk result (KeepsMarks self.old.connections self.new.connections) }
@@ -248,6 +272,9 @@ impl<W: Wire> Core<W> {
 
     /// Passes on a line, if there is one.
     fn pass_line(&mut self, conn: u64, kind: Kind, line: Option<Line>) -> Result<(), AllocError>
+        requires at_one { IsAtOneIn self.old }
+        requires open { IsOpenAs conn kind self.old }
+        ensures at_one { OnOk result (IsAtOneIn self.new) }
         ensures ran { OnOk result (AsksFor W.is_after (passed_on kind conn line) self.old self.new) }
         ensures told { OnOk result (KeepsTold self.old self.new) }
         ensures marks { OnOk result (KeepsMarks self.old.connections self.new.connections) }
@@ -261,6 +288,8 @@ impl<W: Wire> Core<W> {
 
     /// Passes an event on to the server, and does what it puts out. Then it is told of each connection that was lost by this.
     fn pass(&mut self, event: &Event) -> Result<(), AllocError>
+        requires { IsToHearIn event.now self.old }
+        ensures at_one { OnOk result (IsAtOneIn self.new) }
         ensures ran { OnOk result (AsksFor W.is_after (event.now ∷ []) self.old self.new) }
         ensures in_order { OnOk result (Spans (PassesOn W.is_after event.now) self.old self.new) }
         ensures told { OnOk result (AllTold (moment_of self.new)) }
@@ -273,6 +302,8 @@ impl<W: Wire> Core<W> {
 
     /// Tells the server of each connection that was lost, the lowest number first, until there is none.
     fn tell_losses(&mut self) -> Result<(), AllocError>
+        requires { IsAtOneIn self.old }
+        ensures at_one { OnOk result (IsAtOneIn self.new) }
         ensures ran { OnOk result (Spans (RanOn W.is_after) self.old self.new) }
         ensures in_order { OnOk result (Spans (TellsLosses W.is_after) self.old self.new) }
         ensures told { OnOk result (AllTold (moment_of self.new)) }
@@ -285,25 +316,30 @@ impl<W: Wire> Core<W> {
         Ok(())
     }
 
-    /// Passes an event on to the server, and does what it puts out.
+    /// Passes an event on to the server, which does not refuse it, and does what it puts out.
     fn handle(&mut self, event: &Event) -> Result<(), AllocError>
+        requires { IsToHearIn event.now self.old }
+        ensures at_one { OnOk result (IsAtOneIn self.new) }
         ensures count { OnOk result (count_of self.new.connections ≤ count_of self.old.connections) }
         ensures asks { OnOk result (Spans (AsksOnce W.is_after event.now) self.old self.new) }
         ensures marks { OnOk result (KeepsMarks self.old.connections self.new.connections) }
         ensures same { self.new.buffer ≡ self.old.buffer }
     {
+        irc_server_laws::laws::who_is_connected();
         self.out.clear();
         match self.server.handle(event, &mut self.out) {
-            Err(ServerFault::Memory | ServerFault::Failed) => Err(AllocError),
-            _ => {
+            Ok(()) => {
                 note(&mut self.journal, event, &self.server)?;
                 self.connections.dispatch(&self.out, &mut self.journal)
             }
+            Err(fault) => Err(want_of_memory(fault)),
         }
     }
 
     /// Writes once from each outbox that is not empty, in order of number.
     fn flush(&mut self) -> Result<(), AllocError>
+        requires { IsAtOneIn self.old }
+        ensures at_one { OnOk result (IsAtOneIn self.new) }
         ensures done { OnOk result (Spans (Flushes W.is_after) self.old self.new) }
         ensures told { OnOk result (KeepsTold self.old self.new) }
         ensures in_order { OnOk result (KeepsOrder self.old self.new) }
@@ -357,5 +393,15 @@ fn came(answer: Result<Got, IoFault>) -> Option<usize>
         Ok(Got::Bytes(count)) => Some(count),
         Ok(Got::Later) => Some(0),
         Ok(Got::End) | Err(_) => None,
+    }
+}
+
+/// What a server that refuses no event may answer else: that memory ran out, now or before.
+fn want_of_memory(fault: ServerFault) -> AllocError
+    requires { is_out_of_memory fault ≡ true }
+{
+    match fault {
+        ServerFault::Memory | ServerFault::Failed => AllocError,
+        _ => unreachable!(),
     }
 }

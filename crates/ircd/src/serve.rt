@@ -1,6 +1,7 @@
 //! `ircd serve`: a server on TCP sockets.
 ghost use Rattle.std.specs.Prelude.{IfErr};
-ghost use Rattle.irc_engine.specs.Loops.Moments.{engine_view};
+ghost use Rattle.irc_engine.specs.Knowing.{HasNobody};
+ghost use Rattle.irc_engine.specs.Loops.Engines.{engine_view};
 ghost use Rattle.ircd.specs.Loops.Turns.{IsOfFile, IsRun, Opens, TakesTurns};
 ghost use Rattle.ircd.specs.Serving.{ServesFile, ServesText};
 
@@ -65,6 +66,7 @@ fn serve_text<T: AllocGlobal + Net, W: Write, E: Write>(
 
 /// An engine that listens, and has called whom it is to call.
 fn open<T: Net>(net: &T, alloc: Global, setup: Setup) -> Result<Engine<LateWire<MioWire>>, Stop>
+    requires { HasNobody setup.server }
     ensures { Opens setup result }
 {
     let listening = Listening {

@@ -1,4 +1,7 @@
 //! The server of the tests.
+ghost use Rattle.std.specs.Prelude.{IfSome};
+ghost use Rattle.irc_engine.specs.Knowing.{HasNobody};
+
 use irc_batch::{Batch, Out};
 use irc_names::{Host, copied};
 use irc_routes::Own;
@@ -6,9 +9,20 @@ use irc_server::{Config, Event, Peer, Server};
 use std::alloc::{AllocError, Global};
 
 /// A server a.net that nobody is connected to. It may be linked to b.net and c.net; these give the passwords pw and pq.
-pub(crate) fn server(alloc: Global) -> Option<Server> {
+pub(crate) fn server(alloc: Global) -> Option<Server>
+    ensures { IfSome result HasNobody }
+{
     match config(alloc) {
-        Ok(config) => Server::new(alloc, config).ok(),
+        Ok(config) => made(alloc, config),
+        Err(_fault) => None,
+    }
+}
+
+fn made(alloc: Global, config: Config) -> Option<Server>
+    ensures { IfSome result HasNobody }
+{
+    match Server::new(alloc, config) {
+        Ok(server) => Some(server),
         Err(_fault) => None,
     }
 }

@@ -1,5 +1,5 @@
 -- The engine's parts as one moment.
-use Rattle.std.specs.Prelude.{◌≡◌, ℕ, ⊤, Bool, true, false, Option, Some, None, Result, Ok, Err, List, [], ◌∷◌, take}
+use Rattle.std.specs.Prelude.{◌≡◌, ℕ, Bool, true, false, Option, Some, None, Result, Ok, Err, List, [], ◌∷◌, take}
 use Rattle.irc_outbox.specs.declared.wire.Got.{Got}
 use Rattle.irc_outbox.specs.declared.wire.Got.TheVariants.{Bytes, Later, End}
 use Rattle.irc_outbox.specs.declared.wire.IoFault.{IoFault}
@@ -12,13 +12,11 @@ use Rattle.irc_names.specs.Fold.{name_cmp}
 use Rattle.irc_routes.specs.Known.{is_known}
 use Rattle.irc_stage.specs.View.{View}
 use Rattle.irc_engine.specs.declared.engine.Core.{Core}
-use Rattle.irc_engine.specs.declared.engine.Engine.{Engine}
-use Rattle.irc_engine.specs.declared.engine.EngineFault.{EngineFault}
-use Rattle.irc_engine.specs.declared.engine.EngineFault.TheVariants.{Device}
 use Rattle.irc_engine.specs.declared.kind.Kind.{Kind}
+use Rattle.irc_engine.specs.Carrying.{open_kind_at}
 use Rattle.irc_engine.specs.Hearing.{line_event_of, nothing_of, only_of}
 use Rattle.irc_engine.specs.Running.{Moment, AllTold, IsInOrder, Ran}
-use Rattle.irc_engine.specs.Turning.{EngineView}
+use Rattle.irc_engine.specs.Knowing.{IsAtOne, IsSettled, IsToHear}
 use Rattle.irc_engine.specs.Loops.Connections.{has, lost_at}
 use Rattle.irc_engine.specs.Loops.Tables.{connection_of}
 
@@ -44,20 +42,6 @@ AsksFor is_after events old new = Ran is_after [] events nothing_of (moment_of o
 -- So many bytes at the front of the buffer are heard, as those of one connection.
 abbrev pub HearsFrom : {W : Type 0} → (W → List Call → Type 0) → ℕ → ℕ → Core W → Core W → Type 0
 HearsFrom is_after conn count old new = Ran is_after [] [] (only_of conn (take count old.buffer.items)) (moment_of old) (moment_of new)
-
--- an engine, as those who have one see it
-abbrev pub engine_view : {W : Type 0} → Engine W → EngineView W
-engine_view engine = record { failed = engine.failed; rooms = engine.rooms; now = moment_of engine.core }
-
--- Where the wire could not tell what is ready, nothing but the wire has changed.
-abbrev pub with_wire : {W : Type 0} → W → Engine W → Engine W
-with_wire wire engine =
-    record engine { core = record engine.core { connections = record engine.core.connections { wire = wire } } }
-
-abbrev pub ChangesWireAlone : {W : Type 0}
-    → Result (Unit {0}) EngineFault → Engine W → Engine W → Type 0
-ChangesWireAlone (Err Device) old new = new ≡ with_wire new.core.connections.wire old
-ChangesWireAlone result old new = ⊤
 
 -- whether a server knows another, by any way, or is that one; one for which memory ran out is taken for one that does
 abbrev pub knows_at : Option View → List ℕ → Bool
@@ -92,3 +76,17 @@ KeepsOrder old new = IsInOrder (moment_of old) → IsInOrder (moment_of new)
 -- nobody is noted as one to be written to
 abbrev pub IsNobodyNoted : {W : Type 0} → Core W → Type 0
 IsNobodyNoted core = (conn : ℕ) → has core.connections.waiting conn ≡ false
+
+-- the engine and its server know the same of each other: between two turns, within one, and before an event
+abbrev pub IsSettledIn : {W : Type 0} → Core W → Type 0
+IsSettledIn core = IsSettled core.server (connection_of core.connections.table) (lost_at core.connections.lost)
+
+abbrev pub IsAtOneIn : {W : Type 0} → Core W → Type 0
+IsAtOneIn core = IsAtOne core.server (connection_of core.connections.table) (lost_at core.connections.lost)
+
+abbrev pub IsToHearIn : {W : Type 0} → Event → Core W → Type 0
+IsToHearIn event core = IsToHear event core.server (connection_of core.connections.table) (lost_at core.connections.lost)
+
+-- a connection is open, as one of this kind
+abbrev pub IsOpenAs : {W : Type 0} → ℕ → Kind → Core W → Type 0
+IsOpenAs conn kind core = open_kind_at (connection_of core.connections.table conn) ≡ Some kind

@@ -7,7 +7,7 @@ use Rattle.irc_engine.specs.declared.engine.Engine.{Engine}
 use Rattle.irc_engine.specs.Turning.{EngineView}
 use Rattle.irc_engine.specs.Telling.{ToldTurns}
 use Rattle.irc_journal.specs.Saying.{AreSomeSaid}
-use Rattle.irc_engine.specs.Loops.Moments.{engine_view}
+use Rattle.irc_engine.specs.Loops.Engines.{engine_view}
 use Rattle.irc_endings.specs.declared.fault.Stop.{Stop}
 use Rattle.irc_endings.specs.declared.fault.Stop.TheVariants.{BadConfiguration, Failed}
 use Rattle.ircd.specs.declared.setup.Setup.{Setup}

@@ -1,11 +1,20 @@
 use Rattle.std.proofs.Common.{refl, sym, ◌∙◌}
 use Rattle.irc_engine.specs.Running.{not_open, read_once}
 use Rattle.irc_engine.proofs.RunLaws.{on_ok, ran_none, ran_after, ran_read, ran_cut, ran_fed, ran_ended, front_after}
+use Rattle.irc_engine.proofs.KnowingLaws.{at_one_lost}
 use Rattle.irc_engine.proofs.MarkLaws.{marks_ended}
 use Rattle.irc_engine.proofs.engine.Core.read.Goals as goal
 
 pub returns-then-not-is_open-clause-done : goal.returns-then-not-is_open-clause-done
 returns-then-not-is_open-clause-done g c = not_open (sym c.is_open.ensures ∙ c.if-not-is_open.true) (ran_none _ _)
+
+pub take_lines-requires-clause-at_one : goal.take_lines-requires-clause-at_one
+take_lines-requires-clause-at_one g c = c.requires
+
+pub tell_losses-requires : goal.tell_losses-requires
+tell_losses-requires g c =
+    at_one_lost _ _ _ (record c.args.self.now.connections { wire = c.read.new.self }) c.lose.new.self c.in_ok-lose-in-None.ensures
+    (sym c.is_open.ensures ∙ c.if-not-is_open.false) c.requires
 
 pub returns-in-Some-clause-done : goal.returns-in-Some-clause-done
 returns-in-Some-clause-done g c =

@@ -4,7 +4,13 @@ use Rattle.std.specs.List.{list_any}
 use Rattle.std.specs.BTreeMap.{is_at}
 use Rattle.std.specs.Map.{lookup}
 use Rattle.irc_engine.specs.Carrying.{has_some_at, is_done_at}
+use Rattle.irc_engine.proofs.KnowingLaws.{settled_new}
 use Rattle.irc_engine.proofs.engine.Engine.new.Goals as goal
+
+pub invariant_of-result : goal.invariant_of-result
+invariant_of-result g c = record {
+  settled = λ well. settled_new _ _ _ c.requires.nobody c.new-2.ensures (λ conn. ap (lookup (is_at (nat_cmp conn))) c.new-4.ensures.empty);
+}
 
 pub returns : goal.returns
 returns g c = record {

@@ -2,6 +2,9 @@ use Rattle.std.proofs.Common.{refl, ◌∙◌}
 use Rattle.irc_engine.specs.Turning.{takes_it, runs_out}
 use Rattle.irc_engine.proofs.engine.Engine.take.Goals as goal
 
+pub turn-requires : goal.turn-requires
+turn-requires g c = c.args.self.now.settled c.requires
+
 pub returns-in-Ok : goal.returns-in-Ok
 returns-in-Ok g c = takes_it refl refl c.in-Ok.ensures.done
 
