@@ -552,6 +552,11 @@ module _ (server : Option View) (connections : ℕ → Option Connection) (lost 
     λ view is. subst (λ (l : Option Kind). HasAs view q (known_kind (connections q) l)) (told q) (one.has q view is),
   )
 
+-- that it is so has one proof
+pub settled_once : (failed : Bool) (server : Option View) (connections : ℕ → Option Connection) (lost : ℕ → Option Kind)
+    → IsProp (failed ≡ false → IsSettled server connections lost)
+settled_once failed server connections lost = hlevel
+
 -- a server that has nobody, and no connections
 pub settled_new : (server : Option View) (connections : ℕ → Option Connection) (lost : ℕ → Option Kind) → HasNobody server
     → ((q : ℕ) → connections q ≡ None) → ((q : ℕ) → lost q ≡ None) → IsSettled server connections lost

@@ -1,6 +1,11 @@
-use Rattle.std.proofs.Common.{refl, subst}
+use Rattle.std.proofs.Common.{◌≡◌, false, ap, refl, subst}
 use Rattle.irc_outbox.specs.Calls.{asks, Adds}
+use Rattle.irc_engine.specs.Knowing.{IsSettled}
+use Rattle.irc_engine.specs.Loops.Connections.{lost_at}
+use Rattle.irc_engine.specs.Loops.Engines.{with_wire}
+use Rattle.irc_engine.specs.Loops.Tables.{connection_of}
 use Rattle.irc_engine.specs.Turning.{device_failed, has_failed}
+use Rattle.irc_engine.proofs.KnowingLaws.{settled_once}
 use Rattle.irc_engine.proofs.TurnLaws.{kept_then, told_ready, turned_from}
 use Rattle.irc_engine.proofs.engine.Engine.turn.Goals as goal
 
@@ -23,4 +28,9 @@ pub returns-in-Ok-clause-device : goal.returns-in-Ok-clause-device
 returns-in-Ok-clause-device g c = told_ready g.W.Wire.is_after _ _ _ _ _ c.take.result c.take.ensures
 
 pub returns-in-Err-clause-device : goal.returns-in-Err-clause-device
-returns-in-Err-clause-device g c = refl
+returns-in-Err-clause-device g c =
+    ap (λ (settled : c.args.self.now.failed ≡ false
+    → IsSettled c.args.self.now.core.server (connection_of c.args.self.now.core.connections.table) (lost_at c.args.self.now.core.connections.lost)).
+    record (with_wire c.ready.new.self c.args.self.now) { settled = settled })
+    (settled_once c.args.self.now.failed c.args.self.now.core.server (connection_of c.args.self.now.core.connections.table)
+    (lost_at c.args.self.now.core.connections.lost) _ c.args.self.now.settled)
