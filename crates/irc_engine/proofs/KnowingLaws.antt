@@ -1,4 +1,5 @@
 -- What an engine and its server know of each other stays so, step by step.
+use mathlib.Core.Bool.{Bool-set}
 use Rattle.std.proofs.Common.{◌≡◌, ℕ, Bool, true, false, not, ◌&&◌, ◌||◌, cond, nat_eq, is_some, Option, Some, None, Ok, Err, List, [], ◌∷◌, ◌++◌, refl, sym, ◌∙◌, ap, subst}
 use Rattle.std.specs.FinMap.{get}
 use Rattle.arrayvec.specs.ArrayVec.{ArrayVec}
@@ -555,7 +556,7 @@ module _ (server : Option View) (connections : ℕ → Option Connection) (lost 
 -- that it is so has one proof
 pub settled_once : (failed : Bool) (server : Option View) (connections : ℕ → Option Connection) (lost : ℕ → Option Kind)
     → IsProp (failed ≡ false → IsSettled server connections lost)
-settled_once failed server connections lost = hlevel
+settled_once failed server connections lost = hlevel (Bool-set)
 
 -- a server that has nobody, and no connections
 pub settled_new : (server : Option View) (connections : ℕ → Option Connection) (lost : ℕ → Option Kind) → HasNobody server
