@@ -19,7 +19,7 @@ use Rattle.irc_net.specs.declared.answer.Answer.{Answer}
 use Rattle.irc_net.specs.declared.fault.NetFault.TheVariants as fault
 use Rattle.irc_net.specs.Calls.{BytesTaken, Delivers, IsDelivered, IsGiven, IsSettled, NetView, Settles, delivers_it, given_it, line_between, piece_between, settles_it, standing, takes_them, wire_between}
 use Rattle.irc_net.specs.Faults.{fault_by, item_fault}
-use Rattle.irc_net.specs.Laws.{EachSettles, EveryNetworkIsOneRoom, SettingsStay, StaysKept, StaysSetUp}
+use Rattle.irc_net.specs.Laws.{EachSettles, EveryNetworkIsOneRoom, EveryRunIsKept, SettingsStay, StaysKept, StaysSetUp}
 use Rattle.irc_net.specs.Making.{AreSettingsOf, IsNetMade, made_of}
 use Rattle.irc_net.specs.OneRoom.{IsKeptSound}
 use Rattle.irc_net.specs.Running.{HasRun, delivered, given, made, settled, taken}
@@ -124,6 +124,9 @@ module _ (stays : StaysKept) (set_up : SettingsStay) (configs : List Config) whe
       delivered_run old new from to was_taken receipts delivers (run before)
   run {net = new} (settled {old = old} {counted = counted} {receipts = receipts} before settles) =
       settled_run old new counted receipts settles (run before)
+
+pub every_run : StaysKept → SettingsStay → EveryRunIsKept
+every_run stays set_up configs items net has_run = (run stays set_up configs has_run).is_run.kept
 
 -- ---- that is one room
 

@@ -75,6 +75,10 @@ KeptIsOwed = (net : ByteNetwork) (client : ℕ) → IsKeptSound net → IsOwed (
 
 -- ---- all of it
 
+-- Whatever a network of some configurations has run to is kept sound.
+abbrev pub EveryRunIsKept : Type 0
+EveryRunIsKept = (configs : List Config) (items : List Item) (net : NetView) → HasRun configs items net → IsKeptSound net.network
+
 -- Whatever was given to a network of some configurations, and however lines were delivered, it is
 -- one room.
 abbrev pub EveryNetworkIsOneRoom : Type 0

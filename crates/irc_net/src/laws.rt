@@ -1,5 +1,5 @@
 //! What holds of networks, and of what their calls answer. A law is a function that does nothing, and its contract is the law.
-ghost use Rattle.irc_net.specs.Laws.{AnswersAreReceived, EachSettles, EveryNetworkIsOneRoom, KeptIsOwed, SettingsStay, StaysKept};
+ghost use Rattle.irc_net.specs.Laws.{AnswersAreReceived, EachSettles, EveryNetworkIsOneRoom, EveryRunIsKept, KeptIsOwed, SettingsStay, StaysKept};
 
 /// The lines that an item, bytes that come, a delivery or a settling answer are just those that clients have received by it.
 pub fn answers_are_received()
@@ -53,6 +53,14 @@ pub fn kept_is_owed()
     irc_items::laws::received_is_front();
     irc_items::laws::rest_is_one_room();
     irc_byte_network::laws::rest_as_lines();
+}
+
+/// Whatever a network has run to is kept sound.
+pub fn every_run_is_kept()
+    ensures { EveryRunIsKept }
+{
+    networks_stay_sound();
+    settings_stay();
 }
 
 /// A network is one room: whatever was given to one that was made of some configurations, and in

@@ -177,7 +177,7 @@ viewed net set_up server among =
 pub nowhere : (net : Network) (server : Name) → list_any (same server) net.names ≡ false → site_of net server ≡ None
 nowhere net server not_among = ap (option_and_then (site_at net)) (found_nowhere net.names server not_among)
 
-among_at : (names : List Name) (a : Name) (place : ℕ) → slice_get names place ≡ Some a → IsAmong names a
+pub among_at : (names : List Name) (a : Name) (place : ℕ) → slice_get names place ≡ Some a → IsAmong names a
 among_at [] a place is = not_named is
 among_at (first ∷ names) a zero is = ap (λ b. b || list_any (same a) names) (same_when a first (sym (one_name is)))
 among_at (first ∷ names) a (suc place) is =
@@ -207,7 +207,7 @@ counted_once (first ∷ names) a among = by (same a first) refl (counted_once na
         (rest (sym (ap (λ c. c || list_any (same a) names) is) ∙ among))
 
 -- a name that is there once is at one place
-only_place : (names : List Name) (a : Name) (place : ℕ) → count_by (same a) names ≡ 1 → slice_get names place ≡ Some a → index_in names a ≡ place
+pub only_place : (names : List Name) (a : Name) (place : ℕ) → count_by (same a) names ≡ 1 → slice_get names place ≡ Some a → index_in names a ≡ place
 only_place [] a place once is = not_named is
 only_place (first ∷ names) a zero once is = place_is first a names true (same_when first a (one_name is))
 only_place (first ∷ names) a (suc place) once is = by (tell first a) (only_place names a place)
