@@ -1,0 +1,14 @@
+pub mod Numbers
+pub mod KnownAlike
+pub mod Parts
+pub mod Places
+pub mod Effects
+pub mod Clients
+pub mod RoutesChanged
+pub mod EndsAlike
+pub mod Meaning
+pub mod DeedsAlike
+pub mod LinksAlike
+pub mod Serving
+pub mod EndsLast
+pub mod InUse

@@ -1,0 +1,5 @@
+pub mod Alike
+pub mod EndsLast
+pub mod InUse
+pub mod Meaning
+pub mod ServedAlike
