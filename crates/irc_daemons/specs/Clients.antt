@@ -1,0 +1,17 @@
+-- Who is a client of a server still, once something has happened to it: the half of `WhoIsConnected` that runs of engines ask for.
+use Rattle.std.specs.Prelude.{◌≡◌, ℕ, true, false, ◌||◌}
+use Rattle.irc_stage.specs.View.{View}
+use Rattle.irc_server.specs.Served.{Occurrence, served}
+use Rattle.irc_server_laws.specs.Connected.{client_comes, client_goes, has_client, is_client_ended}
+use Rattle.irc_sites.specs.Site.{serves_occurrence}
+
+-- A client was one before, or connects by it; its end was not put out, and it is not gone.
+pub record IsStillClient (view : View) (occurrence : Occurrence) (conn : ℕ) : Type 0 where
+  pub was : (has_client view conn || client_comes conn occurrence) ≡ true
+  pub not_ended : is_client_ended conn (served view occurrence).out ≡ false
+  pub not_gone : client_goes conn occurrence ≡ false
+
+-- Whatever is served and not refused, each client is so.
+abbrev pub ClientsStay : Type 0
+ClientsStay = (view : View) (occurrence : Occurrence) (conn : ℕ) → serves_occurrence view occurrence ≡ true
+    → has_client (served view occurrence).view conn ≡ true → IsStillClient view occurrence conn

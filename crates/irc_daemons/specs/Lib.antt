@@ -1,0 +1,13 @@
+pub mod Alike
+pub mod AsBytes
+pub mod AsNetwork
+pub mod Clients
+pub mod Daemons
+pub mod Doings
+pub mod EachStep
+pub mod Items
+pub mod NewDaemons
+pub mod OneRoom
+pub mod Reading
+pub mod Receiving
+pub mod Steps
