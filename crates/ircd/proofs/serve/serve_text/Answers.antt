@@ -3,7 +3,9 @@ use Rattle.ircd.proofs.Ready.{not_opened, text_refused, text_served}
 use Rattle.ircd.proofs.serve.serve_text.Goals as goal
 
 pub open-requires : goal.open-requires
-open-requires g c = made_has_nobody _ _ (c.in_ok-setup.ensures.is_set_up.no_fault, c.in_ok-setup.ensures.is_set_up.server_is)
+open-requires g c =
+    let set_up = c.in_ok-setup.ensures.is_set_up in
+    made_has_nobody set_up.config _ (set_up.no_fault, set_up.server_is)
 
 pub returns-in_err-setup : goal.returns-in_err-setup
 returns-in_err-setup g c = text_refused c.args.text.now c.args.turns c.from_residual.result c.in_err-setup.field-0.0 _ _ c.in_err-setup.ensures c.from_residual.ensures.1
