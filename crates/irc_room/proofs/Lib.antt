@@ -1,2 +1,3 @@
 pub mod CountedUsers
+pub mod OwnKept
 pub mod Refusals

@@ -1,1 +1,2 @@
 pub mod HomeCount
+pub mod OwnKept

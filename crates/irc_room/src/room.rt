@@ -27,8 +27,8 @@ use irc_line::Text;
 use irc_modes::ModeChange;
 use irc_names::{ChannelName, Nick, ServerName};
 use irc_shown::{
-    Effect, IndexedChannels, RoomFault, ShownLine, Tables, Target, audience, effect_line, is_idle,
-    member_nicks, push_changes,
+    Effect, IndexedChannels, OwnMembers, RoomFault, ShownLine, Tables, Target, audience,
+    effect_line, is_idle, member_nicks, push_changes,
 };
 use irc_tables::Row;
 use irc_users::User;
@@ -41,6 +41,7 @@ pub struct Room {
     own: ServerName,
     failed: bool,
     tables: Tables,
+    here: OwnMembers,
     at_home: usize,
     alloc: Global,
 }
@@ -48,7 +49,7 @@ pub struct Room {
 /// In a clause it is whose room it is, whether memory ran out, and the room, which is well formed.
 impl Model for Room {
     ghost use Rattle.irc_shown.specs.Applying.{Kept};
-    ghost use Rattle.irc_room.specs.Loops.HomeCount.{IsCounted};
+    ghost use Rattle.irc_room.specs.Loops.OwnKept.{IsKeptWell};
     ghost use Rattle.irc_room.specs.KeptCodes.{kept_code};
     ghost use Rattle.irc_users.specs.UserTable.{users_code};
     ghost use Rattle.irc_channels.specs.contracts.channel.Channel.{the_row as channel_row};
@@ -59,7 +60,7 @@ impl Model for Room {
 
     ghost view = { λ r. record { own = r.own; failed = r.failed; room = r.tables } };
 
-    ghost invariant = { λ r. IsCounted r.own r.at_home r.tables };
+    ghost invariant = { λ r. IsKeptWell r.own r.failed r.here.names.rows r.at_home r.tables };
 }
 
 impl Room {
@@ -71,6 +72,7 @@ impl Room {
             own,
             failed: false,
             tables: Tables::new(alloc),
+            here: OwnMembers::new(alloc),
             at_home: 0,
             alloc,
         }
@@ -292,13 +294,7 @@ impl Room {
         }
         let stay = staying(&self.own, &self.tables, self.at_home, effect);
         self.failed = true;
-        match perform(
-            self.alloc,
-            self.own.as_bytes(),
-            &mut self.tables,
-            effect,
-            shown,
-        ) {
+        match perform(&self.own, &mut self.here, &mut self.tables, effect, shown) {
             Ok(()) => {
                 self.failed = false;
                 self.at_home = with_newcomer(&self.own, &self.tables, stay, effect);

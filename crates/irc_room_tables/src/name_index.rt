@@ -1,18 +1,18 @@
-//! Names of channels by nickname.
-ghost use Rattle.std.specs.Prelude.{◌≡◌, Some, None, OnOk, OnErr, is_some, map};
+//! Names by names: of channels by nickname, or nicknames by channel.
+ghost use Rattle.std.specs.Prelude.{◌≡◌, ◌≤◌, Some, None, OnOk, OnErr, is_some, length, map};
 ghost use Rattle.std.specs.FinMap.{empty};
 ghost use Rattle.irc_names.specs.Fold.{key};
 ghost use Rattle.irc_names.specs.Tables.{row, alter, moved};
 ghost use Rattle.irc_tables.specs.RowViews.{row_entry};
 ghost use Rattle.irc_room_tables.specs.Indexes.{names_in, IsAlike, IsOpened, Adds, Drops};
 
-use irc_names::{ChannelName, Nick};
+use irc_names::{ChannelName, MAX_CHANNEL, Nick};
 use irc_tables::{NameTable, Row, RowAttempt, RowChange};
 use std::alloc::{AllocError, Global};
 
-/// Names of channels by nickname.
+/// Names of channels by nickname, or nicknames by the name of a channel: what is said of the one below holds of the other.
 #[derive(Drop)]
-pub(crate) struct NameIndex {
+pub struct NameIndex {
     /// The names by each nickname.
     pub rows: NameTable<NameTable<()>>,
     alloc: Global,
@@ -57,8 +57,20 @@ impl NameIndex {
         ensures ok { OnOk result (Adds self.old.rows self.new.rows (key nick.now) (key name.now)) }
         ensures refused { OnErr result (IsAlike self.old.rows self.new.rows) }
     {
-        open(&mut self.rows, self.alloc, nick)?;
+        open(&mut self.rows, self.alloc, nick.as_bytes())?;
         self.rows.try_at(nick.as_bytes(), &Adding { name })
+    }
+
+    /// Puts a nickname by a channel's name; where it stands there already nothing changes.
+    ///
+    /// # Errors
+    /// Where memory runs out.
+    pub fn add_nick(&mut self, channel: &[u8], nick: &Nick) -> Result<(), AllocError>
+        requires { length channel.now ≤ MAX_CHANNEL }
+        ensures { OnOk result (Adds self.old.rows self.new.rows (key channel.now) (key nick.now)) }
+    {
+        open(&mut self.rows, self.alloc, channel)?;
+        self.rows.try_at(channel, &AddingNick { nick })
     }
 
     /// Takes a name by a nickname out; where it does not stand there nothing changes. It takes no memory.
@@ -85,7 +97,8 @@ impl NameIndex {
 }
 
 /// Gives a nickname a row, where it has none.
-fn open(rows: &mut NameTable<NameTable<()>>, alloc: Global, nick: &Nick) -> Result<(), AllocError>
+fn open(rows: &mut NameTable<NameTable<()>>, alloc: Global, nick: &[u8]) -> Result<(), AllocError>
+    requires { length nick.now ≤ MAX_CHANNEL }
     ensures ok { OnOk result (IsOpened rows.old rows.new (key nick.now)) }
     ensures refused { OnErr result (rows.new ≡ rows.old) }
 {
@@ -93,14 +106,14 @@ fn open(rows: &mut NameTable<NameTable<()>>, alloc: Global, nick: &Nick) -> Resu
         return Ok(());
     }
     let names = NameTable::with_room(alloc, 1)?;
-    rows.insert(nick.as_bytes(), names)
+    rows.insert(nick, names)
 }
 
 /// Whether a nickname has a row.
-fn has_row(rows: &NameTable<NameTable<()>>, nick: &Nick) -> bool
+fn has_row(rows: &NameTable<NameTable<()>>, nick: &[u8]) -> bool
     ensures { result ≡ is_some (row rows.now (key nick.now)) }
 {
-    rows.get(nick.as_bytes()).is_some()
+    rows.get(nick).is_some()
 }
 
 /// A name is put in.
@@ -116,6 +129,22 @@ impl<'a> RowAttempt<NameTable<()>> for Adding<'a> {
 
     fn attempt(&self, names: &mut NameTable<()>) -> Result<(), AllocError> {
         names.insert(self.name.as_bytes(), ())
+    }
+}
+
+/// A nickname is put in.
+#[derive(Drop)]
+struct AddingNick<'a> {
+    nick: &'a Nick,
+}
+
+impl<'a> RowAttempt<NameTable<()>> for AddingNick<'a> {
+    ghost tried = { λ adding names. alter (key adding.nick.now) (λ _. Some tt) names };
+
+    ghost surely = { λ adding names. is_some (row names (key adding.nick.now)) };
+
+    fn attempt(&self, names: &mut NameTable<()>) -> Result<(), AllocError> {
+        names.insert(self.nick.as_bytes(), ())
     }
 }
 

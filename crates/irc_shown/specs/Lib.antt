@@ -21,4 +21,5 @@ pub use Rattle.irc_room_tables.specs.effect
 pub use Rattle.irc_room_tables.specs.fault
 pub use Rattle.irc_room_tables.specs.shown_line
 pub use Rattle.irc_room_tables.specs.Codes
+pub use Rattle.irc_room_tables.specs.Indexes
 pub mod Loops

@@ -1,3 +1,4 @@
 pub mod LineViews
+pub mod Sight
 pub mod Telling
 pub mod Viewing

@@ -1,5 +1,4 @@
 use Rattle.std.proofs.Common.{◌∙◌, ap, sym, Some}
-use Rattle.std.specs.FinMap.{empty}
 use Rattle.irc_names.specs.Fold.{key}
 use Rattle.irc_names.specs.Tables.{row, alter}
 use Rattle.irc_tables.specs.Lemmas.RowsAsTable.{ok_also}
@@ -10,7 +9,5 @@ pub returns-clause-ok : goal.returns-clause-ok
 returns-clause-ok c =
     ok_also c.insert.result
     (λ is. opened c.args.rows.now _ (key c.args.nick.now) (none_of (row c.args.rows.now (key c.args.nick.now)) (sym c.has_row.ensures ∙ c.if-has_row.false))
-    (is
-    ∙ ap (λ names. alter (key c.as_bytes.result.now) (λ _. Some names) c.args.rows.now) c.in_ok-names.ensures
-    ∙ ap (λ n. alter (key n) (λ _. Some empty) c.args.rows.now) c.as_bytes.ensures.value))
+    (is ∙ ap (λ names. alter (key c.args.nick.now) (λ _. Some names) c.args.rows.now) c.in_ok-names.ensures))
     c.insert.ensures.ok

@@ -1,12 +1,11 @@
-use Rattle.std.proofs.Common.{◌∙◌, ap, sym, refl}
+use Rattle.std.proofs.Common.{◌∙◌, ap, sym, refl, subst}
 use Rattle.irc_shown.specs.Applying.{Kept, room_fault, shown_here}
 use Rattle.irc_shown.specs.Effects.{brings_free, is_idle}
 use Rattle.irc_shown.specs.Room.{Room}
-use Rattle.irc_room.specs.Loops.HomeCount.{home_count}
-use Rattle.irc_shown.specs.Loops.Telling.{shown_at}
+use Rattle.irc_room.specs.Loops.HomeCount.{home_count, IsCounted}
 use Rattle.irc_room.proofs.CountedUsers.{still_counted}
 use Rattle.irc_room.proofs.Refusals.{refused, served, kept_changed, kept_refused, idle_stays, not_done}
-use Rattle.irc_shown.specs.Lemmas.Rows.{not_none}
+use Rattle.irc_shown.specs.Lemmas.Rows.{not_none, not_true}
 use Rattle.irc_room.proofs.room.Room.apply.Goals as goal
 
 pub returns-in-Some-clause-applied : goal.returns-in-Some-clause-applied
@@ -23,12 +22,17 @@ perform-requires-clause-possible c =
       nick_free = ap (λ (k : Kept). brings_free k.room c.args.effect.now) c.self.view_is ∙ c.requires;
     }
 
+pub perform-requires-clause-told : goal.perform-requires-clause-told
+perform-requires-clause-told c =
+    let kept : Kept = record { own = c.self.inside.own; failed = c.self.inside.failed; room = c.self.inside.tables } in
+    c.self.invariant.told (served kept c.args.effect.now (sym (c.refusal.ensures c.self.inside.own) ∙ c.in_default.is)).alive
+
 pub with_newcomer-self-inside-requires : goal.with_newcomer-self-inside-requires
 with_newcomer-self-inside-requires c =
     let kept : Kept = record { own = c.self.inside.own; failed = c.self.inside.failed; room = c.self.inside.tables } in
     ap (λ (r : Room). home_count c.self.inside.own r.users) c.in-Ok.ensures.changed
     ∙ still_counted c.self.inside.own kept.room c.args.effect.now c.self.inside.at_home c.staying-stay.result
-    (ap (λ (k : Kept). brings_free k.room c.args.effect.now) c.self.view_is ∙ c.requires) c.self.invariant c.staying-stay.ensures
+    (ap (λ (k : Kept). brings_free k.room c.args.effect.now) c.self.view_is ∙ c.requires) c.self.invariant.counted c.staying-stay.ensures
 
 pub returns-in-Ok-clause-applied : goal.returns-in-Ok-clause-applied
 returns-in-Ok-clause-applied c =
@@ -37,7 +41,6 @@ returns-in-Ok-clause-applied c =
       ap (λ k. room_fault k c.args.effect.now) (sym c.self.view_is) ∙ none,
       kept_changed kept c.args.self.now _ c.args.effect.now c.self.view_is (served kept c.args.effect.now none).alive c.in-Ok.ensures.changed,
       c.in-Ok.ensures.shown
-          ∙ ap (λ own. shown_at own kept.room c.args.effect.now) c.as_bytes.ensures.value
           ∙ ap (λ k. shown_here k c.args.effect.now) c.self.view_is,
     )
 
@@ -61,3 +64,12 @@ returns-in-Ok-clause-idle c = λ idle none.
 pub returns-in-Err-clause-idle : goal.returns-in-Err-clause-idle
 returns-in-Err-clause-idle c = λ idle none.
     not_done _ tt (c.in-Err.ensures.idle (ap (λ (k : Kept). is_idle k.room c.args.effect.now) c.self.view_is ∙ idle))
+
+pub invariant_of-self : goal.invariant_of-self
+invariant_of-self c = record { counted = c.with_newcomer-self-inside.ensures; told = λ alive. c.in-Ok.ensures.told }
+
+pub invariant_of-self-in-Err : goal.invariant_of-self-in-Err
+invariant_of-self-in-Err c = record {
+  counted = subst (IsCounted c.self.inside.own c.self.inside.at_home) (sym c.in-Err.ensures.refused) c.self.invariant.counted;
+  told = λ alive. not_true (sym alive);
+}

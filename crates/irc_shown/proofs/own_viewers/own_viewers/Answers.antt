@@ -1,0 +1,18 @@
+use Rattle.std.proofs.Common.{◌∙◌, ap, map, subst}
+use Rattle.irc_tables.specs.RowViews.{row_entry}
+use Rattle.irc_room_tables.specs.Found.{AreNamed, users_under}
+use Rattle.irc_room_tables.specs.Room.{Room}
+use Rattle.irc_room_tables.specs.Lemmas.Rows.{found_also}
+use Rattle.irc_shown.specs.Loops.Sight.{sight}
+use Rattle.irc_shown.proofs.WhoSees.{names_chosen}
+use Rattle.irc_shown.proofs.own_viewers.own_viewers.Goals as goal
+
+pub returns : goal.returns
+returns c =
+    let named = subst (λ (room : Room). AreNamed room.users) c.tables.view_is c.tables.invariant.users_named in
+    found_also c.users_of.result
+    (λ found is. is
+    ∙ ap (λ (room : Room). users_under room.users (map row_entry c.as_slice.result.now)) c.tables.view_is
+    ∙ names_chosen c.args.tables.now.users named _ c.as_slice.result.now (sight c.args.here.now.names.rows c.args.tables.now c.args.effect.now) c.as_slice.ensures
+    c.in_ok-put_sight.ensures)
+    c.users_of.ensures
