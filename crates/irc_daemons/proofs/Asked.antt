@@ -9,7 +9,7 @@ use Rattle.std.specs.List.{AllByRecursion, list_any, list_all}
 use Rattle.std.specs.Option.{option_and_then, option_map_or}
 use Rattle.irc_line.specs.Carried.{IsCarried}
 use Rattle.irc_line.specs.Reading.{read_of}
-use Rattle.irc_batch.specs.Batches.{Sent, end_of, end_of_link, line_on, line_to}
+use Rattle.irc_batch.specs.Batches.{Sent}
 use Rattle.irc_forest.specs.Forests.{place_in}
 use Rattle.irc_relay.specs.Links.{Name}
 use Rattle.irc_world.specs.Refused.{no_such_client}
@@ -24,7 +24,7 @@ use Rattle.irc_stage.specs.declared.clients.Client.{Client}
 use Rattle.irc_server.specs.Served.{Occurrence, fault_of, link_there, no_link, not_there, of_client, served, there as not_new}
 use Rattle.irc_server_laws.specs.LineEnds.{ServedLinesEnd}
 use Rattle.irc_server_laws.specs.Own.{ServedGoesToItsOwn}
-use Rattle.irc_stage.specs.Handle.{Happening, goes, says}
+use Rattle.irc_stage.specs.Handle.{goes, says}
 use Rattle.irc_stage.specs.View.{End, View}
 use Rattle.irc_sites.specs.Site.{Reply, reply, serves_occurrence}
 use Rattle.irc_network.specs.Network.{Network, Site, begun, given, home_place, item_kept, server_place, site_asked, site_asked_if, site_at, site_view}
@@ -41,7 +41,7 @@ use Rattle.irc_engine.specs.Lemmas.CarryingLaws.{is_closed_by-append, nothing_ow
 use Rattle.irc_engine.specs.Running.{AreAsked, Asked}
 use Rattle.irc_daemons.specs.Alike.{AreServersAlike, AreApart, Numbers, ServedAlike, happens_at, renumbered}
 use Rattle.irc_daemons.specs.AsNetwork.{LeadsTo, has_come, is_given, no_more}
-use Rattle.irc_server_laws.specs.Connected.{client_comes, client_goes}
+use Rattle.irc_server_laws.specs.Connected.{client_comes, client_goes, link_comes}
 use Rattle.irc_daemons.specs.Clients.{ClientsStay}
 use Rattle.irc_daemons.specs.Daemons.{Daemons}
 use Rattle.irc_daemons.specs.Items.{AreItems, AreSpaced, IsItem, has_item, is_connect, is_gone, is_line, is_link_line, is_on_link, no_item}
@@ -50,7 +50,7 @@ use Rattle.irc_daemons.proofs.Lists.{inside, rest_none}
 use Rattle.irc_daemons.proofs.Sent.{server_at}
 use Rattle.irc_daemons.proofs.Told.{heard_first}
 use Rattle.irc_daemons.proofs.Split.{FirstIs, first_of, is_first, is_link_text}
-use Rattle.irc_daemons.proofs.Silence.{OpensNoLink, nothing_answered, nothing_linked, still_there}
+use Rattle.irc_daemons.proofs.Silence.{nothing_answered, nothing_linked, still_there}
 
 -- ---- a network goes on
 
@@ -262,14 +262,6 @@ no_link_client numbers own other apart alike y q link = by (is_some (get own.cli
     by true is = let among = alike.alike.no_other_client q is in absurd (apart.kinds y among.number q link among.is)
     by false is = refl
 
--- ---- what clients cause opens no link
-
-pub opens_client : (happening : Happening) → OpensNoLink (of_client happening)
-opens_client happening (line_to conn text) = refl
-opens_client happening (end_of conn) = refl
-opens_client happening (line_on link text) = refl
-opens_client happening (end_of_link link reason) = refl
-
 -- ---- events one after another
 
 abbrev pub is_connecting_event : Event → Bool
@@ -330,7 +322,7 @@ module _ (lines_end : ServedLinesEnd) (own_law : ServedGoesToItsOwn) (stay : Cli
 
     module _ (own : View) (event : Event) (occurrence : Occurrence) (conn : ℕ) (is_it : occurrence_of event ≡ renumbered conn occurrence)
         (happens : happens_at numbers occurrence ≡ Some conn) (connects_none : (q : ℕ) → client_comes q (occurrence_of event) ≡ false)
-        (opens_mine : OpensNoLink (occurrence_of event)) (opens : OpensNoLink occurrence) (net : ByteNetwork) (at : IsAt place numbers own net)
+        (no_link_comes : (q : ℕ) → link_comes q (occurrence_of event) ≡ false) (net : ByteNetwork) (at : IsAt place numbers own net)
       where
         abbrev mine : Reply
         mine = reply own (occurrence_of event)
@@ -338,10 +330,10 @@ module _ (lines_end : ServedLinesEnd) (own_law : ServedGoesToItsOwn) (stay : Cli
         pub one_serves : ServesClients numbers own mine.view (event ∷ []) mine.out
         one_serves = record {
           silent = λ client q seat none.
-              nothing_answered own_law own (occurrence_of event) at.alike.ends_count opens_mine q none
+              nothing_answered own_law own (occurrence_of event) at.alike.ends_count q (no_link_comes q) none
               (no_client_end numbers own at.other apart at.alike client q seat);
           still = λ client q seat there.
-              let known = still_there own_law own (occurrence_of event) at.alike.ends_count opens_mine stay q
+              let known = still_there own_law own (occurrence_of event) at.alike.ends_count stay q (no_link_comes q)
               (no_client_end numbers own at.other apart at.alike client q seat) there in record {
                 was = was_before q known.was;
                 not_closed = known.not_closed;
@@ -363,7 +355,7 @@ module _ (lines_end : ServedLinesEnd) (own_law : ServedGoesToItsOwn) (stay : Cli
             (λ (o : Occurrence). Went place numbers (reply own o).view (reply own o).out net
             (queues_written (item_kept item (site_asked place occurrence (begun net.network))).net net.wires))
             (sym is_it)
-            (item_went lines_end own_law alike_law place numbers apart own at.other occurrence conn happens at.alike opens net at.tidy at.server at.ways item)
+            (item_went lines_end own_law alike_law place numbers apart own at.other occurrence conn happens at.alike net at.tidy at.server at.ways item)
 
         -- where it puts nothing on a link nothing is on its way again
         pub still_again : (after : ByteNetwork) → Went place numbers mine.view mine.out net after → AllStill net
@@ -375,7 +367,7 @@ module _ (lines_end : ServedLinesEnd) (own_law : ServedGoesToItsOwn) (stay : Cli
             by_link (Some q) link =
                 went.wires_here y q link (opened y q link)
                 ∙ ap (λ bs. wire_behind bs (wire_at net.wires place y))
-                (nothing_linked own_law own (occurrence_of event) at.alike.ends_count opens_mine q
+                (nothing_linked own_law own (occurrence_of event) at.alike.ends_count q
                 (no_link_client numbers own at.other apart at.alike y q link) none)
                 ∙ ap (wire_behind []) (still place y)
 
@@ -458,13 +450,13 @@ module _ (lines_end : ServedLinesEnd) (own_law : ServedGoesToItsOwn) (stay : Cli
 
         item_goes : (occurrence : Occurrence) (conn : ℕ) (item : Item) (more : List Item) → occurrence_of event ≡ renumbered conn occurrence
             → happens_at numbers occurrence ≡ Some conn → ((q : ℕ) → client_comes q (occurrence_of event) ≡ false)
-            → OpensNoLink (occurrence_of event) → OpensNoLink occurrence → asked.between.server ≡ Some (reply own (occurrence_of event)).view
+            → ((q : ℕ) → link_comes q (occurrence_of event) ≡ false) → asked.between.server ≡ Some (reply own (occurrence_of event)).view
             → asked.first ≡ (reply own (occurrence_of event)).out → AllStill net → fault_at_rest net.network item ≡ None → IsItemWithin item
             → (item_given item net).net ≡ queues_written (item_kept item (site_asked place occurrence (begun net.network))).net net.wires
             → AreItems names daemons place events more → Others → Goes place numbers own last (event ∷ events) outs (item ∷ more) later net
-        item_goes occurrence conn item more is_it happens connects_none opens_mine opens server_is first_is still not_faulty within given_is items others =
+        item_goes occurrence conn item more is_it happens connects_none no_link_comes server_is first_is still not_faulty within given_is items others =
             in_outs (item ∷ more)
-            (one_more own event occurrence conn is_it happens connects_none opens_mine opens net at last events asked.first asked.more item more later rest
+            (one_more own event occurrence conn is_it happens connects_none no_link_comes net at last events asked.first asked.more item more later rest
             first_is still not_faulty within given_is opened_both spaced.0
             (λ after at_after still_after opened_after. others (reply own (occurrence_of event)).view more after server_is items at_after still_after opened_after))
 
@@ -484,8 +476,7 @@ module _ (lines_end : ServedLinesEnd) (own_law : ServedGoesToItsOwn) (stay : Cli
             subst (λ (i : Item). Goes place numbers own last (event ∷ events) outs (i ∷ more) later net) (sym item_is)
             (item_goes (of_client (says client (read_of text.items))) conn (line client text.items) more (ap occurrence_of event_is) happens
             (λ q. ap (λ e. client_comes q (occurrence_of e)) event_is)
-            (subst (λ e. OpensNoLink (occurrence_of e)) (sym event_is) (opens_client (says conn (read_of text.items))))
-            (opens_client (says client (read_of text.items))) server_is first_is still
+            (λ q. ap (λ e. link_comes q (occurrence_of e)) event_is) server_is first_is still
             (not_refused net.network place client at.other home at.server (there_too client conn happens there))
             (subst IsTextCarried event_is carried) (given_line net place client text.items home) items others)
         is_served_item item more (is_gone conn client seat event_is item_is) none server_is first_is still items others =
@@ -495,7 +486,7 @@ module _ (lines_end : ServedLinesEnd) (own_law : ServedGoesToItsOwn) (stay : Cli
             subst (λ (i : Item). Goes place numbers own last (event ∷ events) outs (i ∷ more) later net) (sym item_is)
             (item_goes (of_client (goes client)) conn (gone client) more (ap occurrence_of event_is) happens
             (λ q. ap (λ e. client_comes q (occurrence_of e)) event_is)
-            (subst (λ e. OpensNoLink (occurrence_of e)) (sym event_is) (opens_client (goes conn))) (opens_client (goes client)) server_is first_is still
+            (λ q. ap (λ e. link_comes q (occurrence_of e)) event_is) server_is first_is still
             (not_refused net.network place client at.other home at.server (there_too client conn happens there)) tt (given_gone net place client home)
             items others)
 

@@ -43,18 +43,18 @@ use Rattle.irc_daemons.specs.Alike.{AreServersAlike, AreServersAlikeIf, AreApart
 use Rattle.irc_daemons.specs.AsBytes.{AreFramersReal, IsAsBytes, IsServerIf, numbers_at}
 use Rattle.irc_daemons.specs.AsNetwork.{AllClientsOpen, AreClientsOpen, AreReceived, AreSeated, HasFollowed, IsAsNetwork, LeadsTo, is_given, no_more}
 use Rattle.irc_daemons.specs.Clients.{ClientsStay}
-use Rattle.irc_daemons.specs.Daemons.{AreJoined, AreLinksOpen, Daemons, connection_at, connection_in, end_at, unsent, wire_between}
+use Rattle.irc_daemons.specs.Daemons.{AreJoined, AreLinksOpen, Daemons, IsToldOfLinks, connection_at, connection_in, end_at, unsent, wire_between}
 use Rattle.irc_daemons.specs.Doings.{Doings, and_then, answers_did, newcomer_in, ran_did, taken_at, written_at}
 use Rattle.irc_daemons.specs.Items.{AnswersSpaced, AreItems, AreSpaced, IsApartStep, IsItem, has_item, is_connect, is_gone, is_line, is_link_line}
 use Rattle.irc_daemons.specs.Receiving.{IsReceived, bytes_received, has_come}
 use Rattle.irc_daemons.specs.Steps.{Steps, came_after, seat_after, seats_after}
-use Rattle.irc_daemons.proofs.Asked.{AllStill, AreTextsCarried, Goes, IsAt, NoneConnects, ServesClients, Took, WasThere, all_go, at_rest, at_then, is_left, leads_both, none_refused, opens_client, quiet_then, serves_both, took}
+use Rattle.irc_daemons.proofs.Asked.{AllStill, AreTextsCarried, Goes, IsAt, NoneConnects, ServesClients, Took, WasThere, all_go, at_rest, at_then, is_left, leads_both, none_refused, quiet_then, serves_both, took}
 use Rattle.irc_daemons.proofs.Connected.{get_last, get_past, given_connect, home_kept, host_of, next_is, not_refused_here, nothing_said, one_longer, same_bytes, view_of_served, with_one}
 use Rattle.irc_daemons.proofs.Heard.{none_stays}
 use Rattle.irc_daemons.proofs.Given.{Went, item_went, went_both, wire_behind}
 use Rattle.irc_daemons.proofs.Lists.{front_none, inside, set_elsewhere, set_here, turned}
 use Rattle.irc_daemons.proofs.Open.{IsOpenOf, StreamLinesAreCarried, as_open_of, heard_carried, keeps_kind, none_connects, none_gone, open_of, stays_open, texts_carried}
-use Rattle.irc_daemons.proofs.Reading.{HasServer, HasView, HaveViews, has_framer, has_server, has_view, have_views, is_carried, moved, none_read, real_or_none, same_wire, taken_in}
+use Rattle.irc_daemons.proofs.Single.{HasServer, HasView, HaveViews, has_framer, has_server, has_view, have_views, is_carried, moved, none_read, real_or_none, same_wire, taken_in}
 use Rattle.irc_daemons.proofs.Seats.{SeatThen, alike_then, is_new, is_old, joined_then, numbers_then, seat_elsewhere, seat_of_new, seat_then}
 use Rattle.irc_daemons.proofs.Sent.{server_at}
 use Rattle.irc_daemons.proofs.Split.{FirstIs, IsSplit, first_of, is_first, is_link_text, split}
@@ -116,7 +116,7 @@ front_then sent held more gone left all is carried = ap (λ bs. bs ++ more) is �
 -- ---- the turn
 
 module _ {W : Type 0} (is_after : W → List Call → Type 0) (pieces : PiecesCompleteTheSame) (names : List Name) (place : ℕ) (old new : Daemons W)
-    (step : Steps is_after place old new) (joined : AreJoined old) (clients_open : AllClientsOpen old) (in_order : IsInOrder step.engine.now)
+    (step : Steps is_after place old new) (not_itself : (x : ℕ) → old.ends x x ≡ None) (clients_open : AllClientsOpen old) (in_order : IsInOrder step.engine.now)
     (framers : AreFramersReal step.engine.now)
   where
     abbrev pub engine : EngineView W
@@ -268,11 +268,22 @@ module _ {W : Type 0} (is_after : W → List Call → Type 0) (pieces : PiecesCo
     some_of_open None opened = cc opened
     some_of_open (Some connection) opened = refl
 
-    pub link_start : (y q : ℕ) → old.ends place y ≡ Some q → IsOpenOf kinds.Link (start.connections q)
-    link_start y q is = open_of kinds.Link (start.connections q) (ap open_kind_at (sym (here q)) ∙ joined.are_open place y q is)
+    ways_are : (x y : ℕ) → new.ways x y ≡ old.ways x y
+    ways_are x y = ap (λ (f : ℕ → ℕ → Bool). f x y) step.same_ways
 
-    pub link_begins : (y q : ℕ) → old.ends place y ≡ Some q → begin.connections q ≡ start.connections q
-    link_begins y q is = begins_same q (some_of_open (start.connections q) (link_start y q is).is_open)
+    -- a link's end, which was open at the start, or is there from now on
+    pub record IsEndBegun (q : ℕ) : Type 0 where
+      pub is_link : IsOpenOf kinds.Link (begin.connections q)
+      pub same_unsent : unsent (start.connections q) ≡ unsent (begin.connections q)
+      pub same_begun : begun_or_none (begun_at (start.connections q)) ≡ begun_or_none (begun_at (begin.connections q))
+
+    pub begun_before : (q : ℕ) → IsOpenOf kinds.Link (start.connections q) → IsEndBegun q
+    begun_before q link =
+        let same = begins_same q (some_of_open (start.connections q) link.is_open) in record {
+          is_link = subst (IsOpenOf kinds.Link) (sym same) link;
+          same_unsent = ap unsent (sym same);
+          same_begun = ap (λ o. begun_or_none (begun_at o)) (sym same);
+        }
 
     end_was : (y q : ℕ) → old.ends place y ≡ Some q → end_at old place y ≡ start.connections q
     end_was y q is = ap (option_and_then (connection_at old place)) is ∙ here q
@@ -290,23 +301,25 @@ module _ {W : Type 0} (is_after : W → List Call → Type 0) (pieces : PiecesCo
         by None = refl
         by (Some q) = there_now x q two
 
-    other_none : (y : ℕ) → old.ends place y ≡ None → old.ends y place ≡ None
-    other_none y is = by (old.ends y place) refl
+    -- the other ends of its links stay
+    far_end : (y : ℕ) → end_at new y place ≡ end_at old y place
+    far_end y = by (nat_eq y place) refl
       where
-        by : (o : Option ℕ) → old.ends y place ≡ o → o ≡ None
-        by None at = refl
-        by (Some q) at = cc (sym (ap is_some is) ∙ joined.two_ends place y ∙ ap is_some at)
+        by : (b : Bool) → nat_eq y place ≡ b → end_at new y place ≡ end_at old y place
+        by true one =
+            subst (λ n. end_at new n place ≡ end_at old n place) (sym (eqb-true y place one)) (end_none place place (not_itself place))
+        by false two = end_there y place two
 
     not_here : (y q : ℕ) → old.ends place y ≡ Some q → nat_eq y place ≡ false
     not_here y q is = by (nat_eq y place) refl
       where
         by : (b : Bool) → nat_eq y place ≡ b → b ≡ false
-        by true one = cc (sym is ∙ ap (old.ends place) (eqb-true y place one) ∙ joined.not_itself place)
+        by true one = cc (sym is ∙ ap (old.ends place) (eqb-true y place one) ∙ not_itself place)
         by false two = refl
 
     -- ---- joined then
 
-    module _ (joined_now : AreJoined new) where
+    module _ (joined_now : AreJoined new) (ends_begin : (y q : ℕ) → old.ends place y ≡ Some q → IsEndBegun q) where
       pub link_end : (y q : ℕ) → old.ends place y ≡ Some q → IsOpenOf kinds.Link (end.connections q)
       link_end y q is =
           open_of kinds.Link (end.connections q) (ap open_kind_at (sym (here_now q)) ∙ joined_now.are_open place y q (ends_are place y ∙ is))
@@ -326,7 +339,7 @@ module _ {W : Type 0} (is_after : W → List Call → Type 0) (pieces : PiecesCo
           (has_framer (end.connections q) (link_end y q is).is_open)).begun
           ∙ ap (begun_behind (begun_or_none (begun_at (begin.connections q)))) (append-nil (part.came q) ∙ none)
           ∙ (pieces (begun_or_none (begun_at (begin.connections q))) (real_or_none (begun_at (begin.connections q)) (real_begin q))).none_begun
-          ∙ ap (λ o. begun_or_none (begun_at o)) (link_begins y q is)
+          ∙ sym (ends_begin y q is).same_begun
 
       -- what is on the way to this server where nothing was read
       pub incoming_stays : ((y q : ℕ) → old.ends place y ≡ Some q → part.came q ≡ []) → (x : ℕ) → nat_eq x place ≡ false
@@ -356,8 +369,8 @@ module _ {W : Type 0} (is_after : W → List Call → Type 0) (pieces : PiecesCo
           (is_last : end.server ≡ Some last)
           (serves : ServesClients (numbers_at new place) own last ((part.given ++ first.events) ++ second.events) outs)
           (own_open : (q : ℕ) → is_some (get own.clients q) ≡ true → open_kind_at (begin.connections q) ≡ Some kinds.Client)
-          (servers_mid : (x : ℕ) → IsServerIf (numbers_at old x) (slice_get old.engines x) (site_at mid.network x))
-          (ways_mid : (x y : ℕ) → has_way mid.network x y ≡ is_some (old.ends x y))
+          (servers_mid : (x : ℕ) → nat_eq x place ≡ false → IsServerIf (numbers_at old x) (slice_get old.engines x) (site_at mid.network x))
+          (ways_mid : (x y : ℕ) → has_way mid.network x y ≡ old.ways x y)
           (outgoing : (y : ℕ) → wire_at mid.wires place y ≡ wire_between old place y)
           (elsewhere : (x y : ℕ) → nat_eq x place ≡ false → nat_eq y place ≡ false → wire_at mid.wires x y ≡ wire_between old x y)
           (incoming : (x : ℕ) → nat_eq x place ≡ false → wire_at mid.wires x place ≡ wire_between new x place)
@@ -385,7 +398,7 @@ module _ {W : Type 0} (is_after : W → List Call → Type 0) (pieces : PiecesCo
               ((old.transit place y ++ unsent (end_at old place y)) ++ answers q outs) (new.transit place y ++ unsent (end_at new place y))
               (ap (λ o. begun_or_none (begun_at o)) (sym (end_there y place (not_here y q is))))
               (moved (old.transit place y) (unsent (end_at old place y)) (answers q outs) (written q calls) (unsent (end.connections q))
-              (ap (λ o. unsent o ++ answers q outs) (end_was y q is ∙ sym (link_begins y q is)) ∙ carried.bytes)
+              (ap (λ bs. bs ++ answers q outs) (ap unsent (end_was y q is) ∙ (ends_begin y q is).same_unsent) ∙ carried.bytes)
               ∙ ap (λ xs. xs ++ unsent (end.connections q)) (sym (transit_now y q is))
               ∙ ap (λ o. new.transit place y ++ unsent o) (sym (end_now y q is)))
 
@@ -394,7 +407,7 @@ module _ {W : Type 0} (is_after : W → List Call → Type 0) (pieces : PiecesCo
               went.no_way y (ends_are place y ∙ is) ∙ outgoing y
               ∙ same_wire (begun_or_none (begun_at (end_at old y place))) (begun_or_none (begun_at (end_at new y place)))
               (old.transit place y ++ unsent (end_at old place y)) (new.transit place y ++ unsent (end_at new place y))
-              (ap (λ o. begun_or_none (begun_at o)) (sym (end_none y place (other_none y is))))
+              (ap (λ o. begun_or_none (begun_at o)) (sym (far_end y)))
               (ap (λ xs. xs ++ unsent (end_at old place y))
               (sym (append-nil (old.transit place y)) ∙ ap (λ o. old.transit place y ++ written_at o step.did.calls) (sym is) ∙ sym (step.writes y))
               ∙ ap (λ o. new.transit place y ++ unsent o) (sym (end_none place y is)))
@@ -463,12 +476,12 @@ module _ {W : Type 0} (is_after : W → List Call → Type 0) (pieces : PiecesCo
                   subst (λ n. IsServerIf n (slice_get new.engines x) (site_at after.network x)) (numbers_there x two)
                   (subst (λ o. IsServerIf (numbers_at old x) o (site_at after.network x)) (sym (engine_there x two))
                   (other_server (slice_get old.engines x) (site_at mid.network x) (site_at after.network x) (went.others x two) (numbers_at old x)
-                  (servers_mid x)))
+                  (servers_mid x two)))
 
           as_bytes : IsAsBytes new after
           as_bytes = record {
             servers = all_servers;
-            ways = λ x y. went.ways x y ∙ ways_mid x y ∙ ap is_some (sym (ends_are x y));
+            ways = λ x y. went.ways x y ∙ ways_mid x y ∙ sym (ways_are x y);
             wires = all_wires;
             tidy = went.tidy;
           }
@@ -648,12 +661,21 @@ module _ {W : Type 0} (is_after : W → List Call → Type 0) (pieces : PiecesCo
 
     module _ (lines_end : ServedLinesEnd) (own_law : ServedGoesToItsOwn) (stay : ClientsStay) (alike_law : ServedAlike) (carried : StreamLinesAreCarried)
         (items : List Item) (net : ByteNetwork) (links : AreLinksOpen new) (items_are : AreItems names new place step.did.events items)
-        (apart : IsApartStep step) (same : IsAsNetwork names old net)
+        (apart : IsApartStep step) (told_of_links : IsToldOfLinks old place) (same : IsAsNetwork names old net)
         (placed : (x : ℕ) (name : Name) → slice_get names x ≡ Some name → server_place net.network name ≡ Some x)
         (unread : (y q : ℕ) → old.ends place y ≡ Some q → part.came q ≡ []) (quiet : has_item step.did.events ≡ true → AllStill net)
       where
         abbrev numbers_now : Numbers
         numbers_now = numbers_at new place
+
+        link_start : (y q : ℕ) → old.ends place y ≡ Some q → IsOpenOf kinds.Link (start.connections q)
+        link_start y q is = open_of kinds.Link (start.connections q) (ap open_kind_at (sym (here q)) ∙ same.are_joined.are_open place y q is)
+
+        ends_begin : (y q : ℕ) → old.ends place y ≡ Some q → IsEndBegun q
+        ends_begin y q is = begun_before q (link_start y q is)
+
+        ways_here : (y : ℕ) → has_way net.network place y ≡ is_some (numbers_now.link y)
+        ways_here y = same.as_bytes.ways place y ∙ told_of_links y ∙ ap is_some (sym (ends_are place y))
 
         abbrev first_served : List Event
         first_served = part.given ++ first.events
@@ -789,7 +811,7 @@ module _ {W : Type 0} (is_after : W → List Call → Type 0) (pieces : PiecesCo
             opened : (y q : ℕ) → new.ends place y ≡ Some q → is_closed_by q second.outs ≡ false
             opened y q is =
                 (or_parts (is_closed_by q first.outs) (is_closed_by q second.outs)
-                (sym (is_closed_by-append q first.outs second.outs) ∙ links_stay joined_now y q (link_was y q is))).1
+                (sym (is_closed_by-append q first.outs second.outs) ∙ links_stay joined_now ends_begin y q (link_was y q is))).1
 
             second_goes : Goes place numbers_now mid_view.view last.view second.events second.outs parts.back false first_after
             second_goes =
@@ -822,11 +844,11 @@ module _ {W : Type 0} (is_after : W → List Call → Type 0) (pieces : PiecesCo
                   subst (λ xs. LeadsTo net xs second_goes.after) (sym parts.are)
                   (leads_both net first_after second_goes.after parts.front parts.back leads second_goes.leads);
               is_as =
-                  assembled joined_now base second_goes.after base_own last.view all_went last.is all_serves own_open
-                  (λ x. subst (IsServerIf (numbers_at old x) (slice_get old.engines x)) (sym (sites_at x)) (same.as_bytes.servers x))
+                  assembled joined_now ends_begin base second_goes.after base_own last.view all_went last.is all_serves own_open
+                  (λ x two. subst (IsServerIf (numbers_at old x) (slice_get old.engines x)) (sym (sites_at x)) (same.as_bytes.servers x))
                   (λ x y. ap (λ o. is_some (option_and_then (λ (site : Site). get site.queues y) o)) (sites_at x) ∙ same.as_bytes.ways x y)
                   (λ y. base_wire place y) (λ x y two other. base_wire x y)
-                  (λ x two. base_wire x place ∙ incoming_stays joined_now unread x two) once seats_there seats_here seated received;
+                  (λ x two. base_wire x place ∙ incoming_stays joined_now ends_begin unread x two) once seats_there seats_here seated received;
             }
 
         -- ---- nobody has come
@@ -840,12 +862,12 @@ module _ {W : Type 0} (is_after : W → List Call → Type 0) (pieces : PiecesCo
 
           joined_still : AreJoined new
           joined_still = record {
-            two_ends = λ x y. ap is_some (ends_are x y) ∙ joined.two_ends x y ∙ ap is_some (sym (ends_are y x));
-            not_itself = λ x. ends_are x x ∙ joined.not_itself x;
+            both_ways = λ x y. ways_are x y ∙ same.are_joined.both_ways x y ∙ sym (ways_are y x);
+            not_itself = λ x. ends_are x x ∙ not_itself x;
             are_open = links;
-            apart = λ x y z q is other. joined.apart x y z q (sym (ends_are x y) ∙ is) (sym (ends_are x z) ∙ other);
-            no_client = λ x y client q is seat. joined.no_client x y client q (sym (ends_are x y) ∙ is) (sym (seat_is x client) ∙ seat);
-            one_seat = λ x client other q is seat. joined.one_seat x client other q (sym (seat_is x client) ∙ is) (sym (seat_is x other) ∙ seat);
+            apart = λ x y z q is other. same.are_joined.apart x y z q (sym (ends_are x y) ∙ is) (sym (ends_are x z) ∙ other);
+            no_client = λ x y client q is seat. same.are_joined.no_client x y client q (sym (ends_are x y) ∙ is) (sym (seat_is x client) ∙ seat);
+            one_seat = λ x client other q is seat. same.are_joined.one_seat x client other q (sym (seat_is x client) ∙ is) (sym (seat_is x other) ∙ seat);
           }
 
           numbers_still : numbers_at old place ≡ numbers_now
@@ -866,14 +888,14 @@ module _ {W : Type 0} (is_after : W → List Call → Type 0) (pieces : PiecesCo
             alike = subst (λ n. AreServersAlike n own.view views.theirs) numbers_still views.alike;
             server = server_at_place;
             tidy = same.as_bytes.tidy;
-            ways = λ y. same.as_bytes.ways place y ∙ ap is_some (sym (ends_are place y));
+            ways = ways_here;
             homes = λ client q seat. home_here net.network.homes client (seated_still.home place client q seat) (seated_still.seat place client q seat);
           }
 
           opened_first : (y q : ℕ) → new.ends place y ≡ Some q → is_closed_by q first.outs ≡ false
           opened_first y q is =
               (or_parts (is_closed_by q first.outs) (is_closed_by q second.outs)
-              (sym (is_closed_by-append q first.outs second.outs) ∙ links_stay joined_still y q (sym (ends_are place y) ∙ is))).0
+              (sym (is_closed_by-append q first.outs second.outs) ∙ links_stay joined_still ends_begin y q (sym (ends_are place y) ∙ is))).0
 
           goes_first : Goes place numbers_now own.view mid_view.view (part.given ++ first.events) first.outs parts.front later net
           goes_first =
@@ -941,7 +963,7 @@ module _ {W : Type 0} (is_after : W → List Call → Type 0) (pieces : PiecesCo
 
             joined_new : AreJoined new
             joined_new =
-                joined_then old place conn new joined step.same_ends seats_then links
+                joined_then old place conn new same.are_joined step.same_ends step.same_ways seats_then links
                 (λ y is. not_both (start.connections conn) made.free (link_start y conn is).is_open)
 
             own_free : is_some (get own.view.clients conn) ≡ false
@@ -1073,8 +1095,8 @@ module _ {W : Type 0} (is_after : W → List Call → Type 0) (pieces : PiecesCo
                 subst (λ os. Went place numbers_now mine.view os base given_net) (nothing_said own.view conn host)
                 (subst (Went place numbers_now mine.view mine.out base) (sym given_so)
                 (item_went lines_end own_law alike_law place numbers_now apart_new own.view views.theirs occurrence conn happens_new alike_new
-                (opens_client (connects (suc old.came) host)) base tidy_base server_at_place
-                (λ y. same.as_bytes.ways place y ∙ ap is_some (sym (ends_are place y))) item))
+                base tidy_base server_at_place
+                (ways_here) item))
 
             still_given : AllStill net → AllStill given_net
             still_given still x y = by (nat_eq x place) refl
@@ -1093,7 +1115,7 @@ module _ {W : Type 0} (is_after : W → List Call → Type 0) (pieces : PiecesCo
               alike = alike_new;
               server = server_at_place;
               tidy = tidy_base;
-              ways = λ y. same.as_bytes.ways place y ∙ ap is_some (sym (ends_are place y));
+              ways = ways_here;
               homes = homes_here;
             }
 
@@ -1112,7 +1134,7 @@ module _ {W : Type 0} (is_after : W → List Call → Type 0) (pieces : PiecesCo
             first_closed y q is =
                 ap (is_closed_by q) (sym f.asked.outs_are)
                 ∙ (or_parts (is_closed_by q first.outs) (is_closed_by q second.outs)
-                (sym (is_closed_by-append q first.outs second.outs) ∙ links_stay joined_new y q (sym (ends_are place y) ∙ is))).0
+                (sym (is_closed_by-append q first.outs second.outs) ∙ links_stay joined_new ends_begin y q (sym (ends_are place y) ∙ is))).0
 
             more_closed : (y q : ℕ) → new.ends place y ≡ Some q → is_closed_by q f.asked.more ≡ false
             more_closed y q is =

@@ -19,14 +19,12 @@ use Rattle.irc_server_laws.specs.LineEnds.{ServedLinesEnd}
 use Rattle.irc_server_laws.specs.Own.{ServedGoesToItsOwn}
 use Rattle.irc_stage.specs.View.{View}
 use Rattle.irc_world.specs.Stepping.{Item}
-use Rattle.irc_items.specs.Lemmas.SetUpFacts.{among_at, only_place}
-use Rattle.irc_net.specs.OneRoom.{IsKeptSound}
 use Rattle.irc_network.specs.Network.{Course, Site, begun, site_at}
-use Rattle.irc_wires.specs.Wires.{Wires, advanced, lines_by, wire_at}
+use Rattle.irc_wires.specs.Wires.{Wire, Wires, advanced, lines_by, wire_at}
 use Rattle.irc_wires.specs.Lemmas.PutWires.{IsSetAt, it, nowhere, other_from, other_to, wire_set}
 use Rattle.irc_byte_network.specs.ByteNetwork.{ByteNetwork, all_heard, byte_begun, bytes_come, completed_in, queues_written, wires_come}
 use Rattle.irc_byte_network.specs.Loops.Writing.{IsWritten}
-use Rattle.irc_byte_network.specs.Whole.{IsTidy}
+use Rattle.irc_byte_network.specs.Whole.{IsTidy, has_way}
 use Rattle.irc_byte_network.specs.Lemmas.NewFramer.{new_is_real}
 use Rattle.irc_byte_network.specs.Lemmas.Rows.{rows_after_lines}
 use Rattle.irc_byte_network.specs.Lemmas.RowsWritten.{is_written, lean_with}
@@ -41,19 +39,20 @@ use Rattle.irc_daemons.specs.Alike.{AreApart, Numbers, ServedAlike}
 use Rattle.irc_daemons.specs.AsBytes.{IsServerIf, numbers_at}
 use Rattle.irc_daemons.specs.AsNetwork.{AreReceived, AreSeated, HasFollowed, IsAsNetwork, has_come, no_more}
 use Rattle.irc_daemons.specs.Clients.{ClientsStay}
-use Rattle.irc_daemons.specs.Daemons.{AreJoined, AreLinksOpen, Daemons, connection_at, connection_in, end_at, unsent, wire_between}
+use Rattle.irc_daemons.specs.Daemons.{AreJoined, AreLinksOpen, Daemons, IsToldOfLinks, connection_at, connection_in, end_at, unsent, wire_between}
 use Rattle.irc_daemons.specs.Doings.{Doings, and_then, answers_did, newcomer_in, ran_did, taken_at}
 use Rattle.irc_daemons.specs.EachStep.{AreFollowed, ReadsLink}
 use Rattle.irc_daemons.specs.Items.{AnswersSpaced, AreItems, IsItem, has_item, is_connect, is_gone, is_line, is_link_line, is_one, is_passed, no_item}
 use Rattle.irc_daemons.specs.Receiving.{bytes_received}
 use Rattle.irc_daemons.specs.Steps.{Steps, came_after, seats_after}
-use Rattle.irc_daemons.proofs.Assembly.{assembled}
+use Rattle.irc_daemons.proofs.Assembly.{IsEndBegun, assembled, begun_before}
 use Rattle.irc_daemons.proofs.Given.{Went}
 use Rattle.irc_daemons.proofs.Heard.{none_stays}
 use Rattle.irc_daemons.proofs.Listening.{IsToldOf, Listens, its_line, listened, listening, listens_both, no_line}
-use Rattle.irc_daemons.proofs.Lists.{drop_front, rest_none, set_elsewhere, set_here, take_front}
+use Rattle.irc_daemons.proofs.Lists.{drop_front, inside, rest_none, set_elsewhere, set_here, take_front}
+use Rattle.irc_daemons.proofs.Open.{open_of}
 use Rattle.irc_daemons.proofs.ReadParts.{IsReading, part_reads}
-use Rattle.irc_daemons.proofs.Reading.{HasServer, HasView, HaveViews, IsOpenLink, has_framer, has_server, has_view, have_views, none_read, open_link, real_or_none, same_wire, taken_in, wire_of}
+use Rattle.irc_daemons.proofs.Single.{HasServer, HasView, HaveViews, IsOpenLink, has_framer, has_server, has_view, have_views, none_read, open_link, real_or_none, same_wire, taken_in, wire_of}
 use Rattle.irc_daemons.proofs.Sent.{server_at}
 use Rattle.irc_daemons.proofs.Asked.{ServesClients}
 use Rattle.irc_daemons.proofs.Told.{IsRealIf, begun_or_none, framed, heard_first, nothing_heard, stays_real}
@@ -101,11 +100,22 @@ module _ {W : Type 0} (now : Moment W) (conn : ℕ) where
 no_item_in : (one other : List Event) → has_item (one ++ other) ≡ false → (has_item one ≡ false) × (has_item other ≡ false)
 no_item_in one other none = or_parts (has_item one) (has_item other) (sym (list_any-append (λ event. not (is_link_line event)) one other) ∙ none)
 
+-- as many bytes have come as were read, of those that were on their way
+pub record BytesCame {W : Type 0} (names : List Name) (from to : ℕ) (net : ByteNetwork) (new : Daemons W) : Type 0 where
+  pub front : List ℕ
+  pub rest : List ℕ
+  pub bytes_are : (wire_at net.wires from to).bytes ≡ front ++ rest
+  pub way : has_way net.network from to ≡ true
+  pub view : View
+  pub at : server_at net.network to ≡ Some (Some view)
+  pub is_as : IsAsNetwork names new (bytes_come from to (length front) (byte_begun net)).net
+
 -- ---- the turn
 
 module _ {W : Type 0} (is_after : W → List Call → Type 0) (pieces : PiecesCompleteTheSame) (lines_end : ServedLinesEnd) (own_law : ServedGoesToItsOwn)
     (stay : ClientsStay) (alike_law : ServedAlike) (names : List Name) (to : ℕ) (old new : Daemons W) (net : ByteNetwork) (step : Steps is_after to old new)
-    (reads : ReadsLink step) (itemless : has_item step.did.events ≡ false) (links : AreLinksOpen new) (same : IsAsNetwork names old net)
+    (reads : ReadsLink step) (itemless : has_item step.did.events ≡ false) (links : AreLinksOpen new) (told_of_links : IsToldOfLinks old to)
+    (same : IsAsNetwork names old net)
   where
     abbrev from : ℕ
     from = reads.from
@@ -322,6 +332,12 @@ module _ {W : Type 0} (is_after : W → List Call → Type 0) (pieces : PiecesCo
     ends_are : (x y : ℕ) → new.ends x y ≡ old.ends x y
     ends_are x y = ap (λ (f : ℕ → ℕ → Option ℕ). f x y) step.same_ends
 
+    ways_are : (x y : ℕ) → new.ways x y ≡ old.ways x y
+    ways_are x y = ap (λ (f : ℕ → ℕ → Bool). f x y) step.same_ways
+
+    ways_here : (y : ℕ) → has_way net.network to y ≡ is_some (old.ends to y)
+    ways_here y = same.as_bytes.ways to y ∙ told_of_links y
+
     still_open : (y q : ℕ) → old.ends to y ≡ Some q → is_open_at (end.connections q) ≡ true
     still_open y q is = (open_link (end.connections q) (ap open_kind_at (sym (here_now q)) ∙ links to y q (ends_are to y ∙ is))).is_open
 
@@ -494,7 +510,7 @@ module _ {W : Type 0} (is_after : W → List Call → Type 0) (pieces : PiecesCo
     went : Went to numbers last.view all_outs off (queues_written came_first.net wires_now)
     went =
         listened to numbers begin_view.view last.view all_events all_outs off came_first.net off_tidy
-        (λ y. same.as_bytes.ways to y) hears_all is_so
+        ways_here hears_all is_so
 
     abbrev after : ByteNetwork
     after = queues_written came_first.net wires_now
@@ -512,7 +528,7 @@ module _ {W : Type 0} (is_after : W → List Call → Type 0) (pieces : PiecesCo
 
     joined_now : AreJoined new
     joined_now = record {
-      two_ends = λ x y. ap is_some (ends_are x y) ∙ same.are_joined.two_ends x y ∙ ap is_some (sym (ends_are y x));
+      both_ways = λ x y. ways_are x y ∙ same.are_joined.both_ways x y ∙ sym (ways_are y x);
       not_itself = λ x. ends_are x x ∙ same.are_joined.not_itself x;
       are_open = links;
       apart = λ x y z q is other. same.are_joined.apart x y z q (sym (ends_are x y) ∙ is) (sym (ends_are x z) ∙ other);
@@ -520,6 +536,12 @@ module _ {W : Type 0} (is_after : W → List Call → Type 0) (pieces : PiecesCo
       one_seat = λ x client other q is seat.
           same.are_joined.one_seat x client other q (sym (seat_is x client) ∙ is) (sym (seat_is x other) ∙ seat);
     }
+
+    ends_begin : (y q : ℕ) → old.ends to y ≡ Some q
+        → IsEndBegun is_after pieces names to old new step same.are_joined.not_itself same.clients_open server_here.of.in_order server_here.of.framers q
+    ends_begin y q is =
+        begun_before is_after pieces names to old new step same.are_joined.not_itself same.clients_open server_here.of.in_order server_here.of.framers q
+        (open_of kinds.Link (start.connections q) (ap (λ o. open_kind_at (connection_in o q)) (sym step.at) ∙ same.are_joined.are_open to y q is))
 
     own_open : (q : ℕ) → is_some (get begin_view.view.clients q) ≡ true → open_kind_at (part.begin.connections q) ≡ Some kinds.Client
     own_open q there =
@@ -547,35 +569,41 @@ module _ {W : Type 0} (is_after : W → List Call → Type 0) (pieces : PiecesCo
     module _ (once : (x y : ℕ) (name : Name) → slice_get names x ≡ Some name → slice_get names y ≡ Some name → x ≡ y) where
       as_network : IsAsNetwork names new after
       as_network =
-          assembled is_after pieces names to old new step same.are_joined same.clients_open server_here.of.in_order server_here.of.framers joined_now off after
+          assembled is_after pieces names to old new step same.are_joined.not_itself same.clients_open server_here.of.in_order server_here.of.framers joined_now
+          ends_begin off after
           begin_view.view last.view (subst (λ n. Went to n last.view all_outs off after) numbers_are went) last.is
-          (subst (λ n. ServesClients n begin_view.view last.view all_events all_outs) numbers_are hears_all.clients) own_open same.as_bytes.servers
+          (subst (λ n. ServesClients n begin_view.view last.view all_events all_outs) numbers_are hears_all.clients) own_open (λ x two. same.as_bytes.servers x)
           same.as_bytes.ways outgoing elsewhere incoming once (λ x client two. seat_is x client) seats_here seated_now received_off
 
-      link_followed : HasFollowed names [] net new
-      link_followed = record {
-        last = (bytes_come from to count (byte_begun net)).net;
-        leads = has_come [] from to count net no_more
-            (same.as_bytes.ways from to ∙ same.are_joined.two_ends from to ∙ ap is_some reads.is_end);
+      -- so many bytes come
+      pub bytes_came : BytesCame names from to net new
+      bytes_came = record {
+        front = bytes;
+        rest = behind;
+        bytes_are = ap (λ (w : Wire). w.bytes) old_wire_is;
+        way = same.as_bytes.ways from to ∙ same.are_joined.both_ways from to ∙ told_of_links from ∙ ap is_some reads.is_end;
+        view = views.theirs;
+        at = at;
         is_as = subst (IsAsNetwork names new) (sym net_is) as_network;
       }
 
--- ---- the kind of step
+link_followed : {W : Type 0} (names : List Name) (from to : ℕ) (net : ByteNetwork) (new : Daemons W) → BytesCame names from to net new
+    → HasFollowed names [] net new
+link_followed names from to net new came = record {
+  last = (bytes_come from to (length came.front) (byte_begun net)).net;
+  leads = has_come [] from to (length came.front) net no_more came.way;
+  is_as = came.is_as;
+}
 
--- a name is at one place
-named_once : (net : ByteNetwork) → IsKeptSound net → (x y : ℕ) (name : Name) → slice_get net.network.names x ≡ Some name
-    → slice_get net.network.names y ≡ Some name → x ≡ y
-named_once net kept x y name one other =
-    let once = kept.sound.set_up.once name (among_at net.network.names name x one) in
-    sym (only_place net.network.names name x once one) ∙ only_place net.network.names name y once other
+-- ---- the kind of step
 
 item_is_none : {W : Type 0} (names : List Name) (daemons : Daemons W) (place : ℕ) (event : Event) (item : Item) → IsItem names daemons place event item
     → is_link_line event ≡ false
-item_is_none names daemons place event item (is_connect conn name host named host_is event_is item_is) = ap is_link_line event_is
-item_is_none names daemons place event item (is_line conn client text seat event_is item_is) = ap is_link_line event_is
-item_is_none names daemons place event item (is_gone conn client seat event_is item_is) = ap is_link_line event_is
+item_is_none names daemons place event item (is_connect which name host named host_is event_is item_is) = ap is_link_line event_is
+item_is_none names daemons place event item (is_line which client text seat event_is item_is) = ap is_link_line event_is
+item_is_none names daemons place event item (is_gone which client seat event_is item_is) = ap is_link_line event_is
 
-no_items : {W : Type 0} (names : List Name) (daemons : Daemons W) (place : ℕ) (events : List Event) (items : List Item)
+pub no_items : {W : Type 0} (names : List Name) (daemons : Daemons W) (place : ℕ) (events : List Event) (items : List Item)
     → AreItems names daemons place events items → has_item events ≡ false → items ≡ []
 no_items names daemons place events items no_item none = refl
 no_items names daemons place events items (is_passed event rest more is_link are) none =
@@ -587,9 +615,8 @@ module _ {W : Type 0} (is_after : W → List Call → Type 0) (pieces : PiecesCo
     (stay : ClientsStay) (alike_law : ServedAlike)
   where
     pub by_link : AreFollowed is_after (λ place old new step. ReadsLink step × (has_item step.did.events ≡ false))
-    by_link names place items old new net step kind links are apart_step kept same =
+    by_link names place items old new net step kind links are apart_step told placed same =
         subst (λ xs. HasFollowed names xs net new) (sym (no_items names new place step.did.events items are kind.1))
-        (link_followed is_after pieces lines_end own_law stay alike_law names place old new net step kind.0 kind.1 links same
-        (λ x y name one other.
-        named_once net kept x y name (ap (λ ns. slice_get ns x) (sym same.are_seated.names_are) ∙ one)
-        (ap (λ ns. slice_get ns y) (sym same.are_seated.names_are) ∙ other)))
+        (link_followed names kind.0.from place net new
+        (bytes_came is_after pieces lines_end own_law stay alike_law names place old new net step kind.0 kind.1 links told same
+        (λ x y name one other. inside x y (sym (placed x name one) ∙ placed y name other))))

@@ -26,10 +26,10 @@ use Rattle.irc_daemons.specs.Receiving.{bytes_received, has_come}
 use Rattle.irc_daemons.proofs.Heard.{reply_ends}
 use Rattle.irc_daemons.proofs.Homes.{KeepsHomes, asked_keeps, keeps_both}
 use Rattle.irc_daemons.proofs.Lists.{get_map}
-use Rattle.irc_daemons.proofs.Reading.{no_way_waits}
+use Rattle.irc_daemons.proofs.Single.{no_way_waits}
 use Rattle.irc_daemons.proofs.Received.{Gets, asked_gets}
 use Rattle.irc_daemons.proofs.Sent.{Replies, asked_replies, server_at}
-use Rattle.irc_daemons.proofs.Silence.{OpensNoLink, nobody_gets, other_ends}
+use Rattle.irc_daemons.proofs.Silence.{nobody_gets, other_ends}
 use Rattle.irc_daemons.proofs.Written.{bodies, bodies_are, written_all}
 
 -- ---- what was emptied
@@ -134,12 +134,19 @@ went_both place numbers between last a b old mid new one two quiet = record {
   gets_nothing = λ client none has. two.gets_nothing client none (one.come client ∙ has) ∙ one.gets_nothing client none has;
 }
 
--- ---- one item
+-- ---- one server is asked
 
-module _ (lines_end : ServedLinesEnd) (own_law : ServedGoesToItsOwn) (alike_law : ServedAlike) (place : ℕ) (numbers : Numbers) (apart : AreApart numbers)
-    (own other : View) (occurrence : Occurrence) (conn : ℕ) (happens : happens_at numbers occurrence ≡ Some conn) (alike : AreServersAlike numbers own other)
-    (opens : OpensNoLink occurrence) (old : ByteNetwork) (tidy : IsTidy old) (at : server_at old.network place ≡ Some (Some other))
-    (ways_are : (y : ℕ) → has_way old.network place y ≡ is_some (numbers.link y)) (item : Item)
+-- Numbers are these; and then these of links, each of which was one before, and is that of a way.
+pub record AreThen (place : ℕ) (before : Numbers) (own other : View) (old : ByteNetwork) (numbers : Numbers) : Type 0 where
+  pub links : (y q : ℕ) → numbers.link y ≡ Some q → before.link y ≡ Some q
+  pub clients : (client : ℕ) → numbers.client client ≡ before.client client
+  pub alike : AreServersAlike before own other → AreServersAlike numbers own other
+  pub ways : (y : ℕ) → has_way old.network place y ≡ is_some (numbers.link y)
+
+module _ (lines_end : ServedLinesEnd) (own_law : ServedGoesToItsOwn) (alike_law : ServedAlike) (place : ℕ) (before : Numbers) (apart : AreApart before)
+    (own other : View) (occurrence : Occurrence) (conn : ℕ) (happens : happens_at before occurrence ≡ Some conn) (alike : AreServersAlike before own other)
+    (old : ByteNetwork) (tidy : IsTidy old) (at : server_at old.network place ≡ Some (Some other)) (numbers : Numbers)
+    (then_are : AreThen place before (reply own (renumbered conn occurrence)).view (reply other occurrence).view old numbers) (item : Item)
   where
     abbrev mine : Reply
     mine = reply own (renumbered conn occurrence)
@@ -156,8 +163,8 @@ module _ (lines_end : ServedLinesEnd) (own_law : ServedGoesToItsOwn) (alike_law 
     abbrev now : ByteNetwork
     now = queues_written kept old.wires
 
-    said : ServeAlike numbers own (renumbered conn occurrence) other occurrence
-    said = alike_law numbers own other occurrence conn apart alike happens
+    said : ServeAlike before own (renumbered conn occurrence) other occurrence
+    said = alike_law before own other occurrence conn apart alike happens
 
     here : Replies place theirs.view (λ y. bodies y theirs.out) old.network asked.net
     here = asked_replies place occurrence other (begun old.network) at
@@ -173,7 +180,7 @@ module _ (lines_end : ServedLinesEnd) (own_law : ServedGoesToItsOwn) (alike_law 
 
     waits_here : (y q : ℕ) → numbers.link y ≡ Some q → waiting_at kept place y ≡ bodies y theirs.out
     waits_here y q link =
-        here.waits y (ways_are y ∙ ap is_some link) ∙ ap (λ ls. ls ++ bodies y theirs.out) (tidy.quiet place y)
+        here.waits y (then_are.ways y ∙ ap is_some link) ∙ ap (λ ls. ls ++ bodies y theirs.out) (tidy.quiet place y)
 
     ways_at : (x y : ℕ) (b : Bool) → nat_eq x place ≡ b → has_way kept x y ≡ has_way old.network x y
     ways_at x y true one =
@@ -186,7 +193,7 @@ module _ (lines_end : ServedLinesEnd) (own_law : ServedGoesToItsOwn) (alike_law 
         is_so.wires_are place y ∙ ap (λ ls. all_written ls (wire_at old.wires place y)) (waits_here y q link)
         ∙ written_all (bodies y theirs.out) (wire_at old.wires place y)
         ∙ ap (λ bs. wire_behind bs (wire_at old.wires place y))
-        (bodies_are y theirs.out (reply_ends lines_end other occurrence) ∙ sym (said.say.on_links y q link opened))
+        (bodies_are y theirs.out (reply_ends lines_end other occurrence) ∙ sym (said.say.on_links y q (then_are.links y q link) opened))
 
     come_now : (client : ℕ) → has_come now.network client ≡ has_come old.network client
     come_now client = come_of_sites asked.net now.network refl client ∙ gets.come client
@@ -204,28 +211,44 @@ module _ (lines_end : ServedLinesEnd) (own_law : ServedGoesToItsOwn) (alike_law 
         }
 
     no_client : (client : ℕ) → numbers.client client ≡ None → is_some (get other.clients client) ≡ false
-    no_client client none = ap is_some (alike.alike.clients client ∙ ap (option_and_then (get own.clients)) none)
+    no_client client none =
+        ap is_some (alike.alike.clients client ∙ ap (option_and_then (get own.clients)) (sym (then_are.clients client) ∙ none))
 
-    pub item_went : Went place numbers mine.view mine.out old now
-    item_went = record {
+    pub asked_went : Went place numbers mine.view mine.out old now
+    asked_went = record {
       view = theirs.view;
-      alike = said.views;
+      alike = then_are.alike said.views;
       server = emptied_server kept place ∙ here.server;
       others = λ x two. emptied_server kept x ∙ ap (option_map (λ (s : Site). s.server)) (here.others x two);
       ways = λ x y. emptied_ways kept x y ∙ ways_at x y (nat_eq x place) refl;
       wires_there = λ x y two. is_so.wires_are x y ∙ ap (λ ls. all_written ls (wire_at old.wires x y)) (waits_there x y two);
       no_way = λ y none.
           is_so.wires_are place y
-          ∙ ap (λ ls. all_written ls (wire_at old.wires place y)) (no_way_waits kept place y (here.ways y ∙ ways_are y ∙ ap is_some none));
+          ∙ ap (λ ls. all_written ls (wire_at old.wires place y)) (no_way_waits kept place y (here.ways y ∙ then_are.ways y ∙ ap is_some none));
       wires_here = wire_now;
       tidy = record { quiet = emptied_waits kept; rows = is_so.rows; lean = is_so.lean };
       keeps = keeps_now;
       come = come_now;
       gets = λ client q seat has.
-          bytes_now client has ∙ ap (λ bs. bytes_received old.network client ++ bs) (sym (said.say.to_clients client q seat));
+          bytes_now client has ∙ ap (λ bs. bytes_received old.network client ++ bs) (sym (said.say.to_clients client q (sym (then_are.clients client) ∙ seat)));
       gets_nothing = λ client none has.
           bytes_now client has
           ∙ ap (λ bs. bytes_received old.network client ++ bs)
-          (nobody_gets own_law other occurrence (other_ends numbers own other alike) opens client (no_client client none))
+          (nobody_gets own_law other occurrence (other_ends before own other alike) client (no_client client none))
           ∙ append-nil (bytes_received old.network client);
     }
+
+-- ---- one item
+
+module _ (lines_end : ServedLinesEnd) (own_law : ServedGoesToItsOwn) (alike_law : ServedAlike) (place : ℕ) (numbers : Numbers) (apart : AreApart numbers)
+    (own other : View) (occurrence : Occurrence) (conn : ℕ) (happens : happens_at numbers occurrence ≡ Some conn) (alike : AreServersAlike numbers own other)
+    (old : ByteNetwork) (tidy : IsTidy old) (at : server_at old.network place ≡ Some (Some other))
+    (ways_are : (y : ℕ) → has_way old.network place y ≡ is_some (numbers.link y)) (item : Item)
+  where
+    same_then : AreThen place numbers (reply own (renumbered conn occurrence)).view (reply other occurrence).view old numbers
+    same_then = record { links = λ y q link. link; clients = λ client. refl; alike = λ is. is; ways = ways_are }
+
+    pub item_went : Went place numbers (reply own (renumbered conn occurrence)).view (reply own (renumbered conn occurrence)).out old
+        (queues_written (item_kept item (site_asked place occurrence (begun old.network))).net old.wires)
+    item_went =
+        asked_went lines_end own_law alike_law place numbers apart own other occurrence conn happens alike old tidy at numbers same_then item

@@ -6,7 +6,7 @@ use Rattle.std.specs.List.{AllByRecursion}
 use Rattle.std.specs.Option.{option_and_then, option_map_or}
 use Rattle.arrayvec.specs.ArrayVec.{ArrayVec}
 use Rattle.irc_line.specs.Reading.{read_of}
-use Rattle.irc_batch.specs.Batches.{Sent, end_of, end_of_link, line_on, line_to}
+use Rattle.irc_batch.specs.Batches.{Sent}
 use Rattle.irc_server.specs.declared.event.Event.{Event}
 use Rattle.irc_server.specs.declared.event.Event.TheVariants.{LinkLine}
 use Rattle.irc_server.specs.Happening.{occurrence_of}
@@ -34,11 +34,11 @@ use Rattle.irc_daemons.proofs.Given.{Went, bytes_of_sites, come_of_sites, emptie
 use Rattle.irc_daemons.proofs.Heard.{answers_both, reply_ends}
 use Rattle.irc_daemons.proofs.Homes.{KeepsHomes, asked_keeps, keeps_both, keeps_same}
 use Rattle.irc_daemons.proofs.Lists.{inside}
-use Rattle.irc_daemons.proofs.Reading.{no_way_waits}
+use Rattle.irc_daemons.proofs.Single.{no_way_waits}
 use Rattle.irc_daemons.proofs.Received.{Gets, heard_gets}
 use Rattle.irc_daemons.proofs.Sent.{Lines, Replies, heard_replies, server_at}
 use Rattle.irc_daemons.proofs.Asked.{ServesClients, no_client_end, quiet_then, serves_both, serves_none, took}
-use Rattle.irc_daemons.proofs.Silence.{OpensNoLink, nobody_gets, nothing_answered, other_ends, still_there}
+use Rattle.irc_daemons.proofs.Silence.{nobody_gets, nothing_answered, other_ends, still_there}
 use Rattle.irc_daemons.proofs.Written.{bodies, bodies_are, ends_both, with_ends, written_all}
 
 -- ---- where a network has come to, before what was put out is written
@@ -105,12 +105,6 @@ listens_both to numbers own between last events more a b old mid new one two = r
   clients = serves_both numbers own between last events more a b one.clients two.clients;
 }
 
-opens_none : (link : ℕ) (line : List ℕ) → OpensNoLink (link_says link (read_of line))
-opens_none link line (line_to conn text) = refl
-opens_none link line (end_of conn) = refl
-opens_none link line (line_on number text) = refl
-opens_none link line (end_of_link number reason) = refl
-
 either : (b c : Bool) → c ≡ false → (b || c) ≡ true → b ≡ true
 either true c none is = refl
 either false c none is = cc (sym none ∙ is)
@@ -153,9 +147,9 @@ module _ (lines_end : ServedLinesEnd) (own_law : ServedGoesToItsOwn) (stay : Cli
       serves_it : ServesClients numbers own mine.view (LinkLine conn line ∷ []) mine.out
       serves_it = record {
         silent = λ client q seat none.
-            nothing_answered own_law own it alike.ends_count (opens_none conn line.items) q none (no_client_end numbers own other apart alike client q seat);
+            nothing_answered own_law own it alike.ends_count q refl none (no_client_end numbers own other apart alike client q seat);
         still = λ client q seat is.
-            let known = still_there own_law own it alike.ends_count (opens_none conn line.items) stay q
+            let known = still_there own_law own it alike.ends_count stay q refl
             (no_client_end numbers own other apart alike client q seat) is in record {
               was = either (is_some (get own.clients q)) (client_comes q it) refl known.was;
               not_closed = known.not_closed;
@@ -188,7 +182,7 @@ module _ (lines_end : ServedLinesEnd) (own_law : ServedGoesToItsOwn) (stay : Cli
         gets_nothing = λ client none has.
             gets_it.more client has
             ∙ ap (λ bs. bytes_received course.net client ++ bs)
-            (nobody_gets own_law other there (other_ends numbers own other alike) (opens_none from line.items) client (no_client client none))
+            (nobody_gets own_law other there (other_ends numbers own other alike) client (no_client client none))
             ∙ append-nil (bytes_received course.net client);
         clients = serves_it;
       }

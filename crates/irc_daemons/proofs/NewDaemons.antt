@@ -1,7 +1,7 @@
 -- Daemons that are new are as a network that was given nothing.
 use Rattle.std.proofs.Common.{◌≡◌, ℕ, zero, suc, false, is_some, Option, Some, None, List, [], ◌∷◌, ◌++◌, length, replicate, refl, sym, ◌∙◌, ap, subst, map, option_map, unwrap_or}
 use Rattle.std.specs.FinMap.{empty, get, get-empty}
-use Rattle.std.specs.List.{AllByRecursion, slice_get}
+use Rattle.std.specs.List.{AllByRecursion, filter_map, slice_get}
 use Rattle.std.specs.Option.{option_and_then}
 use Rattle.std.specs.Ordering.{nat_cmp}
 use Rattle.irc_names.specs.Tables.{fold_cmp}
@@ -11,21 +11,27 @@ use Rattle.irc_stage.specs.declared.clients.Client.{Client}
 use Rattle.irc_stage.specs.View.{End, View}
 use Rattle.irc_server.specs.Configuring.{made_view}
 use Rattle.irc_server.specs.declared.config.Config.{Config}
-use Rattle.irc_network.specs.Network.{Site}
+use Rattle.irc_network.specs.Network.{Site, site_at}
 use Rattle.irc_wires.specs.Wires.{Wire, new_wire, wire_at}
 use Rattle.irc_byte_network.specs.ByteNetwork.{ByteNetwork}
 use Rattle.irc_byte_network.specs.Whole.{IsAsNew, NewIsWhole, has_way, no_wires}
-use Rattle.irc_net.specs.Making.{config_name, made_of, new_site}
-use Rattle.irc_net.specs.Running.{made}
+use Rattle.irc_items.specs.SetUp.{setting_at}
+use Rattle.irc_net.specs.Calls.{standing}
+use Rattle.irc_net.specs.Laws.{EveryRunIsKept}
+use Rattle.irc_net.specs.Making.{made_of, new_site, setting_given}
+use Rattle.irc_net.specs.Running.{HasRun, made}
 use Rattle.irc_engine.specs.Hearing.{begun_at}
 use Rattle.irc_engine.specs.Turning.{EngineView}
 use Rattle.irc_daemons.specs.Alike.{AreAlike, AreServersAlikeIf, AreRowsAlike, Numbers}
 use Rattle.irc_daemons.specs.AsBytes.{IsAsBytes, IsServerIf, IsServerOf, numbers_at}
-use Rattle.irc_daemons.specs.Daemons.{AreJoined, Daemons, connection_at, end_at, unsent, wire_between}
-use Rattle.irc_daemons.specs.NewDaemons.{AreNew, IsNewIf, IsNewOf}
-use Rattle.irc_daemons.specs.OneRoom.{Begins}
+use Rattle.irc_relay.specs.Relay.{IsFront}
+use Rattle.irc_daemons.specs.AsNetwork.{AreClientsOpen, IsAsNetwork}
+use Rattle.irc_daemons.specs.Daemons.{AreJoined, Daemons, IsToldOfLinks, connection_at, end_at, unsent, wire_between}
+use Rattle.irc_daemons.specs.NewDaemons.{AreNew, IsNewIf, IsNewOf, names_in, settings_in}
+use Rattle.irc_daemons.specs.Receiving.{bytes_received}
+use Rattle.irc_daemons.proofs.Going.{IsGoing}
 use Rattle.irc_daemons.proofs.Lists.{get_map}
-use Rattle.irc_daemons.proofs.Reading.{same_wire}
+use Rattle.irc_daemons.proofs.Single.{has_server, have_views, same_wire}
 use Rattle.irc_daemons.proofs.Told.{begun_or_none}
 
 -- ---- a new server
@@ -96,7 +102,7 @@ no_way configs from to =
     by (Some config) = ap is_some (get-empty {X = List (List ℕ)} nat_cmp to)
 
 module _ {W : Type 0} (whole : NewIsWhole) (configs : List Config) (daemons : Daemons W) (new : AreNew configs daemons) where
-  abbrev net : ByteNetwork
+  abbrev pub net : ByteNetwork
   net = no_wires (made_of new.ordered)
 
   is_as_new : IsAsNew net
@@ -110,7 +116,7 @@ module _ {W : Type 0} (whole : NewIsWhole) (configs : List Config) (daemons : Da
 
   new_joined : AreJoined daemons
   new_joined = record {
-    two_ends = λ x y. ap is_some (new.no_link x y) ∙ sym (ap is_some (new.no_link y x));
+    both_ways = λ x y. new.no_way x y ∙ sym (new.no_way y x);
     not_itself = λ x. new.no_link x x;
     are_open = λ x y conn is. no_links x y conn is;
     apart = λ x y z conn is other. no_links x y conn is;
@@ -130,30 +136,61 @@ module _ {W : Type 0} (whole : NewIsWhole) (configs : List Config) (daemons : Da
         subst (IsServerIf (numbers_at daemons place) (slice_get daemons.engines place)) (sym (get_map new_site new.ordered place))
         (new_servers (numbers_at daemons place) (λ y. new.no_link place y) (λ client. new.no_seat place client) (slice_get new.ordered place)
         (slice_get daemons.engines place) (new.engines place));
-    ways = λ from to. no_way new.ordered from to ∙ sym (ap is_some (new.no_link from to));
+    ways = λ from to. no_way new.ordered from to ∙ sym (new.no_way from to);
     wires = λ from to. no_wire (length (made_of new.ordered).sites) from to ∙ sym (nothing_between from to);
     tidy = is_as_new.whole.tidy;
   }
 
-  pub new_begin : Begins configs [] (map config_name new.ordered) daemons
-  new_begin = record {
-    net = net;
-    has_run = made (
-      new.possible,
-      refl,
-      record {
-        ordered = new.ordered;
-        same_ones = new.same_ones;
-        in_order = new.in_order;
-        network_is = refl;
-      },
-    );
-    are_links = tt;
-    at_rest = is_as_new.at_rest;
-    names_are = refl;
+  -- ---- such a network
+
+  pub new_run : HasRun configs [] (standing net)
+  new_run = made (
+    new.possible,
+    refl,
+    record {
+      ordered = new.ordered;
+      same_ones = new.same_ones;
+      in_order = new.in_order;
+      network_is = refl;
+    },
+  )
+
+  settings_made : (configs : List Config) → filter_map setting_at (map new_site configs) ≡ map setting_given configs
+  settings_made [] = refl
+  settings_made (config ∷ configs) = ap (λ settings. setting_given config ∷ settings) (settings_made configs)
+
+  pub new_going : EveryRunIsKept → IsGoing (settings_in new) [] net
+  new_going kept = record { kept = kept configs [] (standing net) new_run; settings_are = settings_made new.ordered; items_are = refl }
+
+  -- nobody has come
+  nobody_sits : {X : Type 0} (place client conn : ℕ) → daemons.seats place client ≡ Some conn → X
+  nobody_sits place client conn seat = cc (sym (new.no_seat place client) ∙ seat)
+
+  no_client_there : (place : ℕ) (engine : EngineView W) → slice_get daemons.engines place ≡ Some engine → AreClientsOpen engine.now
+  no_client_there place engine at view conn is there =
+      let numbers = numbers_at daemons place in
+      let found = has_server numbers engine (site_at net.network place)
+      (subst (λ o. IsServerIf numbers o (site_at net.network place)) at (new_as_bytes.servers place)) in
+      let views = have_views numbers engine.now.server found.site.server view is found.of.servers in
+      let one = views.alike.alike.no_other_client conn there in nobody_sits place one.number conn one.is
+
+  pub new_same : IsAsNetwork (names_in new) daemons net
+  new_same = record {
     are_joined = new_joined;
     as_bytes = new_as_bytes;
-    nobody = new.nobody;
-    no_seat = new.no_seat;
-    nothing_written = new.nothing_written;
+    clients_open = no_client_there;
+    are_seated = record {
+      names_are = refl;
+      came = new.nobody;
+      inboxes = refl;
+      home = λ place client conn seat. nobody_sits place client conn seat;
+      seat = λ place client conn seat. nobody_sits place client conn seat;
+    };
+    are_received = record {
+      there = λ place client conn seat is. nobody_sits place client conn seat;
+      front = λ client. subst (λ bytes. IsFront bytes (bytes_received net.network client)) (sym (new.nothing_written client)) (bytes_received net.network client, refl);
+    };
   }
+
+  pub new_told : (x : ℕ) → IsToldOfLinks daemons x
+  new_told x y = new.no_way x y ∙ sym (ap is_some (new.no_link x y))

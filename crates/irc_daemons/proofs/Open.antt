@@ -18,7 +18,7 @@ use Rattle.irc_engine.specs.Running.{AllTold, IsApart, IsNews, Moment, Ran, a_li
 use Rattle.irc_engine.specs.Writing.{one_if}
 use Rattle.irc_daemons.proofs.Asked.{AreTextsCarried, IsTextCarried, NoneConnects, is_connecting_event, is_left}
 use Rattle.irc_daemons.proofs.Lists.{all_rest}
-use Rattle.irc_daemons.proofs.Reading.{kind_then}
+use Rattle.irc_daemons.proofs.Single.{kind_then}
 use Rattle.irc_daemons.proofs.Told.{IsRealIf, heard_first}
 
 -- ---- kinds

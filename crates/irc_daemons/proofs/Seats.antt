@@ -60,10 +60,10 @@ module _ {W : Type 0} (old : Daemons W) (place conn : ℕ) where
 
   -- ---- joined by links
 
-  pub joined_then : (new : Daemons W) → AreJoined old → new.ends ≡ old.ends → new.seats ≡ seat_after old place conn → AreLinksOpen new
+  pub joined_then : (new : Daemons W) → AreJoined old → new.ends ≡ old.ends → new.ways ≡ old.ways → new.seats ≡ seat_after old place conn → AreLinksOpen new
       → ((y : ℕ) → old.ends place y ≡ Some conn → ⊥) → AreJoined new
-  joined_then new joined ends seats links free = record {
-    two_ends = λ x y. ap is_some (ends_are x y) ∙ joined.two_ends x y ∙ ap is_some (sym (ends_are y x));
+  joined_then new joined ends ways seats links free = record {
+    both_ways = λ x y. ways_are x y ∙ joined.both_ways x y ∙ sym (ways_are y x);
     not_itself = λ x. ends_are x x ∙ joined.not_itself x;
     are_open = links;
     apart = λ x y z q is other. joined.apart x y z q (sym (ends_are x y) ∙ is) (sym (ends_are x z) ∙ other);
@@ -74,6 +74,9 @@ module _ {W : Type 0} (old : Daemons W) (place conn : ℕ) where
     where
       ends_are : (x y : ℕ) → new.ends x y ≡ old.ends x y
       ends_are x y = ap (λ (f : ℕ → ℕ → Option ℕ). f x y) ends
+
+      ways_are : (x y : ℕ) → new.ways x y ≡ old.ways x y
+      ways_are x y = ap (λ (f : ℕ → ℕ → Bool). f x y) ways
 
       seats_are : (x client : ℕ) → new.seats x client ≡ seat_after old place conn x client
       seats_are x client = ap (λ (f : ℕ → ℕ → Option ℕ). f x client) seats

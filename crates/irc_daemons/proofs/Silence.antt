@@ -15,10 +15,11 @@ use Rattle.irc_server_laws.specs.Own.{ServedGoesToItsOwn, is_its_own, is_on_new}
 use Rattle.irc_sites.specs.Site.{Reply, reply, serves_occurrence}
 use Rattle.irc_engine.specs.Carrying.{answers, is_closed_by}
 use Rattle.irc_daemons.specs.Alike.{AreServersAlike, AreRowsAlike, Numbers, client_bytes}
-use Rattle.irc_server_laws.specs.Connected.{client_comes, client_goes, ends_client}
+use Rattle.irc_server_laws.specs.Connected.{client_comes, client_goes, ends_client, link_comes}
+use Rattle.irc_batch.specs.declared.close_reason.CloseReason.{CloseReason}
 use Rattle.irc_daemons.specs.Clients.{ClientsStay}
 use Rattle.irc_daemons.specs.Items.{is_on_link}
-use Rattle.irc_daemons.proofs.Lists.{inside}
+use Rattle.irc_daemons.proofs.Lists.{inside, turned}
 
 -- ---- ends that are alike
 
@@ -39,9 +40,31 @@ other_ends numbers own other alike name link is = by (row_of own.routes name) (r
 
 -- ---- nothing for others
 
--- no link is being opened by what happens
-abbrev pub OpensNoLink : Occurrence → Type 0
-OpensNoLink occurrence = (sent : Sent) → is_on_new occurrence sent ≡ false
+-- nothing for a client goes on a link that is being opened
+no_new_client : (occurrence : Occurrence) (conn : ℕ) (text : List ℕ) → is_on_new occurrence (line_to conn text) ≡ false
+no_new_client (link_up link starts) conn text = refl
+no_new_client (of_client happening) conn text = refl
+no_new_client (link_says link read) conn text = refl
+no_new_client (link_down link) conn text = refl
+
+no_new_end : (occurrence : Occurrence) (conn : ℕ) → is_on_new occurrence (end_of conn) ≡ false
+no_new_end (link_up link starts) conn = refl
+no_new_end (of_client happening) conn = refl
+no_new_end (link_says link read) conn = refl
+no_new_end (link_down link) conn = refl
+
+-- the link that is being opened is one that comes
+new_line : (occurrence : Occurrence) (number : ℕ) (text : List ℕ) → is_on_new occurrence (line_on number text) ≡ link_comes number occurrence
+new_line (link_up link starts) number text = turned number link
+new_line (of_client happening) number text = refl
+new_line (link_says link read) number text = refl
+new_line (link_down link) number text = refl
+
+new_end : (occurrence : Occurrence) (number : ℕ) (reason : CloseReason) → is_on_new occurrence (end_of_link number reason) ≡ link_comes number occurrence
+new_end (link_up link starts) number reason = turned number link
+new_end (of_client happening) number reason = refl
+new_end (link_says link read) number reason = refl
+new_end (link_down link) number reason = refl
 
 none_or : (b c : Bool) → c ≡ false → (b || c) ≡ true → b ≡ true
 none_or true c none is = refl
@@ -61,13 +84,12 @@ not_going view (link_up link starts) q refused there = refl
 not_going view (link_says link read) q refused there = refl
 not_going view (link_down link) q refused there = refl
 
-module _ (own_law : ServedGoesToItsOwn) (view : View) (occurrence : Occurrence) (ends : AreEnds view.ends view.routes) (opens : OpensNoLink occurrence) where
+module _ (own_law : ServedGoesToItsOwn) (view : View) (occurrence : Occurrence) (ends : AreEnds view.ends view.routes) where
   abbrev IsOwn : List Sent → Type 0
   IsOwn outs = list_all (λ sent. is_its_own view sent || is_on_new occurrence sent) outs ≡ true
 
-  first_own : (sent : Sent) (outs : List Sent) → IsOwn (sent ∷ outs) → is_its_own view sent ≡ true
+  abbrev first_own : (sent : Sent) (outs : List Sent) → IsOwn (sent ∷ outs) → (is_its_own view sent || is_on_new occurrence sent) ≡ true
   first_own sent outs own =
-      none_or (is_its_own view sent) (is_on_new occurrence sent) (opens sent)
       (and_parts (is_its_own view sent || is_on_new occurrence sent) (list_all (λ s. is_its_own view s || is_on_new occurrence s) outs) own).0
 
   rest_own : (sent : Sent) (outs : List Sent) → IsOwn (sent ∷ outs) → IsOwn outs
@@ -88,32 +110,52 @@ module _ (own_law : ServedGoesToItsOwn) (view : View) (occurrence : Occurrence) 
   abbrev has_end : ℕ → Bool
   has_end q = is_some (get view.ends q)
 
+  -- what goes to a client goes to one that is there
+  client_there : (conn : ℕ) (text : List ℕ) (outs : List Sent) → IsOwn (line_to conn text ∷ outs) → has_client conn ≡ true
+  client_there conn text outs own =
+      none_or (has_client conn) (is_on_new occurrence (line_to conn text)) (no_new_client occurrence conn text) (first_own (line_to conn text) outs own)
+
+  client_ends : (conn : ℕ) (outs : List Sent) → IsOwn (end_of conn ∷ outs) → has_client conn ≡ true
+  client_ends conn outs own =
+      none_or (has_client conn) (is_on_new occurrence (end_of conn)) (no_new_end occurrence conn) (first_own (end_of conn) outs own)
+
+  -- what goes on a link goes on one that is there or comes
+  abbrev has_link : ℕ → Bool
+  has_link q = has_end q || link_comes q occurrence
+
+  link_there : (link : ℕ) (text : List ℕ) (outs : List Sent) → IsOwn (line_on link text ∷ outs) → has_link link ≡ true
+  link_there link text outs own = ap (λ b. has_end link || b) (sym (new_line occurrence link text)) ∙ first_own (line_on link text) outs own
+
+  link_ends : (link : ℕ) (reason : CloseReason) (outs : List Sent) → IsOwn (end_of_link link reason ∷ outs) → has_link link ≡ true
+  link_ends link reason outs own =
+      ap (λ b. has_end link || b) (sym (new_end occurrence link reason)) ∙ first_own (end_of_link link reason) outs own
+
   none_for : (client : ℕ) (outs : List Sent) → has_client client ≡ false → IsOwn outs → client_bytes client outs ≡ []
   none_for client [] none own = refl
   none_for client (line_to conn text ∷ outs) none own =
       ap (λ b. (if b then text else []) ++ client_bytes client outs)
-      (not_there conn client has_client none (first_own (line_to conn text) outs own)) ∙ none_for client outs none (rest_own (line_to conn text) outs own)
+      (not_there conn client has_client none (client_there conn text outs own)) ∙ none_for client outs none (rest_own (line_to conn text) outs own)
   none_for client (end_of conn ∷ outs) none own = none_for client outs none (rest_own (end_of conn) outs own)
   none_for client (line_on link text ∷ outs) none own = none_for client outs none (rest_own (line_on link text) outs own)
   none_for client (end_of_link link reason ∷ outs) none own = none_for client outs none (rest_own (end_of_link link reason) outs own)
 
-  none_answered : (q : ℕ) (outs : List Sent) → has_client q ≡ false → has_end q ≡ false → IsOwn outs → answers q outs ≡ []
+  none_answered : (q : ℕ) (outs : List Sent) → has_client q ≡ false → has_link q ≡ false → IsOwn outs → answers q outs ≡ []
   none_answered q [] none no_end own = refl
   none_answered q (line_to conn text ∷ outs) none no_end own =
-      ap (λ b. (if b then text else []) ++ answers q outs) (not_there conn q has_client none (first_own (line_to conn text) outs own))
+      ap (λ b. (if b then text else []) ++ answers q outs) (not_there conn q has_client none (client_there conn text outs own))
       ∙ none_answered q outs none no_end (rest_own (line_to conn text) outs own)
   none_answered q (end_of conn ∷ outs) none no_end own =
-      ap (λ b. if b then [] else answers q outs) (not_there conn q has_client none (first_own (end_of conn) outs own))
+      ap (λ b. if b then [] else answers q outs) (not_there conn q has_client none (client_ends conn outs own))
       ∙ none_answered q outs none no_end (rest_own (end_of conn) outs own)
   none_answered q (line_on link text ∷ outs) none no_end own =
-      ap (λ b. (if b then text else []) ++ answers q outs) (not_there link q has_end no_end (first_own (line_on link text) outs own))
+      ap (λ b. (if b then text else []) ++ answers q outs) (not_there link q has_link no_end (link_there link text outs own))
       ∙ none_answered q outs none no_end (rest_own (line_on link text) outs own)
   none_answered q (end_of_link link reason ∷ outs) none no_end own =
-      ap (λ b. if b then [] else answers q outs) (not_there link q has_end no_end (first_own (end_of_link link reason) outs own))
+      ap (λ b. if b then [] else answers q outs) (not_there link q has_link no_end (link_ends link reason outs own))
       ∙ none_answered q outs none no_end (rest_own (end_of_link link reason) outs own)
 
   -- who has no link's number is closed by its own end alone
-  none_closed : (q : ℕ) (outs : List Sent) → has_end q ≡ false → list_any (ends_client q) outs ≡ false → IsOwn outs → is_closed_by q outs ≡ false
+  none_closed : (q : ℕ) (outs : List Sent) → has_link q ≡ false → list_any (ends_client q) outs ≡ false → IsOwn outs → is_closed_by q outs ≡ false
   none_closed q [] no_end none own = refl
   none_closed q (line_to conn text ∷ outs) no_end none own = none_closed q outs no_end none (rest_own (line_to conn text) outs own)
   none_closed q (line_on link text ∷ outs) no_end none own = none_closed q outs no_end none (rest_own (line_on link text) outs own)
@@ -125,17 +167,17 @@ module _ (own_law : ServedGoesToItsOwn) (view : View) (occurrence : Occurrence) 
       by true is rest = cc is
       by false is rest = rest is
   none_closed q (end_of_link link reason ∷ outs) no_end none own =
-      ap (λ b. b || is_closed_by q outs) (not_there link q has_end no_end (first_own (end_of_link link reason) outs own))
+      ap (λ b. b || is_closed_by q outs) (not_there link q has_link no_end (link_ends link reason outs own))
       ∙ none_closed q outs no_end none (rest_own (end_of_link link reason) outs own)
 
   -- a link gets nothing where nothing goes on any
   none_linked : (q : ℕ) (outs : List Sent) → has_client q ≡ false → list_any is_on_link outs ≡ false → IsOwn outs → answers q outs ≡ []
   none_linked q [] no_client none own = refl
   none_linked q (line_to conn text ∷ outs) no_client none own =
-      ap (λ b. (if b then text else []) ++ answers q outs) (not_there conn q has_client no_client (first_own (line_to conn text) outs own))
+      ap (λ b. (if b then text else []) ++ answers q outs) (not_there conn q has_client no_client (client_there conn text outs own))
       ∙ none_linked q outs no_client none (rest_own (line_to conn text) outs own)
   none_linked q (end_of conn ∷ outs) no_client none own =
-      ap (λ b. if b then [] else answers q outs) (not_there conn q has_client no_client (first_own (end_of conn) outs own))
+      ap (λ b. if b then [] else answers q outs) (not_there conn q has_client no_client (client_ends conn outs own))
       ∙ none_linked q outs no_client none (rest_own (end_of conn) outs own)
   none_linked q (line_on link text ∷ outs) no_client none own = cc none
   none_linked q (end_of_link link reason ∷ outs) no_client none own =
@@ -158,19 +200,24 @@ module _ (own_law : ServedGoesToItsOwn) (view : View) (occurrence : Occurrence) 
       by true = none_for client (served view occurrence).out none (own_law view occurrence ends)
       by false = refl
 
-  pub nothing_answered : (q : ℕ) → is_some (get view.clients q) ≡ false → is_some (get view.ends q) ≡ false → answers q (reply view occurrence).out ≡ []
-  nothing_answered q none no_end = by (serves_occurrence view occurrence)
+  no_link : (b c : Bool) → b ≡ false → c ≡ false → (b || c) ≡ false
+  no_link true c one other = cc one
+  no_link false c one other = other
+
+  pub nothing_answered : (q : ℕ) → link_comes q occurrence ≡ false → is_some (get view.clients q) ≡ false → is_some (get view.ends q) ≡ false
+      → answers q (reply view occurrence).out ≡ []
+  nothing_answered q not_new none no_end = by (serves_occurrence view occurrence)
     where
       by : (b : Bool) → answers q (replied b).out ≡ []
-      by true = none_answered q (served view occurrence).out none no_end (own_law view occurrence ends)
+      by true = none_answered q (served view occurrence).out none (no_link (has_end q) (link_comes q occurrence) no_end not_new) (own_law view occurrence ends)
       by false = refl
 
-  pub never_closed : (q : ℕ) → is_some (get view.ends q) ≡ false → list_any (ends_client q) (served view occurrence).out ≡ false
+  pub never_closed : (q : ℕ) → link_comes q occurrence ≡ false → is_some (get view.ends q) ≡ false → list_any (ends_client q) (served view occurrence).out ≡ false
       → is_closed_by q (reply view occurrence).out ≡ false
-  never_closed q no_end none = by (serves_occurrence view occurrence)
+  never_closed q not_new no_end none = by (serves_occurrence view occurrence)
     where
       by : (b : Bool) → is_closed_by q (replied b).out ≡ false
-      by true = none_closed q (served view occurrence).out no_end none (own_law view occurrence ends)
+      by true = none_closed q (served view occurrence).out (no_link (has_end q) (link_comes q occurrence) no_end not_new) none (own_law view occurrence ends)
       by false = refl
 
   pub nothing_linked : (q : ℕ) → is_some (get view.clients q) ≡ false → list_any is_on_link (reply view occurrence).out ≡ false
@@ -189,8 +236,8 @@ module _ (own_law : ServedGoesToItsOwn) (view : View) (occurrence : Occurrence) 
     pub not_closed : is_closed_by q (reply view occurrence).out ≡ false
     pub not_gone : client_goes q occurrence ≡ false
 
-  pub still_there : ClientsStay → (q : ℕ) → is_some (get view.ends q) ≡ false → is_some (get (reply view occurrence).view.clients q) ≡ true → StillThere q
-  still_there stay q no_end there = by (serves_occurrence view occurrence) refl there
+  pub still_there : ClientsStay → (q : ℕ) → link_comes q occurrence ≡ false → is_some (get view.ends q) ≡ false → is_some (get (reply view occurrence).view.clients q) ≡ true → StillThere q
+  still_there stay q not_new no_end there = by (serves_occurrence view occurrence) refl there
     where
       either : (b c : Bool) → b ≡ true → (b || c) ≡ true
       either true c is = refl
@@ -199,7 +246,7 @@ module _ (own_law : ServedGoesToItsOwn) (view : View) (occurrence : Occurrence) 
       by : (b : Bool) → serves_occurrence view occurrence ≡ b → is_some (get (replied b).view.clients q) ≡ true → StillThere q
       by true is has =
           let known = stay view occurrence q is has in
-          record { was = known.was; not_closed = never_closed q no_end known.not_ended; not_gone = known.not_gone }
+          record { was = known.was; not_closed = never_closed q not_new no_end known.not_ended; not_gone = known.not_gone }
       by false is has = record {
         was = either (is_some (get view.clients q)) (client_comes q occurrence) has;
         not_closed = ap (λ b. is_closed_by q (replied b).out) is;

@@ -1,63 +1,50 @@
 -- Steps by which no link's end is read: with items, and without any.
 use Rattle.std.proofs.Common.{◌≡◌, ℕ, true, false, Some, List, [], ◌++◌, sym, ◌∙◌, ap, subst}
-use Rattle.std.specs.List.{slice_get}
 use Rattle.irc_line.specs.Laws.{PiecesCompleteTheSame}
 use Rattle.irc_outbox.specs.Calls.{Call}
 use Rattle.irc_relay.specs.Links.{Name}
 use Rattle.irc_world.specs.Stepping.{Item}
 use Rattle.irc_server_laws.specs.LineEnds.{ServedLinesEnd}
 use Rattle.irc_server_laws.specs.Own.{ServedGoesToItsOwn}
-use Rattle.irc_network.specs.Network.{Network, server_place, site_at}
+use Rattle.irc_network.specs.Network.{site_at}
 use Rattle.irc_wires.specs.Lemmas.StillWires.{still_is_new}
 use Rattle.irc_wires.specs.Wires.{Wire, new_wire}
-use Rattle.irc_byte_network.specs.ByteNetwork.{ByteNetwork, net_in_lines}
-use Rattle.irc_items.specs.Lemmas.SetUpFacts.{among_at, only_place, there}
-use Rattle.irc_items.specs.SetUp.{IsSetUp}
-use Rattle.irc_net.specs.OneRoom.{IsKeptSound}
+use Rattle.irc_byte_network.specs.ByteNetwork.{ByteNetwork}
 use Rattle.irc_daemons.specs.Alike.{ServedAlike}
 use Rattle.irc_daemons.specs.AsBytes.{IsServerIf, numbers_at}
 use Rattle.irc_daemons.specs.AsNetwork.{HasFollowed, IsAsNetwork}
 use Rattle.irc_daemons.specs.Clients.{ClientsStay}
-use Rattle.irc_daemons.specs.Daemons.{AreLinksOpen, Daemons, end_at, unsent, wire_between}
+use Rattle.irc_daemons.specs.Daemons.{AreLinksOpen, Daemons, IsToldOfLinks, end_at, unsent, wire_between}
 use Rattle.irc_daemons.specs.Doings.{taken_at}
-use Rattle.irc_daemons.specs.EachStep.{AreFollowed, ReadsLink}
+use Rattle.irc_daemons.specs.EachStep.{AreFollowed, ArePlaced, ReadsLink}
 use Rattle.irc_daemons.specs.Items.{AreItems, IsApartStep, IsQuiet, has_item}
 use Rattle.irc_daemons.specs.Steps.{Steps}
 use Rattle.irc_daemons.proofs.Asked.{AllStill}
 use Rattle.irc_daemons.proofs.Assembly.{followed, part, start, taken_is, mid_moment}
 use Rattle.irc_daemons.proofs.Lists.{front_none}
 use Rattle.irc_daemons.proofs.Open.{StreamLinesAreCarried}
-use Rattle.irc_daemons.proofs.Reading.{HasServer, has_server}
+use Rattle.irc_daemons.proofs.Single.{HasServer, has_server}
 use Rattle.irc_daemons.proofs.Turn.{came_of}
-
--- a server is at the place of its name
-pub placed_by : (net : Network) → IsSetUp net → (x : ℕ) (name : Name) → slice_get net.names x ≡ Some name → server_place net name ≡ Some x
-placed_by net set_up x name is =
-    let among = among_at net.names name x is in
-    (there net set_up name among).place ∙ ap Some (only_place net.names name x (set_up.once name among) is)
 
 module _ {W : Type 0} (is_after : W → List Call → Type 0) (pieces : PiecesCompleteTheSame) (lines_end : ServedLinesEnd) (own_law : ServedGoesToItsOwn)
     (stay : ClientsStay) (alike_law : ServedAlike) (carried : StreamLinesAreCarried) (names : List Name) (place : ℕ) (items : List Item)
     (old new : Daemons W) (net : ByteNetwork) (step : Steps is_after place old new) (links : AreLinksOpen new)
-    (items_are : AreItems names new place step.did.events items) (apart : IsApartStep step) (sound : IsKeptSound net) (same : IsAsNetwork names old net)
+    (items_are : AreItems names new place step.did.events items) (apart : IsApartStep step) (told_of_links : IsToldOfLinks old place)
+    (placed : ArePlaced names net) (same : IsAsNetwork names old net)
   where
     here : HasServer (numbers_at old place) step.engine (site_at net.network place)
     here =
         has_server (numbers_at old place) step.engine (site_at net.network place)
         (subst (λ o. IsServerIf (numbers_at old place) o (site_at net.network place)) step.at (same.as_bytes.servers place))
 
-    placed : (x : ℕ) (name : Name) → slice_get names x ≡ Some name → server_place net.network name ≡ Some x
-    placed x name is =
-        placed_by (net_in_lines net) sound.sound.set_up x name (ap (λ (ns : List Name). slice_get ns x) (sym same.are_seated.names_are) ∙ is)
-
     abbrev came : ℕ → List ℕ
-    came q = (part is_after pieces names place old new step same.are_joined same.clients_open here.of.in_order here.of.framers).came q
+    came q = (part is_after pieces names place old new step same.are_joined.not_itself same.clients_open here.of.in_order here.of.framers).came q
 
     unread_followed : ((y q : ℕ) → old.ends place y ≡ Some q → came q ≡ []) → (has_item step.did.events ≡ true → AllStill net)
         → HasFollowed names items net new
     unread_followed unread quiet =
-        followed is_after pieces names place old new step same.are_joined same.clients_open here.of.in_order here.of.framers lines_end own_law stay alike_law
-        carried items net links items_are apart same placed unread quiet
+        followed is_after pieces names place old new step same.are_joined.not_itself same.clients_open here.of.in_order here.of.framers lines_end own_law stay alike_law
+        carried items net links items_are apart told_of_links same placed unread quiet
 
     -- where all is quiet nothing is read
     still_between : IsQuiet old → (x y : ℕ) → wire_between old x y ≡ new_wire
@@ -65,7 +52,7 @@ module _ {W : Type 0} (is_after : W → List Call → Type 0) (pieces : PiecesCo
 
     nothing_read : IsQuiet old → (y q : ℕ) → old.ends place y ≡ Some q → came q ≡ []
     nothing_read quiet y q is =
-        sym (taken_is is_after pieces names place old new step same.are_joined same.clients_open here.of.in_order here.of.framers q)
+        sym (taken_is is_after pieces names place old new step same.are_joined.not_itself same.clients_open here.of.in_order here.of.framers q)
         ∙ front_none (taken_at (Some q) step.did.calls) (new.transit y place)
         (ap (λ o. taken_at o step.did.calls ++ new.transit y place) (sym is) ∙ sym (step.reads y)
         ∙ front_none (old.transit y place) (unsent (end_at old y place)) (ap (λ (w : Wire). w.bytes) (still_between quiet y place)))
@@ -80,8 +67,8 @@ module _ {W : Type 0} (is_after : W → List Call → Type 0) (pieces : PiecesCo
         unread_followed
         (λ y q is.
         came_of is_after step.engine.rooms step.turn.report
-        (start is_after pieces names place old new step same.are_joined same.clients_open here.of.in_order here.of.framers)
-        (mid_moment is_after pieces names place old new step same.are_joined same.clients_open here.of.in_order here.of.framers) step.turn.does.answers q
+        (start is_after pieces names place old new step same.are_joined.not_itself same.clients_open here.of.in_order here.of.framers)
+        (mid_moment is_after pieces names place old new step same.are_joined.not_itself same.clients_open here.of.in_order here.of.framers) step.turn.does.answers q
         (λ report. no_link (record { from = y; conn = q; is_end = is; is_read = report })))
         (λ is. cc (sym none ∙ is))
 
@@ -89,10 +76,10 @@ module _ {W : Type 0} (is_after : W → List Call → Type 0) (pieces : PiecesCo
     (stay : ClientsStay) (alike_law : ServedAlike) (carried : StreamLinesAreCarried)
   where
     pub with_items : AreFollowed is_after (λ place old new step. has_item step.did.events ≡ true)
-    with_items names place items old new net step some links items_are apart sound same =
-        items_followed is_after pieces lines_end own_law stay alike_law carried names place items old new net step links items_are apart sound same some
+    with_items names place items old new net step some links items_are apart told placed same =
+        items_followed is_after pieces lines_end own_law stay alike_law carried names place items old new net step links items_are apart told placed same some
 
     pub by_nobody : AreFollowed is_after (λ place old new step. (¬ (ReadsLink step)) × (has_item step.did.events ≡ false))
-    by_nobody names place items old new net step nobody links items_are apart sound same =
-        nothing_followed is_after pieces lines_end own_law stay alike_law carried names place items old new net step links items_are apart sound same nobody.0
+    by_nobody names place items old new net step nobody links items_are apart told placed same =
+        nothing_followed is_after pieces lines_end own_law stay alike_law carried names place items old new net step links items_are apart told placed same nobody.0
         nobody.1

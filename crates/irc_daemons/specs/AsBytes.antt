@@ -1,5 +1,5 @@
 -- Engines at wires that are joined by links, as a network whose links carry bytes.
-use Rattle.std.specs.Prelude.{◌≡◌, ℕ, ⊤, is_some, Option, Some, None}
+use Rattle.std.specs.Prelude.{◌≡◌, ℕ, ⊤, Option, Some, None}
 use Rattle.std.specs.List.{slice_get}
 use Rattle.irc_line.specs.Lines.{Begun, HasTaken, stream_for}
 use Rattle.irc_network.specs.Network.{Site, site_at}
@@ -36,6 +36,6 @@ IsServerIf numbers (Some engine) None = ⊥
 -- Servers are the same but for numbers; and on each way is what the near engine has put out by that link and the far one has not read.
 pub record IsAsBytes {W : Type 0} (daemons : Daemons W) (net : ByteNetwork) : Type 0 where
   pub servers : (place : ℕ) → IsServerIf (numbers_at daemons place) (slice_get daemons.engines place) (site_at net.network place)
-  pub ways : (from to : ℕ) → has_way net.network from to ≡ is_some (daemons.ends from to)
+  pub ways : (from to : ℕ) → has_way net.network from to ≡ daemons.ways from to
   pub wires : (from to : ℕ) → wire_at net.wires from to ≡ wire_between daemons from to
   pub tidy : IsTidy net

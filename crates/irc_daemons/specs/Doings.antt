@@ -1,5 +1,5 @@
 -- What a turn of an engine has done: what the server was told, what it put out, and which calls were made of the wire, in order.
-use Rattle.std.specs.Prelude.{ℕ, Option, Some, None, List, [], ◌∷◌, ◌++◌, if◌then◌else◌}
+use Rattle.std.specs.Prelude.{ℕ, Option, Some, None, List, [], ◌∷◌, ◌++◌}
 use Rattle.irc_outbox.specs.declared.wire.Ready.{Ready}
 use Rattle.irc_outbox.specs.declared.wire.Ready.TheVariants.{Client, Linked, Idle, Readable, Writable}
 use Rattle.irc_outbox.specs.Calls.{Call, reads, taken, written}

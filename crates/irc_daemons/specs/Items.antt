@@ -1,4 +1,5 @@
--- Runs of engines whose links are up from the start and stay; the items of a run, as the servers are told of them; and that items do not overlap.
+-- The items of a step, as a server is told of them: what its clients do; and that items do not
+-- overlap.
 --
 -- a.net and b.net are linked; al is client 1 at a.net, connection 9, and bo client 2 at b.net.
 --   a.net reads `PRIVMSG bo :hi` of 9     an item, `line 1`; its line for b.net is in an outbox, and then in transit
@@ -10,7 +11,7 @@ use Rattle.std.specs.Prelude.{◌≡◌, ℕ, ⊤, ◌++◌, Bool, true, false, 
 use Rattle.std.specs.List.{list_any, slice_get}
 use Rattle.irc_outbox.specs.declared.wire.Ready.{Ready}
 use Rattle.irc_outbox.specs.declared.wire.Ready.TheVariants.{Client, Linked, Idle, Readable, Writable}
-use Rattle.irc_outbox.specs.Calls.{Call, reads, written}
+use Rattle.irc_outbox.specs.Calls.{Call, reads}
 use Rattle.arrayvec.specs.ArrayVec.{ArrayVec}
 use Rattle.irc_batch.specs.Batches.{Sent, line_on}
 use Rattle.irc_relay.specs.Links.{Name}
@@ -24,13 +25,14 @@ use Rattle.irc_engine.specs.declared.kind.Kind.TheVariants as kinds
 use Rattle.irc_engine.specs.Hearing.{nothing_of, only_of}
 use Rattle.irc_engine.specs.Running.{Answers, AreAsked, Asked, Moment, Ran, Reads, Starts, Turn, asked_at, in_use, makes_connection, not_open, read_once}
 use Rattle.irc_names.specs.Names.{IsHost}
-use Rattle.irc_daemons.specs.Daemons.{AreLinksOpen, Daemons, wire_between}
+use Rattle.irc_daemons.specs.Daemons.{Daemons, wire_between}
 use Rattle.irc_daemons.specs.Doings.{ran_did}
 use Rattle.irc_daemons.specs.Steps.{Steps}
 
 -- ---- items
 
--- an event that a client of the server at a place causes, which connects from a host; clients have their numbers in the network
+-- an event that a client of the server at a place causes, which connects from a host; clients have
+-- their numbers in the network
 pub data IsItem {W : Type 0} (names : List Name) (daemons : Daemons W) (place : ℕ) (event : Event) (item : Item) : Type 0 where
   is_connect : (conn : ℕ) (name host : List ℕ) → slice_get names place ≡ Some name → IsHost host → event ≡ Connect conn host → item ≡ connect name host
       → IsItem names daemons place event item
@@ -52,7 +54,8 @@ pub data AreItems {W : Type 0} (names : List Name) (daemons : Daemons W) (place 
 
 -- ---- they do not overlap
 
--- between servers nothing is in transit or in an outbox, and no framer of a link's end has a part of a line
+-- between servers nothing is in transit or in an outbox, and no framer of a link's end has a part
+-- of a line
 abbrev pub IsQuiet : {W : Type 0} → Daemons W → Type 0
 IsQuiet daemons = (x y : ℕ) → is_still (wire_between daemons x y) ≡ true
 
@@ -64,7 +67,8 @@ abbrev pub is_on_link : Sent → Bool
 is_on_link (line_on link text) = true
 is_on_link other = false
 
--- What the server puts out by each of these events goes on no link where an item comes behind, among them or later.
+-- What the server puts out by each of these events goes on no link where an item comes behind,
+-- among them or later.
 abbrev pub AreSpaced : Bool → (events : List Event) (old new : Asked) (outs : List Sent) → AreAsked old events outs new → Type 0
 AreSpaced later [] old new outs asked = ⊤
 AreSpaced later (event ∷ events) old new outs asked =
@@ -101,16 +105,8 @@ module _ {W : Type 0} (is_after : W → List Call → Type 0) where
       (record old { wire = turn.wire }) turn.does.between turn.does.answers
       × RanSpaced false turn.does.writes.exchanges [] nothing_of turn.does.between new turn.does.writes.ran
 
--- A step with an item begins where all is quiet, and of its items only the last puts something on a link.
+-- A step with an item begins where all is quiet, and of its items only the last puts something on
+-- a link.
 pub record IsApartStep {W : Type 0} {is_after : W → List Call → Type 0} {place : ℕ} {old new : Daemons W} (step : Steps is_after place old new) : Type 0 where
   pub quiet : has_item step.did.events ≡ true → IsQuiet old
   pub spaced : TurnSpaced is_after step.engine.rooms step.engine.now step.after.now step.turn
-
--- ---- runs
-
--- Steps one after another, with their items in turn: links stay open, and items do not overlap.
-pub data Runs {W : Type 0} (is_after : W → List Call → Type 0) (names : List Name) (old : Daemons W) : List Item → Daemons W → Type 0 where
-  no_step : Runs is_after names old [] old
-  one_more : (place : ℕ) (items more : List Item) (between new : Daemons W) → Runs is_after names old items between
-      → (step : Steps is_after place between new) → AreLinksOpen new → AreItems names new place step.did.events more → IsApartStep step
-      → Runs is_after names old (items ++ more) new

@@ -8,6 +8,7 @@ pub mod EachStep
 pub mod Items
 pub mod NewDaemons
 pub mod OneRoom
-pub mod Reading
 pub mod Receiving
+pub mod Runs
 pub mod Steps
+pub mod Tellings

@@ -1,16 +1,16 @@
 -- Daemons of which none has served anybody yet, and no two are linked: so daemons can begin.
-use Rattle.std.specs.Prelude.{◌≡◌, ℕ, ⊤, Option, Some, None, List, [], map}
+use Rattle.std.specs.Prelude.{◌≡◌, ℕ, ⊤, false, Option, Some, None, List, [], map}
 use Rattle.std.specs.List.{slice_get}
 use Rattle.std.specs.List.Sorted.{IsPermutation, IsSortedByKey}
 use Rattle.std.specs.Cmp.Lexicographic.{slice_cmp}
 use Rattle.std.specs.Ordering.{nat_cmp}
-use Rattle.irc_outbox.specs.Calls.{Call}
+use Rattle.irc_relay.specs.Links.{Name}
 use Rattle.irc_server.specs.Configuring.{made_view}
 use Rattle.irc_server.specs.declared.config.Config.{Config}
-use Rattle.irc_net.specs.Making.{config_name, configs_fault}
+use Rattle.irc_world.specs.World.{Setting}
+use Rattle.irc_net.specs.Making.{config_name, configs_fault, setting_given}
 use Rattle.irc_engine.specs.Turning.{EngineView, IsNew}
 use Rattle.irc_daemons.specs.Daemons.{Daemons}
-use Rattle.irc_daemons.specs.OneRoom.{Begins}
 
 -- an engine over any wire for a new server of this configuration
 pub record IsNewOf {W : Type 0} (config : Config) (engine : EngineView W) : Type 0 where
@@ -26,7 +26,8 @@ IsNewIf (Some config) (Some engine) = IsNewOf config engine
 IsNewIf None (Some engine) = ⊥
 IsNewIf (Some config) None = ⊥
 
--- These are engines of the configurations, in order of name. No link is between them, and nobody has come.
+-- These are engines of the configurations, in order of name. No link is between them, and nobody
+-- has come.
 pub record AreNew {W : Type 0} (configs : List Config) (daemons : Daemons W) : Type 0 where
   pub possible : configs_fault configs ≡ None
   pub ordered : List Config
@@ -34,12 +35,15 @@ pub record AreNew {W : Type 0} (configs : List Config) (daemons : Daemons W) : T
   pub in_order : IsSortedByKey config_name (slice_cmp nat_cmp) ordered
   pub engines : (place : ℕ) → IsNewIf (slice_get ordered place) (slice_get daemons.engines place)
   pub no_link : (x y : ℕ) → daemons.ends x y ≡ None
+  pub no_way : (x y : ℕ) → daemons.ways x y ≡ false
   pub no_seat : (place client : ℕ) → daemons.seats place client ≡ None
   pub nobody : daemons.came ≡ 0
   pub nothing_moves : (x y : ℕ) → daemons.transit x y ≡ []
   pub nothing_written : (client : ℕ) → daemons.written client ≡ []
 
--- So they begin, with no link.
-abbrev pub NewDaemonsBegin : {W : Type 0} → (W → List Call → Type 0) → Type 0
-NewDaemonsBegin {W} is_after = (configs : List Config) (daemons : Daemons W) (new : AreNew configs daemons)
-    → Begins configs [] (map config_name new.ordered) daemons
+-- their names, and how they are set up
+abbrev pub names_in : {W : Type 0} {configs : List Config} {daemons : Daemons W} → AreNew configs daemons → List Name
+names_in new = map config_name new.ordered
+
+abbrev pub settings_in : {W : Type 0} {configs : List Config} {daemons : Daemons W} → AreNew configs daemons → List Setting
+settings_in new = map setting_given new.ordered

@@ -1,15 +1,9 @@
--- What clients receive by a turn that reads a link's end.
-use Rattle.std.specs.Prelude.{◌≡◌, ℕ, zero, suc, ◌++◌, Bool, true, false, is_some, Some, List, length}
-use Rattle.std.specs.List.{AllByRecursion, flat_map, slice_get}
-use Rattle.irc_outbox.specs.Calls.{Call, taken}
+-- What clients of a network have received, and what was written to them by engines.
+use Rattle.std.specs.Prelude.{◌≡◌, ℕ, zero, suc, ◌++◌, Bool, false, is_some, List}
+use Rattle.std.specs.List.{flat_map, slice_get}
 use Rattle.irc_network.specs.Network.{Network, received_by}
-use Rattle.irc_engine.specs.Carrying.{is_open_at}
-use Rattle.irc_byte_network.specs.ByteNetwork.{ByteNetwork, byte_begun, bytes_come, completed_in}
-use Rattle.irc_daemons.specs.Alike.{IsServedAlike}
-use Rattle.irc_daemons.specs.AsBytes.{IsAsBytes, numbers_at}
-use Rattle.irc_daemons.specs.Daemons.{AreJoined, Daemons, connection_at, unsent}
-use Rattle.irc_daemons.specs.Reading.{ReadsEnd}
-use Rattle.irc_daemons.specs.Steps.{Steps}
+use Rattle.irc_byte_network.specs.ByteNetwork.{ByteNetwork}
+use Rattle.irc_daemons.specs.Daemons.{Daemons, connection_at, unsent}
 
 -- whether a client has come
 abbrev pub has_come : Network → ℕ → Bool
@@ -20,16 +14,8 @@ has_come net (suc earlier) = is_some (slice_get net.received earlier)
 abbrev pub bytes_received : Network → ℕ → List ℕ
 bytes_received net client = flat_map (λ text. text) (received_by net client)
 
--- What was written to a client, with what the outbox of its connection holds, is what it has received in the network.
+-- What was written to a client, with what the outbox of its connection holds, is what it has
+-- received in the network.
 abbrev pub IsReceived : {W : Type 0} → Daemons W → ByteNetwork → ℕ → ℕ → ℕ → Type 0
 IsReceived daemons net place client conn =
     bytes_received net.network client ≡ daemons.written client ++ unsent (connection_at daemons place conn)
-
--- It stays so by such a turn of each client of this server whose connection stays open.
-abbrev pub ClientsReceive : {W : Type 0} → (W → List Call → Type 0) → Type 0
-ClientsReceive {W} is_after = (from to : ℕ) (old new : Daemons W) (net : ByteNetwork) (step : Steps is_after to old new) (reads : ReadsEnd step from)
-    → AreJoined old → IsAsBytes old net
-    → AllByRecursion (IsServedAlike (numbers_at old to) from reads.conn) (completed_in net from to (length (taken reads.conn step.did.calls)))
-    → (client conn : ℕ) → old.seats to client ≡ Some conn → has_come net.network client ≡ true → is_open_at (connection_at new to conn) ≡ true
-    → IsReceived old net to client conn
-    → IsReceived new (bytes_come from to (length (taken reads.conn step.did.calls)) (byte_begun net)).net to client conn

@@ -1,6 +1,8 @@
--- A step of a run of engines whose links are up from the start and stay: one engine takes a turn. What a client says and when it comes and goes is anything.
+-- A step of a run of engines: one takes a turn, by which no link is made and none is lost. What a
+-- client says and when it comes and goes is anything.
 --
--- b.net (place 1) takes a turn in which it reads `PING x` and CR LF by its link with a.net (place 0), and c.net's end takes 30 of 80 bytes:
+-- b.net (place 1) takes a turn in which it reads `PING x` and CR LF by its link with a.net (place
+-- 0), and c.net's end takes 30 of 80 bytes:
 --   transit 0 1    these eight bytes are gone from its front
 --   transit 1 2    the 30 bytes are behind what was there; the other 50 are in the outbox of b.net
 use Rattle.std.specs.Prelude.{◌≡◌, ℕ, suc, true, false, nat_eq, is_some, Option, Some, None, List, ◌++◌, if◌then◌else◌}
@@ -45,6 +47,7 @@ pub record Steps {W : Type 0} (is_after : W → List Call → Type 0) (place : �
   pub turn : Turn is_after engine.rooms engine.now after.now
   pub engines_are : new.engines ≡ slice_set old.engines place after
   pub same_ends : new.ends ≡ old.ends
+  pub same_ways : new.ways ≡ old.ways
   pub seats_are : new.seats ≡ seats_after old place (newcomer is_after engine.rooms engine.now after.now turn)
   pub came_is : new.came ≡ came_after old.came (newcomer is_after engine.rooms engine.now after.now turn)
   pub did : Doings

@@ -1,5 +1,5 @@
+use Rattle.irc_daemons.proofs.EachStep.{each_step}
 use Rattle.irc_daemons.proofs.Saying.{served_alike}
-use Rattle.irc_daemons.proofs.Stepping.{each_step}
 use Rattle.irc_daemons.proofs.laws.each_step_is_followed.Goals as goal
 
 pub returns : goal.returns

@@ -1,5 +1,5 @@
--- Runs of daemons, step by step, as a network that goes on.
-use Rattle.std.proofs.Common.{◌≡◌, ℕ, Bool, true, false, not, ◌&&◌, ◌⊎◌, inl, inr, is_some, Option, Some, None, List, [], ◌∷◌, ◌++◌, append_assoc, append-nil, nat_eq, refl, sym, ◌∙◌, ap, subst, unwrap_or}
+-- Each step of daemons, by what it is: with items, a link's end that is read, or nothing of these.
+use Rattle.std.proofs.Common.{◌≡◌, ℕ, Bool, true, false, not, ◌&&◌, ◌⊎◌, inl, inr, is_some, Option, Some, None, List, [], ◌∷◌, nat_eq, refl, sym, ◌∙◌, ap, unwrap_or}
 use Rattle.std.proofs.lemmas.Bool.{eq-eqb, eqb-true}
 use Rattle.std.specs.Prelude.{⊤}
 use Rattle.std.specs.FinMap.{contains_key-keys, get, keys}
@@ -13,25 +13,19 @@ use Rattle.irc_relay.specs.Links.{Name}
 use Rattle.irc_server_laws.specs.Connected.{WhoIsConnected}
 use Rattle.irc_server_laws.specs.LineEnds.{ServedLinesEnd}
 use Rattle.irc_server_laws.specs.Own.{ServedGoesToItsOwn}
-use Rattle.irc_server.specs.declared.config.Config.{Config}
-use Rattle.irc_world.specs.Stepping.{Item}
 use Rattle.irc_network.specs.Network.{Site, site_at}
 use Rattle.irc_byte_network.specs.ByteNetwork.{ByteNetwork}
-use Rattle.irc_net.specs.Laws.{EveryNetworkIsOneRoom, EveryRunIsKept, KeptIsOwed, SettingsStay, StaysKept}
 use Rattle.irc_wires.specs.Lemmas.StillWires.{one_of}
 use Rattle.irc_daemons.specs.AsNetwork.{HasFollowed, IsAsNetwork}
-use Rattle.irc_daemons.specs.Daemons.{Daemons}
+use Rattle.irc_daemons.specs.Daemons.{Daemons, IsToldOfLinks}
 use Rattle.irc_daemons.specs.Alike.{ServedAlike}
 use Rattle.irc_daemons.specs.EachStep.{AreFollowed, EachStep, ReadsLink}
-use Rattle.irc_daemons.specs.Items.{Runs, has_item, no_step, one_more}
-use Rattle.irc_daemons.specs.OneRoom.{DaemonsAreOneRoom}
+use Rattle.irc_daemons.specs.Items.{has_item}
 use Rattle.irc_daemons.specs.Steps.{Steps}
 use Rattle.irc_daemons.proofs.ByLink.{by_link}
 use Rattle.irc_daemons.proofs.StreamLines.{stream_lines_are_carried}
 use Rattle.irc_daemons.proofs.WhoStays.{clients_stay}
 use Rattle.irc_daemons.proofs.WithItems.{by_nobody, with_items}
-use Rattle.irc_daemons.proofs.Beginning.{begins_as, begins_going}
-use Rattle.irc_daemons.proofs.Going.{IsGoing, goes_on, send_as_one_room}
 
 -- ---- whether a link's end is read
 
@@ -89,7 +83,7 @@ some_way None conn ends ways = inr (λ y is. cc (ways y ∙ ap is_some is))
 some_way (Some site) conn ends ways = find_way site conn ends (λ y there. ways y ∙ there)
 
 module _ {W : Type 0} (is_after : W → List Call → Type 0) (names : List Name) (place : ℕ) (old new : Daemons W) (net : ByteNetwork)
-    (step : Steps is_after place old new) (same : IsAsNetwork names old net)
+    (step : Steps is_after place old new) (told : IsToldOfLinks old place) (same : IsAsNetwork names old net)
   where
     abbrev one_read : Ready → ℕ
     one_read (Client conn host) = conn
@@ -99,14 +93,14 @@ module _ {W : Type 0} (is_after : W → List Call → Type 0) (names : List Name
     one_read (Writable conn) = conn
 
     of_one : (conn : ℕ) → step.turn.report ≡ Readable conn → ReadsLink step ⊎ (¬ (ReadsLink step))
-    of_one conn report = by (some_way (site_at net.network place) conn (old.ends place) (λ y. same.as_bytes.ways place y))
+    of_one conn report = by (some_way (site_at net.network place) conn (old.ends place) (λ y. same.as_bytes.ways place y ∙ told y))
       where
         by : Found conn (old.ends place) ⊎ ((y : ℕ) → old.ends place y ≡ Some conn → ⊥) → ReadsLink step ⊎ (¬ (ReadsLink step))
         by (inl (found_at y is)) = inl (record { from = y; conn = conn; is_end = is; is_read = report })
         by (inr none) =
             inr (λ reads. none reads.from (reads.is_end ∙ ap (λ r. Some (one_read r)) (sym reads.is_read ∙ report)))
 
-    reads_or_not : ReadsLink step ⊎ (¬ (ReadsLink step))
+    pub reads_or_not : ReadsLink step ⊎ (¬ (ReadsLink step))
     reads_or_not = by step.turn.report refl
       where
         by : (report : Ready) → step.turn.report ≡ report → ReadsLink step ⊎ (¬ (ReadsLink step))
@@ -118,53 +112,20 @@ module _ {W : Type 0} (is_after : W → List Call → Type 0) (names : List Name
 
 -- ---- any step
 
-abbrev any_kind : {W : Type 0} (is_after : W → List Call → Type 0) (place : ℕ) (old new : Daemons W) → Steps is_after place old new → Type 0
+abbrev pub any_kind : {W : Type 0} (is_after : W → List Call → Type 0) (place : ℕ) (old new : Daemons W) → Steps is_after place old new → Type 0
 any_kind is_after place old new step = ⊤
 
 module _ {W : Type 0} (is_after : W → List Call → Type 0) (each : EachStep is_after) where
-  any_step : AreFollowed is_after (any_kind is_after)
-  any_step names place items old new net step any links are apart_step kept same = by (has_item step.did.events) refl
+  pub any_step : AreFollowed is_after (any_kind is_after)
+  any_step names place items old new net step any links are apart_step told placed same = by (has_item step.did.events) refl
     where
       without : has_item step.did.events ≡ false → ReadsLink step ⊎ (¬ (ReadsLink step)) → HasFollowed names items net new
-      without no_item (inl reads) = each.by_link names place items old new net step (reads, no_item) links are apart_step kept same
-      without no_item (inr not_read) = each.by_nobody names place items old new net step (not_read, no_item) links are apart_step kept same
+      without no_item (inl reads) = each.by_link names place items old new net step (reads, no_item) links are apart_step told placed same
+      without no_item (inr not_read) = each.by_nobody names place items old new net step (not_read, no_item) links are apart_step told placed same
 
       by : (b : Bool) → has_item step.did.events ≡ b → HasFollowed names items net new
-      by true is = each.with_items names place items old new net step is links are apart_step kept same
-      by false is = without is (reads_or_not is_after names place old new net step same)
-
-  -- ---- any run
-
-  -- the daemons are as a network of these configurations that was given these items
-  record IsRun (configs : List Config) (names : List Name) (items : List Item) (daemons : Daemons W) : Type 0 where
-    net : ByteNetwork
-    going : IsGoing configs items net
-    same : IsAsNetwork names daemons net
-
-  module _ (stays : StaysKept) (set_up : SettingsStay) (configs : List Config) (names : List Name) (links : List Item) (begin : Daemons W)
-      (first : IsRun configs names links begin)
-    where
-      run : (items : List Item) (now : Daemons W) → Runs is_after names begin items now → IsRun configs names (links ++ items) now
-      run items now no_step = subst (λ xs. IsRun configs names xs begin) (sym (append-nil links)) first
-      run items now (one_more place before more between new runs step stay are apart_step) =
-          let at = run before between runs in
-          let followed = any_step names place more between now at.net step tt stay are apart_step at.going.kept at.same in record {
-            net = followed.last;
-            going =
-                subst (λ xs. IsGoing configs xs followed.last) (append_assoc links before more)
-                (goes_on stays set_up configs (links ++ before) at.net more followed.last at.going followed.leads);
-            same = followed.is_as;
-          }
-
-  pub daemons_are_one_room : StaysKept → SettingsStay → KeptIsOwed → EveryNetworkIsOneRoom → EveryRunIsKept → DaemonsAreOneRoom is_after
-  daemons_are_one_room stays set_up owed one_room kept configs links items names begin now begins runs =
-      let first : IsRun configs names links begin = record {
-        net = begins.net;
-        going = begins_going one_room kept configs links names begin begins;
-        same = begins_as one_room kept configs links names begin begins;
-      } in
-      let last = run stays set_up configs names links begin first items now runs in
-      send_as_one_room owed configs (links ++ items) names now last.net last.going last.same
+      by true is = each.with_items names place items old new net step is links are apart_step told placed same
+      by false is = without is (reads_or_not is_after names place old new net step told same)
 
 -- ---- each step
 
