@@ -4,8 +4,8 @@ use Rattle.irc_room.specs.Readers.{home_under}
 use Rattle.irc_relay.specs.Distances.{EndsAreAmong, IsAmong}
 use Rattle.irc_relay.specs.Links.{Name, same, Link, part, joined, toward, AreJoined, IsForest}
 use Rattle.irc_relay.specs.Lemmas.TellingNames.{Telling, alike, unlike, tell}
-use Rattle.irc_relay.proofs.GoingToward.{next_hop}
-use Rattle.irc_relay.proofs.TakingOut.{tests_tell}
+use Rattle.irc_relay.specs.Lemmas.NextHops.{next_hop}
+use Rattle.irc_relay.specs.Lemmas.LinkTakenOut.{tests_tell}
 use Rattle.irc_world.specs.ClientsUsers.{HaveOneHome}
 use Rattle.irc_world.specs.World.{World, home_in}
 use Rattle.irc_world.specs.WorldHolds.{IsWorld}

@@ -9,8 +9,8 @@ use Rattle.irc_room.specs.Lemmas.Rows.{same_some}
 use Rattle.irc_relay.specs.Distances.{EndsAreAmong, IsAmong}
 use Rattle.irc_relay.specs.Links.{Name, same, Link, joined, links_without, toward, AreJoined, AreLinked, HasSides, IsForest, IsLeft}
 use Rattle.irc_relay.specs.Lemmas.TellingNames.{Telling, alike, unlike, tell, same_unless}
-use Rattle.irc_relay.proofs.GoingToward.{linked_back, linked_joined, next_hop}
-use Rattle.irc_relay.proofs.TakingOut.{sides, taken_out, tests_tell, without_turned}
+use Rattle.irc_relay.specs.Lemmas.NextHops.{linked_back, linked_joined, next_hop}
+use Rattle.irc_relay.specs.Lemmas.LinkTakenOut.{sides, taken_out, tests_tell, without_turned}
 use Rattle.irc_routes.specs.declared.server_row.ServerRow.{ServerRow}
 use Rattle.irc_routes.specs.Known.{Known, is_behind, row_of}
 use Rattle.irc_world.specs.World.{is_server}

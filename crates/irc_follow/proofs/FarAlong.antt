@@ -2,8 +2,8 @@
 use Rattle.std.proofs.Common.{◌≡◌, ◌≢◌, ◌<◌, ℕ, suc, true, List, refl, sym, ◌∙◌, ap, subst, arith}
 use Rattle.irc_relay.specs.Links.{Name, Link, toward, distance, AreLinked, IsForest, IsKept, IsNextHop, OneWay, forth, return}
 use Rattle.irc_relay.specs.Relay.{SourcesMeet, one, each_other, own}
-use Rattle.irc_relay.proofs.GoingToward.{distance_self, next_hop, one_way}
-use Rattle.irc_relay.proofs.Flowing.{along}
+use Rattle.irc_relay.specs.Lemmas.NextHops.{distance_self, next_hop, one_way}
+use Rattle.irc_relay.specs.Lemmas.StreamsFlow.{along}
 use Rattle.irc_follow.specs.Part.{Part}
 use Rattle.irc_follow.specs.Relinked.{BehindSourceIsFar, FlowsAlong, OtherSources}
 

@@ -2,7 +2,7 @@
 use Rattle.std.proofs.Common.{◌≡◌, ℕ, inl, inr, true, not, ◌&&◌, Some, None, List, [], ◌∷◌, sym, ◌∙◌, subst, if◌then◌else◌}
 use Rattle.std.specs.Option.{option_map}
 use Rattle.irc_relay.specs.Links.{Name, same, Link, links_without, AreLinked, IsLeft}
-use Rattle.irc_relay.proofs.TakingOut.{Ending, ends, ending, passes, taken_out, without-ends, without-passes}
+use Rattle.irc_relay.specs.Lemmas.LinkTakenOut.{Ending, ends, ending, passes, taken_out, without-ends, without-passes}
 use Rattle.irc_routes.specs.Known.{row_of}
 use Rattle.irc_follow.specs.Tree.{Tree, shape, shape_in, IsSoundTree}
 use Rattle.irc_follow.specs.Part.{info_in}

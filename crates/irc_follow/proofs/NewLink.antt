@@ -5,8 +5,8 @@ use Rattle.irc_relay.specs.Distances.{IsAmong}
 use Rattle.irc_relay.specs.Links.{Name, same, Link, part, toward, distance, AreJoined, AreLinked, IsForest, IsKept, IsMade, IsNextHop}
 use Rattle.irc_relay.specs.Relay.{streams_from, Covers, TakesFrom}
 use Rattle.irc_relay.specs.Lemmas.TellingNames.{same_when}
-use Rattle.irc_relay.proofs.GoingToward.{distance_self, next_hop}
-use Rattle.irc_relay.proofs.TakingOut.{made}
+use Rattle.irc_relay.specs.Lemmas.NextHops.{distance_self, next_hop}
+use Rattle.irc_relay.specs.Lemmas.LinkTakenOut.{made}
 use Rattle.irc_room.specs.Lemmas.Rows.{same_some}
 use Rattle.irc_routes.specs.declared.server_row.ServerRow.{ServerRow}
 use Rattle.irc_routes.specs.Known.{row_of, token_out}

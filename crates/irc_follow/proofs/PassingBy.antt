@@ -28,7 +28,7 @@ use Rattle.irc_merge.specs.Deeds.{does, gains, loses, kills, brings, sets, tops,
 use Rattle.irc_relay.specs.Links.{Name, same, toward, distance, AreJoined, AreLinked, OneWay, forth, return}
 use Rattle.irc_relay.specs.Relay.{TakesFrom}
 use Rattle.irc_relay.specs.Lemmas.TellingNames.{Telling, alike, unlike, tell, same_when}
-use Rattle.irc_relay.proofs.GoingToward.{linked_back, linked_joined, linked_other, next_hop, one_way, toward_linked, toward_self}
+use Rattle.irc_relay.specs.Lemmas.NextHops.{linked_back, linked_joined, linked_other, next_hop, one_way, toward_linked, toward_self}
 use Rattle.irc_routes.specs.Lemmas.TableRows.{row_passes}
 use Rattle.irc_stage.specs.declared.clients.Client.{Client}
 use Rattle.irc_stage.specs.declared.clients.Client.TheVariants.{Registering, Registered}

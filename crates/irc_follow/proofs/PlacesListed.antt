@@ -10,7 +10,7 @@ use Rattle.irc_tables.specs.Lemmas.RowsAsTable.{row-table_of}
 use Rattle.irc_relay.specs.Distances.{EndsAreAmong, IsAmong}
 use Rattle.irc_relay.specs.Links.{Name, Link, joined, distance, IsForest}
 use Rattle.irc_relay.specs.Lemmas.TellingNames.{Telling, alike, unlike, tell}
-use Rattle.irc_relay.proofs.GoingToward.{distance_self}
+use Rattle.irc_relay.specs.Lemmas.NextHops.{distance_self}
 use Rattle.irc_routes.specs.declared.server_row.ServerRow.{ServerRow}
 use Rattle.irc_routes.specs.Known.{Known, by_name, itself, known_server, others, row_of, server_table}
 use Rattle.irc_routes.specs.Place.{KnownServer}

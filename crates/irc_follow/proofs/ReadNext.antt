@@ -24,8 +24,8 @@ use Rattle.irc_relay.specs.Distances.{IsAmong}
 use Rattle.irc_relay.specs.Links.{Name, same, toward, distance, AreLinked}
 use Rattle.irc_relay.specs.Relay.{TakesFrom}
 use Rattle.irc_relay.specs.Lemmas.TellingNames.{Telling, alike, unlike, tell, same_unless}
-use Rattle.irc_relay.proofs.GoingToward.{distance_self, linked_back, next_hop}
-use Rattle.irc_relay.proofs.ShortWays.{ways_fit_names}
+use Rattle.irc_relay.specs.Lemmas.NextHops.{distance_self, linked_back, next_hop}
+use Rattle.irc_relay.specs.Lemmas.ShortWays.{ways_fit_names}
 use Rattle.irc_routes.specs.declared.server_row.ServerRow.{ServerRow}
 use Rattle.irc_routes.specs.Known.{Known, distance_of, has_token, is_itself, others, row_of, token_in, token_out, IsNumbered}
 use Rattle.irc_routes.specs.Known as of_known

@@ -24,7 +24,7 @@ use Rattle.irc_merge.proofs.LookingAside.{alike_do_alike, home_follows_deed}
 use Rattle.irc_relay.specs.Links.{Name, same, linked, AreLinked}
 use Rattle.irc_relay.specs.Relay.{TakesFrom}
 use Rattle.irc_relay.specs.Lemmas.TellingNames.{Telling, alike, unlike, tell, same_unless}
-use Rattle.irc_relay.proofs.TakingOut.{tests_tell}
+use Rattle.irc_relay.specs.Lemmas.LinkTakenOut.{tests_tell}
 use Rattle.irc_routes.specs.Known.{without_server}
 use Rattle.irc_burst.specs.DeedsMeant.{a_deed}
 use Rattle.irc_stage.specs.declared.clients.Client.{Client}

@@ -27,7 +27,7 @@ use Rattle.irc_merge.specs.Deeds.{does}
 use Rattle.irc_relay.specs.Links.{Name, same, toward}
 use Rattle.irc_relay.specs.Relay.{TakesFrom}
 use Rattle.irc_relay.specs.Lemmas.TellingNames.{same_unless}
-use Rattle.irc_relay.proofs.GoingToward.{linked_other, toward_self}
+use Rattle.irc_relay.specs.Lemmas.NextHops.{linked_other, toward_self}
 use Rattle.irc_routes.specs.declared.server_row.ServerRow.{ServerRow}
 use Rattle.irc_routes.specs.Known.{Known, next_hop, row_of}
 use Rattle.irc_stage.specs.declared.clients.Client.{Client}

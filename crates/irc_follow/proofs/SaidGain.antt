@@ -8,8 +8,8 @@ use Rattle.irc_relay.specs.Distances.{IsAmong}
 use Rattle.irc_relay.specs.Links.{Name, same, toward, distance, linked, AreLinked}
 use Rattle.irc_relay.specs.Relay.{TakesFrom}
 use Rattle.irc_relay.specs.Lemmas.TellingNames.{Telling, alike, unlike, tell, same_when}
-use Rattle.irc_relay.proofs.GoingToward.{distance_self, linked_back, next_hop, toward_linked, linked_joined}
-use Rattle.irc_relay.proofs.TakingOut.{tests_tell}
+use Rattle.irc_relay.specs.Lemmas.NextHops.{distance_self, linked_back, next_hop, toward_linked, linked_joined}
+use Rattle.irc_relay.specs.Lemmas.LinkTakenOut.{tests_tell}
 use Rattle.irc_routes.specs.declared.server_row.ServerRow.{ServerRow}
 use Rattle.irc_routes.specs.Known.{added, row_of, smallest_free, token_in, token_out}
 use Rattle.irc_burst.specs.DeedsMeant.{a_server}

@@ -18,8 +18,8 @@ use Rattle.irc_names.specs.Digits.{number_of}
 use Rattle.irc_relay.specs.Links.{Name, OneWay, forth, return, same, toward, distance, AreLinked}
 use Rattle.irc_relay.specs.Relay.{TakesFrom}
 use Rattle.irc_relay.specs.Lemmas.TellingNames.{Telling, alike, unlike, tell, same_unless, same_when}
-use Rattle.irc_relay.proofs.GoingToward.{distance_back, linked_other, next_hop, one_way, toward_self}
-use Rattle.irc_relay.proofs.ShortWays.{ways_fit_names}
+use Rattle.irc_relay.specs.Lemmas.NextHops.{distance_back, linked_other, next_hop, one_way, toward_self}
+use Rattle.irc_relay.specs.Lemmas.ShortWays.{ways_fit_names}
 use Rattle.irc_routes.specs.Info.{IsInfo, is_info, is_text_byte}
 use Rattle.irc_routes.specs.Known.{Known, distance_of, is_full, token_in, token_out}
 use Rattle.irc_routes.specs.Limits.{max_servers}

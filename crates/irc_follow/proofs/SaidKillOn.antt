@@ -19,7 +19,7 @@ use Rattle.irc_merge.specs.Deeds.{kills}
 use Rattle.irc_merge.specs.Quits.{collision_text}
 use Rattle.irc_relay.specs.Links.{Name, toward, AreLinked}
 use Rattle.irc_relay.specs.Relay.{TakesFrom}
-use Rattle.irc_relay.proofs.GoingToward.{linked_back, linked_other, toward_linked}
+use Rattle.irc_relay.specs.Lemmas.NextHops.{linked_back, linked_other, toward_linked}
 use Rattle.irc_burst.specs.DeedsMeant.{a_deed, deeds_meant, killed}
 use Rattle.irc_burst_lines.specs.DeedLines.{kill_parts}
 use Rattle.irc_burst_lines.proofs.WholeLines.{kill_fits}

@@ -30,7 +30,7 @@ use Rattle.irc_relay.specs.Distances.{IsAmong}
 use Rattle.irc_relay.specs.Links.{Name, same, toward, AreLinked}
 use Rattle.irc_relay.specs.Relay.{TakesFrom}
 use Rattle.irc_relay.specs.Lemmas.TellingNames.{Telling, alike, unlike, tell, same_unless}
-use Rattle.irc_relay.proofs.GoingToward.{linked_back, linked_other, next_hop, toward_self}
+use Rattle.irc_relay.specs.Lemmas.NextHops.{linked_back, linked_other, next_hop, toward_self}
 use Rattle.irc_routes.specs.declared.server_row.ServerRow.{ServerRow}
 use Rattle.irc_routes.specs.Known.{Known, row_of}
 use Rattle.irc_routes.specs.Known as of_known

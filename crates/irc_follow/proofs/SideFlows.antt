@@ -3,9 +3,9 @@ use Rattle.std.proofs.Common.{◌≡◌, ◌≢◌, ◌<◌, ℕ, suc, true, Lis
 use Rattle.irc_relay.specs.Links.{Name, Link, part, toward, distance, links_without, AreJoined, AreLinked, IsForest, IsLeft, IsMade, IsNextHop, OneWay, forth, return}
 use Rattle.irc_relay.specs.Relay.{streams_from, from_near_end, from_one, from_other_end, MeetOver, TakesFrom}
 use Rattle.irc_relay.specs.Lemmas.TellingNames.{Telling, alike, unlike, tell, same_when}
-use Rattle.irc_relay.proofs.GoingToward.{distance_self, distance_zero, linked_back, linked_joined, linked_other, next_hop, one_way, toward_linked}
-use Rattle.irc_relay.proofs.Flowing.{ends_meet, near_ends_cover, one_covers, other_ends_cover, source_is_one, sources_are}
-use Rattle.irc_relay.proofs.TakingOut.{beyond, made, taken_out, without_turned}
+use Rattle.irc_relay.specs.Lemmas.NextHops.{distance_self, distance_zero, linked_back, linked_joined, linked_other, next_hop, one_way, toward_linked}
+use Rattle.irc_relay.specs.Lemmas.StreamsFlow.{ends_meet, near_ends_cover, one_covers, other_ends_cover, source_is_one, sources_are}
+use Rattle.irc_relay.specs.Lemmas.LinkTakenOut.{beyond, made, taken_out, without_turned}
 use Rattle.irc_follow.specs.Tree.{Tree}
 use Rattle.irc_follow.specs.Relinked.{with_links}
 use Rattle.irc_follow.specs.SideFlows.{CutOnceLost, FarSideIsTold, IsSide, IsToldOf, NearSideIsTold, OneSideIsLeft, OtherSideIsLeft, SourceTells}

@@ -6,8 +6,8 @@ use Rattle.std.specs.List.{fold, insert, list_any, prefix_len}
 use Rattle.irc_relay.specs.Distances.{EndsAreAmong, IsAmong}
 use Rattle.irc_relay.specs.Links.{Name, same, Link, joined, links_without, toward, AreJoined, AreLinked, HasSides, IsForest, IsLeft}
 use Rattle.irc_relay.specs.Lemmas.TellingNames.{same_unless, same_when}
-use Rattle.irc_relay.proofs.GoingToward.{linked_back, linked_joined, next_hop}
-use Rattle.irc_relay.proofs.TakingOut.{sides, taken_out}
+use Rattle.irc_relay.specs.Lemmas.NextHops.{linked_back, linked_joined, next_hop}
+use Rattle.irc_relay.specs.Lemmas.LinkTakenOut.{sides, taken_out}
 use Rattle.irc_routes.specs.declared.server_row.ServerRow.{ServerRow}
 use Rattle.irc_routes.specs.Known.{Known, is_behind, is_told_before, others, put_among, servers_told}
 use Rattle.irc_routes.specs.Lemmas.TableRows.{row_passes, some_stands}

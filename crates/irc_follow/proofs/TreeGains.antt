@@ -10,7 +10,7 @@ use Rattle.irc_names.specs.TableLaws.{same_fold, same_fold-refl, one_fold, row-a
 use Rattle.irc_relay.specs.Distances.{IsAmong}
 use Rattle.irc_relay.specs.Links.{Name, same, toward, distance, AreJoined, AreLinked, IsNextHop}
 use Rattle.irc_relay.specs.Lemmas.TellingNames.{Telling, alike, unlike, tell, same_unless}
-use Rattle.irc_relay.proofs.GoingToward.{linked_back, next_hop}
+use Rattle.irc_relay.specs.Lemmas.NextHops.{linked_back, next_hop}
 use Rattle.irc_routes.specs.Adding.{added_fault}
 use Rattle.irc_routes.specs.declared.server_row.ServerRow.{ServerRow}
 use Rattle.irc_routes.specs.Known.{Known, has_token, is_full, is_itself, is_known, others, row_of, smallest_free, token_in, token_out, IsNumbered}

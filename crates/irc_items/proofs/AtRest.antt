@@ -7,7 +7,7 @@ use Rattle.irc_relay.specs.Laws.{RestIsFinal}
 use Rattle.irc_relay.specs.Lemmas.TellingNames.{same_when}
 use Rattle.irc_relay.specs.Links.{Name, same, AreLinked, IsForest}
 use Rattle.irc_relay.specs.Relay.{streams_from, coming, shown_upon, IsAtRest, IsFront, TakesFrom}
-use Rattle.irc_relay.proofs.GoingToward.{distance_self}
+use Rattle.irc_relay.specs.Lemmas.NextHops.{distance_self}
 use Rattle.irc_routes.specs.Known.{Known, row_of, token_out, IsNumbered}
 use Rattle.irc_stage.specs.View.{View}
 use Rattle.irc_world.specs.World.{home_in}

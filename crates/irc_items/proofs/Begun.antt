@@ -5,7 +5,7 @@ use Rattle.irc_relay.specs.Distances.{IsAmong}
 use Rattle.irc_relay.specs.Following.{Follows, GoesWell, IsFollowing, Starts, all_done, all_seen}
 use Rattle.irc_relay.specs.Links.{Name, IsForest}
 use Rattle.irc_relay.specs.Relay.{Machine, Net, Streams, streams_from, Covers, GoesAway, after, shown_upon, coming, coming_within, final, final_shown}
-use Rattle.irc_relay.proofs.TellingOn.{all_well, followed}
+use Rattle.irc_relay.specs.Lemmas.ActsToldOn.{all_well, followed}
 use Rattle.irc_routes.specs.Known.{Known}
 use Rattle.irc_stage.specs.View.{View}
 use Rattle.irc_world.specs.World.{World}

@@ -34,9 +34,9 @@ use Rattle.irc_relay.specs.Distances.{IsAmong}
 use Rattle.irc_relay.specs.Lemmas.TellingNames.{Telling, alike, unlike, tell, same_when}
 use Rattle.irc_relay.specs.Links.{Name, Link, same, toward, distance, AreJoined, AreLinked, IsForest}
 use Rattle.irc_relay.specs.Relay.{TakesFrom}
-use Rattle.irc_relay.proofs.GoingToward.{distance_self, linked_back, next_hop}
-use Rattle.irc_relay.proofs.ShortWays.{ways_fit_names}
-use Rattle.irc_relay.proofs.TakingOut.{tests_tell}
+use Rattle.irc_relay.specs.Lemmas.NextHops.{distance_self, linked_back, next_hop}
+use Rattle.irc_relay.specs.Lemmas.ShortWays.{ways_fit_names}
+use Rattle.irc_relay.specs.Lemmas.LinkTakenOut.{tests_tell}
 use Rattle.irc_routes.specs.Known.{Known, distance_of, is_itself, row_of, token_in, token_out}
 use Rattle.irc_routes.specs.Known as of_known
 use Rattle.irc_routes.specs.Limits.{max_servers}

@@ -18,7 +18,7 @@ use Rattle.irc_merge.specs.Laws.{WholeSide}
 use Rattle.irc_relay.specs.Distances.{EndsAreAmong, IsAmong}
 use Rattle.irc_relay.specs.Lemmas.TellingNames.{Telling, alike, unlike, tell}
 use Rattle.irc_relay.specs.Links.{Name, Link, joined, same, toward, AreJoined, IsForest}
-use Rattle.irc_relay.proofs.GoingToward.{linked_joined, next_hop}
+use Rattle.irc_relay.specs.Lemmas.NextHops.{linked_joined, next_hop}
 use Rattle.irc_room.specs.Invitations.{of_home}
 use Rattle.irc_room.specs.Room.{Room, IsWellFormed}
 use Rattle.irc_room.specs.Lemmas.HomeRooms.{home_is_well_formed}

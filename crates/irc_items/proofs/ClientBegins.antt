@@ -13,9 +13,9 @@ use Rattle.irc_relay.specs.Following.{Tells, Starts, all_seen}
 use Rattle.irc_relay.specs.Lemmas.TellingNames.{Telling, alike, unlike, tell}
 use Rattle.irc_relay.specs.Links.{Name, part, same, linked, joined, AreJoined, AreLinked}
 use Rattle.irc_relay.specs.Relay.{from_one, under_way, GoesAway}
-use Rattle.irc_relay.proofs.Flowing.{from_source_goes_away, one_covers}
-use Rattle.irc_relay.proofs.GoingToward.{linked_joined}
-use Rattle.irc_relay.proofs.TakingOut.{tests_tell}
+use Rattle.irc_relay.specs.Lemmas.StreamsFlow.{from_source_goes_away, one_covers}
+use Rattle.irc_relay.specs.Lemmas.NextHops.{linked_joined}
+use Rattle.irc_relay.specs.Lemmas.LinkTakenOut.{tests_tell}
 use Rattle.irc_routes.specs.Known.{Known}
 use Rattle.irc_stage.specs.declared.clients.Client.{Client}
 use Rattle.irc_stage.specs.ClientTold.{client_told}

@@ -6,8 +6,8 @@ use Rattle.irc_relay.specs.Distances.{EndsAreAmong, IsAmong}
 use Rattle.irc_relay.specs.Lemmas.TellingNames.{same_when}
 use Rattle.irc_relay.specs.Links.{Name, part, joined, linked, same, AreJoined, AreLinked, IsForest}
 use Rattle.irc_relay.specs.Relay.{streams_from, from_one, TakesFrom}
-use Rattle.irc_relay.proofs.Flowing.{one_covers, source_is_one}
-use Rattle.irc_relay.proofs.GoingToward.{next_hop}
+use Rattle.irc_relay.specs.Lemmas.StreamsFlow.{one_covers, source_is_one}
+use Rattle.irc_relay.specs.Lemmas.NextHops.{next_hop}
 use Rattle.irc_room.specs.Invitations.{of_home}
 use Rattle.irc_stage.specs.declared.clients.Client.{Client}
 use Rattle.irc_stage.specs.Handle.{Happening}

@@ -10,9 +10,9 @@ use Rattle.irc_relay.specs.Following.{Follows}
 use Rattle.irc_relay.specs.Lemmas.TellingNames.{Telling, alike, unlike, tell, same_when}
 use Rattle.irc_relay.specs.Links.{Name, part, same, linked, joined, AreLinked}
 use Rattle.irc_relay.specs.Relay.{streams_from, from_one, Covers, coming, lines_coming, lines_pending, under_way}
-use Rattle.irc_relay.proofs.Flowing.{one_covers}
-use Rattle.irc_relay.proofs.GoingToward.{linked_back, linked_joined}
-use Rattle.irc_relay.proofs.TakingOut.{tests_tell}
+use Rattle.irc_relay.specs.Lemmas.StreamsFlow.{one_covers}
+use Rattle.irc_relay.specs.Lemmas.NextHops.{linked_back, linked_joined}
+use Rattle.irc_relay.specs.Lemmas.LinkTakenOut.{tests_tell}
 use Rattle.irc_routes.specs.Known.{Known}
 use Rattle.irc_links.specs.Ends.{is_met as has_far}
 use Rattle.irc_stage.specs.ClientTold.{client_told}

@@ -21,8 +21,8 @@ use Rattle.irc_relay.specs.Distances.{IsAmong}
 use Rattle.irc_relay.specs.Lemmas.TellingNames.{Telling, alike, unlike, tell}
 use Rattle.irc_relay.specs.Links.{Name, Link, toward, AreJoined, AreLinked}
 use Rattle.irc_relay.specs.Relay.{TakesFrom}
-use Rattle.irc_relay.proofs.GoingToward.{linked_joined, linked_other, toward_linked}
-use Rattle.irc_relay.proofs.TakingOut.{tests_tell}
+use Rattle.irc_relay.specs.Lemmas.NextHops.{linked_joined, linked_other, toward_linked}
+use Rattle.irc_relay.specs.Lemmas.LinkTakenOut.{tests_tell}
 use Rattle.irc_routes.specs.Known.{Known, row_of}
 use Rattle.irc_routes.specs.Known as of_known
 use Rattle.irc_burst.specs.DeedsMeant.{a_deed, deeds_meant, effects_told, killed, read_burst_row}

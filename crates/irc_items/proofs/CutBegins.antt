@@ -11,9 +11,9 @@ use Rattle.irc_relay.specs.Following.{Starts, Tells, Terms}
 use Rattle.irc_relay.specs.Lemmas.TellingNames.{Telling, alike, unlike, tell, same_unless}
 use Rattle.irc_relay.specs.Links.{Name, Link, part, joined, linked, same, toward, distance, AreJoined, AreLinked, IsNextHop}
 use Rattle.irc_relay.specs.Relay.{under_way, from_near_end, GoesAway, TakesFrom}
-use Rattle.irc_relay.proofs.Flowing.{source_is_one}
-use Rattle.irc_relay.proofs.GoingToward.{linked_back, linked_joined, linked_other, next_hop, toward_linked}
-use Rattle.irc_relay.proofs.TakingOut.{tests_tell, without_turned}
+use Rattle.irc_relay.specs.Lemmas.StreamsFlow.{source_is_one}
+use Rattle.irc_relay.specs.Lemmas.NextHops.{linked_back, linked_joined, linked_other, next_hop, toward_linked}
+use Rattle.irc_relay.specs.Lemmas.LinkTakenOut.{tests_tell, without_turned}
 use Rattle.irc_routes.specs.Known.{Known, names_behind}
 use Rattle.irc_stage.specs.Lemmas.Numbers.{one_number, same_number, same_number-is}
 use Rattle.irc_stage.specs.View.{View}

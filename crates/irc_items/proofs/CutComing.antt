@@ -10,9 +10,9 @@ use Rattle.irc_relay.specs.Following.{all_done, all_seen}
 use Rattle.irc_relay.specs.Lemmas.TellingNames.{Telling, alike, unlike, same_unless, tell}
 use Rattle.irc_relay.specs.Links.{Name, Link, part, joined, linked, links_without, same, AreJoined, AreLinked}
 use Rattle.irc_relay.specs.Relay.{Streams, from_near_end, streams_from, TakesFrom}
-use Rattle.irc_relay.proofs.Flowing.{near_ends_cover}
-use Rattle.irc_relay.proofs.GoingToward.{linked_back, linked_joined}
-use Rattle.irc_relay.proofs.TakingOut.{linked_tells, without_turned}
+use Rattle.irc_relay.specs.Lemmas.StreamsFlow.{near_ends_cover}
+use Rattle.irc_relay.specs.Lemmas.NextHops.{linked_back, linked_joined}
+use Rattle.irc_relay.specs.Lemmas.LinkTakenOut.{linked_tells, without_turned}
 use Rattle.irc_room.specs.Invitations.{of_home}
 use Rattle.irc_routes.specs.declared.server_row.ServerRow.{ServerRow}
 use Rattle.irc_routes.specs.Known.{Known, row_of, token_out}

@@ -3,8 +3,8 @@ use Rattle.std.proofs.Common.{◌≡◌, inl, inr, Bool, true, false, not, ◌&&
 use Rattle.std.proofs.lemmas.Bool.{and_from, and_parts}
 use Rattle.irc_relay.specs.Links.{Name, Link, part, joined, linked, links_without, AreJoined, AreLinked, HasEnds, IsForest, IsKept, IsLeft, Rejoins, still, parted, turned}
 use Rattle.irc_relay.specs.Lemmas.TellingNames.{same_unless}
-use Rattle.irc_relay.proofs.GoingToward.{linked_joined}
-use Rattle.irc_relay.proofs.TakingOut.{Ending, ends, ending, linked_tells, passes, rejoins, taken_out, without-ends, without-passes}
+use Rattle.irc_relay.specs.Lemmas.NextHops.{linked_joined}
+use Rattle.irc_relay.specs.Lemmas.LinkTakenOut.{Ending, ends, ending, linked_tells, passes, rejoins, taken_out, without-ends, without-passes}
 use Rattle.irc_routes.proofs.DistinctLinks.{both_so}
 use Rattle.irc_follow.proofs.AtRest.{joined_so}
 use Rattle.irc_follow.proofs.BehindLinks.{joined_test}

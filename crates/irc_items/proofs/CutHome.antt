@@ -16,8 +16,8 @@ use Rattle.irc_relay.specs.Distances.{EndsAreAmong, IsAmong}
 use Rattle.irc_relay.specs.Following.{all_done}
 use Rattle.irc_relay.specs.Links.{Name, Link, joined, links_without, same, AreJoined, AreLinked, IsForest, IsLeft, HasEnds}
 use Rattle.irc_relay.specs.Lemmas.TellingNames.{Telling, alike, unlike, tell}
-use Rattle.irc_relay.proofs.GoingToward.{linked_back, linked_joined, linked_other, next_hop, toward_linked}
-use Rattle.irc_relay.proofs.TakingOut.{Ending, ends, ending, passes, taken_out, tests_tell, without-ends, without-passes, without_turned}
+use Rattle.irc_relay.specs.Lemmas.NextHops.{linked_back, linked_joined, linked_other, next_hop, toward_linked}
+use Rattle.irc_relay.specs.Lemmas.LinkTakenOut.{Ending, ends, ending, passes, taken_out, tests_tell, without-ends, without-passes, without_turned}
 use Rattle.irc_routes.specs.Known.{Known, names_behind, without_link, without_server, IsNumbered}
 use Rattle.irc_burst_lines.specs.DeedLines.{squit_parts}
 use Rattle.irc_links.specs.Ends.{is_met}

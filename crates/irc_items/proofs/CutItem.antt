@@ -5,8 +5,8 @@ use Rattle.irc_relay.specs.Distances.{IsAmong}
 use Rattle.irc_relay.specs.Following.{Tells, all_done}
 use Rattle.irc_relay.specs.Links.{Name, Link, part, AreJoined, AreLinked}
 use Rattle.irc_relay.specs.Relay.{from_near_end, TakesFrom}
-use Rattle.irc_relay.proofs.GoingToward.{linked_back, linked_joined}
-use Rattle.irc_relay.proofs.TakingOut.{tests_tell}
+use Rattle.irc_relay.specs.Lemmas.NextHops.{linked_back, linked_joined}
+use Rattle.irc_relay.specs.Lemmas.LinkTakenOut.{tests_tell}
 use Rattle.irc_routes.specs.Known.{Known}
 use Rattle.irc_server.specs.Served.{ServedKeepsItsSetting}
 use Rattle.irc_stage.specs.View.{View}

@@ -5,9 +5,9 @@ use Rattle.irc_merge.specs.Deeds.{Deed}
 use Rattle.irc_relay.specs.Following.{Tells, Terms}
 use Rattle.irc_relay.specs.Links.{Name, Link, joined, part, toward, distance, AreJoined, AreLinked, IsForest, IsLeft, IsNextHop}
 use Rattle.irc_relay.specs.Relay.{from_near_end, streams_from, Streams, TakesFrom}
-use Rattle.irc_relay.proofs.Flowing.{sources_are}
-use Rattle.irc_relay.proofs.GoingToward.{distance_self, linked_back, linked_joined, linked_other, next_hop, toward_linked}
-use Rattle.irc_relay.proofs.TakingOut.{tests_tell}
+use Rattle.irc_relay.specs.Lemmas.StreamsFlow.{sources_are}
+use Rattle.irc_relay.specs.Lemmas.NextHops.{distance_self, linked_back, linked_joined, linked_other, next_hop, toward_linked}
+use Rattle.irc_relay.specs.Lemmas.LinkTakenOut.{tests_tell}
 use Rattle.irc_routes.specs.Known.{Known, names_behind}
 use Rattle.irc_burst_lines.specs.DeedLines.{squit_parts}
 use Rattle.irc_deeds.specs.DeedTold.{split_text}

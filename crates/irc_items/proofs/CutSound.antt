@@ -12,8 +12,8 @@ use Rattle.irc_relay.specs.Following.{Follows, all_done, all_seen}
 use Rattle.irc_relay.specs.Lemmas.TellingNames.{Telling, alike, unlike, tell, same_unless, same_when}
 use Rattle.irc_relay.specs.Links.{Name, Link, part, joined, linked, links_without, same, distance, AreJoined, AreLinked}
 use Rattle.irc_relay.specs.Relay.{streams_from, from_near_end, coming, lines_coming, lines_pending, under_way, Covers}
-use Rattle.irc_relay.proofs.GoingToward.{distance_self, linked_back, linked_joined}
-use Rattle.irc_relay.proofs.TakingOut.{tests_tell, without_turned}
+use Rattle.irc_relay.specs.Lemmas.NextHops.{distance_self, linked_back, linked_joined}
+use Rattle.irc_relay.specs.Lemmas.LinkTakenOut.{tests_tell, without_turned}
 use Rattle.irc_routes.specs.Known.{Known, names_behind}
 use Rattle.irc_stage.specs.Lemmas.Numbers.{one_number, same_number, same_number-is}
 use Rattle.irc_stage.specs.View.{View}

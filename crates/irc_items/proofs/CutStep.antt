@@ -4,9 +4,9 @@ use Rattle.irc_relay.specs.Distances.{EndsAreAmong}
 use Rattle.irc_relay.specs.Lemmas.TellingNames.{Telling, alike, unlike, tell, same_unless}
 use Rattle.irc_relay.specs.Links.{Name, Link, part, joined, toward, distance, links_without, AreJoined, AreLinked, IsForest, IsLeft}
 use Rattle.irc_relay.specs.Relay.{streams_from, from_near_end, Covers}
-use Rattle.irc_relay.proofs.Flowing.{near_ends_cover, sources_are}
-use Rattle.irc_relay.proofs.GoingToward.{distance_self, next_hop}
-use Rattle.irc_relay.proofs.TakingOut.{taken_out}
+use Rattle.irc_relay.specs.Lemmas.StreamsFlow.{near_ends_cover, sources_are}
+use Rattle.irc_relay.specs.Lemmas.NextHops.{distance_self, next_hop}
+use Rattle.irc_relay.specs.Lemmas.LinkTakenOut.{taken_out}
 use Rattle.irc_world.specs.Refused.{refused}
 use Rattle.irc_world.specs.Stepping.{cut, parted}
 use Rattle.irc_world.specs.World.{World}

@@ -25,7 +25,7 @@ use Rattle.irc_relay.specs.Following.{Terms, Tells, nothing, by_line, all_done}
 use Rattle.irc_relay.specs.Links.{Name, Link, joined, same, toward, AreJoined, AreLinked}
 use Rattle.irc_relay.specs.Relay.{TakesFrom}
 use Rattle.irc_relay.specs.Lemmas.TellingNames.{same_unless}
-use Rattle.irc_relay.proofs.TakingOut.{tests_tell}
+use Rattle.irc_relay.specs.Lemmas.LinkTakenOut.{tests_tell}
 use Rattle.irc_routes.specs.declared.server_row.ServerRow.{ServerRow}
 use Rattle.irc_routes.specs.Known.{Known, names_behind, is_itself, is_known, row_of}
 use Rattle.irc_routes.specs.Known as of_known

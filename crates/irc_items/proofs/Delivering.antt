@@ -11,13 +11,13 @@ use Rattle.irc_relay.specs.Following.{AllAlong}
 use Rattle.irc_relay.specs.Lemmas.TellingNames.{Telling, alike, unlike, tell, same_when, same_unless}
 use Rattle.irc_relay.specs.Links.{Name, distance, linked, same, AreLinked, IsForest}
 use Rattle.irc_relay.specs.Relay.{streams_from, final, lines_pending, under_way, Covers, Delivers, IsCounted, Relays, SameOutcome}
-use Rattle.irc_relay.proofs.Counting.{delivery_pending}
-use Rattle.irc_relay.proofs.Flowing.{covers_flows, IsFlow}
-use Rattle.irc_relay.proofs.GoingToward.{distance_self, linked_other, next_hop}
-use Rattle.irc_relay.proofs.GoingWell.{delivery_goes_well}
-use Rattle.irc_relay.proofs.Returning.{delivery_outcome}
-use Rattle.irc_relay.proofs.Running.{delivery_away}
-use Rattle.irc_relay.proofs.TakingOut.{tests_tell}
+use Rattle.irc_relay.specs.Lemmas.LinesCounted.{delivery_pending}
+use Rattle.irc_relay.specs.Lemmas.StreamsFlow.{covers_flows, IsFlow}
+use Rattle.irc_relay.specs.Lemmas.NextHops.{distance_self, linked_other, next_hop}
+use Rattle.irc_relay.specs.Lemmas.LineFactsKept.{delivery_goes_well}
+use Rattle.irc_relay.specs.Lemmas.ReturnedLines.{delivery_outcome}
+use Rattle.irc_relay.specs.Lemmas.DeliveryRuns.{delivery_away}
+use Rattle.irc_relay.specs.Lemmas.LinkTakenOut.{tests_tell}
 use Rattle.irc_stage.specs.EffectTold.{Served}
 use Rattle.irc_stage.specs.Lemmas.Numbers.{one_number, same_number, same_number-is}
 use Rattle.irc_stage.specs.View.{View}

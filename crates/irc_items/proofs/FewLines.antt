@@ -4,10 +4,10 @@ use Rattle.irc_merge.specs.Deeds.{Deed}
 use Rattle.irc_relay.specs.Following.{Follows, Play, SaysOn, sends, keeps, Tells, nothing, by_line, aside_line, passing_by, Terms}
 use Rattle.irc_relay.specs.Links.{Name, Link, IsForest, AreLinked, distance, toward}
 use Rattle.irc_relay.specs.Relay.{ComesInTurn, at_source, from_source, from_parent, Machine, Net, Streams, TakesFrom, streams_from, Covers, passed_on, under_way, coming, lines_coming, lines_pending}
-use Rattle.irc_relay.proofs.Delivering.{comes_in_turn}
-use Rattle.irc_relay.proofs.Flowing.{covers_flows}
-use Rattle.irc_relay.proofs.GoingToward.{distance_self, linked_back, next_hop}
-use Rattle.irc_relay.proofs.TellingOn.{no_return}
+use Rattle.irc_relay.specs.Lemmas.Deliveries.{comes_in_turn}
+use Rattle.irc_relay.specs.Lemmas.StreamsFlow.{covers_flows}
+use Rattle.irc_relay.specs.Lemmas.NextHops.{distance_self, linked_back, next_hop}
+use Rattle.irc_relay.specs.Lemmas.ActsToldOn.{no_return}
 use Rattle.irc_routes.specs.Known.{Known}
 use Rattle.irc_stage.specs.View.{View}
 use Rattle.irc_world.specs.World.{World}

@@ -7,8 +7,8 @@ use Rattle.irc_line.specs.Lines.{IsLine}
 use Rattle.irc_relay.specs.Following.{AllAlong}
 use Rattle.irc_relay.specs.Links.{Name, IsForest}
 use Rattle.irc_relay.specs.Relay.{at_source, coming, from_parent, from_source, under_way, ComesInTurn, TakesFrom}
-use Rattle.irc_relay.proofs.Delivering.{comes_in_turn}
-use Rattle.irc_relay.proofs.Flowing.{covers_flows, IsFlow}
+use Rattle.irc_relay.specs.Lemmas.Deliveries.{comes_in_turn}
+use Rattle.irc_relay.specs.Lemmas.StreamsFlow.{covers_flows, IsFlow}
 use Rattle.irc_stage.specs.View.{View}
 use Rattle.irc_follow.specs.Part.{Fixed}
 use Rattle.irc_follow.specs.Says.{machine}

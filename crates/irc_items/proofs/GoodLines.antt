@@ -11,7 +11,7 @@ use Rattle.irc_merge.specs.Deeds.{Deed, does, gains, loses, kills, brings, sets,
 use Rattle.irc_relay.specs.Following.{Follows, SaysOn, Terms, sends, keeps}
 use Rattle.irc_relay.specs.Links.{Name, Link, same, toward, AreLinked}
 use Rattle.irc_relay.specs.Relay.{TakesFrom}
-use Rattle.irc_relay.proofs.GoingToward.{linked_back, linked_other, toward_linked}
+use Rattle.irc_relay.specs.Lemmas.NextHops.{linked_back, linked_other, toward_linked}
 use Rattle.irc_routes.specs.Known.{Known}
 use Rattle.irc_stage.specs.Linked.{with_password}
 use Rattle.irc_stage.specs.View.{End, View}

@@ -18,8 +18,8 @@ use Rattle.irc_relay.specs.Distances.{IsAmong}
 use Rattle.irc_relay.specs.Links.{Name, linked, same, toward, AreLinked}
 use Rattle.irc_relay.specs.Relay.{TakesFrom}
 use Rattle.irc_relay.specs.Lemmas.TellingNames.{Telling, alike, unlike, tell, same_unless}
-use Rattle.irc_relay.proofs.GoingToward.{linked_back, linked_other, next_hop as next_toward, toward_self}
-use Rattle.irc_relay.proofs.TakingOut.{linked_tells}
+use Rattle.irc_relay.specs.Lemmas.NextHops.{linked_back, linked_other, next_hop as next_toward, toward_self}
+use Rattle.irc_relay.specs.Lemmas.LinkTakenOut.{linked_tells}
 use Rattle.irc_routes.specs.declared.server_row.ServerRow.{ServerRow}
 use Rattle.irc_routes.specs.Known.{next_hop, row_of}
 use Rattle.irc_burst.specs.DeedsMeant.{a_deed, deeds_meant, effects_told, read_burst_row, server_of}

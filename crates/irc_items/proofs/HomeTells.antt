@@ -15,9 +15,9 @@ use Rattle.irc_relay.specs.Following.{Tells, nothing, by_line, passing_by}
 use Rattle.irc_relay.specs.Links.{Name, Link, part, joined, same, distance, toward, AreJoined, AreLinked, IsForest, IsNextHop}
 use Rattle.irc_relay.specs.Relay.{from_one, streams_from, Streams, TakesFrom}
 use Rattle.irc_relay.specs.Lemmas.TellingNames.{same_when}
-use Rattle.irc_relay.proofs.Flowing.{source_is_one}
-use Rattle.irc_relay.proofs.GoingToward.{linked_back, linked_joined, linked_other, next_hop, toward_linked}
-use Rattle.irc_relay.proofs.TakingOut.{tests_tell}
+use Rattle.irc_relay.specs.Lemmas.StreamsFlow.{source_is_one}
+use Rattle.irc_relay.specs.Lemmas.NextHops.{linked_back, linked_joined, linked_other, next_hop, toward_linked}
+use Rattle.irc_relay.specs.Lemmas.LinkTakenOut.{tests_tell}
 use Rattle.irc_routes.specs.Known.{Known, place_of}
 use Rattle.irc_stage.specs.declared.clients.Client.{Client}
 use Rattle.irc_stage.specs.ClientTold.{client_told}

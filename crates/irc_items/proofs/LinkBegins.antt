@@ -7,8 +7,8 @@ use Rattle.irc_relay.specs.Following.{Starts, Tells, Terms}
 use Rattle.irc_relay.specs.Lemmas.TellingNames.{Telling, alike, unlike, tell, same_unless}
 use Rattle.irc_relay.specs.Links.{Name, Link, part, has_ends, joined, distance, toward, AreJoined, HasEnds}
 use Rattle.irc_relay.specs.Relay.{from_other_end, under_way, GoesAway, MeetOver, TakesFrom}
-use Rattle.irc_relay.proofs.GoingToward.{distance_self, next_hop}
-use Rattle.irc_relay.proofs.TakingOut.{tests_tell}
+use Rattle.irc_relay.specs.Lemmas.NextHops.{distance_self, next_hop}
+use Rattle.irc_relay.specs.Lemmas.LinkTakenOut.{tests_tell}
 use Rattle.irc_stage.specs.View.{View}
 use Rattle.irc_world.specs.Stepping.{link_made}
 use Rattle.irc_world.specs.World.{World}

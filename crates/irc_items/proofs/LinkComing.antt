@@ -12,9 +12,9 @@ use Rattle.irc_relay.specs.Following.{all_done, all_seen}
 use Rattle.irc_relay.specs.Links.{Name, Link, part, joined, linked, same, AreJoined, AreLinked, IsForest, within, over, back}
 use Rattle.irc_relay.specs.Lemmas.TellingNames.{Telling, alike, unlike, tell, same_unless}
 use Rattle.irc_relay.specs.Relay.{Streams}
-use Rattle.irc_relay.proofs.GoingToward.{linked_joined}
-use Rattle.irc_relay.proofs.JoiningParts.{joined_within}
-use Rattle.irc_relay.proofs.TakingOut.{made}
+use Rattle.irc_relay.specs.Lemmas.NextHops.{linked_joined}
+use Rattle.irc_relay.specs.Lemmas.JoiningParts.{joined_within}
+use Rattle.irc_relay.specs.Lemmas.LinkTakenOut.{made}
 use Rattle.irc_room.specs.Invitations.{of_home}
 use Rattle.irc_routes.specs.declared.server_row.ServerRow.{ServerRow}
 use Rattle.irc_routes.specs.Known.{Known, row_of, token_out}

@@ -8,7 +8,7 @@ use Rattle.std.specs.Option.{option_map}
 use Rattle.irc_relay.specs.Distances.{EndsAreAmong, IsAmong}
 use Rattle.irc_relay.specs.Lemmas.TellingNames.{Telling, alike, unlike, tell, same_when}
 use Rattle.irc_relay.specs.Links.{Name, Link, joined, part, same, IsForest}
-use Rattle.irc_relay.proofs.TakingOut.{tests_tell}
+use Rattle.irc_relay.specs.Lemmas.LinkTakenOut.{tests_tell}
 use Rattle.irc_routes.specs.Known.{Known, is_behind, is_told_before, others, put_among, servers_told}
 use Rattle.irc_routes.specs.Lemmas.TableRows.{length-values}
 use Rattle.irc_routes.specs.declared.server_row.ServerRow.{ServerRow}

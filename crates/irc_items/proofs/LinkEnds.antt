@@ -2,7 +2,7 @@
 use Rattle.std.proofs.Common.{◌≡◌, ◌≢◌, ◌⊎◌, inl, inr, Bool, true, false, ◌||◌, List, ◌∷◌, refl, sym, ◌∙◌, ap}
 use Rattle.std.proofs.lemmas.Bool.{or_left, or_right}
 use Rattle.irc_relay.specs.Links.{Name, Link, part, joined, linked, AreJoined, AreLinked, IsForest, IsMade, within, over, back}
-use Rattle.irc_relay.proofs.TakingOut.{linked_tells, made}
+use Rattle.irc_relay.specs.Lemmas.LinkTakenOut.{linked_tells, made}
 use Rattle.irc_routes.proofs.DistinctLinks.{both_so}
 use Rattle.irc_follow.proofs.AtRest.{joined_so}
 use Rattle.irc_follow.proofs.BehindLinks.{joined_test}

@@ -12,8 +12,8 @@ use Rattle.irc_line.specs.Messages.{Written, line_text, text}
 use Rattle.irc_relay.specs.Distances.{IsAmong}
 use Rattle.irc_relay.specs.Lemmas.TellingNames.{Telling, alike, unlike, tell}
 use Rattle.irc_relay.specs.Links.{Name, part, same, joined, linked}
-use Rattle.irc_relay.proofs.GoingToward.{linked_joined}
-use Rattle.irc_relay.proofs.TakingOut.{tests_tell}
+use Rattle.irc_relay.specs.Lemmas.NextHops.{linked_joined}
+use Rattle.irc_relay.specs.Lemmas.LinkTakenOut.{tests_tell}
 use Rattle.irc_stage.specs.EffectTold.{in_silence, with_sent}
 use Rattle.irc_stage.specs.View.{KnownPeer, View, is_named, password_for, with_end}
 use Rattle.irc_deeds.specs.LinkServed.{on_link, opening_parts}

@@ -5,8 +5,8 @@ use Rattle.irc_relay.specs.Distances.{IsAmong}
 use Rattle.irc_relay.specs.Following.{all_done, all_seen, IsFollowing}
 use Rattle.irc_relay.specs.Links.{Name, Link, part, AreJoined}
 use Rattle.irc_relay.specs.Relay.{from_other_end, streams_from}
-use Rattle.irc_relay.proofs.TellingOn.{followed}
-use Rattle.irc_relay.proofs.TakingOut.{tests_tell}
+use Rattle.irc_relay.specs.Lemmas.ActsToldOn.{followed}
+use Rattle.irc_relay.specs.Lemmas.LinkTakenOut.{tests_tell}
 use Rattle.irc_relay.specs.Lemmas.TellingNames.{same_unless}
 use Rattle.irc_stage.specs.View.{View}
 use Rattle.irc_server.specs.Served.{ServedKeepsItsSetting}

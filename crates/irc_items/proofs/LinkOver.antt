@@ -3,8 +3,8 @@ use Rattle.std.proofs.Common.{◌≡◌, ◌≢◌, inl, inr, ◌+◌, suc, List
 use Rattle.irc_relay.specs.Lemmas.TellingNames.{Telling, alike, unlike, tell}
 use Rattle.irc_relay.specs.Links.{Name, Link, same, toward, distance, AreJoined, HasEnds, IsForest, IsKept, IsMade}
 use Rattle.irc_relay.specs.Relay.{Streams, streams_from, from_other_end, MeetOver}
-use Rattle.irc_relay.proofs.Flowing.{ends_meet}
-use Rattle.irc_relay.proofs.TakingOut.{made}
+use Rattle.irc_relay.specs.Lemmas.StreamsFlow.{ends_meet}
+use Rattle.irc_relay.specs.Lemmas.LinkTakenOut.{made}
 
 -- with the link between t and b: those of t's side come to those of b's over it, and lines come to t's side from b
 pub record IsOver (l : Link) (links : List Link) (streams : Streams) (t b : Name) : Type 0 where

@@ -24,7 +24,7 @@ use Rattle.irc_merge.specs.Deeds.{Deed, does, kills, brings, sets, tops, after_d
 use Rattle.irc_relay.specs.Following.{nothing, by_line, aside_line}
 use Rattle.irc_relay.specs.Lemmas.TellingNames.{Telling, alike, unlike, tell}
 use Rattle.irc_relay.specs.Links.{Name, Link, joined, same, toward, AreJoined}
-use Rattle.irc_relay.proofs.GoingToward.{linked_joined, next_hop}
+use Rattle.irc_relay.specs.Lemmas.NextHops.{linked_joined, next_hop}
 use Rattle.irc_routes.specs.Known.{Known, row_of}
 use Rattle.irc_routes.specs.declared.server_row.ServerRow.{ServerRow}
 use Rattle.irc_stage.specs.View.{View}

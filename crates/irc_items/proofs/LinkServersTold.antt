@@ -6,7 +6,7 @@ use Rattle.std.specs.List.{list_any}
 use Rattle.irc_relay.specs.Distances.{EndsAreAmong, IsAmong}
 use Rattle.irc_relay.specs.Links.{Name, same, Link, joined, part, toward, AreJoined, IsForest}
 use Rattle.irc_relay.specs.Lemmas.TellingNames.{Telling, alike, unlike, tell, same_unless, same_when}
-use Rattle.irc_relay.proofs.GoingToward.{linked_back, linked_joined, next_hop}
+use Rattle.irc_relay.specs.Lemmas.NextHops.{linked_back, linked_joined, next_hop}
 use Rattle.irc_routes.specs.declared.server_row.ServerRow.{ServerRow}
 use Rattle.irc_routes.specs.Known.{Known, is_behind, others, servers_told}
 use Rattle.irc_routes.specs.Lemmas.TableRows.{row_passes, some_stands}

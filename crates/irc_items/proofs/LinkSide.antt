@@ -6,8 +6,8 @@ use Rattle.irc_relay.specs.Distances.{EndsAreAmong, IsAmong}
 use Rattle.irc_relay.specs.Lemmas.TellingNames.{Telling, alike, unlike, tell, same_when, same_unless}
 use Rattle.irc_relay.specs.Links.{Name, Link, part, has_ends, joined, linked, AreLinked, IsForest, HasEnds}
 use Rattle.irc_relay.specs.Relay.{streams_from, from_other_end, Covers, MeetOver}
-use Rattle.irc_relay.proofs.Flowing.{ends_meet, other_ends_cover}
-use Rattle.irc_relay.proofs.TakingOut.{tests_tell}
+use Rattle.irc_relay.specs.Lemmas.StreamsFlow.{ends_meet, other_ends_cover}
+use Rattle.irc_relay.specs.Lemmas.LinkTakenOut.{tests_tell}
 use Rattle.irc_stage.specs.Lemmas.Numbers.{get-with, one_number, same_number, same_number-refl}
 use Rattle.irc_stage.specs.View.{End, View, fresh_end, with_end}
 use Rattle.irc_links.specs.Ends.{Ends}

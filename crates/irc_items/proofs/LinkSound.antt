@@ -13,8 +13,8 @@ use Rattle.irc_relay.specs.Following.{Follows, all_done, all_seen}
 use Rattle.irc_relay.specs.Lemmas.TellingNames.{same_when, same_unless}
 use Rattle.irc_relay.specs.Links.{Name, Link, part, has_ends, joined, linked, same, AreJoined, AreLinked, HasEnds}
 use Rattle.irc_relay.specs.Relay.{streams_from, from_other_end, coming, lines_coming, lines_pending, under_way, Covers}
-use Rattle.irc_relay.proofs.GoingToward.{linked_joined, linked_back}
-use Rattle.irc_relay.proofs.TakingOut.{tests_tell}
+use Rattle.irc_relay.specs.Lemmas.NextHops.{linked_joined, linked_back}
+use Rattle.irc_relay.specs.Lemmas.LinkTakenOut.{tests_tell}
 use Rattle.irc_routes.specs.Known.{Known, servers_told}
 use Rattle.irc_stage.specs.Lemmas.Numbers.{one_number, same_number, same_number-is}
 use Rattle.irc_stage.specs.View.{End, View, password_for}

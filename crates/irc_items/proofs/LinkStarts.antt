@@ -32,9 +32,9 @@ use Rattle.irc_relay.specs.Following.{Tells, by_line, aside_line}
 use Rattle.irc_relay.specs.Lemmas.TellingNames.{Telling, alike, unlike, tell, same_when, same_unless}
 use Rattle.irc_relay.specs.Links.{Name, Link, part, joined, same, toward, distance, AreJoined, AreLinked, HasEnds, IsForest, IsNextHop}
 use Rattle.irc_relay.specs.Relay.{streams_from, from_other_end, TakesFrom}
-use Rattle.irc_relay.proofs.GoingToward.{distance_back, distance_self, linked_joined, next_hop}
-use Rattle.irc_relay.proofs.ShortWays.{ways_fit_names}
-use Rattle.irc_relay.proofs.TakingOut.{tests_tell}
+use Rattle.irc_relay.specs.Lemmas.NextHops.{distance_back, distance_self, linked_joined, next_hop}
+use Rattle.irc_relay.specs.Lemmas.ShortWays.{ways_fit_names}
+use Rattle.irc_relay.specs.Lemmas.LinkTakenOut.{tests_tell}
 use Rattle.irc_room.specs.Invitations.{of_home}
 use Rattle.irc_routes.specs.Info.{IsInfo}
 use Rattle.irc_routes.specs.Known.{Known, distance_of, is_full, is_itself, is_known, row_of, servers_told, smallest_free, token_in, token_out}

@@ -10,8 +10,8 @@ use Rattle.irc_line.specs.Messages.{line_text}
 use Rattle.irc_relay.specs.Distances.{IsAmong}
 use Rattle.irc_relay.specs.Links.{Name, Link, has_ends, joined, linked, same, HasEnds}
 use Rattle.irc_relay.specs.Relay.{under_way}
-use Rattle.irc_relay.proofs.GoingToward.{linked_joined}
-use Rattle.irc_relay.proofs.TakingOut.{tests_tell}
+use Rattle.irc_relay.specs.Lemmas.NextHops.{linked_joined}
+use Rattle.irc_relay.specs.Lemmas.LinkTakenOut.{tests_tell}
 use Rattle.irc_stage.specs.View.{End, View, fresh_end}
 use Rattle.irc_links.specs.Ends.{is_met as has_far}
 use Rattle.irc_deeds.specs.LinkServed.{opening_parts, owed_by}

@@ -11,8 +11,8 @@ use Rattle.irc_links.specs.Ways.{links_toward, met_links, ways_toward}
 use Rattle.irc_relay.specs.Distances.{IsAmong}
 use Rattle.irc_relay.specs.Links.{Name, Link, linked, same, toward, AreLinked}
 use Rattle.irc_relay.specs.Lemmas.TellingNames.{Telling, alike, unlike, tell}
-use Rattle.irc_relay.proofs.GoingToward.{linked_back, next_hop}
-use Rattle.irc_relay.proofs.TakingOut.{tests_tell}
+use Rattle.irc_relay.specs.Lemmas.NextHops.{linked_back, next_hop}
+use Rattle.irc_relay.specs.Lemmas.LinkTakenOut.{tests_tell}
 use Rattle.irc_routes.specs.declared.server_row.ServerRow.{ServerRow}
 use Rattle.irc_routes.specs.Known.{row_of}
 use Rattle.irc_routes.specs.Known as of_known

@@ -10,8 +10,8 @@ use Rattle.irc_relay.specs.Laws.{ComingInTurn}
 use Rattle.irc_relay.specs.Lemmas.TellingNames.{Telling, alike, unlike, tell, same_when}
 use Rattle.irc_relay.specs.Links.{Name, Link, joined, linked, distance, AreLinked, IsForest}
 use Rattle.irc_relay.specs.Relay.{streams_from, Covers, IsAtRest, TakesFrom, ComesInTurn, at_source, from_source, from_parent, after, coming, final, passed_on, under_way}
-use Rattle.irc_relay.proofs.GoingToward.{distance_self, linked_back, linked_joined, next_hop}
-use Rattle.irc_relay.proofs.TakingOut.{tests_tell}
+use Rattle.irc_relay.specs.Lemmas.NextHops.{distance_self, linked_back, linked_joined, next_hop}
+use Rattle.irc_relay.specs.Lemmas.LinkTakenOut.{tests_tell}
 use Rattle.irc_routes.specs.Known.{Known}
 use Rattle.irc_stage.specs.View.{End, View}
 use Rattle.irc_links.specs.Ends.{is_met as has_far}

@@ -2,9 +2,9 @@
 use Rattle.std.proofs.Common.{◌≡◌, ◌≢◌, ◌⊎◌, ◌<◌, Bool, true, false, List, refl, sym, ap, subst, ◌∙◌, arith, inl, inr, if◌then◌else◌}
 use Rattle.irc_relay.specs.Links.{Name, Link, joined, distance, toward, AreJoined, AreLinked, IsForest, IsNextHop}
 use Rattle.irc_relay.specs.Relay.{from_one}
-use Rattle.irc_relay.proofs.Flowing.{source_is_one}
-use Rattle.irc_relay.proofs.GoingToward.{distance_self, distance_zero, linked_back, next_hop}
-use Rattle.irc_relay.proofs.TakingOut.{tests_tell}
+use Rattle.irc_relay.specs.Lemmas.StreamsFlow.{source_is_one}
+use Rattle.irc_relay.specs.Lemmas.NextHops.{distance_self, distance_zero, linked_back, next_hop}
+use Rattle.irc_relay.specs.Lemmas.LinkTakenOut.{tests_tell}
 
 -- a server that lines come to over one link or more
 pub record IsFartherFrom (links : List Link) (h t : Name) : Type 0 where

@@ -15,7 +15,7 @@ use Rattle.irc_tables.specs.Lemmas.OrderedEntries.{find-there, sorted-below}
 use Rattle.irc_relay.specs.Distances.{EndsAreAmong, IsAmong}
 use Rattle.irc_relay.specs.Links.{Name, Link, same, toward, distance, AreJoined, IsForest, IsNextHop}
 use Rattle.irc_relay.specs.Lemmas.TellingNames.{Telling, alike, unlike, tell, same_when}
-use Rattle.irc_relay.proofs.GoingToward.{distance_back, linked_back, next_hop}
+use Rattle.irc_relay.specs.Lemmas.NextHops.{distance_back, linked_back, next_hop}
 use Rattle.irc_room.specs.Lemmas.Rows.{same_some}
 use Rattle.irc_routes.specs.declared.server_row.ServerRow.{ServerRow}
 use Rattle.irc_routes.specs.Known.{Known, is_behind, is_told_before, others, put_among, row_of, servers_told, IsNumbered}

@@ -12,13 +12,13 @@ use Rattle.irc_relay.specs.declared.news.Sent.{Sent}
 use Rattle.irc_relay.specs.declared.news.Shown.{Shown}
 use Rattle.irc_relay.specs.declared.news.News.{News}
 use Rattle.irc_relay.specs.Lemmas.TellingNames.{Telling, alike, unlike, tell, same_unless}
-use Rattle.irc_relay.proofs.GoingToward.{distance_self, linked_back, next_hop, distance_zero}
-use Rattle.irc_relay.proofs.Flowing.{one_covers, source_is_one, covers_flows}
-use Rattle.irc_relay.proofs.Delivering.{comes_in_turn}
+use Rattle.irc_relay.specs.Lemmas.NextHops.{distance_self, linked_back, next_hop, distance_zero}
+use Rattle.irc_relay.specs.Lemmas.StreamsFlow.{one_covers, source_is_one, covers_flows}
+use Rattle.irc_relay.specs.Lemmas.Deliveries.{comes_in_turn}
 use Rattle.irc_relay.proofs.Queueing.{sent_is_behind}
 use Rattle.irc_relay.proofs.RelayingNews.{on_other}
 use Rattle.irc_relay.proofs.DeliveringNews.{latest_other, shown_more, shown_there, shown_elsewhere}
-use Rattle.irc_relay.proofs.TellingOn.{followed}
+use Rattle.irc_relay.specs.Lemmas.ActsToldOn.{followed}
 use Rattle.irc_relay.proofs.FollowingNews.{linked_names, on_linked_once, news_follow}
 
 -- the net with the item shown at its server, and on its way to all neighbours

@@ -13,10 +13,10 @@ use Rattle.irc_relay.specs.declared.news.Edge.{Edge}
 use Rattle.irc_relay.specs.declared.news.Shown.{Shown}
 use Rattle.irc_relay.specs.declared.news.News.{News}
 use Rattle.irc_relay.specs.Lemmas.TellingNames.{Telling, alike, unlike, tell, same_when, same_unless}
-use Rattle.irc_relay.proofs.Flowing.{covers_flows, one_covers, from_source_goes_away, source_is_one}
-use Rattle.irc_relay.proofs.GoingToward.{linked_joined}
-use Rattle.irc_relay.proofs.Returning.{delivery_outcome}
-use Rattle.irc_relay.proofs.Running.{delivery_away}
+use Rattle.irc_relay.specs.Lemmas.StreamsFlow.{covers_flows, one_covers, from_source_goes_away, source_is_one}
+use Rattle.irc_relay.specs.Lemmas.NextHops.{linked_joined}
+use Rattle.irc_relay.specs.Lemmas.ReturnedLines.{delivery_outcome}
+use Rattle.irc_relay.specs.Lemmas.DeliveryRuns.{delivery_away}
 use Rattle.irc_relay.proofs.Queueing.{sent_is_behind}
 use Rattle.irc_relay.proofs.RelayingNews.{on_other, on_back, on_linked}
 

@@ -8,7 +8,7 @@ use Rattle.irc_relay.specs.Queue.{queue_of}
 use Rattle.irc_relay.specs.NewsNet.{name, number, link_of, links_of, reading, sent_over, sent_on, relaying, news_play, news_terms}
 use Rattle.irc_relay.specs.declared.news.Edge.{Edge}
 use Rattle.irc_relay.specs.Lemmas.TellingNames.{same_when}
-use Rattle.irc_relay.proofs.GoingToward.{distance_self, linked_joined, linked_other, next_hop}
+use Rattle.irc_relay.specs.Lemmas.NextHops.{distance_self, linked_joined, linked_other, next_hop}
 use Rattle.irc_relay.proofs.Queueing.{sent_is_behind}
 use Rattle.irc_relay.proofs.RelayingNews.{over_linked, on_linked}
 use Rattle.irc_relay.specs.declared.news.Sent.{Sent}

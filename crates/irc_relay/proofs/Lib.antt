@@ -1,17 +1,5 @@
-pub mod JoiningParts
-pub mod GoingToward
-pub mod TakingOut
-pub mod ShortWays
 pub mod TurningLinks
 pub mod Walking
-pub mod Flowing
-pub mod Delivering
-pub mod Adding
-pub mod Returning
-pub mod Running
-pub mod Counting
-pub mod GoingWell
-pub mod TellingOn
 pub mod FollowingNews
 pub mod AnnouncingNews
 pub mod Queueing

@@ -10,7 +10,7 @@ use Rattle.irc_relay.specs.declared.news.Sent.{Sent}
 use Rattle.irc_relay.specs.declared.news.Edge.{Edge}
 use Rattle.irc_relay.specs.Lemmas.TellingNames.{alike, unlike, tell, same_when, same_unless}
 use Rattle.irc_relay.proofs.Queueing.{first_is_oldest, none_is_empty, sent_is_behind, goes_tells}
-use Rattle.irc_relay.proofs.Running.{Begins, in_front, behind, begins}
+use Rattle.irc_relay.specs.Lemmas.DeliveryRuns.{Begins, in_front, behind, begins}
 
 name_one : (a b : ℕ) → name a ≡ name b → a ≡ b
 name_one a b e = ap number e

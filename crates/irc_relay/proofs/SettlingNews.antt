@@ -12,11 +12,11 @@ use Rattle.irc_relay.specs.declared.news.Sent.{Sent}
 use Rattle.irc_relay.specs.declared.news.Edge.{Edge}
 use Rattle.irc_relay.specs.declared.news.News.{News}
 use Rattle.irc_relay.specs.Lemmas.TellingNames.{same_when}
-use Rattle.irc_relay.proofs.GoingToward.{next_hop, distance_self, linked_other}
-use Rattle.irc_relay.proofs.Flowing.{covers_flows, one_covers}
-use Rattle.irc_relay.proofs.Running.{rest_final, rest_told}
-use Rattle.irc_relay.proofs.Counting.{delivery_sums}
-use Rattle.irc_relay.proofs.Returning.{taker_from}
+use Rattle.irc_relay.specs.Lemmas.NextHops.{next_hop, distance_self, linked_other}
+use Rattle.irc_relay.specs.Lemmas.StreamsFlow.{covers_flows, one_covers}
+use Rattle.irc_relay.specs.Lemmas.DeliveryRuns.{rest_final, rest_told}
+use Rattle.irc_relay.specs.Lemmas.LinesCounted.{delivery_sums}
+use Rattle.irc_relay.specs.Lemmas.ReturnedLines.{taker_from}
 use Rattle.irc_relay.proofs.DeliveringNews.{relays}
 
 -- an end of a link is among the ends of the edges

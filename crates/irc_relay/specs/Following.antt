@@ -1,5 +1,5 @@
 -- Facts of each line at its turn, and machines that follow a world: line by line they do what the world does act by act. Both are said of
--- any machine; what follows of whole streams is in proofs/GoingWell, for each delivery, and in proofs/TellingOn, at every depth.
+-- any machine; what follows of whole streams is in specs/Lemmas/LineFactsKept, for each delivery, and in specs/Lemmas/ActsToldOn, at every depth.
 use Rattle.std.specs.Prelude.{◌≡◌, ◌≢◌, ◌<◌, suc, List, [], ◌∷◌, ◌++◌}
 use Rattle.irc_relay.specs.Links.{Name, Link, AreLinked}
 use Rattle.irc_relay.specs.Relay.{Machine, Net, Streams, TakesFrom, under_way, coming, final, final_shown}

@@ -1,8 +1,8 @@
 use Rattle.irc_items.proofs.AtRest.{rest_is_one_room}
 use Rattle.irc_items.proofs.laws.rest_is_one_room.Goals as goal
-use Rattle.irc_relay.proofs.Delivering.{comes_in_turn}
-use Rattle.irc_relay.proofs.Flowing.{covers_flows}
-use Rattle.irc_relay.proofs.Running.{rest_final, rest_told}
+use Rattle.irc_relay.specs.Lemmas.Deliveries.{comes_in_turn}
+use Rattle.irc_relay.specs.Lemmas.StreamsFlow.{covers_flows}
+use Rattle.irc_relay.specs.Lemmas.DeliveryRuns.{rest_final, rest_told}
 use Rattle.irc_relay.specs.Relay.{streams_from}
 
 pub returns : goal.returns

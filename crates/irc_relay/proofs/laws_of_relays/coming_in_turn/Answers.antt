@@ -1,6 +1,6 @@
 use Rattle.irc_relay.specs.Relay.{streams_from}
-use Rattle.irc_relay.proofs.Flowing.{covers_flows}
-use Rattle.irc_relay.proofs.Delivering.{comes_in_turn}
+use Rattle.irc_relay.specs.Lemmas.StreamsFlow.{covers_flows}
+use Rattle.irc_relay.specs.Lemmas.Deliveries.{comes_in_turn}
 use Rattle.irc_relay.proofs.laws_of_relays.coming_in_turn.Goals as goal
 
 pub returns : goal.returns

@@ -1,6 +1,6 @@
 use Rattle.irc_relay.specs.Relay.{streams_from}
-use Rattle.irc_relay.proofs.Flowing.{covers_flows}
-use Rattle.irc_relay.proofs.Returning.{delivery_comes}
+use Rattle.irc_relay.specs.Lemmas.StreamsFlow.{covers_flows}
+use Rattle.irc_relay.specs.Lemmas.ReturnedLines.{delivery_comes}
 use Rattle.irc_relay.proofs.laws_of_relays.delivery_comes_on.Goals as goal
 
 pub returns : goal.returns

@@ -1,6 +1,6 @@
 use Rattle.irc_relay.specs.Relay.{streams_from}
-use Rattle.irc_relay.proofs.Flowing.{covers_flows}
-use Rattle.irc_relay.proofs.Counting.{delivery_counts}
+use Rattle.irc_relay.specs.Lemmas.StreamsFlow.{covers_flows}
+use Rattle.irc_relay.specs.Lemmas.LinesCounted.{delivery_counts}
 use Rattle.irc_relay.proofs.laws_of_relays.delivery_counts.Goals as goal
 
 pub returns : goal.returns

@@ -1,6 +1,6 @@
 use Rattle.irc_relay.specs.Relay.{streams_from}
-use Rattle.irc_relay.proofs.Flowing.{covers_flows}
-use Rattle.irc_relay.proofs.Running.{delivery_away}
+use Rattle.irc_relay.specs.Lemmas.StreamsFlow.{covers_flows}
+use Rattle.irc_relay.specs.Lemmas.DeliveryRuns.{delivery_away}
 use Rattle.irc_relay.proofs.laws_of_relays.delivery_goes_away.Goals as goal
 
 pub returns : goal.returns

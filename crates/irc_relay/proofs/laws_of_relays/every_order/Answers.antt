@@ -1,6 +1,6 @@
 use Rattle.irc_relay.specs.Relay.{streams_from}
-use Rattle.irc_relay.proofs.Flowing.{covers_flows}
-use Rattle.irc_relay.proofs.Running.{run_on_the_way}
+use Rattle.irc_relay.specs.Lemmas.StreamsFlow.{covers_flows}
+use Rattle.irc_relay.specs.Lemmas.DeliveryRuns.{run_on_the_way}
 use Rattle.irc_relay.proofs.laws_of_relays.every_order.Goals as goal
 
 pub returns : goal.returns

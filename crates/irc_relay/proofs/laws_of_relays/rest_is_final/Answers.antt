@@ -1,4 +1,4 @@
-use Rattle.irc_relay.proofs.Running.{rest_final, rest_told}
+use Rattle.irc_relay.specs.Lemmas.DeliveryRuns.{rest_final, rest_told}
 use Rattle.irc_relay.proofs.laws_of_relays.rest_is_final.Goals as goal
 
 pub returns : goal.returns

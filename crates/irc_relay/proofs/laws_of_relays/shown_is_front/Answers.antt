@@ -1,4 +1,4 @@
-use Rattle.irc_relay.proofs.Running.{front_of_told}
+use Rattle.irc_relay.specs.Lemmas.DeliveryRuns.{front_of_told}
 use Rattle.irc_relay.proofs.laws_of_relays.shown_is_front.Goals as goal
 
 pub returns : goal.returns

@@ -4,9 +4,9 @@ use Rattle.std.proofs.Common.{◌≡◌, ◌≢◌, ℕ, zero, suc, ◌<◌, Lis
 use Rattle.irc_relay.specs.Links.{Name, Link, IsForest, AreLinked, IsNextHop, toward, distance}
 use Rattle.irc_relay.specs.Relay.{Machine, Net, Streams, streams_from, SourcesMeet, one, each_other, own, Covers, TakesFrom, ComesInTurn, at_source, from_source, from_parent, after, passed_on, shown_upon, under_way, coming, final_shown}
 use Rattle.irc_relay.specs.Following.{AllAlong, GoesWell, Play, all_done, all_seen, Terms, SaysOn, sends, keeps, Follows, Tells, nothing, by_line, aside_line, passing_by, Starts, IsFollowing}
-use Rattle.irc_relay.proofs.Flowing.{IsFlow, covers_flows}
-use Rattle.irc_relay.proofs.Delivering.{comes_in_turn}
-use Rattle.irc_relay.proofs.GoingToward.{distance_self, linked_back, next_hop}
+use Rattle.irc_relay.specs.Lemmas.StreamsFlow.{IsFlow, covers_flows}
+use Rattle.irc_relay.specs.Lemmas.Deliveries.{comes_in_turn}
+use Rattle.irc_relay.specs.Lemmas.NextHops.{distance_self, linked_back, next_hop}
 
 -- ---- one stream
 

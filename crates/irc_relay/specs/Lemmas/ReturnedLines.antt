@@ -4,11 +4,11 @@ use Rattle.std.proofs.lemmas.List.{append-nil}
 use Rattle.irc_relay.specs.Links.{Name, same, Link}
 use Rattle.irc_relay.specs.Relay.{Machine, Net, Streams, passed_on, under_way, coming_within, coming, final, TakesFrom, GoesAway, AreHarmless, Delivers, Relays, SameOutcome, ComesOn, Pays}
 use Rattle.irc_relay.specs.Lemmas.TellingNames.{Telling, alike, unlike, tell, same_when}
-use Rattle.irc_relay.proofs.Flowing.{IsFlow}
-use Rattle.irc_relay.proofs.Delivering.{Takes}
-use Rattle.irc_relay.proofs.Delivering
-use Rattle.irc_relay.proofs.Adding
-use Rattle.irc_relay.proofs.Adding.{Adds, AreLast}
+use Rattle.irc_relay.specs.Lemmas.StreamsFlow.{IsFlow}
+use Rattle.irc_relay.specs.Lemmas.Deliveries.{Takes}
+use Rattle.irc_relay.specs.Lemmas.Deliveries as delivering
+use Rattle.irc_relay.specs.Lemmas.AddedLines as adding
+use Rattle.irc_relay.specs.Lemmas.AddedLines.{Adds, AreLast}
 
 -- the oldest line on its way comes from the taker's parent
 pub taker_from : {State Line Shown : Type 0} (m : Machine State Line Shown) (streams : Streams) (p t : Name) (line : Line) (back : List Line) (old new : Net State Line Shown) → GoesAway streams old → Delivers m p t line back old new → TakesFrom streams t p
@@ -108,21 +108,21 @@ module _ (State Line Shown : Type 0) (m : Machine State Line Shown) (links : Lis
       nothing (suc n) e = let q : ⊥ = omega arith in absurd q
 
   harmless : AreHarmless m p t (final m streams mid p) (next ∷ rest)
-  harmless = subst (λ s. AreHarmless m p t s (next ∷ rest)) (sym (Delivering.final_kept State Line Shown m links streams p t line old mid flow first p)) r.back_harmless
+  harmless = subst (λ s. AreHarmless m p t s (next ∷ rest)) (sym (delivering.final_kept State Line Shown m links streams p t line old mid flow first p)) r.back_harmless
 
   returned_outcome : SameOutcome m streams old new
   returned_outcome =
       record {
-        same_final = λ u. Adding.final_kept State Line Shown m links streams t p (next ∷ rest) mid new flow second last harmless u ∙ Delivering.final_kept State Line Shown m links streams p t line old mid flow first u;
-        same_told = λ u. Adding.told_kept State Line Shown m links streams t p (next ∷ rest) mid new flow second last harmless u ∙ Delivering.told_kept State Line Shown m links streams p t line old mid flow first u;
+        same_final = λ u. adding.final_kept State Line Shown m links streams t p (next ∷ rest) mid new flow second last harmless u ∙ delivering.final_kept State Line Shown m links streams p t line old mid flow first u;
+        same_told = λ u. adding.told_kept State Line Shown m links streams t p (next ∷ rest) mid new flow second last harmless u ∙ delivering.told_kept State Line Shown m links streams p t line old mid flow first u;
       }
 
   returned_comes : ComesOn m streams p t line (next ∷ rest) old new
   returned_comes =
       record {
-        taken = Delivering.coming_taken State Line Shown m links streams p t line old mid flow first ∙ ap (λ v. line ∷ v) (sym (Adding.coming_steady State Line Shown m links streams t p (next ∷ rest) mid new flow second last harmless t (λ e. giver (sym e))));
-        returned = Adding.coming_added State Line Shown m links streams t p (next ∷ rest) mid new flow second last harmless ∙ ap (λ v. v ++ next ∷ rest) (Delivering.coming_steady State Line Shown m links streams p t line old mid flow first p giver);
-        steady = λ u n o. Adding.coming_steady State Line Shown m links streams t p (next ∷ rest) mid new flow second last harmless u o ∙ Delivering.coming_steady State Line Shown m links streams p t line old mid flow first u n;
+        taken = delivering.coming_taken State Line Shown m links streams p t line old mid flow first ∙ ap (λ v. line ∷ v) (sym (adding.coming_steady State Line Shown m links streams t p (next ∷ rest) mid new flow second last harmless t (λ e. giver (sym e))));
+        returned = adding.coming_added State Line Shown m links streams t p (next ∷ rest) mid new flow second last harmless ∙ ap (λ v. v ++ next ∷ rest) (delivering.coming_steady State Line Shown m links streams p t line old mid flow first p giver);
+        steady = λ u n o. adding.coming_steady State Line Shown m links streams t p (next ∷ rest) mid new flow second last harmless u o ∙ delivering.coming_steady State Line Shown m links streams p t line old mid flow first u n;
       }
 
 -- a delivery keeps what every state will be and what every server will have shown
@@ -130,8 +130,8 @@ pub delivery_outcome : {State Line Shown : Type 0} (m : Machine State Line Shown
 delivery_outcome {State} {Line} {Shown} m links streams p t line [] old new flow away d r =
     let takes : Takes m links streams p t line old new = record { delivers = d; no_echo = r.no_echo; takes_from = taker_from m streams p t line [] old new away d } in
     record {
-      same_final = Delivering.final_kept State Line Shown m links streams p t line old new flow takes;
-      same_told = Delivering.told_kept State Line Shown m links streams p t line old new flow takes;
+      same_final = delivering.final_kept State Line Shown m links streams p t line old new flow takes;
+      same_told = delivering.told_kept State Line Shown m links streams p t line old new flow takes;
     }
 delivery_outcome {State} {Line} {Shown} m links streams p t line (next ∷ rest) old new flow away d r = returned_outcome State Line Shown m links streams p t line next rest old new flow away d r
 
@@ -140,9 +140,9 @@ pub delivery_comes : {State Line Shown : Type 0} (m : Machine State Line Shown) 
 delivery_comes {State} {Line} {Shown} m links streams p t line [] old new flow away d r =
     let takes : Takes m links streams p t line old new = record { delivers = d; no_echo = r.no_echo; takes_from = taker_from m streams p t line [] old new away d } in
     record {
-      taken = Delivering.coming_taken State Line Shown m links streams p t line old new flow takes;
-      returned = Delivering.coming_steady State Line Shown m links streams p t line old new flow takes p (λ e. not_self (streams.depth t) refl takes.takes_from e) ∙ sym (append-nil (coming m streams old p));
-      steady = λ u n o. Delivering.coming_steady State Line Shown m links streams p t line old new flow takes u n;
+      taken = delivering.coming_taken State Line Shown m links streams p t line old new flow takes;
+      returned = delivering.coming_steady State Line Shown m links streams p t line old new flow takes p (λ e. not_self (streams.depth t) refl takes.takes_from e) ∙ sym (append-nil (coming m streams old p));
+      steady = λ u n o. delivering.coming_steady State Line Shown m links streams p t line old new flow takes u n;
     }
   where
     not_self : (n : ℕ) → streams.depth t ≡ n → TakesFrom streams t p → p ≡ t → ⊥

@@ -4,8 +4,8 @@ use Rattle.irc_relay.specs.Links.{Name, Link, IsForest, toward}
 use Rattle.irc_relay.specs.Relay.{Machine, Net, Streams, streams_from, Covers, TakesFrom, GoesAway, Delivers, Relays, ComesOn, after, coming, final}
 use Rattle.irc_relay.specs.Following.{Fact, AllAlong, GoesWell}
 use Rattle.irc_relay.specs.Lemmas.TellingNames.{alike, unlike, tell}
-use Rattle.irc_relay.proofs.Flowing.{IsFlow, covers_flows}
-use Rattle.irc_relay.proofs.Returning.{taker_from, delivery_comes}
+use Rattle.irc_relay.specs.Lemmas.StreamsFlow.{IsFlow, covers_flows}
+use Rattle.irc_relay.specs.Lemmas.ReturnedLines.{taker_from, delivery_comes}
 
 pub all_along_both : {State Line Shown : Type 0} (m : Machine State Line Shown) (good : Fact State Line) (p t : Name) (s : State) (xs ys : List Line)
     → AllAlong m good p t s xs → AllAlong m good p t (after m t p s xs) ys → AllAlong m good p t s (xs ++ ys)

@@ -4,8 +4,8 @@ use Rattle.std.proofs.lemmas.List.Sums.{sum_by-cons, sum_by-append}
 use Rattle.irc_relay.specs.Links.{Name, same, Link}
 use Rattle.irc_relay.specs.Relay.{Machine, Net, Streams, coming, TakesFrom, GoesAway, Delivers, Relays, ComesOn, lines_coming, lines_pending, AnswersOnce, IsCounted}
 use Rattle.irc_relay.specs.Lemmas.TellingNames.{Telling, alike, unlike, tell}
-use Rattle.irc_relay.proofs.Flowing.{IsFlow}
-use Rattle.irc_relay.proofs.Returning.{taker_from, delivery_comes}
+use Rattle.irc_relay.specs.Lemmas.StreamsFlow.{IsFlow}
+use Rattle.irc_relay.specs.Lemmas.ReturnedLines.{taker_from, delivery_comes}
 
 combine : (a f c cp b h g k ct : ℕ) → f + cp * b ≡ g + ct → a + c * b ≡ h + k → (a + f) + (c + cp) * b ≡ (h + g) + (k + ct)
 combine a f c cp b h g k ct e i = omega arith

@@ -4,7 +4,7 @@ use Rattle.std.proofs.lemmas.List.{append-nil}
 use Rattle.irc_relay.specs.Links.{Name, Link}
 use Rattle.irc_relay.specs.Relay.{Machine, Net, Streams, after, passed_on, shown_upon, under_way, coming_within, coming, ComesInTurn, at_source, from_source, from_parent, final, final_shown, IsAtRest, TakesFrom, AreHarmless, Delivers}
 use Rattle.irc_relay.specs.Lemmas.TellingNames.{alike, unlike, tell}
-use Rattle.irc_relay.proofs.Flowing.{IsFlow}
+use Rattle.irc_relay.specs.Lemmas.StreamsFlow.{IsFlow}
 
 -- runs of lines, one after another
 pub after-append : {State Line Shown : Type 0} (m : Machine State Line Shown) (t p : Name) (s : State) (xs ys : List Line) → after m t p s (xs ++ ys) ≡ after m t p (after m t p s xs) ys

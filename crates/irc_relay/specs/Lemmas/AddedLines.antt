@@ -4,8 +4,8 @@ use Rattle.std.proofs.lemmas.List.{append-nil}
 use Rattle.irc_relay.specs.Links.{Name, Link}
 use Rattle.irc_relay.specs.Relay.{Machine, Net, Streams, after, passed_on, shown_upon, under_way, coming_within, coming, final, final_shown, TakesFrom, AreHarmless}
 use Rattle.irc_relay.specs.Lemmas.TellingNames.{alike, unlike, tell}
-use Rattle.irc_relay.proofs.Flowing.{IsFlow}
-use Rattle.irc_relay.proofs.Delivering.{after-append, passed_on-append, shown_upon-append, after_harmless, passed_on_harmless, shown_upon_harmless, coming_from_still}
+use Rattle.irc_relay.specs.Lemmas.StreamsFlow.{IsFlow}
+use Rattle.irc_relay.specs.Lemmas.Deliveries.{after-append, passed_on-append, shown_upon-append, after_harmless, passed_on_harmless, shown_upon_harmless, coming_from_still}
 
 -- some lines are put behind those under way from x to y. Nothing else changes
 pub record Adds {State Line Shown : Type 0} (x y : Name) (lines : List Line) (old new : Net State Line Shown) : Type 0 where

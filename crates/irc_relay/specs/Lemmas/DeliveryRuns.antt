@@ -4,9 +4,9 @@ use Rattle.std.proofs.lemmas.List.{append-nil}
 use Rattle.irc_relay.specs.Links.{Name, Link, AreLinked}
 use Rattle.irc_relay.specs.Relay.{Machine, Net, Streams, after, shown_upon, under_way, coming, final, final_shown, IsAtRest, TakesFrom, GoesAway, Delivers, Relays, SameOutcome, Reaches, stays, goes_on, IsFront, IsOnTheWay}
 use Rattle.irc_relay.specs.Lemmas.TellingNames.{Telling, alike, unlike, tell}
-use Rattle.irc_relay.proofs.Flowing.{IsFlow}
-use Rattle.irc_relay.proofs.Delivering.{coming_at_rest}
-use Rattle.irc_relay.proofs.Returning.{taker_from, delivery_outcome}
+use Rattle.irc_relay.specs.Lemmas.StreamsFlow.{IsFlow}
+use Rattle.irc_relay.specs.Lemmas.Deliveries.{coming_at_rest}
+use Rattle.irc_relay.specs.Lemmas.ReturnedLines.{taker_from, delivery_outcome}
 
 -- where the first line of two lists together comes from
 pub data Begins {A : Type 0} (xs ys : List A) (l : A) (ls : List A) : Type 0 where
