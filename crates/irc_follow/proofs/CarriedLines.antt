@@ -19,8 +19,8 @@ use Rattle.irc_routes.specs.Known.{Known}
 use Rattle.irc_burst_lines.specs.DeedLines.{kill_parts, members_text, mode_parts, more_text, member_text, njoin_parts, server_parts, squit_parts, topic_parts}
 use Rattle.irc_link_words.specs.Numbers.{max_number}
 use Rattle.irc_link_writer.specs.Written.{next_distance, written_token}
-use Rattle.irc_wire.proofs.CarriedParts.{from_carried, number_carried, parameters_carried}
-use Rattle.irc_wire.proofs.ModeWords.{letters_carried}
+use Rattle.irc_wire.specs.Lemmas.CarriedParts.{from_carried, number_carried, parameters_carried}
+use Rattle.irc_wire.specs.Lemmas.ModeWords.{letters_carried}
 use Rattle.irc_follow.proofs.MemberLines.{AreNicks}
 
 both_carried : (xs ys : List ℕ) → IsCarried xs → IsCarried ys → IsCarried (xs ++ ys)

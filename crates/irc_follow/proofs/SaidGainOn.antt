@@ -37,9 +37,9 @@ use Rattle.irc_deeds.specs.DeedTold.{gain_told, told_by}
 use Rattle.irc_deeds.specs.Heard.{Heard, meets, tells}
 use Rattle.irc_deeds.specs.LinkServed.{after_heard, line_served, met_by, on_link, owes}
 use Rattle.irc_server.specs.Served.{served}
-use Rattle.irc_wire.proofs.LinesBack.{command_plain, from_plain}
-use Rattle.irc_wire.proofs.ModeWords.{digits_plain}
-use Rattle.irc_wire.proofs.NumberText.{number_digits, number_read, number_taken}
+use Rattle.irc_wire.specs.Lemmas.LinesReadBack.{command_plain, from_plain}
+use Rattle.irc_wire.specs.Lemmas.ModeWords.{digits_plain}
+use Rattle.irc_wire.specs.Lemmas.NumberText.{number_digits, number_read, number_taken}
 use Rattle.irc_follow.specs.Tree.{gained, told_token, CanGain}
 use Rattle.irc_follow.specs.Part.{Fixed, info_in, number, IsFixed, IsSoundPart}
 use Rattle.irc_follow.specs.Part as of_side

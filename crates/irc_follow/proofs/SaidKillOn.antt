@@ -30,7 +30,7 @@ use Rattle.irc_stage.specs.Handle.{is_client, to_viewer}
 use Rattle.irc_stage.specs.Linked.{told_on_all}
 use Rattle.irc_stage.specs.View.{View}
 use Rattle.irc_deeds.specs.DeedTold.{deed_told, told_by}
-use Rattle.irc_wire.proofs.LinesBack.{command_plain, from_plain}
+use Rattle.irc_wire.specs.Lemmas.LinesReadBack.{command_plain, from_plain}
 use Rattle.irc_follow.specs.Part.{Fixed, number, IsFixed, IsSoundPart}
 use Rattle.irc_follow.specs.Part as of_side
 use Rattle.irc_follow.specs.Fits.{Fits}

@@ -41,7 +41,7 @@ use Rattle.irc_stage.specs.EffectTold.{Served, all_changed, in_silence}
 use Rattle.irc_stage.specs.Linked.{told_on_all}
 use Rattle.irc_stage.specs.View.{View}
 use Rattle.irc_deeds.specs.DeedTold.{deed_told, forgotten, told_by}
-use Rattle.irc_wire.proofs.LinesBack.{carried_no_nul, command_plain, from_plain}
+use Rattle.irc_wire.specs.Lemmas.LinesReadBack.{carried_no_nul, command_plain, from_plain}
 use Rattle.irc_follow.specs.Part.{Fixed, number, IsFixed, IsSoundPart}
 use Rattle.irc_follow.specs.Part as of_side
 use Rattle.irc_follow.specs.Fits.{Fits}

@@ -35,7 +35,7 @@ use Rattle.irc_stage.specs.View.{End, View}
 use Rattle.irc_deeds.specs.Heard.{heard, of_met, tells}
 use Rattle.irc_wire.specs.EachReadBack.{EachIsReadBack}
 use Rattle.irc_wire.specs.ReadBack.{IsReadBack}
-use Rattle.irc_wire.proofs.LinesBack.{command_plain, from_plain}
+use Rattle.irc_wire.specs.Lemmas.LinesReadBack.{command_plain, from_plain}
 use Rattle.irc_world.specs.World.{World}
 use Rattle.irc_follow.specs.AtRest.{part_of}
 use Rattle.irc_follow.specs.Fits.{Fits}

@@ -30,7 +30,7 @@ use Rattle.irc_deeds.specs.Heard.{Heard, closes, heard, meets, met_unless, opene
 use Rattle.irc_deeds.specs.LinkServed.{after_heard, line_served, on_link, owes}
 use Rattle.irc_deeds.specs.Lemmas.Fronts.{lost_link_behind}
 use Rattle.irc_server.specs.Served.{link_says, served}
-use Rattle.irc_wire.proofs.LinesBack.{command_plain}
+use Rattle.irc_wire.specs.Lemmas.LinesReadBack.{command_plain}
 use Rattle.irc_follow.proofs.Neighbours.{IsKnownOfLines}
 use Rattle.irc_follow.proofs.SaidGainOn.{text_no_nul}
 use Rattle.irc_items.specs.GoodLines.{closings}

@@ -22,13 +22,13 @@ use Rattle.irc_link_reader.specs.Reader.{Reader, reader_of}
 use Rattle.irc_wire.specs.WholeLines.{IsToldUser, ToldFitsItsLine}
 use Rattle.irc_link_words.specs.Words.{no_mode, with_i}
 use Rattle.irc_link_writer.specs.Written.{from, introduction, next_distance, wire, written_token}
-use Rattle.irc_wire.proofs.CarriedParts.{told_is_carried}
+use Rattle.irc_wire.specs.Lemmas.CarriedParts.{told_is_carried}
 use Rattle.irc_wire.proofs.EffectsRead.{far_may_come}
-use Rattle.irc_wire.proofs.LinesBack.{IsKnownBelow, carried_no_nul, command_plain, from_plain, read_again}
-use Rattle.irc_wire.proofs.ModesRead.{words_written}
-use Rattle.irc_wire.proofs.ModeWords.{digits_plain, worded_counted, words_plain}
-use Rattle.irc_wire.proofs.NumberText.{number_digits, number_taken}
-use Rattle.irc_wire.proofs.StoredNames.{channel_kept, channel_there, nick_kept}
+use Rattle.irc_wire.specs.Lemmas.LinesReadBack.{IsKnownBelow, carried_no_nul, command_plain, from_plain, read_again}
+use Rattle.irc_wire.specs.Lemmas.ModesRead.{words_written}
+use Rattle.irc_wire.specs.Lemmas.ModeWords.{digits_plain, worded_counted, words_plain}
+use Rattle.irc_wire.specs.Lemmas.NumberText.{number_digits, number_taken}
+use Rattle.irc_wire.specs.Lemmas.StoredNames.{channel_kept, channel_there, nick_kept}
 
 -- what is known in the crates below, and of what this crate writes
 pub record IsKnown : Type 0 where

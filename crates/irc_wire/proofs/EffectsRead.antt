@@ -20,7 +20,7 @@ use Rattle.irc_wire.specs.ReadBack.{is_user_far}
 use Rattle.irc_link_reader.specs.Reader.{Reader, may_come}
 use Rattle.irc_link_words.specs.Words.{with_i, without_i, marked, is_marked, is_for_channel, target_of, are_changes, are_members_named, changes_of}
 use Rattle.irc_link_writer.specs.Written.{from}
-use Rattle.irc_wire.proofs.NameKinds.{nick-no_server, nick-for_user, channel-for_channel, marked-told, marked-name}
+use Rattle.irc_wire.specs.Lemmas.NameKinds.{nick-no_server, nick-for_user, channel-for_channel, marked-told, marked-name}
 
 -- what the reader knows of whom a line is from, and of all whom it names
 pub record IsExpected (reader : Reader) (nick : List ℕ) (effect : Effect) : Type 0 where

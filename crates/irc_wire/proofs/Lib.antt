@@ -1,13 +1,5 @@
-pub mod CarriedParts
-pub mod NameKinds
-pub mod StoredNames
 pub mod EffectsRead
 pub mod MeaningsBack
-pub mod LinesBack
-pub mod NumberText
-pub mod IntroductionRead
-pub mod ModeWords
-pub mod ModesRead
 pub mod WholeLines
 pub mod EachBack
 pub mod LinesAlike

@@ -23,7 +23,7 @@ use Rattle.irc_link_reader.specs.Reader.{Reader}
 use Rattle.irc_link_words.specs.Words.{with_i, without_i, marked}
 use Rattle.irc_link_writer.specs.Written.{from, wire}
 use Rattle.irc_wire.proofs.EffectsRead.{IsExpected, IsTarget, invite_read, join_read, kick_read, part_read, quit_read, rename_read, text_read, topic_read, user_mode_read}
-use Rattle.irc_wire.proofs.StoredNames.{IsKeptAs, nick_kept, channel_kept, channel_there}
+use Rattle.irc_wire.specs.Lemmas.StoredNames.{IsKeptAs, nick_kept, channel_kept, channel_there}
 
 -- whom the line is from, as stored
 expected : (room : Room) (known : Known) (reader : Reader) (effect : Effect) (nick : List ℕ) → IsReadable room known reader effect

@@ -25,11 +25,11 @@ use Rattle.irc_wire.specs.WholeLines.{IsToldUser, ToldFitsItsLine, ToldIsWhole}
 use Rattle.irc_link_words.specs.Words.{is_mode_word, no_mode, with_i}
 use Rattle.irc_link_writer.specs.Written.{from, introduction, next_distance, wire, written_token}
 use Rattle.irc_line.specs.Lemmas.CutLaws.{cut_all}
-use Rattle.irc_wire.proofs.LinesBack.{by_nickname, channel_short, four_lengths, named_length, nick_short, viewer, wire_whole}
-use Rattle.irc_wire.proofs.ModesRead.{words_written}
-use Rattle.irc_wire.proofs.StoredNames.{channel_kept, channel_there}
+use Rattle.irc_wire.specs.Lemmas.LinesReadBack.{by_nickname, channel_short, four_lengths, named_length, nick_short, viewer, wire_whole}
+use Rattle.irc_wire.specs.Lemmas.ModesRead.{words_written}
+use Rattle.irc_wire.specs.Lemmas.StoredNames.{channel_kept, channel_there}
 use Rattle.irc_mode_words.specs.Lemmas.FewChanges.{letters_few}
-use Rattle.irc_wire.proofs.ModeWords.{mode_words, worded_counted}
+use Rattle.irc_wire.specs.Lemmas.ModeWords.{mode_words, worded_counted}
 
 -- ---- lengths
 

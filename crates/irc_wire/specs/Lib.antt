@@ -4,3 +4,4 @@ pub mod ModesTaken
 pub mod WholeLines
 pub mod EachReadBack
 pub mod OtherInvitations
+pub mod Lemmas

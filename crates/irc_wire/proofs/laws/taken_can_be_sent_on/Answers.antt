@@ -1,4 +1,4 @@
-use Rattle.irc_wire.proofs.ModesRead.{taken_can_be_sent_on, taken_is_read_by_the_next}
+use Rattle.irc_wire.specs.Lemmas.ModesRead.{taken_can_be_sent_on, taken_is_read_by_the_next}
 use Rattle.irc_wire.proofs.laws.taken_can_be_sent_on.Goals as goal
 
 pub returns-clause-written : goal.returns-clause-written

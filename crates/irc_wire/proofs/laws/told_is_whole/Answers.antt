@@ -1,4 +1,4 @@
-use Rattle.irc_wire.proofs.CarriedParts.{told_is_carried}
+use Rattle.irc_wire.specs.Lemmas.CarriedParts.{told_is_carried}
 use Rattle.irc_wire.proofs.WholeLines.{told_fits_its_line, told_is_whole}
 use Rattle.irc_wire.proofs.laws.told_is_whole.Goals as goal
 

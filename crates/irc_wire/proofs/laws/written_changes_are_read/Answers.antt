@@ -1,4 +1,4 @@
-use Rattle.irc_wire.proofs.ModesRead.{written_changes_are_read}
+use Rattle.irc_wire.specs.Lemmas.ModesRead.{written_changes_are_read}
 use Rattle.irc_wire.proofs.laws.written_changes_are_read.Goals as goal
 
 pub returns : goal.returns

@@ -1,6 +1,6 @@
 use Rattle.irc_link_writer.specs.Written.{wire}
-use Rattle.irc_wire.proofs.CarriedParts.{plain_tellable, told_is_carried}
-use Rattle.irc_wire.proofs.LinesBack.{line_back}
+use Rattle.irc_wire.specs.Lemmas.CarriedParts.{plain_tellable, told_is_carried}
+use Rattle.irc_wire.specs.Lemmas.LinesReadBack.{line_back}
 use Rattle.irc_wire.proofs.MeaningsBack.{meant_back}
 use Rattle.irc_link_reader.specs.Reader.{reader_of}
 use Rattle.irc_wire.proofs.laws.written_is_read_back.Goals as goal

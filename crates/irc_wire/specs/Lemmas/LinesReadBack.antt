@@ -29,7 +29,7 @@ use Rattle.irc_routes.specs.Known.{Known}
 use Rattle.irc_wire.specs.ReadBack.{IsPlainEffect}
 use Rattle.irc_link_words.specs.Words.{op_mark, marked, with_i, without_i}
 use Rattle.irc_link_writer.specs.Written.{from, wire}
-use Rattle.irc_wire.proofs.StoredNames.{nick_kept, channel_kept, channel_there}
+use Rattle.irc_wire.specs.Lemmas.StoredNames.{nick_kept, channel_kept, channel_there}
 
 -- ---- what a line cannot carry is not in a text that it can
 

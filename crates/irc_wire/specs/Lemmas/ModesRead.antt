@@ -35,10 +35,10 @@ use Rattle.irc_link_reader.specs.Means.{Checked, first_fault, of_either, read_by
 use Rattle.irc_wire.specs.ModesTaken.{AreSentOn, AreTold, OtherwiseWrittenIsRefused, TakenCanBeSentOn, TakenIsReadAgain, TakenIsReadByTheNext, TakenIsWrittenSo, WrittenChangesAreRead, mode_message, nothing, stored_changes, told}
 use Rattle.irc_link_reader.specs.Reader.{Reader, may_come}
 use Rattle.irc_link_words.specs.Words.{are_changes, are_members_named, changes_of, is_for_channel, is_mode_word, keeps_word, made, names_nick}
-use Rattle.irc_wire.proofs.IntroductionRead.{no_fault}
-use Rattle.irc_wire.proofs.NameKinds.{channel-for_channel, nick-no_server}
-use Rattle.irc_wire.proofs.ModeWords.{mode_words}
-use Rattle.irc_wire.proofs.StoredNames.{channel_stays, nick_stays}
+use Rattle.irc_wire.specs.Lemmas.IntroductionRead.{no_fault}
+use Rattle.irc_wire.specs.Lemmas.NameKinds.{channel-for_channel, nick-no_server}
+use Rattle.irc_wire.specs.Lemmas.ModeWords.{mode_words}
+use Rattle.irc_wire.specs.Lemmas.StoredNames.{channel_stays, nick_stays}
 
 not_true : {A : Type 0} → false ≡ true → A
 not_true e = cc

@@ -22,10 +22,10 @@ use Rattle.irc_wire.specs.ReadBack.{IsPlainEffect}
 use Rattle.irc_wire.specs.WholeLines.{IsTellable, IsToldUser, ToldIsCarried}
 use Rattle.irc_link_words.specs.Words.{marked, no_mode, op_mark, with_i, without_i}
 use Rattle.irc_link_writer.specs.Written.{from, introduction, next_distance, wire, written_token}
-use Rattle.irc_wire.proofs.ModeWords.{digits_carried, letters_carried}
-use Rattle.irc_wire.proofs.ModesRead.{words_written}
-use Rattle.irc_wire.proofs.NumberText.{number_digits}
-use Rattle.irc_wire.proofs.StoredNames.{channel_kept, channel_there, nick_kept}
+use Rattle.irc_wire.specs.Lemmas.ModeWords.{digits_carried, letters_carried}
+use Rattle.irc_wire.specs.Lemmas.ModesRead.{words_written}
+use Rattle.irc_wire.specs.Lemmas.NumberText.{number_digits}
+use Rattle.irc_wire.specs.Lemmas.StoredNames.{channel_kept, channel_there, nick_kept}
 
 pub from_carried : (name command : List ℕ) (middle : List (List ℕ)) (last : Option (List ℕ)) → IsCarried name → IsCarried command → (command ≡ [] → ⊥)
     → AllByRecursion IsCarried middle → IsCarried (unwrap_or last []) → AreCarriedParts (from name command middle last)

@@ -19,7 +19,7 @@ use Rattle.irc_link_words.specs.Numbers.{is_number}
 use Rattle.irc_link_reader.specs.Reader.{Reader}
 use Rattle.irc_link_words.specs.Words.{is_come_mode, is_user_name, no_mode, with_i}
 use Rattle.irc_link_writer.specs.Written.{next_distance, written_token}
-use Rattle.irc_wire.proofs.NumberText.{number_read, number_taken}
+use Rattle.irc_wire.specs.Lemmas.NumberText.{number_read, number_taken}
 
 -- a line in which there is no fault means what it says
 pub no_fault : (checked : Checked) → checked.parameters ≡ true → checked.token ≡ true → checked.direction ≡ true → checked.names ≡ true

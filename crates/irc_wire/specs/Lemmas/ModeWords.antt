@@ -25,7 +25,7 @@ use Rattle.irc_room.specs.Room.{Room}
 use Rattle.irc_room.specs.Seen.{names_member}
 use Rattle.irc_room.specs.Sendable.{IsSentChange, IsSentWord}
 use Rattle.irc_link_words.specs.Words.{is_mode_word}
-use Rattle.irc_wire.proofs.LinesBack.{carried_no_nul, nick_short}
+use Rattle.irc_wire.specs.Lemmas.LinesReadBack.{carried_no_nul, nick_short}
 
 not_true : {A : Type 0} → false ≡ true → A
 not_true e = cc
