@@ -18,8 +18,8 @@ use Rattle.irc_world.specs.World.{has_end}
 use Rattle.irc_follow.specs.Tree.{Shape, index_in}
 use Rattle.irc_follow.specs.Part.{Fixed}
 use Rattle.irc_follow.specs.AtRest.{AreRight}
-use Rattle.irc_follow.proofs.BehindLinks.{row_is_there, row_says}
-use Rattle.irc_follow.proofs.Places.{one_place}
+use Rattle.irc_follow.specs.Lemmas.BehindLinks.{row_is_there, row_says}
+use Rattle.irc_follow.specs.Lemmas.PlacesOfNames.{one_place}
 
 -- ---- sets of numbers
 

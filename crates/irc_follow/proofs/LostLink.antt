@@ -7,7 +7,7 @@ use Rattle.irc_routes.specs.Known.{row_of}
 use Rattle.irc_follow.specs.Tree.{Tree, shape, shape_in, IsSoundTree}
 use Rattle.irc_follow.specs.Part.{info_in}
 use Rattle.irc_follow.specs.Relinked.{with_links, CanCut, PartAfterCut, TreeAfterCut}
-use Rattle.irc_follow.proofs.NewLink.{kept_row, parent_is_linked, shape_stays}
+use Rattle.irc_follow.specs.Lemmas.NewLink.{kept_row, parent_is_linked, shape_stays}
 
 -- whoever is linked without that link was linked before
 linked_before : (links : List Link) (a b t u : Name) → AreLinked (links_without links a b) t u → AreLinked links t u

@@ -7,7 +7,7 @@ use Rattle.irc_world.specs.World.{Setting, has_end, known_from, joined_place}
 use Rattle.irc_routes.specs.Place.{alone}
 use Rattle.irc_follow.specs.AtRest.{PlaceIsWorlds}
 use Rattle.irc_follow.proofs.LinksCounted.{links_counted}
-use Rattle.irc_follow.proofs.NamedRows.{names_of}
+use Rattle.irc_follow.specs.Lemmas.NamedRows.{names_of}
 use Rattle.irc_follow.proofs.PlacesListed.{found_setting, servers_listed}
 
 pub place_is_worlds : PlaceIsWorlds

@@ -19,9 +19,9 @@ use Rattle.irc_world.specs.World.{Setting, is_server, known_from, setting_of}
 use Rattle.irc_follow.specs.Tree.{Shape}
 use Rattle.irc_follow.specs.Part.{Fixed, info_in, IsFixed}
 use Rattle.irc_follow.specs.AtRest.{AreRight}
-use Rattle.irc_follow.proofs.AtRest.{joined_among, joined_so}
-use Rattle.irc_follow.proofs.BehindLinks.{joined_test, row_is_there, row_says}
-use Rattle.irc_follow.proofs.NamedRows.{apart_fold, listed, names_of}
+use Rattle.irc_follow.specs.Lemmas.SideAtRest.{joined_among, joined_so}
+use Rattle.irc_follow.specs.Lemmas.BehindLinks.{joined_test, row_is_there, row_says}
+use Rattle.irc_follow.specs.Lemmas.NamedRows.{apart_fold, listed, names_of}
 
 -- a server that there is, as it is configured
 pub record HasSetting (settings : List Setting) (server : Name) : Type 0 where

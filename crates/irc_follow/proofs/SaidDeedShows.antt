@@ -44,12 +44,12 @@ use Rattle.irc_follow.specs.Part as of_side
 use Rattle.irc_follow.specs.Fits.{Fits}
 use Rattle.irc_follow.specs.Laws.{SaidDeedShows}
 use Rattle.irc_follow.specs.Says.{neighbour_served, Says, IsDoableLoss}
-use Rattle.irc_follow.proofs.ClientLines.{client_shown, to_one, told_line}
-use Rattle.irc_follow.proofs.DeedEffects.{AllCalm, IsCounted, at_room, quiet_counted, quits_calm}
-use Rattle.irc_follow.proofs.LostUsers.{lost_are_of, lost_counted}
-use Rattle.irc_follow.proofs.SaidDeed.{IsQuietDeed, brings_quietly, deed_served, not_it, same_effects, sets_quietly, there, tops_quietly}
-use Rattle.irc_follow.proofs.SaidEffect.{own_name}
-use Rattle.irc_follow.proofs.SaidShows.{all_lines, append_nil, but_links, client_along, client_is, lines_behind, rooms, said_effect_shows, shown_so, well_here}
+use Rattle.irc_follow.specs.Lemmas.ClientLines.{client_shown, to_one, told_line}
+use Rattle.irc_follow.specs.Lemmas.DeedEffects.{AllCalm, IsCounted, at_room, quiet_counted, quits_calm}
+use Rattle.irc_follow.specs.Lemmas.LostUsers.{lost_are_of, lost_counted}
+use Rattle.irc_follow.specs.Lemmas.SaidDeed.{IsQuietDeed, brings_quietly, deed_served, not_it, same_effects, sets_quietly, there, tops_quietly}
+use Rattle.irc_follow.specs.Lemmas.SaidEffect.{own_name}
+use Rattle.irc_follow.specs.Lemmas.SaidEffectShown.{all_lines, append_nil, but_links, client_along, client_is, lines_behind, rooms, said_effect_shows, shown_so, well_here}
 use Rattle.irc_registering.specs.Closing.{error_line}
 
 module _ (who : ℕ) where

@@ -1,11 +1,11 @@
 -- Whatever deed a line says, the server that takes it is then what it has to be, and its side is sound.
 use Rattle.irc_merge.specs.Deeds.{does, gains, loses, kills, brings, sets, tops}
 use Rattle.irc_follow.specs.Laws.{DoneStaysSound, SaidDeedFits}
-use Rattle.irc_follow.proofs.PartDeeds.{brings_keeps, kills_keeps, loses_keeps, sets_keeps, tops_keeps}
-use Rattle.irc_follow.proofs.PartEffects.{effect_keeps, gain_keeps}
-use Rattle.irc_follow.proofs.SaidDeed.{said_brings_fits, said_kills_fits, said_loses_fits, said_sets_fits, said_tops_fits}
-use Rattle.irc_follow.proofs.SaidEffect.{said_effect_fits}
-use Rattle.irc_follow.proofs.SaidGain.{said_gain_fits}
+use Rattle.irc_follow.specs.Lemmas.PartDeeds.{brings_keeps, kills_keeps, loses_keeps, sets_keeps, tops_keeps}
+use Rattle.irc_follow.specs.Lemmas.PartEffects.{effect_keeps, gain_keeps}
+use Rattle.irc_follow.specs.Lemmas.SaidDeed.{said_brings_fits, said_kills_fits, said_loses_fits, said_sets_fits, said_tops_fits}
+use Rattle.irc_follow.specs.Lemmas.SaidEffect.{said_effect_fits}
+use Rattle.irc_follow.specs.Lemmas.SaidGain.{said_gain_fits}
 
 pub done_stays_sound : DoneStaysSound
 done_stays_sound s w (does effect) fixed sound doable = effect_keeps s w effect sound doable

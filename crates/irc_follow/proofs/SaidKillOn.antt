@@ -36,13 +36,13 @@ use Rattle.irc_follow.specs.Part as of_side
 use Rattle.irc_follow.specs.Fits.{Fits}
 use Rattle.irc_follow.specs.Laws.{GoesOn, SaidKillGoesOn}
 use Rattle.irc_follow.specs.Says.{neighbour_served, lines_on, machine, Says, IsDoableKill}
-use Rattle.irc_follow.proofs.CarriedLines.{kill_carried}
-use Rattle.irc_follow.proofs.LinesOn.{lines_behind, none_to_viewer, none_to_viewers}
-use Rattle.irc_follow.proofs.Neighbours.{IsKnownOfLines, both}
-use Rattle.irc_follow.proofs.Neighbours as beside
-use Rattle.irc_follow.proofs.SaidDeed.{deed_served, there}
-use Rattle.irc_follow.proofs.SaidEffect.{rooms_alike}
-use Rattle.irc_follow.proofs.ServerLines.{all_so}
+use Rattle.irc_follow.specs.Lemmas.CarriedLines.{kill_carried}
+use Rattle.irc_follow.specs.Lemmas.LinesOnLinks.{lines_behind, none_to_viewer, none_to_viewers}
+use Rattle.irc_follow.specs.Lemmas.Neighbours.{IsKnownOfLines, both}
+use Rattle.irc_follow.specs.Lemmas.Neighbours as beside
+use Rattle.irc_follow.specs.Lemmas.SaidDeed.{deed_served, there}
+use Rattle.irc_follow.specs.Lemmas.SaidEffect.{rooms_alike}
+use Rattle.irc_follow.specs.Lemmas.ServerLines.{all_so}
 use Rattle.irc_registering.specs.Closing.{error_line}
 
 -- ends of clients go on no link

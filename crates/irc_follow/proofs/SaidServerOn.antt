@@ -47,16 +47,16 @@ use Rattle.irc_follow.specs.Part as of_side
 use Rattle.irc_follow.specs.Fits.{Fits}
 use Rattle.irc_follow.specs.Laws.{GoesOn, SaidLossGoesOn, SaidMembersGoOn, SaidModesGoOn, SaidTopicGoesOn}
 use Rattle.irc_follow.specs.Says.{neighbour_served, lines_on, machine, Says, AreToldMembers, HasOneOfFar, IsDoableByServer, IsDoableLoss, IsFar, IsFarChannel, IsOfFar, IsOneOfFar, IsToldMember}
-use Rattle.irc_follow.proofs.DeedEffects.{at_room}
-use Rattle.irc_follow.proofs.CarriedLines.{members_carried, modes_carried, squit_carried, topic_carried}
-use Rattle.irc_follow.proofs.LinesOn.{ends_by_all, none_by_all}
-use Rattle.irc_follow.proofs.MemberLines.{AreNicks, all_new}
+use Rattle.irc_follow.specs.Lemmas.DeedEffects.{at_room}
+use Rattle.irc_follow.specs.Lemmas.CarriedLines.{members_carried, modes_carried, squit_carried, topic_carried}
+use Rattle.irc_follow.specs.Lemmas.LinesOnLinks.{ends_by_all, none_by_all}
+use Rattle.irc_follow.specs.Lemmas.MemberLines.{AreNicks, all_new}
 use Rattle.irc_follow.proofs.SaidKillOn.{stored_named}
-use Rattle.irc_follow.proofs.Neighbours.{IsKnownOfLines, both}
-use Rattle.irc_follow.proofs.Neighbours as beside
-use Rattle.irc_follow.proofs.SaidDeed.{deed_served}
-use Rattle.irc_follow.proofs.SaidEffect.{far_is_another, rooms_alike}
-use Rattle.irc_follow.proofs.ServerLines.{all_so, brought_some, members_plain, members_read, members_whole, modes_plain, modes_read, modes_whole, or_so, topic_plain, topic_read, topic_whole}
+use Rattle.irc_follow.specs.Lemmas.Neighbours.{IsKnownOfLines, both}
+use Rattle.irc_follow.specs.Lemmas.Neighbours as beside
+use Rattle.irc_follow.specs.Lemmas.SaidDeed.{deed_served}
+use Rattle.irc_follow.specs.Lemmas.SaidEffect.{far_is_another, rooms_alike}
+use Rattle.irc_follow.specs.Lemmas.ServerLines.{all_so, brought_some, members_plain, members_read, members_whole, modes_plain, modes_read, modes_whole, or_so, topic_plain, topic_read, topic_whole}
 
 module _ (known : IsKnownOfLines) (s : Fixed) (p t u : Name) (w : of_side.Part) (view other : View) (line : List ℕ) (client : ℕ)
     (fixed : IsFixed s) (takes : TakesFrom s.streams t p) (next : TakesFrom s.streams u t) (apart : u ≢ p) (writer : Fits s t w view)

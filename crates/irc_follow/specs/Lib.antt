@@ -7,3 +7,4 @@ pub mod Examples
 pub mod Relinked
 pub mod SideFlows
 pub mod AtRest
+pub mod Lemmas

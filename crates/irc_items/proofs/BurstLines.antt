@@ -55,16 +55,16 @@ use Rattle.irc_follow.specs.Fits.{Fits}
 use Rattle.irc_follow.specs.Part.{Fixed, Part, info_in, number, IsFixed, IsSoundPart}
 use Rattle.irc_follow.specs.Says.{Aside, HasOneOfFar, IsDoableEffect, IsFar, IsNothing, IsOfFar, IsOneOfFar, IsToldMember, Says}
 use Rattle.irc_follow.specs.Tree.{Shape, shape, shape_in, IsSoundTree}
-use Rattle.irc_follow.proofs.BehindLinks.{row_is_there}
-use Rattle.irc_follow.proofs.MemberLines.{AreNicks}
-use Rattle.irc_follow.proofs.CarriedLines.{members_carried, modes_carried, topic_carried}
-use Rattle.irc_follow.proofs.Neighbours.{HasEnd, IsKnownOfLines, met_end}
-use Rattle.irc_follow.proofs.Places.{one_place}
-use Rattle.irc_follow.proofs.ReadNext.{distance_at, link_of, shape_at, token_found}
-use Rattle.irc_follow.proofs.SaidEffect.{far_is_another, rooms_alike}
-use Rattle.irc_follow.proofs.SaidGainOn.{low_number, low_token_number}
-use Rattle.irc_follow.proofs.SaidOn.{effect_heard}
-use Rattle.irc_follow.proofs.ServerLines.{brought_some, line_heard, members_plain, members_read, members_whole, modes_plain, modes_read, modes_whole, topic_plain, topic_read, topic_whole}
+use Rattle.irc_follow.specs.Lemmas.BehindLinks.{row_is_there}
+use Rattle.irc_follow.specs.Lemmas.MemberLines.{AreNicks}
+use Rattle.irc_follow.specs.Lemmas.CarriedLines.{members_carried, modes_carried, topic_carried}
+use Rattle.irc_follow.specs.Lemmas.Neighbours.{HasEnd, IsKnownOfLines, met_end}
+use Rattle.irc_follow.specs.Lemmas.PlacesOfNames.{one_place}
+use Rattle.irc_follow.specs.Lemmas.EffectsReadNext.{distance_at, link_of, shape_at, token_found}
+use Rattle.irc_follow.specs.Lemmas.SaidEffect.{far_is_another, rooms_alike}
+use Rattle.irc_follow.specs.Lemmas.SaidGainToldOn.{low_number, low_token_number}
+use Rattle.irc_follow.specs.Lemmas.SaidEffectToldOn.{effect_heard}
+use Rattle.irc_follow.specs.Lemmas.ServerLines.{brought_some, line_heard, members_plain, members_read, members_whole, modes_plain, modes_read, modes_whole, topic_plain, topic_read, topic_whole}
 use Rattle.irc_items.proofs.BurstTaken.{changes_within, topic_within}
 use Rattle.irc_items.proofs.BurstTold.{AreComing, AreTheirChanges, AreTheirMembers, IsTheirMember, IsTheirTopic}
 use Rattle.irc_items.proofs.LinkOver.{IsOver, way_over}

@@ -6,7 +6,7 @@ use Rattle.std.specs.Option.{option_map, option_map_or}
 use Rattle.irc_burst.specs.DeedsMeant.{as_stored}
 use Rattle.irc_channels.specs.declared.channel.Channel.{Channel}
 use Rattle.irc_channels.specs.declared.flags.Flags.{Flags}
-use Rattle.irc_follow.proofs.DeedEffects.{members_quiet, users_stay}
+use Rattle.irc_follow.specs.Lemmas.DeedEffects.{members_quiet, users_stay}
 use Rattle.irc_merge.proofs.CanBeDone.{members_do}
 use Rattle.irc_merge.proofs.Tests.{and_not}
 use Rattle.irc_merge.specs.BurstRead.{is_new_member, new_members}

@@ -30,7 +30,7 @@ use Rattle.irc_world.specs.Homes.{HomesPass}
 use Rattle.irc_follow.specs.AtRest.{AreRight}
 use Rattle.irc_follow.specs.Part.{Fixed, info_in, number}
 use Rattle.irc_follow.specs.Tree.{Shape, shape, shape_in}
-use Rattle.irc_follow.proofs.Places.{one_place}
+use Rattle.irc_follow.specs.Lemmas.PlacesOfNames.{one_place}
 
 -- ---- a side that is all of a room
 

@@ -33,9 +33,9 @@ use Rattle.irc_follow.specs.Fits.{Fits}
 use Rattle.irc_follow.specs.Part.{Fixed, is_home_of, number}
 use Rattle.irc_follow.specs.Says.{lines_on, machine, play}
 use Rattle.irc_follow.specs.Tree.{index_in}
-use Rattle.irc_follow.proofs.AtRest.{joined_alike}
-use Rattle.irc_follow.proofs.Followed.{IsKnownOfLine}
-use Rattle.irc_follow.proofs.SaidShows.{append_nil}
+use Rattle.irc_follow.specs.Lemmas.SideAtRest.{joined_alike}
+use Rattle.irc_follow.specs.Lemmas.SidesFollowed.{IsKnownOfLine}
+use Rattle.irc_follow.specs.Lemmas.SaidEffectShown.{append_nil}
 use Rattle.irc_network.specs.Laws.{RestStays}
 use Rattle.irc_network.specs.Network.{Network, received_by}
 use Rattle.irc_items.specs.GoodLines.{no_answers}

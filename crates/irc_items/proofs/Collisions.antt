@@ -42,13 +42,13 @@ use Rattle.irc_follow.specs.Fits.{Fits}
 use Rattle.irc_follow.specs.Part.{Fixed, Part, info_in, number, IsFixed}
 use Rattle.irc_follow.specs.Says.{IsDoableKill, Says}
 use Rattle.irc_follow.specs.Tree.{shape_in}
-use Rattle.irc_follow.proofs.BehindLinks.{joined_test}
-use Rattle.irc_follow.proofs.CarriedLines.{kill_carried}
-use Rattle.irc_follow.proofs.Neighbours.{HasEnd, IsKnownOfLines, both, met_end}
-use Rattle.irc_follow.proofs.ReadNext.{link_of, shape_at}
-use Rattle.irc_follow.proofs.SaidEffect.{own_name, rooms_alike}
-use Rattle.irc_follow.proofs.SaidOn.{no_row}
-use Rattle.irc_follow.proofs.ServerLines.{all_so, line_heard, met_heard}
+use Rattle.irc_follow.specs.Lemmas.BehindLinks.{joined_test}
+use Rattle.irc_follow.specs.Lemmas.CarriedLines.{kill_carried}
+use Rattle.irc_follow.specs.Lemmas.Neighbours.{HasEnd, IsKnownOfLines, both, met_end}
+use Rattle.irc_follow.specs.Lemmas.EffectsReadNext.{link_of, shape_at}
+use Rattle.irc_follow.specs.Lemmas.SaidEffect.{own_name, rooms_alike}
+use Rattle.irc_follow.specs.Lemmas.SaidEffectToldOn.{no_row}
+use Rattle.irc_follow.specs.Lemmas.ServerLines.{all_so, line_heard, met_heard}
 use Rattle.irc_items.specs.GoodLines.{Answering, IsUnheard}
 use Rattle.irc_items.proofs.BurstLines.{IsBurstReader, IsNewNeighbour, KnowsBothSides, met, user_agrees, user_readable}
 

@@ -26,10 +26,10 @@ use Rattle.irc_follow.specs.Fits.{far_of, peers_of, Fits, IsNumberOf}
 use Rattle.irc_follow.specs.Part.{Fixed, info_in, is_home_of, number, IsFixed, IsSoundPart}
 use Rattle.irc_follow.specs.Says.{play}
 use Rattle.irc_follow.specs.Tree.{index_in, shape_in}
-use Rattle.irc_follow.proofs.AtRest.{joined_alike}
-use Rattle.irc_follow.proofs.BehindLinks.{joined_test}
-use Rattle.irc_follow.proofs.NewLink.{kept_row, parent_is_linked, shape_stays}
-use Rattle.irc_follow.proofs.Places.{one_place}
+use Rattle.irc_follow.specs.Lemmas.SideAtRest.{joined_alike}
+use Rattle.irc_follow.specs.Lemmas.BehindLinks.{joined_test}
+use Rattle.irc_follow.specs.Lemmas.NewLink.{kept_row, parent_is_linked, shape_stays}
+use Rattle.irc_follow.specs.Lemmas.PlacesOfNames.{one_place}
 use Rattle.irc_items.proofs.CutEnds.{AreCutEnds, aside_joined, aside_linked, ends_unlinked, side_linked}
 use Rattle.irc_items.proofs.CutHalls.{hall_aside, hall_far, hall_near, lines_aside, lines_far, lines_near}
 use Rattle.irc_items.proofs.CutSide.{IsCutSide, IsKnownOfCuts, IsRightServer, client_remains, clients_left, clients_remaining, fits_side, room_left, side_ends, side_left, side_right, side_seen, side_tokens}

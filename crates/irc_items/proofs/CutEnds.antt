@@ -6,8 +6,8 @@ use Rattle.irc_relay.specs.Lemmas.TellingNames.{same_unless}
 use Rattle.irc_relay.specs.Lemmas.NextHops.{linked_joined}
 use Rattle.irc_relay.specs.Lemmas.LinkTakenOut.{Ending, ends, ending, linked_tells, passes, rejoins, taken_out, without-ends, without-passes}
 use Rattle.irc_routes.proofs.DistinctLinks.{both_so}
-use Rattle.irc_follow.proofs.AtRest.{joined_so}
-use Rattle.irc_follow.proofs.BehindLinks.{joined_test}
+use Rattle.irc_follow.specs.Lemmas.SideAtRest.{joined_so}
+use Rattle.irc_follow.specs.Lemmas.BehindLinks.{joined_test}
 
 -- a link is still there, or it is the lost one
 pub data IsLeftOrLost (left : List Link) (a b t u : Name) : Type 0 where

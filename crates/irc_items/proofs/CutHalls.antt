@@ -6,7 +6,7 @@ use Rattle.irc_relay.specs.Lemmas.TellingNames.{same_unless}
 use Rattle.irc_stage.specs.declared.clients.Client.{Client}
 use Rattle.irc_world.specs.Stepping.{leaving_lines, parted, remaining}
 use Rattle.irc_world.specs.World.{Hall, Setting, World}
-use Rattle.irc_follow.proofs.BehindLinks.{joined_test}
+use Rattle.irc_follow.specs.Lemmas.BehindLinks.{joined_test}
 
 module _ (settings : List Setting) (world : World) (left : List Link) (a b : Name) (apart : AreJoined left b a → ⊥) where
   abbrev now : World

@@ -39,11 +39,11 @@ use Rattle.irc_follow.specs.AtRest.{part_of, AreRight}
 use Rattle.irc_follow.specs.Fits.{Fits}
 use Rattle.irc_follow.specs.Part.{Fixed, Part, done, is_home_of, number, IsFixed}
 use Rattle.irc_follow.specs.Says.{lines_on, play}
-use Rattle.irc_follow.proofs.AtRest.{ends_there}
-use Rattle.irc_follow.proofs.BehindLinks.{behind_is_that_side}
-use Rattle.irc_follow.proofs.LinesOn.{among_met, but_another}
-use Rattle.irc_follow.proofs.Neighbours.{met_end, HasEnd}
-use Rattle.irc_follow.proofs.Places.{one_place}
+use Rattle.irc_follow.specs.Lemmas.SideAtRest.{ends_there}
+use Rattle.irc_follow.specs.Lemmas.BehindLinks.{behind_is_that_side}
+use Rattle.irc_follow.specs.Lemmas.LinesOnLinks.{among_met, but_another}
+use Rattle.irc_follow.specs.Lemmas.Neighbours.{met_end, HasEnd}
+use Rattle.irc_follow.specs.Lemmas.PlacesOfNames.{one_place}
 use Rattle.irc_items.specs.GoodLines.{closings}
 use Rattle.irc_items.proofs.CutSides.{cut_after, cut_side}
 use Rattle.irc_items.proofs.Forgetting.{all_forgotten, nobody_behind}

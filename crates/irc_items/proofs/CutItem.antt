@@ -19,9 +19,9 @@ use Rattle.irc_follow.specs.Fits.{Fits, IsNumberOf}
 use Rattle.irc_follow.specs.Laws.{DoneStaysSound}
 use Rattle.irc_follow.specs.Part.{Fixed, Part, IsSoundPart}
 use Rattle.irc_follow.specs.Says.{machine, play}
-use Rattle.irc_follow.proofs.AtRest.{joined_among}
-use Rattle.irc_follow.proofs.BehindLinks.{joined_test}
-use Rattle.irc_follow.proofs.Neighbours.{IsKnownOfLines}
+use Rattle.irc_follow.specs.Lemmas.SideAtRest.{joined_among}
+use Rattle.irc_follow.specs.Lemmas.BehindLinks.{joined_test}
+use Rattle.irc_follow.specs.Lemmas.Neighbours.{IsKnownOfLines}
 use Rattle.irc_network.specs.Network.{Network, given, is_at_rest}
 use Rattle.irc_network.specs.Refusing.{fault_at_rest}
 use Rattle.irc_items.specs.GoodLines.{no_answers}

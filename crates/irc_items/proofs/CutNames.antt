@@ -16,7 +16,7 @@ use Rattle.irc_relay.specs.Distances.{IsAmong}
 use Rattle.irc_relay.specs.Links.{Name, same}
 use Rattle.irc_world.specs.World.{Setting, servers_where}
 use Rattle.irc_follow.specs.Part.{Fixed, IsFixed}
-use Rattle.irc_follow.proofs.NamedRows.{listed, names_of}
+use Rattle.irc_follow.specs.Lemmas.NamedRows.{listed, names_of}
 
 -- ---- each once
 

@@ -19,12 +19,12 @@ use Rattle.irc_follow.specs.Part.{Fixed, Part, number, IsSoundPart}
 use Rattle.irc_follow.specs.Relinked.{taking_from, FlowsAlong}
 use Rattle.irc_follow.specs.Says.{machine, play, Says}
 use Rattle.irc_follow.specs.SideFlows.{IsSide, IsToldOf}
-use Rattle.irc_follow.proofs.AtRest.{joined_alike, joined_so}
-use Rattle.irc_follow.proofs.BehindLinks.{joined_test}
-use Rattle.irc_follow.proofs.FarAlong.{behind_source_is_far, other_sources}
-use Rattle.irc_follow.proofs.Neighbours.{IsKnownOfLines}
-use Rattle.irc_follow.proofs.NewLink.{parent_is_linked}
-use Rattle.irc_follow.proofs.SideFlows.{one_side_is_left, other_side_is_left}
+use Rattle.irc_follow.specs.Lemmas.SideAtRest.{joined_alike, joined_so}
+use Rattle.irc_follow.specs.Lemmas.BehindLinks.{joined_test}
+use Rattle.irc_follow.specs.Lemmas.BehindSources.{behind_source_is_far, other_sources}
+use Rattle.irc_follow.specs.Lemmas.Neighbours.{IsKnownOfLines}
+use Rattle.irc_follow.specs.Lemmas.NewLink.{parent_is_linked}
+use Rattle.irc_follow.specs.Lemmas.SideFlows.{one_side_is_left, other_side_is_left}
 use Rattle.irc_items.proofs.CutHome.{forest, linked_before, linked_still, rest, IsCutAt}
 use Rattle.irc_items.proofs.CutSides.{cut_side, deeds_of_cut}
 use Rattle.irc_items.proofs.CutTold.{said_to, tells_in_turn, IsLossOfCut, IsToldByEnd, SaysInTurn}

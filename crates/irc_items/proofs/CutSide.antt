@@ -28,8 +28,8 @@ use Rattle.irc_follow.specs.Part.{Fixed, Part, info_in, number, is_home_of, IsFi
 use Rattle.irc_follow.specs.Relinked.{with_links, TreeAfterCut}
 use Rattle.irc_follow.specs.Says.{play}
 use Rattle.irc_follow.specs.Tree.{index_in, shape, shape_in, IsSoundTree}
-use Rattle.irc_follow.proofs.AtRest.{ends_there, joined_alike, joined_among, joined_so}
-use Rattle.irc_follow.proofs.BehindLinks.{joined_test}
+use Rattle.irc_follow.specs.Lemmas.SideAtRest.{ends_there, joined_alike, joined_among, joined_so}
+use Rattle.irc_follow.specs.Lemmas.BehindLinks.{joined_test}
 use Rattle.irc_items.proofs.CutEnds.{AreCutEnds, cut_ends, not_beyond, side_joined}
 use Rattle.irc_items.proofs.CutLosses.{HasLost, all_lost, losses_are, seen_lost, staying_sees}
 use Rattle.irc_items.proofs.CutNames.{listed_where, servers_distinct}

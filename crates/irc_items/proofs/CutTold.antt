@@ -45,12 +45,12 @@ use Rattle.irc_follow.specs.Fits.{Fits}
 use Rattle.irc_follow.specs.Laws.{DoneStaysSound}
 use Rattle.irc_follow.specs.Part.{Fixed, Part, done, info_in, number, IsFixed, IsSoundPart}
 use Rattle.irc_follow.specs.Says.{neighbour_served, machine, play, IsDoableLoss, IsFar, Says}
-use Rattle.irc_follow.proofs.CarriedLines.{squit_carried}
-use Rattle.irc_follow.proofs.Neighbours.{both, met_end, HasEnd, IsKnownOfLines}
-use Rattle.irc_follow.proofs.ServerLines.{all_so}
-use Rattle.irc_follow.proofs.ReadNext.{link_of, shape_at}
-use Rattle.irc_follow.proofs.SaidDeed.{said_loses_fits}
-use Rattle.irc_follow.proofs.SaidEffect.{far_is_another}
+use Rattle.irc_follow.specs.Lemmas.CarriedLines.{squit_carried}
+use Rattle.irc_follow.specs.Lemmas.Neighbours.{both, met_end, HasEnd, IsKnownOfLines}
+use Rattle.irc_follow.specs.Lemmas.ServerLines.{all_so}
+use Rattle.irc_follow.specs.Lemmas.EffectsReadNext.{link_of, shape_at}
+use Rattle.irc_follow.specs.Lemmas.SaidDeed.{said_loses_fits}
+use Rattle.irc_follow.specs.Lemmas.SaidEffect.{far_is_another}
 use Rattle.irc_items.proofs.CutHome.{lost_beyond, lost_once, rest, IsCutAt}
 use Rattle.irc_items.proofs.CutHome as of_cut
 use Rattle.irc_items.proofs.CutSides.{deeds_of_cut}

@@ -35,8 +35,8 @@ use Rattle.irc_follow.specs.Fits.{Fits}
 use Rattle.irc_follow.specs.Part.{Fixed, is_home_of, number}
 use Rattle.irc_follow.specs.Says.{neighbour_served as asked_line, lines_on, machine}
 use Rattle.irc_follow.specs.Tree.{index_in}
-use Rattle.irc_follow.proofs.Places.{one_place}
-use Rattle.irc_follow.proofs.SaidShows.{append_nil}
+use Rattle.irc_follow.specs.Lemmas.PlacesOfNames.{one_place}
+use Rattle.irc_follow.specs.Lemmas.SaidEffectShown.{append_nil}
 use Rattle.irc_network.specs.Network.{Course, Network, Reply, site_asked, delivered, received_by, reply}
 use Rattle.irc_items.specs.GoodLines.{closings, IsGoodLine, IsGoodReply, IsUnheard}
 use Rattle.irc_items.specs.Laws.{DeliveryStaysSound}

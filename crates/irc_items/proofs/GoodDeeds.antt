@@ -35,11 +35,11 @@ use Rattle.irc_follow.specs.Part.{Fixed, is_home_of, number}
 use Rattle.irc_follow.specs.Part as of_side
 use Rattle.irc_follow.specs.Fits.{Fits}
 use Rattle.irc_follow.specs.Says.{neighbour_served, lines_on, Says}
-use Rattle.irc_follow.proofs.ClientLines.{to_one, told_line}
-use Rattle.irc_follow.proofs.LinesOn.{but_another, ends_by_all, lines_behind, none_by_all, on_these}
-use Rattle.irc_follow.proofs.SaidDeed.{deed_served}
-use Rattle.irc_follow.proofs.SaidEffect.{client_here}
-use Rattle.irc_follow.proofs.SaidShows.{but_links, lines_behind as lines_to_behind}
+use Rattle.irc_follow.specs.Lemmas.ClientLines.{to_one, told_line}
+use Rattle.irc_follow.specs.Lemmas.LinesOnLinks.{but_another, ends_by_all, lines_behind, none_by_all, on_these}
+use Rattle.irc_follow.specs.Lemmas.SaidDeed.{deed_served}
+use Rattle.irc_follow.specs.Lemmas.SaidEffect.{client_here}
+use Rattle.irc_follow.specs.Lemmas.SaidEffectShown.{but_links, lines_behind as lines_to_behind}
 use Rattle.irc_items.specs.GoodLines.{closings, reason_of, IsGoodReply, PaysNothing}
 use Rattle.irc_items.specs.Relayed.{owed_at, owed_to}
 use Rattle.irc_items.proofs.GoodEffects.{on_arrival, teller_is_met}

@@ -33,11 +33,11 @@ use Rattle.irc_follow.specs.Part.{Fixed, done, is_home_of, number}
 use Rattle.irc_follow.specs.Part as of_side
 use Rattle.irc_follow.specs.Fits.{Fits}
 use Rattle.irc_follow.specs.Says.{neighbour_served, lines_on, Says}
-use Rattle.irc_follow.proofs.ClientLines.{client_shown, effect_lines}
-use Rattle.irc_follow.proofs.LinesOn.{but_another, lines_behind, none_by_effect, on_these}
-use Rattle.irc_follow.proofs.Places.{one_place}
-use Rattle.irc_follow.proofs.SaidEffect.{client_here, effect_served}
-use Rattle.irc_follow.proofs.SaidShows.{but_links}
+use Rattle.irc_follow.specs.Lemmas.ClientLines.{client_shown, effect_lines}
+use Rattle.irc_follow.specs.Lemmas.LinesOnLinks.{but_another, lines_behind, none_by_effect, on_these}
+use Rattle.irc_follow.specs.Lemmas.PlacesOfNames.{one_place}
+use Rattle.irc_follow.specs.Lemmas.SaidEffect.{client_here, effect_served}
+use Rattle.irc_follow.specs.Lemmas.SaidEffectShown.{but_links}
 use Rattle.irc_items.specs.GoodLines.{closings, IsGoodReply}
 use Rattle.irc_items.specs.Relayed.{owed_to}
 use Rattle.irc_items.proofs.MetEnds.{among_linked, good_reply, met_known, owes_none, ways_linked, AreLinkedAlike, IsAnswer, IsLaterSide}

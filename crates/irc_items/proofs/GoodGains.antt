@@ -25,10 +25,10 @@ use Rattle.irc_follow.specs.Part.{Fixed, done, number, IsFixed}
 use Rattle.irc_follow.specs.Part as of_side
 use Rattle.irc_follow.specs.Fits.{Fits}
 use Rattle.irc_follow.specs.Says.{neighbour_served, lines_on, Says}
-use Rattle.irc_follow.proofs.LinesOn.{but_another, lines_behind, on_these}
-use Rattle.irc_follow.proofs.SaidGain as gain_of
-use Rattle.irc_follow.proofs.SaidGainOn.{none_on_another}
-use Rattle.irc_follow.proofs.SaidShows.{but_links}
+use Rattle.irc_follow.specs.Lemmas.LinesOnLinks.{but_another, lines_behind, on_these}
+use Rattle.irc_follow.specs.Lemmas.SaidGain as gain_of
+use Rattle.irc_follow.specs.Lemmas.SaidGainToldOn.{none_on_another}
+use Rattle.irc_follow.specs.Lemmas.SaidEffectShown.{but_links}
 use Rattle.irc_items.specs.GoodLines.{closings, IsGoodReply}
 use Rattle.irc_items.specs.Relayed.{owed_at, owed_to}
 use Rattle.irc_items.proofs.GoodEffects.{on_arrival, teller_is_met}

@@ -29,12 +29,12 @@ use Rattle.irc_follow.specs.Part.{Fixed, done, is_home_of, number}
 use Rattle.irc_follow.specs.Part as of_side
 use Rattle.irc_follow.specs.Fits.{Fits}
 use Rattle.irc_follow.specs.Says.{neighbour_served, lines_on, Says}
-use Rattle.irc_follow.proofs.ClientLines.{to_one, told_line}
-use Rattle.irc_follow.proofs.LinesOn.{among_met, but_another, lines_behind, none_by_effect, none_to_viewer, on_these}
-use Rattle.irc_follow.proofs.Neighbours.{but_none}
-use Rattle.irc_follow.proofs.SaidDeed.{deed_served, said_kills_fits, there}
-use Rattle.irc_follow.proofs.SaidEffect.{client_here, own_name}
-use Rattle.irc_follow.proofs.SaidShows.{but_links, lines_behind as lines_to_behind}
+use Rattle.irc_follow.specs.Lemmas.ClientLines.{to_one, told_line}
+use Rattle.irc_follow.specs.Lemmas.LinesOnLinks.{among_met, but_another, lines_behind, none_by_effect, none_to_viewer, on_these}
+use Rattle.irc_follow.specs.Lemmas.Neighbours.{but_none}
+use Rattle.irc_follow.specs.Lemmas.SaidDeed.{deed_served, said_kills_fits, there}
+use Rattle.irc_follow.specs.Lemmas.SaidEffect.{client_here, own_name}
+use Rattle.irc_follow.specs.Lemmas.SaidEffectShown.{but_links, lines_behind as lines_to_behind}
 use Rattle.irc_items.specs.GoodLines.{closings, IsGoodReply, PaysNothing}
 use Rattle.irc_items.specs.Relayed.{owed_to}
 use Rattle.irc_items.proofs.GoodDeeds.{none_shown}

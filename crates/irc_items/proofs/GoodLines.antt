@@ -26,7 +26,7 @@ use Rattle.irc_follow.specs.Fits.{Fits}
 use Rattle.irc_follow.specs.Laws.{PutsOutNothing}
 use Rattle.irc_follow.specs.Part.{Fixed, Part, number, IsFixed}
 use Rattle.irc_follow.specs.Says.{neighbour_served, lines_on, machine, play, terms, Aside, IsDoableKill, IsNothing, PassesBy, Says}
-use Rattle.irc_follow.proofs.Followed.{servers_follow, IsKnownOfLine}
+use Rattle.irc_follow.specs.Lemmas.SidesFollowed.{servers_follow, IsKnownOfLine}
 use Rattle.irc_items.specs.GoodLines.{closings, Answering, IsAnswered, IsGoodLine, IsGoodReply, IsUnheard}
 use Rattle.irc_items.specs.Relayed.{owed_at, owed_to}
 use Rattle.irc_items.proofs.GoodDeeds.{brings_goes_well, loses_goes_well, sets_goes_well, tops_goes_well}

@@ -1,5 +1,5 @@
 -- The lines of a handshake are read as they are written, and what comes of them.
-use Rattle.irc_follow.proofs.CarriedLines.{info_carried}
+use Rattle.irc_follow.specs.Lemmas.CarriedLines.{info_carried}
 use Rattle.irc_line.specs.Lines.{IsLine}
 use Rattle.std.proofs.Common.{◌≡◌, ℕ, Bool, true, false, cond, ◌&&◌, is_some, Option, Some, None, Ok, Err, List, [], ◌∷◌, refl, sym, ap, ◌∙◌, unwrap_or, lit≤, if◌then◌else◌}
 use Rattle.std.specs.FinMap.{get, insert}
@@ -31,8 +31,8 @@ use Rattle.irc_deeds.specs.LinkServed.{after_heard, line_served, on_link, owes}
 use Rattle.irc_deeds.specs.Lemmas.Fronts.{lost_link_behind}
 use Rattle.irc_server.specs.Served.{link_says, served}
 use Rattle.irc_wire.specs.Lemmas.LinesReadBack.{command_plain}
-use Rattle.irc_follow.proofs.Neighbours.{IsKnownOfLines}
-use Rattle.irc_follow.proofs.SaidGainOn.{text_no_nul}
+use Rattle.irc_follow.specs.Lemmas.Neighbours.{IsKnownOfLines}
+use Rattle.irc_follow.specs.Lemmas.SaidGainToldOn.{text_no_nul}
 use Rattle.irc_items.specs.GoodLines.{closings}
 
 -- what is known of reading, and of the lines of a handshake

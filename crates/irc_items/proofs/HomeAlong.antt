@@ -30,8 +30,8 @@ use Rattle.irc_stage.specs.RoomMachine.{Clients, client_of}
 use Rattle.irc_stage.specs.View.{View, machine_of}
 use Rattle.irc_world.specs.Bounds.{effects_at, effects_left, effects_of_user, effects_said}
 use Rattle.irc_follow.specs.Says.{lines_on}
-use Rattle.irc_follow.proofs.LinesOn.{among_keys, among_met, lines_behind, none_by_effect, on_these}
-use Rattle.irc_follow.proofs.Neighbours.{but_none}
+use Rattle.irc_follow.specs.Lemmas.LinesOnLinks.{among_keys, among_met, lines_behind, none_by_effect, on_these}
+use Rattle.irc_follow.specs.Lemmas.Neighbours.{but_none}
 
 -- the server in another room
 abbrev pub in_room : View → Room → View

@@ -35,8 +35,8 @@ use Rattle.irc_stage.specs.Handle.{Handled, is_client, machine_after, to_viewer,
 use Rattle.irc_stage.specs.RoomMachine.{Clients, RoomMachine}
 use Rattle.irc_stage.specs.View.{View}
 use Rattle.irc_server.specs.Owed.{lines_to}
-use Rattle.irc_follow.proofs.ClientLines.{client_shown, effect_lines}
-use Rattle.irc_follow.proofs.SaidShows.{but_links, lines_behind}
+use Rattle.irc_follow.specs.Lemmas.ClientLines.{client_shown, effect_lines}
+use Rattle.irc_follow.specs.Lemmas.SaidEffectShown.{but_links, lines_behind}
 use Rattle.irc_items.specs.GoodLines.{closings, reason_of}
 use Rattle.irc_items.proofs.HomeClients.{staying, staying_after, staying_at}
 use Rattle.irc_items.proofs.HomeUsers.{IsHomeRoom, IsOwnStep}

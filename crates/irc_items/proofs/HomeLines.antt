@@ -35,13 +35,13 @@ use Rattle.irc_follow.specs.Part.{Fixed, Part, info_in, number, IsFixed, IsSound
 use Rattle.irc_follow.specs.Fits.{far_end, far_of, Fits, IsNumberOf}
 use Rattle.irc_follow.specs.Laws.{GoesOn, told, passed}
 use Rattle.irc_follow.specs.Says.{lines_on, Says, IsDoableEffect}
-use Rattle.irc_follow.proofs.LinesOn.{among_keys, among_met, on_these}
-use Rattle.irc_follow.proofs.Neighbours.{but_none, met_end, HasEnd}
-use Rattle.irc_follow.proofs.PassingBy.{told_known}
-use Rattle.irc_follow.proofs.Places.{one_place}
-use Rattle.irc_follow.proofs.ReadNext.{agrees, can_be_read, link_of, shape_at}
-use Rattle.irc_follow.proofs.SaidEffect.{rooms_alike}
-use Rattle.irc_follow.proofs.SaidOn.{no_row, one_deed, sent_by, told_alike}
+use Rattle.irc_follow.specs.Lemmas.LinesOnLinks.{among_keys, among_met, on_these}
+use Rattle.irc_follow.specs.Lemmas.Neighbours.{but_none, met_end, HasEnd}
+use Rattle.irc_follow.specs.Lemmas.ServersPassedBy.{told_known}
+use Rattle.irc_follow.specs.Lemmas.PlacesOfNames.{one_place}
+use Rattle.irc_follow.specs.Lemmas.EffectsReadNext.{agrees, can_be_read, link_of, shape_at}
+use Rattle.irc_follow.specs.Lemmas.SaidEffect.{rooms_alike}
+use Rattle.irc_follow.specs.Lemmas.SaidEffectToldOn.{no_row, one_deed, sent_by, told_alike}
 
 module _ (s : Fixed) (h : Name) (w : Part) (view : View) (writer : Fits s h w view) where
   sound : IsSoundPart s w

@@ -21,7 +21,7 @@ use Rattle.irc_stage.specs.RoomMachine.{RoomMachine, with_client, without_client
 use Rattle.irc_stage.specs.View.{View}
 use Rattle.irc_stage.specs.Lemmas.Numbers.{get-with, get-without, same_number}
 use Rattle.irc_server.specs.Owed.{lines_to}
-use Rattle.irc_follow.proofs.SaidShows.{lines_behind}
+use Rattle.irc_follow.specs.Lemmas.SaidEffectShown.{lines_behind}
 use Rattle.irc_items.specs.GoodLines.{closings}
 use Rattle.irc_items.proofs.HomeClients.{staying_with, staying_without}
 use Rattle.irc_items.proofs.HomeUsers.{IsHomeRoom, IsOwnAt, IsOwnStep, home_room_after}

@@ -37,7 +37,7 @@ use Rattle.irc_follow.specs.Part as of_side
 use Rattle.irc_follow.specs.Relinked.{BehindSourceIsFar}
 use Rattle.irc_follow.specs.Says.{neighbour_served, lines_on, machine, play, ComesFar, IsDoableEffect, IsFar}
 use Rattle.irc_follow.specs.SideFlows.{IsToldOf, SourceTells}
-use Rattle.irc_follow.proofs.Followed.{IsKnownOfLine}
+use Rattle.irc_follow.specs.Lemmas.SidesFollowed.{IsKnownOfLine}
 use Rattle.irc_items.specs.GoodLines.{no_answers}
 use Rattle.irc_items.proofs.ClientBegins.{IsToldByHome}
 use Rattle.irc_items.proofs.Due.{IsDueAtHome}

@@ -21,8 +21,8 @@ use Rattle.irc_link_writer.specs.Written.{wire}
 use Rattle.irc_world.specs.Stepping.{merged}
 use Rattle.irc_world.specs.World.{Hall, World}
 use Rattle.irc_follow.specs.Part.{Fixed}
-use Rattle.irc_follow.proofs.BehindLinks.{joined_test}
-use Rattle.irc_follow.proofs.Neighbours.{IsKnownOfLines}
+use Rattle.irc_follow.specs.Lemmas.BehindLinks.{joined_test}
+use Rattle.irc_follow.specs.Lemmas.Neighbours.{IsKnownOfLines}
 use Rattle.irc_items.proofs.Collisions.{answers_of, kill_introduces_nobody, kill_unheard, user_introduces}
 use Rattle.irc_items.proofs.GoodLines.{CanAnswer}
 use Rattle.irc_items.proofs.LinkOver.{over_link, IsOver}

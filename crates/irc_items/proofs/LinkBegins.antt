@@ -15,7 +15,7 @@ use Rattle.irc_world.specs.World.{World}
 use Rattle.irc_follow.specs.Part.{Fixed, Part}
 use Rattle.irc_follow.specs.Relinked.{PartAfterLink}
 use Rattle.irc_follow.specs.Says.{machine, play}
-use Rattle.irc_follow.proofs.AtRest.{joined_alike, joined_among}
+use Rattle.irc_follow.specs.Lemmas.SideAtRest.{joined_alike, joined_among}
 use Rattle.irc_network.specs.Laws.{RestStays}
 use Rattle.irc_network.specs.Network.{Network}
 use Rattle.irc_items.specs.Relayed.{relayed}

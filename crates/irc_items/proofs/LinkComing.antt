@@ -27,9 +27,9 @@ use Rattle.irc_follow.specs.Fits.{Fits}
 use Rattle.irc_follow.specs.Part.{Fixed, info_in, is_home_of, IsFixed, IsSoundPart}
 use Rattle.irc_follow.specs.Says.{play}
 use Rattle.irc_follow.specs.Tree.{index_in, shape_in}
-use Rattle.irc_follow.proofs.AtRest.{ends_there}
-use Rattle.irc_follow.proofs.BehindLinks.{joined_test}
-use Rattle.irc_follow.proofs.NewLink.{kept_row, shape_stays}
+use Rattle.irc_follow.specs.Lemmas.SideAtRest.{ends_there}
+use Rattle.irc_follow.specs.Lemmas.BehindLinks.{joined_test}
+use Rattle.irc_follow.specs.Lemmas.NewLink.{kept_row, shape_stays}
 use Rattle.irc_items.proofs.LinkEnds.{AreEnds, aside_joined, aside_links, far_ends, near_ends}
 use Rattle.irc_items.proofs.LinkGains.{hall_left}
 use Rattle.irc_items.proofs.LinkHalls.{none_there, one_survives, other_survives, room_read, side_survives}

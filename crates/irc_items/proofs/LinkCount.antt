@@ -16,8 +16,8 @@ use Rattle.irc_world.specs.Bounds.{part_size}
 use Rattle.irc_follow.specs.AtRest.{AreRight}
 use Rattle.irc_follow.specs.Part.{Fixed, info_in}
 use Rattle.irc_follow.specs.Tree.{shape, shape_in}
-use Rattle.irc_follow.proofs.AtRest.{joined_among}
-use Rattle.irc_follow.proofs.FewRows.{few_rows, AllAmong}
+use Rattle.irc_follow.specs.Lemmas.SideAtRest.{joined_among}
+use Rattle.irc_follow.specs.Lemmas.FewRows.{few_rows, AllAmong}
 use Rattle.irc_network.specs.Network.{Network}
 use Rattle.irc_items.specs.SetUp.{settings_of, IsSetUp}
 use Rattle.irc_items.proofs.Counting.{but, counted_but, part_counted}

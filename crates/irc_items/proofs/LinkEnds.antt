@@ -4,8 +4,8 @@ use Rattle.std.proofs.lemmas.Bool.{or_left, or_right}
 use Rattle.irc_relay.specs.Links.{Name, Link, part, joined, linked, AreJoined, AreLinked, IsForest, IsMade, within, over, back}
 use Rattle.irc_relay.specs.Lemmas.LinkTakenOut.{linked_tells, made}
 use Rattle.irc_routes.proofs.DistinctLinks.{both_so}
-use Rattle.irc_follow.proofs.AtRest.{joined_so}
-use Rattle.irc_follow.proofs.BehindLinks.{joined_test}
+use Rattle.irc_follow.specs.Lemmas.SideAtRest.{joined_so}
+use Rattle.irc_follow.specs.Lemmas.BehindLinks.{joined_test}
 
 -- a and b are the two ends
 pub record AreEnds (l : Link) (links : List Link) (a b : Name) : Type 0 where

@@ -25,7 +25,7 @@ use Rattle.irc_world.specs.World.{home_in}
 use Rattle.irc_follow.specs.Fits.{far_of}
 use Rattle.irc_follow.specs.Says.{body, lines_on}
 use Rattle.irc_follow.specs.Tree.{index_in}
-use Rattle.irc_follow.proofs.LinesOn.{bare}
+use Rattle.irc_follow.specs.Lemmas.LinesOnLinks.{bare}
 use Rattle.irc_network.specs.Network.{Course, Network, Reply, site_asked, begun, site_changed_at, link_places, given, item_kept, servers_linked, server_place, received_by, reply, site_view, with_way}
 use Rattle.irc_network.specs.Refusing.{are_peers, fault_at_rest, link_fault, meeting_fault}
 use Rattle.irc_items.specs.GoodLines.{closings}

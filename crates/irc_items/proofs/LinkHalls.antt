@@ -28,7 +28,7 @@ use Rattle.irc_world.specs.World.{Hall, Setting, World}
 use Rattle.irc_world.specs.WorldHolds.{IsWorld}
 use Rattle.irc_world.proofs.StaysSound.{first_of, get-merged}
 use Rattle.irc_follow.specs.Part.{is_home_of}
-use Rattle.irc_follow.proofs.AtRest.{joined_so}
+use Rattle.irc_follow.specs.Lemmas.SideAtRest.{joined_so}
 use Rattle.irc_items.proofs.LinkGains.{hall_left}
 use Rattle.irc_items.proofs.LinkKills.{Fares, burst_fares, client_left, left_of, none_left, registering_left}
 use Rattle.irc_items.proofs.LinkSides.{room_deeds}

@@ -42,8 +42,8 @@ use Rattle.irc_stage.specs.RoomMachine.{Clients}
 use Rattle.irc_users.specs.declared.user.User.{User}
 use Rattle.irc_follow.specs.Part.{Fixed, Part, client_sees, done, is_home_of, told_end}
 use Rattle.irc_follow.specs.Says.{play}
-use Rattle.irc_follow.proofs.DeedEffects.{AllQuiet, members_quiet, sets_quiet, tops_quiet, users_stay}
-use Rattle.irc_follow.proofs.PartEffects.{same_folds}
+use Rattle.irc_follow.specs.Lemmas.DeedEffects.{AllQuiet, members_quiet, sets_quiet, tops_quiet, users_stay}
+use Rattle.irc_follow.specs.Lemmas.PartEffects.{same_folds}
 use Rattle.irc_items.proofs.BurstStated.{both_all}
 use Rattle.irc_items.proofs.LinkGains.{clients_left, clients_spared, hall_left, in_hall, read_deed_done}
 use Rattle.irc_items.proofs.LinkSides.{IsReadDeed}

@@ -34,10 +34,10 @@ use Rattle.irc_follow.specs.Fits.{Fits}
 use Rattle.irc_follow.specs.Part.{Fixed, Part, done, info_in, number}
 use Rattle.irc_follow.specs.Says.{neighbour_served, Aside, Says}
 use Rattle.irc_follow.specs.Tree.{Shape, shape, shape_in}
-use Rattle.irc_follow.proofs.AtRest.{joined_so}
-use Rattle.irc_follow.proofs.BehindLinks.{joined_test}
-use Rattle.irc_follow.proofs.Followed.{IsKnownOfLine}
-use Rattle.irc_follow.proofs.Places.{one_place}
+use Rattle.irc_follow.specs.Lemmas.SideAtRest.{joined_so}
+use Rattle.irc_follow.specs.Lemmas.BehindLinks.{joined_test}
+use Rattle.irc_follow.specs.Lemmas.SidesFollowed.{IsKnownOfLine}
+use Rattle.irc_follow.specs.Lemmas.PlacesOfNames.{one_place}
 use Rattle.irc_items.proofs.BurstLines.{members_aside, members_said, modes_aside, modes_said, new_user_said, topic_aside, topic_said, IsBurstReader, IsNewNeighbour, KnowsBothSides}
 use Rattle.irc_items.proofs.BurstRead.{held_by, AreHeldFirst, AreToldIn, IsHeldFirst, IsToldIn}
 use Rattle.irc_items.proofs.BurstTaken.{members_come, members_spelled}

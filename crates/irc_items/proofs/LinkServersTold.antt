@@ -14,10 +14,10 @@ use Rattle.irc_routes.proofs.DistinctLinks.{both_so}
 use Rattle.irc_follow.specs.AtRest.{AreRight}
 use Rattle.irc_follow.specs.Part.{Fixed, info_in, number}
 use Rattle.irc_follow.specs.Tree.{Shape, shape, shape_in}
-use Rattle.irc_follow.proofs.AtRest.{joined_so}
-use Rattle.irc_follow.proofs.BehindLinks.{joined_test, row_is_there, row_says}
-use Rattle.irc_follow.proofs.Places.{one_place}
-use Rattle.irc_follow.proofs.ToldServers.{any_filtered, any_told, or_none}
+use Rattle.irc_follow.specs.Lemmas.SideAtRest.{joined_so}
+use Rattle.irc_follow.specs.Lemmas.BehindLinks.{joined_test, row_is_there, row_says}
+use Rattle.irc_follow.specs.Lemmas.PlacesOfNames.{one_place}
+use Rattle.irc_follow.specs.Lemmas.ToldServers.{any_filtered, any_told, or_none}
 
 -- b tells a, which it is not joined to
 module _ (s : Fixed) (links : List Link) (routes : Name → Known) (b a x : Name) (forest : IsForest links) (ends : EndsAreAmong s.names links)

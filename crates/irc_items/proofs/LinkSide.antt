@@ -19,7 +19,7 @@ use Rattle.irc_follow.specs.AtRest.{part_of, AreRight}
 use Rattle.irc_follow.specs.Fits.{Fits, IsNumberOf, far_of}
 use Rattle.irc_follow.specs.Part.{Fixed, number, IsFixed}
 use Rattle.irc_follow.specs.Relinked.{PartAfterLink}
-use Rattle.irc_follow.proofs.Places.{one_place}
+use Rattle.irc_follow.specs.Lemmas.PlacesOfNames.{one_place}
 use Rattle.irc_network.specs.Network.{Network, is_at_rest}
 use Rattle.irc_items.specs.OneRoom.{at_rest_of, IsOneRoom}
 use Rattle.irc_items.specs.Relayed.{fixed_of}

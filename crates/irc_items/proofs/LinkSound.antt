@@ -33,9 +33,9 @@ use Rattle.irc_follow.specs.Part.{Fixed, Part, is_home_of, number}
 use Rattle.irc_follow.specs.Relinked.{PartAfterLink}
 use Rattle.irc_follow.specs.Says.{machine, play}
 use Rattle.irc_follow.specs.Tree.{index_in}
-use Rattle.irc_follow.proofs.Followed.{IsKnownOfLine}
-use Rattle.irc_follow.proofs.Places.{one_place}
-use Rattle.irc_follow.proofs.SaidShows.{append_nil}
+use Rattle.irc_follow.specs.Lemmas.SidesFollowed.{IsKnownOfLine}
+use Rattle.irc_follow.specs.Lemmas.PlacesOfNames.{one_place}
+use Rattle.irc_follow.specs.Lemmas.SaidEffectShown.{append_nil}
 use Rattle.irc_network.specs.Laws.{RestStays}
 use Rattle.irc_network.specs.Network.{Network, received_by}
 use Rattle.irc_items.specs.Relayed.{fixed_of, is_met_with, relayed, way_at, way_between}

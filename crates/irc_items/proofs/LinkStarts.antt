@@ -1,6 +1,6 @@
 -- What one end of a new link tells the other: the other's side comes to know the servers of this one, one by one, and then what its room has.
 use Rattle.irc_link_words.specs.Numbers.{max_number}
-use Rattle.irc_follow.proofs.CarriedLines.{server_carried}
+use Rattle.irc_follow.specs.Lemmas.CarriedLines.{server_carried}
 use Rattle.std.proofs.Common.{count_by, ◌≤◌, ◌≡◌, ◌≢◌, ◌⊎◌, inl, inr, ℕ, ◌+◌, ◌<◌, suc, Bool, true, false, not, ◌&&◌, ◌||◌, Option, Some, None, Ok, Err, List, [], ◌∷◌, ◌++◌, is_some, length, map, nat_eq, refl, sym, ◌∙◌, ap, subst, arith, unwrap_or, option_map, if◌then◌else◌}
 use Rattle.std.proofs.lemmas.Bool.{eq-eqb}
 use Rattle.std.proofs.lemmas.List.{length-append, length-map}
@@ -52,14 +52,14 @@ use Rattle.irc_follow.specs.Fits.{Fits}
 use Rattle.irc_follow.specs.Part.{Fixed, Part, done, info_in, number, IsFixed, IsSoundPart}
 use Rattle.irc_follow.specs.Says.{IsDoableGain, IsNothing, neighbour_served, machine, play}
 use Rattle.irc_follow.specs.Tree.{Shape, gained_at, shape_in, known_told, told_token}
-use Rattle.irc_follow.proofs.AsideLines.{aside_stays}
-use Rattle.irc_follow.proofs.AtRest.{joined_among, joined_so}
-use Rattle.irc_follow.proofs.BehindLinks.{joined_test, row_says, RowSays}
-use Rattle.irc_follow.proofs.Neighbours.{HasEnd, met_end}
-use Rattle.irc_follow.proofs.ReadNext.{distance_at, link_of, shape_at}
-use Rattle.irc_follow.proofs.SaidGain.{said_gain_fits}
-use Rattle.irc_follow.proofs.SaidGainOn.{low_distance, low_number, low_token_number, or_true}
-use Rattle.irc_follow.proofs.TreeGains as tree_of
+use Rattle.irc_follow.specs.Lemmas.AsideLines.{aside_stays}
+use Rattle.irc_follow.specs.Lemmas.SideAtRest.{joined_among, joined_so}
+use Rattle.irc_follow.specs.Lemmas.BehindLinks.{joined_test, row_says, RowSays}
+use Rattle.irc_follow.specs.Lemmas.Neighbours.{HasEnd, met_end}
+use Rattle.irc_follow.specs.Lemmas.EffectsReadNext.{distance_at, link_of, shape_at}
+use Rattle.irc_follow.specs.Lemmas.SaidGain.{said_gain_fits}
+use Rattle.irc_follow.specs.Lemmas.SaidGainToldOn.{low_distance, low_number, low_token_number, or_true}
+use Rattle.irc_follow.specs.Lemmas.TreeGains as tree_of
 use Rattle.irc_items.specs.GoodLines.{Answering}
 use Rattle.irc_items.proofs.Collisions.{answers_of, count_but_first, introduces, pass_introduces_nobody}
 use Rattle.irc_items.proofs.GoodLines.{AsideWell, IsWithinSide, SaysWell, good_terms}

@@ -20,7 +20,7 @@ use Rattle.irc_follow.specs.Fits.{IsNumberOf, far_of}
 use Rattle.irc_follow.specs.Part.{Fixed, number}
 use Rattle.irc_follow.specs.Relinked.{PartAfterLink}
 use Rattle.irc_follow.specs.Tree.{index_in}
-use Rattle.irc_follow.proofs.Places.{one_place}
+use Rattle.irc_follow.specs.Lemmas.PlacesOfNames.{one_place}
 use Rattle.irc_network.specs.Laws.{RestStays}
 use Rattle.irc_network.specs.Network.{Network}
 use Rattle.irc_items.specs.Relayed.{owed_at, owed_to, relayed, way_at, way_between}

@@ -18,7 +18,7 @@ use Rattle.irc_follow.specs.Fits.{Fits}
 use Rattle.irc_follow.specs.Part.{Fixed, Part, info_in, number, IsSoundPart}
 use Rattle.irc_follow.specs.Says.{play}
 use Rattle.irc_follow.specs.Tree.{index_in, shape, shape_in}
-use Rattle.irc_follow.proofs.BehindLinks.{joined_test}
+use Rattle.irc_follow.specs.Lemmas.BehindLinks.{joined_test}
 use Rattle.irc_items.proofs.LinkEnds.{AreEnds}
 use Rattle.irc_items.proofs.LinkGains.{HasGained, KeepsKnown, all_gained, burst_done, done_in_turn, hall_left, same_done}
 use Rattle.irc_items.proofs.LinkSides.{IsReadDeed, deeds_of_link, room_deeds, server_deeds, side_after, side_of}

@@ -29,10 +29,10 @@ use Rattle.irc_stage.specs.View.{View}
 use Rattle.irc_deeds.specs.DeedTold.{deed_told, deeds_told, losses, split_text}
 use Rattle.irc_server.specs.Owed.{lines_to}
 use Rattle.irc_follow.specs.Says.{lines_on}
-use Rattle.irc_follow.proofs.DeedEffects.{all_view, quits_calm, IsCounted}
-use Rattle.irc_follow.proofs.LinesOn.{ends_by_all, lines_behind, none_by_all, on_these}
-use Rattle.irc_follow.proofs.LostUsers.{lost_are_of, lost_counted}
-use Rattle.irc_follow.proofs.SaidShows.{all_lines, append_nil, but_links, client_along}
+use Rattle.irc_follow.specs.Lemmas.DeedEffects.{all_view, quits_calm, IsCounted}
+use Rattle.irc_follow.specs.Lemmas.LinesOnLinks.{ends_by_all, lines_behind, none_by_all, on_these}
+use Rattle.irc_follow.specs.Lemmas.LostUsers.{lost_are_of, lost_counted}
+use Rattle.irc_follow.specs.Lemmas.SaidEffectShown.{all_lines, append_nil, but_links, client_along}
 use Rattle.irc_items.specs.GoodLines.{closings, reason_of}
 use Rattle.irc_items.proofs.Forgetting.{all_forgotten}
 use Rattle.irc_items.proofs.LostUsersQuit.{quits_do}

@@ -25,8 +25,8 @@ use Rattle.irc_follow.specs.Part.{Fixed, info_in, is_home_of, number, IsSoundPar
 use Rattle.irc_follow.specs.Part as of_side
 use Rattle.irc_follow.specs.Fits.{far_of, Fits}
 use Rattle.irc_follow.specs.Says.{lines_on}
-use Rattle.irc_follow.proofs.LinesOn.{among_keys, among_met}
-use Rattle.irc_follow.proofs.Places.{one_place}
+use Rattle.irc_follow.specs.Lemmas.LinesOnLinks.{among_keys, among_met}
+use Rattle.irc_follow.specs.Lemmas.PlacesOfNames.{one_place}
 use Rattle.irc_items.specs.GoodLines.{closings, IsGoodReply, PaysNothing}
 use Rattle.irc_items.specs.Relayed.{is_met_with, owed_at, owed_to}
 use Rattle.irc_items.proofs.PutOut.{is_on}

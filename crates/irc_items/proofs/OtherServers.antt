@@ -28,7 +28,7 @@ use Rattle.irc_follow.specs.AtRest.{part_of, AreRight, IsOfWorld, PartAtRestIsSo
 use Rattle.irc_follow.specs.Fits.{Fits}
 use Rattle.irc_follow.specs.Part.{Fixed, Part, client_sees, done, hall_after, is_home_of, IsFixed}
 use Rattle.irc_follow.specs.Says.{play}
-use Rattle.irc_follow.proofs.ClientLines.{client_shown}
+use Rattle.irc_follow.specs.Lemmas.ClientLines.{client_shown}
 use Rattle.irc_items.proofs.Due.{IsDueAtHome}
 use Rattle.irc_items.proofs.OthersAlong.{IsAsHall, IsKnownOfDecisions, client_in, hall_along, hall_of, handled_so, seen_along}
 

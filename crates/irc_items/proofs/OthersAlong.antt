@@ -44,7 +44,7 @@ use Rattle.irc_world.specs.Bounds.{effects_at, effects_left, effects_of_user, ef
 use Rattle.irc_world.specs.ClientsUsers.{AreMatched, fold_of, registered_as}
 use Rattle.irc_world.specs.World.{Hall}
 use Rattle.irc_follow.specs.Part.{clients_left, hall_after}
-use Rattle.irc_follow.proofs.ClientLines.{client_shown, effect_lines}
+use Rattle.irc_follow.specs.Lemmas.ClientLines.{client_shown, effect_lines}
 
 -- ---- effects one after another
 

@@ -23,7 +23,7 @@ use Rattle.irc_deeds.specs.Heard.{heard, of_met, opened, password}
 use Rattle.irc_deeds.specs.LinkServed.{after_heard, line_served}
 use Rattle.irc_server.specs.Served.{link_says, served}
 use Rattle.irc_wire.specs.Lemmas.LinesReadBack.{command_plain}
-use Rattle.irc_follow.proofs.MemberLines.{other_byte}
+use Rattle.irc_follow.specs.Lemmas.MemberLines.{other_byte}
 use Rattle.irc_items.proofs.Greetings.{IsKnownOfHandshakes}
 
 -- ---- a password is a word of a line

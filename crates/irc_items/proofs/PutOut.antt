@@ -17,7 +17,7 @@ use Rattle.irc_stage.specs.View.{View}
 use Rattle.irc_deeds.specs.LinkServed.{on_link}
 use Rattle.irc_server.specs.Owed.{lines_to}
 use Rattle.irc_follow.specs.Says.{body, lines_on}
-use Rattle.irc_follow.proofs.LinesOn.{bare, on_these}
+use Rattle.irc_follow.specs.Lemmas.LinesOnLinks.{bare, on_these}
 use Rattle.irc_items.specs.GoodLines.{closings, reason_of}
 
 -- ---- no link is closed

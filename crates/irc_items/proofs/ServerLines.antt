@@ -21,8 +21,8 @@ use Rattle.irc_stage.specs.View.{End, View}
 use Rattle.irc_deeds.specs.Heard.{heard, of_met, opened, tells}
 use Rattle.irc_wire.specs.Lemmas.LinesReadBack.{command_plain, from_plain}
 use Rattle.irc_wire.specs.Lemmas.NumberText.{number_read, number_taken}
-use Rattle.irc_follow.proofs.Neighbours.{IsKnownOfLines, both}
-use Rattle.irc_follow.proofs.SaidGainOn.{four_so, number_plain, server_so, text_no_nul}
+use Rattle.irc_follow.specs.Lemmas.Neighbours.{IsKnownOfLines, both}
+use Rattle.irc_follow.specs.Lemmas.SaidGainToldOn.{four_so, number_plain, server_so, text_no_nul}
 
 -- a server as another writes of it, with the numbers that it writes
 pub record IsWritten (writer : Known) (uplink name words : List ℕ) (links ours : ℕ) : Type 0 where

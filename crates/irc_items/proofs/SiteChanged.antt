@@ -9,7 +9,7 @@ use Rattle.irc_relay.specs.Links.{Name, same}
 use Rattle.irc_routes.specs.Limits.{max_servers}
 use Rattle.irc_stage.specs.View.{View}
 use Rattle.irc_follow.specs.Tree.{index_in}
-use Rattle.irc_follow.proofs.Places.{one_place}
+use Rattle.irc_follow.specs.Lemmas.PlacesOfNames.{one_place}
 use Rattle.irc_network.specs.Network.{Network, Site, server_place, site_at, site_of}
 use Rattle.irc_items.specs.SetUp.{named_at, no_view, setting_at, settings_of, view_at, IsConfigured, IsSetUp}
 use Rattle.irc_items.specs.Lemmas.SetUpFacts.{nowhere, there}

@@ -23,10 +23,10 @@ use Rattle.irc_routes.specs.Lemmas.TableRows.{row_passes, told}
 use Rattle.irc_follow.specs.AtRest.{by_distance, AreRight}
 use Rattle.irc_follow.specs.Part.{Fixed, info_in, number}
 use Rattle.irc_follow.specs.Tree.{Shape, shape, shape_in}
-use Rattle.irc_follow.proofs.BehindLinks.{row_is_there, row_says, RowIsThere, RowSays}
-use Rattle.irc_follow.proofs.Places.{one_place}
-use Rattle.irc_follow.proofs.ToldInTurn.{before_is, told_by_distance}
-use Rattle.irc_follow.proofs.ToldServers.{any_filtered, any_told, or_none}
+use Rattle.irc_follow.specs.Lemmas.BehindLinks.{row_is_there, row_says, RowIsThere, RowSays}
+use Rattle.irc_follow.specs.Lemmas.PlacesOfNames.{one_place}
+use Rattle.irc_follow.specs.Lemmas.ToldInTurn.{before_is, told_by_distance}
+use Rattle.irc_follow.specs.Lemmas.ToldServers.{any_filtered, any_told, or_none}
 
 -- ---- what is told of are rows
 

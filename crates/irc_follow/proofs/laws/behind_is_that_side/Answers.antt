@@ -1,4 +1,4 @@
-use Rattle.irc_follow.proofs.BehindLinks.{behind_is_that_side}
+use Rattle.irc_follow.specs.Lemmas.BehindLinks.{behind_is_that_side}
 use Rattle.irc_follow.proofs.laws.behind_is_that_side.Goals as goal
 
 pub returns : goal.returns

@@ -1,4 +1,4 @@
-use Rattle.irc_follow.proofs.SideFlows.{cut_once_lost}
+use Rattle.irc_follow.specs.Lemmas.SideFlows.{cut_once_lost}
 use Rattle.irc_follow.proofs.laws.cut_once_lost.Goals as goal
 
 pub returns : goal.returns

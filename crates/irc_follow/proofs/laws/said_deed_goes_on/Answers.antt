@@ -1,4 +1,4 @@
-use Rattle.irc_follow.proofs.Followed.{said_deed_goes_on}
+use Rattle.irc_follow.specs.Lemmas.SidesFollowed.{said_deed_goes_on}
 use Rattle.irc_follow.proofs.laws.said_deed_goes_on.Goals as goal
 
 pub returns : goal.returns

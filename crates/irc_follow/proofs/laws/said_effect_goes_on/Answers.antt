@@ -1,4 +1,4 @@
-use Rattle.irc_follow.proofs.SaidOn.{said_effect_goes_on}
+use Rattle.irc_follow.specs.Lemmas.SaidEffectToldOn.{said_effect_goes_on}
 use Rattle.irc_follow.proofs.laws.said_effect_goes_on.Goals as goal
 
 pub returns : goal.returns

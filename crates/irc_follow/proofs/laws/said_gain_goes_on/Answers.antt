@@ -1,4 +1,4 @@
-use Rattle.irc_follow.proofs.SaidGainOn.{said_gain_goes_on}
+use Rattle.irc_follow.specs.Lemmas.SaidGainToldOn.{said_gain_goes_on}
 use Rattle.irc_follow.proofs.laws.said_gain_goes_on.Goals as goal
 
 pub returns : goal.returns

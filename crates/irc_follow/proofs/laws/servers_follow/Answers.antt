@@ -1,4 +1,4 @@
-use Rattle.irc_follow.proofs.Followed.{servers_follow}
+use Rattle.irc_follow.specs.Lemmas.SidesFollowed.{servers_follow}
 use Rattle.irc_follow.proofs.laws.servers_follow.Goals as goal
 
 pub returns : goal.returns

@@ -4,7 +4,7 @@ use Rattle.irc_items.proofs.GivenStaysSound.{given_stays_sound}
 use Rattle.irc_items.proofs.HomeEvents.{AreDecisionLaws}
 use Rattle.irc_items.proofs.HomeTells.{tells_from_home, AreTellingLaws}
 use Rattle.irc_items.proofs.LinkItem.{AreLinkItemLaws}
-use Rattle.irc_follow.proofs.Followed.{IsKnownOfLine}
+use Rattle.irc_follow.specs.Lemmas.SidesFollowed.{IsKnownOfLine}
 use Rattle.irc_items.proofs.laws.given_stays_sound.Goals as goal
 
 pub returns : goal.returns

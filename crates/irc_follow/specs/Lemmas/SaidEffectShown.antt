@@ -43,9 +43,9 @@ use Rattle.irc_follow.specs.Part.{Fixed, client_sees, is_home_of, number, IsSoun
 use Rattle.irc_follow.specs.Part as of_side
 use Rattle.irc_follow.specs.Fits.{Fits}
 use Rattle.irc_follow.specs.Says.{neighbour_served, Says, IsDoableEffect}
-use Rattle.irc_follow.proofs.ClientLines.{client_shown, effect_lines}
-use Rattle.irc_follow.proofs.DeedEffects.{AllCalm, IsCounted, at_room, calm_view, counted_there, in_room, is_calm}
-use Rattle.irc_follow.proofs.SaidEffect.{client_here, effect_served, invited_elsewhere, rooms_alike, users_there}
+use Rattle.irc_follow.specs.Lemmas.ClientLines.{client_shown, effect_lines}
+use Rattle.irc_follow.specs.Lemmas.DeedEffects.{AllCalm, IsCounted, at_room, calm_view, counted_there, in_room, is_calm}
+use Rattle.irc_follow.specs.Lemmas.SaidEffect.{client_here, effect_served, invited_elsewhere, rooms_alike, users_there}
 
 pub append_nil : {X : Type 0} (xs : List X) → xs ++ [] ≡ xs
 append_nil [] = refl

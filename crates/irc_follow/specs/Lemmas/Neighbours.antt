@@ -35,11 +35,11 @@ use Rattle.irc_follow.specs.Part as of_side
 use Rattle.irc_follow.specs.Fits.{far_end, far_of, Fits}
 use Rattle.irc_follow.specs.Laws.{GoesOn, told}
 use Rattle.irc_follow.specs.Says.{neighbour_served, lines_on, machine, saying, IsDoable, IsFar}
-use Rattle.irc_follow.proofs.LinesOn.{among_met, but_another, lines_behind, on_these}
-use Rattle.irc_follow.proofs.Places.{one_place}
-use Rattle.irc_follow.proofs.ReadNext.{link_of, shape_at}
-use Rattle.irc_follow.proofs.SaidEffect.{far_is_another}
-use Rattle.irc_follow.proofs.ServerLines.{line_heard}
+use Rattle.irc_follow.specs.Lemmas.LinesOnLinks.{among_met, but_another, lines_behind, on_these}
+use Rattle.irc_follow.specs.Lemmas.PlacesOfNames.{one_place}
+use Rattle.irc_follow.specs.Lemmas.EffectsReadNext.{link_of, shape_at}
+use Rattle.irc_follow.specs.Lemmas.SaidEffect.{far_is_another}
+use Rattle.irc_follow.specs.Lemmas.ServerLines.{line_heard}
 
 -- what is known of lines and names in the crates below
 pub record IsKnownOfLines : Type 0 where

@@ -35,9 +35,9 @@ use Rattle.irc_world.specs.World.{home_in}
 use Rattle.irc_follow.specs.Part.{Fixed, clients_elsewhere, done, info_in, is_home_of, IsSoundPart}
 use Rattle.irc_follow.specs.Part as of_side
 use Rattle.irc_follow.specs.Says.{IsDoableByServer, IsDoableKill, IsDoableLoss}
-use Rattle.irc_follow.proofs.DeedEffects.{AllQuiet, members_quiet, sets_quiet, tops_quiet, users_stay}
-use Rattle.irc_follow.proofs.PartEffects.{kept_by_effect}
-use Rattle.irc_follow.proofs.TreeLoses.{lost_is_sound}
+use Rattle.irc_follow.specs.Lemmas.DeedEffects.{AllQuiet, members_quiet, sets_quiet, tops_quiet, users_stay}
+use Rattle.irc_follow.specs.Lemmas.PartEffects.{kept_by_effect}
+use Rattle.irc_follow.specs.Lemmas.TreeLoses.{lost_is_sound}
 
 -- ---- the room
 

@@ -42,10 +42,10 @@ use Rattle.irc_follow.specs.Part.{Fixed, clients_elsewhere, done, is_home_of, nu
 use Rattle.irc_follow.specs.Part as of_side
 use Rattle.irc_follow.specs.Fits.{far_end, Fits}
 use Rattle.irc_follow.specs.Says.{neighbour_served, Says, IsDoableByServer, IsDoableKill, IsDoableLoss}
-use Rattle.irc_follow.proofs.DeedEffects.{AllCalm, AllQuiet, all_view, at_room, members_calm, members_quiet, quiet_counted, quits_calm, sets_calm, sets_quiet, tops_calm, tops_quiet}
-use Rattle.irc_follow.proofs.LostUsers.{lost_are_of, lost_counted}
-use Rattle.irc_follow.proofs.PartDeeds.{brings_keeps, kills_keeps, loses_keeps, sets_keeps, there_to_kill, tops_keeps}
-use Rattle.irc_follow.proofs.SaidEffect.{own_name, room_now, rooms_alike}
+use Rattle.irc_follow.specs.Lemmas.DeedEffects.{AllCalm, AllQuiet, all_view, at_room, members_calm, members_quiet, quiet_counted, quits_calm, sets_calm, sets_quiet, tops_calm, tops_quiet}
+use Rattle.irc_follow.specs.Lemmas.LostUsers.{lost_are_of, lost_counted}
+use Rattle.irc_follow.specs.Lemmas.PartDeeds.{brings_keeps, kills_keeps, loses_keeps, sets_keeps, there_to_kill, tops_keeps}
+use Rattle.irc_follow.specs.Lemmas.SaidEffect.{own_name, room_now, rooms_alike}
 
 module _ (s : Fixed) (p t : Name) (w : of_side.Part) (view : View) (takes : TakesFrom s.streams t p) (fits : Fits s t w view) where
   sound : IsSoundPart s w

@@ -21,9 +21,9 @@ use Rattle.irc_routes.specs.Lemmas.TableRows.{length-values, some_stands}
 use Rattle.irc_routes.proofs.SmallestFree.{smallest_is_low}
 use Rattle.irc_routes.proofs.RouteLaws.{added_gets_smallest, stays_numbered}
 use Rattle.irc_follow.specs.Tree.{Tree, index_in, shape, shape_in, told_token, known_told, gained, gained_at, IsSoundTree, AreServers, CanGain}
-use Rattle.irc_follow.proofs.Places.{one_place}
-use Rattle.irc_follow.proofs.FewRows.{two_more}
-use Rattle.irc_follow.proofs.ToldNumbers.{same_some, told_apart, known_number, new_number, none_found}
+use Rattle.irc_follow.specs.Lemmas.PlacesOfNames.{one_place}
+use Rattle.irc_follow.specs.Lemmas.FewRows.{two_more}
+use Rattle.irc_follow.specs.Lemmas.ToldNumbers.{same_some, told_apart, known_number, new_number, none_found}
 
 module _ (names : List Name) (info : Name → List ℕ) (servers : AreServers names info) (few : length names ≤ max_servers) (tree : Tree)
     (sound : IsSoundTree names info tree) where

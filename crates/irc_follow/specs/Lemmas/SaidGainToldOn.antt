@@ -46,14 +46,14 @@ use Rattle.irc_follow.specs.Part as of_side
 use Rattle.irc_follow.specs.Fits.{Fits}
 use Rattle.irc_follow.specs.Laws.{GoesOn, SaidGainGoesOn}
 use Rattle.irc_follow.specs.Says.{neighbour_served, body, lines_on, machine, saying, Says, IsDoableGain}
-use Rattle.irc_follow.proofs.CarriedLines.{server_carried}
-use Rattle.irc_follow.proofs.MemberLines.{other_byte}
-use Rattle.irc_follow.proofs.Neighbours.{IsKnownOfLines, both}
-use Rattle.irc_follow.proofs.Neighbours as beside
-use Rattle.irc_follow.proofs.ReadNext.{distance_at, low_token}
-use Rattle.irc_follow.proofs.SaidEffect.{own_name}
-use Rattle.irc_follow.proofs.SaidGain as gain_of
-use Rattle.irc_follow.proofs.TreeGains as tree_of
+use Rattle.irc_follow.specs.Lemmas.CarriedLines.{server_carried}
+use Rattle.irc_follow.specs.Lemmas.MemberLines.{other_byte}
+use Rattle.irc_follow.specs.Lemmas.Neighbours.{IsKnownOfLines, both}
+use Rattle.irc_follow.specs.Lemmas.Neighbours as beside
+use Rattle.irc_follow.specs.Lemmas.EffectsReadNext.{distance_at, low_token}
+use Rattle.irc_follow.specs.Lemmas.SaidEffect.{own_name}
+use Rattle.irc_follow.specs.Lemmas.SaidGain as gain_of
+use Rattle.irc_follow.specs.Lemmas.TreeGains as tree_of
 
 -- all that is looked at in a SERVER is so
 pub server_so : (parameters token direction names : Bool) (late : Option CloseReason) (told : List Told) → parameters ≡ true → token ≡ true → direction ≡ true

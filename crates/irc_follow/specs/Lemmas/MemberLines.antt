@@ -25,7 +25,7 @@ use Rattle.irc_merge.specs.CanBeDone.{DoesSomething}
 use Rattle.irc_merge.specs.Deeds.{member_comes}
 use Rattle.irc_burst.specs.DeedsMeant.{at_mark, has_mark, is_comma, member_of, members_of, plus_mark, without_mark}
 use Rattle.irc_burst_lines.specs.DeedLines.{member_text, members_text, more_text}
-use Rattle.irc_follow.proofs.DeedEffects.{AllQuiet, members_quiet, users_stay}
+use Rattle.irc_follow.specs.Lemmas.DeedEffects.{AllQuiet, members_quiet, users_stay}
 
 -- ---- bytes of a nickname
 

@@ -26,10 +26,10 @@ use Rattle.irc_follow.specs.Part.{Fixed, done, info_in, number, IsFixed, IsSound
 use Rattle.irc_follow.specs.Part as of_side
 use Rattle.irc_follow.specs.Fits.{far_end, far_of, Fits, IsNumberOf}
 use Rattle.irc_follow.specs.Says.{neighbour_served, saying, Says, IsDoableGain}
-use Rattle.irc_follow.proofs.Places.{one_place}
-use Rattle.irc_follow.proofs.TreeGains as tree_of
-use Rattle.irc_follow.proofs.PartEffects.{gain_keeps}
-use Rattle.irc_follow.proofs.SaidEffect.{own_name}
+use Rattle.irc_follow.specs.Lemmas.PlacesOfNames.{one_place}
+use Rattle.irc_follow.specs.Lemmas.TreeGains as tree_of
+use Rattle.irc_follow.specs.Lemmas.PartEffects.{gain_keeps}
+use Rattle.irc_follow.specs.Lemmas.SaidEffect.{own_name}
 
 -- a row more, where it is taken
 row_more : (k : ℕ) (uplink name : List ℕ) (distance token : ℕ) (info : List ℕ) (before : Served) → is_taken before.view.routes k name token ≡ true

@@ -17,9 +17,9 @@ use Rattle.irc_world.specs.World.{is_server}
 use Rattle.irc_follow.specs.Tree.{Shape, index_in, shape, shape_in}
 use Rattle.irc_follow.specs.Part.{Fixed, info_in, number, IsFixed}
 use Rattle.irc_follow.specs.AtRest.{AreRight, BehindIsThatSide}
-use Rattle.irc_follow.proofs.AtRest.{joined_among, joined_so}
-use Rattle.irc_follow.proofs.NamedRows.{if_passes, keys_of_set, listed, mark, names_of, names_passing, same_mark}
-use Rattle.irc_follow.proofs.Places.{one_place}
+use Rattle.irc_follow.specs.Lemmas.SideAtRest.{joined_among, joined_so}
+use Rattle.irc_follow.specs.Lemmas.NamedRows.{if_passes, keys_of_set, listed, mark, names_of, names_passing, same_mark}
+use Rattle.irc_follow.specs.Lemmas.PlacesOfNames.{one_place}
 
 pub joined_test : (links : List Link) (x t : Name) → AreJoined links x t → joined links x t ≡ true
 joined_test links x t so = (tests_tell links x t x).1.1 so

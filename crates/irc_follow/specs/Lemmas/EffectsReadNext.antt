@@ -43,7 +43,7 @@ use Rattle.irc_follow.specs.Part.{Fixed, info_in, number, IsFixed, IsSoundPart}
 use Rattle.irc_follow.specs.Part as of_side
 use Rattle.irc_follow.specs.Fits.{Fits}
 use Rattle.irc_follow.specs.Says.{IsDoableEffect, IsFar}
-use Rattle.irc_follow.proofs.SaidEffect.{far_is_another, rooms_alike, users_there}
+use Rattle.irc_follow.specs.Lemmas.SaidEffect.{far_is_another, rooms_alike, users_there}
 
 -- ---- a number stands for one server
 

@@ -21,7 +21,7 @@ use Rattle.irc_merge.specs.Deeds.{changes_made, flag_given, is_greater_topic, me
 use Rattle.irc_merge.specs.Quits.{quits_of}
 use Rattle.irc_stage.specs.EffectTold.{Served, all_changed, changed, counts, is_of_here, view_after}
 use Rattle.irc_stage.specs.View.{View}
-use Rattle.irc_follow.proofs.SaidEffect.{doing}
+use Rattle.irc_follow.specs.Lemmas.SaidEffect.{doing}
 
 -- ---- effects that leave clients as they are
 

@@ -27,8 +27,8 @@ use Rattle.irc_relay.specs.Links.{same as same_server}
 use Rattle.irc_follow.specs.Part.{Fixed, clients_left, hall_after, done, info_in, IsFixed, IsSoundPart}
 use Rattle.irc_follow.specs.Part as of_side
 use Rattle.irc_follow.specs.Says.{IsDoableEffect, IsDoableGain}
-use Rattle.irc_follow.proofs.TreeGains.{gained_is_sound}
-use Rattle.irc_follow.proofs.UsersAfter.{fold_after, home_stays, takes_out}
+use Rattle.irc_follow.specs.Lemmas.TreeGains.{gained_is_sound}
+use Rattle.irc_follow.specs.Lemmas.UsersAfter.{fold_after, home_stays, takes_out}
 use Rattle.irc_world.proofs.HomesPassing.{NewPasses, pass_after}
 
 -- one test for two nicknames, and for their folds

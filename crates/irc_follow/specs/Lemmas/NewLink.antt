@@ -13,7 +13,7 @@ use Rattle.irc_routes.specs.Known.{row_of, token_out}
 use Rattle.irc_follow.specs.Tree.{Tree, Shape, index_in, shape, shape_in, IsSoundTree}
 use Rattle.irc_follow.specs.Part.{info_in}
 use Rattle.irc_follow.specs.Relinked.{with_links, CanLink, PartAfterLink, TreeAfterLink}
-use Rattle.irc_follow.proofs.Places.{one_place}
+use Rattle.irc_follow.specs.Lemmas.PlacesOfNames.{one_place}
 
 -- who takes lines of whom is linked to it, where sources cover the links
 pub parent_is_linked : (links : List Link) (source : Name → Name) (t p : Name) → IsForest links → Covers links source

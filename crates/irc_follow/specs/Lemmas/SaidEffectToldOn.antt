@@ -48,13 +48,13 @@ use Rattle.irc_follow.specs.Part as of_side
 use Rattle.irc_follow.specs.Fits.{Fits}
 use Rattle.irc_follow.specs.Laws.{GoesOn, told, passed, SaidEffectGoesOn}
 use Rattle.irc_follow.specs.Says.{neighbour_served, lines_on, machine, Says, IsDoableEffect}
-use Rattle.irc_follow.proofs.LinesOn.{among_keys, but_another, lines_behind, none_by_effect, on_these}
-use Rattle.irc_follow.proofs.PassingBy.{told_known}
-use Rattle.irc_follow.proofs.Neighbours as beside
-use Rattle.irc_follow.proofs.Places.{one_place}
-use Rattle.irc_follow.proofs.ReadNext.{agrees, can_be_read, link_of, shape_at}
-use Rattle.irc_follow.proofs.SaidEffect.{effect_served, rooms_alike}
-use Rattle.irc_follow.proofs.ServerLines.{met_heard}
+use Rattle.irc_follow.specs.Lemmas.LinesOnLinks.{among_keys, but_another, lines_behind, none_by_effect, on_these}
+use Rattle.irc_follow.specs.Lemmas.ServersPassedBy.{told_known}
+use Rattle.irc_follow.specs.Lemmas.Neighbours as beside
+use Rattle.irc_follow.specs.Lemmas.PlacesOfNames.{one_place}
+use Rattle.irc_follow.specs.Lemmas.EffectsReadNext.{agrees, can_be_read, link_of, shape_at}
+use Rattle.irc_follow.specs.Lemmas.SaidEffect.{effect_served, rooms_alike}
+use Rattle.irc_follow.specs.Lemmas.ServerLines.{met_heard}
 
 -- ---- toward whom, in rooms that are alike
 

@@ -48,7 +48,7 @@ use Rattle.irc_follow.specs.Part.{Fixed, clients_left, done, info_in, is_home_of
 use Rattle.irc_follow.specs.Part as of_side
 use Rattle.irc_follow.specs.Fits.{Fits}
 use Rattle.irc_follow.specs.Says.{neighbour_served, Says, IsDoableEffect, IsFar}
-use Rattle.irc_follow.proofs.PartEffects.{effect_keeps}
+use Rattle.irc_follow.specs.Lemmas.PartEffects.{effect_keeps}
 
 pub doing : (room : Room) (effect : Effect) → IsPossible room effect → is_idle room effect ≡ false → does_in room effect ≡ true
 doing room effect possible busy =

@@ -39,7 +39,7 @@ use Rattle.irc_follow.specs.Part as of_side
 use Rattle.irc_follow.specs.Fits.{Fits}
 use Rattle.irc_follow.specs.Laws.{PassedByStays}
 use Rattle.irc_follow.specs.Says.{IsFar, Passes}
-use Rattle.irc_follow.proofs.PartEffects.{effect_keeps}
+use Rattle.irc_follow.specs.Lemmas.PartEffects.{effect_keeps}
 
 first_of : (a b : Bool) → (a && b) ≡ true → a ≡ true
 first_of true b is = refl

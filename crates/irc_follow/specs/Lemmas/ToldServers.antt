@@ -15,9 +15,9 @@ use Rattle.irc_routes.proofs.DistinctLinks.{both_so}
 use Rattle.irc_follow.specs.Tree.{Shape, index_in, shape, shape_in}
 use Rattle.irc_follow.specs.Part.{Fixed, info_in, number}
 use Rattle.irc_follow.specs.AtRest.{AreRight, ToldAreThisSide}
-use Rattle.irc_follow.proofs.AtRest.{joined_so}
-use Rattle.irc_follow.proofs.BehindLinks.{joined_test, row_is_there, row_says}
-use Rattle.irc_follow.proofs.Places.{one_place}
+use Rattle.irc_follow.specs.Lemmas.SideAtRest.{joined_so}
+use Rattle.irc_follow.specs.Lemmas.BehindLinks.{joined_test, row_is_there, row_says}
+use Rattle.irc_follow.specs.Lemmas.PlacesOfNames.{one_place}
 
 module _ (p : ServerRow → Bool) where
   swapped : (a b c : Bool) → (a || (b || c)) ≡ (b || (a || c))

@@ -54,7 +54,7 @@ use Rattle.irc_wire.specs.Lemmas.ModesRead.{changes_again, changes_taken}
 use Rattle.irc_mode_words.specs.Lemmas.FewChanges.{letters_few}
 use Rattle.irc_wire.specs.Lemmas.ModeWords.{mode_words, worded_counted, words_plain}
 use Rattle.irc_wire.specs.Lemmas.NameKinds.{channel-for_channel}
-use Rattle.irc_follow.proofs.MemberLines.{AreNicks, all_nicks, members_back, members_no_nul}
+use Rattle.irc_follow.specs.Lemmas.MemberLines.{AreNicks, all_nicks, members_back, members_no_nul}
 
 -- what a message is heard as by a link whose other end has named itself
 pub met_heard : (view : View) (link : ℕ) (end : End) (line : List ℕ) (message : Parsed) → read_of line ≡ Ok message → is_some end.far ≡ true

@@ -18,7 +18,7 @@ use Rattle.irc_merge.specs.Lemmas.Quitting.{among, among_values}
 use Rattle.irc_relay.specs.Links.{Name, same}
 use Rattle.irc_relay.specs.Lemmas.TellingNames.{same_unless}
 use Rattle.irc_stage.specs.View.{View}
-use Rattle.irc_follow.proofs.DeedEffects.{IsCounted}
+use Rattle.irc_follow.specs.Lemmas.DeedEffects.{IsCounted}
 
 -- the holder of a user's nickname, if there is one, is of this server
 abbrev IsOf : Name → Room → User → Type 0

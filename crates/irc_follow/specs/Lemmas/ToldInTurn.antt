@@ -17,7 +17,7 @@ use Rattle.irc_routes.specs.Known.{is_behind, is_told_before, others, put_among}
 use Rattle.irc_routes.specs.Lemmas.TableRows.{held, told, values_each}
 use Rattle.irc_routes.proofs.RouteLaws.{entries_named}
 use Rattle.irc_follow.specs.AtRest.{by_distance, ToldByDistance}
-use Rattle.irc_follow.proofs.NamedRows.{if_passes, passed_named}
+use Rattle.irc_follow.specs.Lemmas.NamedRows.{if_passes, passed_named}
 
 abbrev key : ServerRow → List ℕ
 key r = (by_distance r).0

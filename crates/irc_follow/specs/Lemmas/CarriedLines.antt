@@ -21,7 +21,7 @@ use Rattle.irc_link_words.specs.Numbers.{max_number}
 use Rattle.irc_link_writer.specs.Written.{next_distance, written_token}
 use Rattle.irc_wire.specs.Lemmas.CarriedParts.{from_carried, number_carried, parameters_carried}
 use Rattle.irc_wire.specs.Lemmas.ModeWords.{letters_carried}
-use Rattle.irc_follow.proofs.MemberLines.{AreNicks}
+use Rattle.irc_follow.specs.Lemmas.MemberLines.{AreNicks}
 
 both_carried : (xs ys : List ℕ) → IsCarried xs → IsCarried ys → IsCarried (xs ++ ys)
 both_carried xs ys first second = list_all-append is_carried_byte xs ys ∙ ap (λ b. b && is_carried ys) first ∙ second
