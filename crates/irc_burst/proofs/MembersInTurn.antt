@@ -19,9 +19,9 @@ use Rattle.irc_room.specs.Lemmas.Rows.{not_true}
 use Rattle.irc_merge.specs.Deeds.{member_comes}
 use Rattle.irc_merge.specs.Bursts.{home_passes}
 use Rattle.irc_merge.specs.BurstRead.{is_new_member, new_members}
-use Rattle.irc_merge.proofs.Bringing.{comes, comes_to}
-use Rattle.irc_merge.proofs.ShownChannels.{row_has}
-use Rattle.irc_merge.proofs.Tests.{and_not}
+use Rattle.irc_merge.specs.Lemmas.ChannelRows.{comes, comes_to}
+use Rattle.irc_merge.specs.Lemmas.ChannelRows.{row_has}
+use Rattle.irc_merge.specs.Lemmas.BooleanTests.{and_not}
 use Rattle.std.proofs.lemmas.List.{map-append}
 use Rattle.irc_room.specs.Room.{Room, IsWellFormed}
 use Rattle.irc_room.specs.Seen.{stored_nick}

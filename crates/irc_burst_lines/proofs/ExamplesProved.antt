@@ -21,7 +21,7 @@ use Rattle.irc_routes.specs.Lemmas.TableRows.{length-values}
 use Rattle.irc_routes.specs.declared.server_row.ServerRow.{ServerRow}
 use Rattle.irc_merge.specs.Bursts.{burst, in_lines, side_of}
 use Rattle.irc_merge.specs.Lemmas.ListedMerge.{burst_listed, list_burst}
-use Rattle.irc_merge.proofs.Sides.{whole_side}
+use Rattle.irc_merge.specs.Lemmas.WholeSides.{whole_side}
 use Rattle.irc_burst_lines.specs.DeedLines.{deed_parts}
 use Rattle.irc_burst_lines.specs.BurstLines.{burst_parts, is_near, server_deed}
 use Rattle.irc_burst_lines.specs.Examples.{alone, al_comes, al_joins, modes_set, bans_set, topic_set, als_room, OneSideIsTold}

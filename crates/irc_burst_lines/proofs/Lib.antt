@@ -4,4 +4,3 @@ pub mod LimitWritten
 pub mod NjoinPieces
 pub mod SideTold
 pub mod Told
-pub mod WholeLines

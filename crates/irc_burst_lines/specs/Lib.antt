@@ -3,3 +3,4 @@ pub mod BurstLines
 pub mod Loops
 pub mod Examples
 pub mod WholeLines
+pub mod Lemmas

@@ -10,7 +10,7 @@ use Rattle.irc_names.specs.Fold.{key}
 use Rattle.irc_names.specs.Limits.{max_nick}
 use Rattle.irc_names.specs.Names.{is_nick, is_channel}
 use Rattle.irc_names.specs.Tables.{row}
-use Rattle.irc_rules.proofs.RuleFacts.{nick-fits, channel-fits, host-fits}
+use Rattle.irc_names.specs.Lemmas.RuleFacts.{nick-fits, channel-fits, host-fits}
 use Rattle.irc_users.specs.declared.user.User.{User}
 use Rattle.irc_room.specs.effect.Target.{Target}
 use Rattle.irc_room.specs.Limits.{IsUserWithin}

@@ -7,7 +7,7 @@ use Rattle.irc_line.specs.Lemmas.Lengths.{words_size}
 use Rattle.irc_names.specs.Fold.{key}
 use Rattle.irc_names.specs.Limits.{max_nick}
 use Rattle.irc_names.specs.Tables.{row}
-use Rattle.irc_rules.proofs.RuleFacts.{nick-fits, key-fits, ban_mask-fits}
+use Rattle.irc_names.specs.Lemmas.RuleFacts.{nick-fits, key-fits, ban_mask-fits}
 use Rattle.irc_users.specs.declared.user.User.{User}
 use Rattle.irc_modes.specs.declared.modes.ModeChange.{ModeChange}
 use Rattle.irc_modes.specs.declared.modes.ModeLetter.{ModeLetter}

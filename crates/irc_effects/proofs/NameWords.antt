@@ -6,7 +6,7 @@ use Rattle.std.specs.Char.{is_ascii_alphabetic}
 use Rattle.std.proofs.lemmas.Bool.Decides.{eqb_tells}
 use Rattle.irc_line.specs.Bytes.{is_nul, is_line_end, is_space}
 use Rattle.irc_line.specs.Carried.{is_carried_byte, is_carried, IsCarried}
-use Rattle.irc_line.proofs.LineWords.{carried_byte, carried_no_nul}
+use Rattle.irc_line.specs.Lemmas.CarriedBytes.{carried_byte, carried_no_nul}
 use Rattle.irc_names.specs.Names.{IsNick, IsChannel, IsHost, IsServer, IsBanMask, is_special, is_nick, is_nick_byte, is_channel, is_channel_byte, is_host, is_host_byte, is_server, is_server_byte, is_key, is_key_byte, is_ban_mask, is_ban_mask_byte, starts_without_colon, IsKey}
 use Rattle.irc_names.specs.UserTexts.{IsUserName, is_user_byte}
 use Rattle.irc_effects.specs.Laws.{IsLineWord, NamesAreLineWords}

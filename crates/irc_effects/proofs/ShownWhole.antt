@@ -9,7 +9,7 @@ use Rattle.irc_line.specs.Lemmas.Lengths.{words_size, last_size, length-joined_t
 use Rattle.irc_names.specs.Fold.{key}
 use Rattle.irc_names.specs.Limits.{max_nick, max_host, max_user_name}
 use Rattle.irc_names.specs.Tables.{row}
-use Rattle.irc_rules.proofs.RuleFacts.{nick-fits, channel-fits, host-fits}
+use Rattle.irc_names.specs.Lemmas.RuleFacts.{nick-fits, channel-fits, host-fits}
 use Rattle.irc_users.specs.declared.user.User.{User}
 use Rattle.irc_channels.specs.declared.channel.Channel.{Channel}
 use Rattle.irc_effects.specs.declared.effect.By.TheVariants as by

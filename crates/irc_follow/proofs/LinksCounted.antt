@@ -13,7 +13,7 @@ use Rattle.irc_relay.specs.Lemmas.NextHops.{linked_back, linked_joined, linked_o
 use Rattle.irc_routes.specs.declared.server_row.ServerRow.{ServerRow}
 use Rattle.irc_routes.specs.Known.{Known, link_key, links_of, others}
 use Rattle.irc_routes.specs.Lemmas.TableRows.{row_passes, some_stands}
-use Rattle.irc_routes.proofs.DistinctLinks.{both_so}
+use Rattle.irc_routes.specs.Lemmas.DistinctLinks.{both_so}
 use Rattle.irc_world.specs.World.{has_end}
 use Rattle.irc_follow.specs.Tree.{Shape, index_in}
 use Rattle.irc_follow.specs.Part.{Fixed}

@@ -14,7 +14,7 @@ use Rattle.irc_relay.specs.Lemmas.NextHops.{distance_self}
 use Rattle.irc_routes.specs.declared.server_row.ServerRow.{ServerRow}
 use Rattle.irc_routes.specs.Known.{Known, by_name, itself, known_server, others, row_of, server_table}
 use Rattle.irc_routes.specs.Place.{KnownServer}
-use Rattle.irc_routes.proofs.RouteLaws.{entries_named, mapped_found}
+use Rattle.irc_routes.specs.Lemmas.RouteLaws.{entries_named, mapped_found}
 use Rattle.irc_world.specs.World.{Setting, is_server, known_from, setting_of}
 use Rattle.irc_follow.specs.Tree.{Shape}
 use Rattle.irc_follow.specs.Part.{Fixed, info_in, IsFixed}

@@ -18,7 +18,7 @@ use Rattle.irc_room.specs.Lemmas.AlikeLaw.{alike_have_alike, alike_stay_alike, a
 use Rattle.irc_room.specs.Lemmas.RespelledRooms.{respelled_is_well_formed}
 use Rattle.irc_merge.specs.Deeds.{Deed, does, gains, loses, kills, brings, sets, tops, titled, effects_of, shown_by}
 use Rattle.irc_merge.specs.Quits.{collision_text, quits_of, users_at}
-use Rattle.irc_merge.proofs.LookingAside.{alike_do_alike}
+use Rattle.irc_merge.specs.Lemmas.DeedsAlike.{alike_do_alike}
 use Rattle.irc_relay.specs.Links as of_links
 use Rattle.irc_relay.specs.Links.{Name}
 use Rattle.irc_relay.specs.Relay.{TakesFrom}

@@ -22,7 +22,7 @@ use Rattle.irc_relay.specs.Relay.{TakesFrom}
 use Rattle.irc_relay.specs.Lemmas.NextHops.{linked_back, linked_other, toward_linked}
 use Rattle.irc_burst.specs.DeedsMeant.{a_deed, deeds_meant, killed}
 use Rattle.irc_burst_lines.specs.DeedLines.{kill_parts}
-use Rattle.irc_burst_lines.proofs.WholeLines.{kill_fits}
+use Rattle.irc_burst_lines.specs.Lemmas.WholeLines.{kill_fits}
 use Rattle.irc_link_reader.specs.Reader.{is_behind_link, may_come}
 use Rattle.irc_stage.specs.declared.clients.Client.{Client}
 use Rattle.irc_stage.specs.EffectTold.{Served, changed, client_ended, ends_of, in_silence}

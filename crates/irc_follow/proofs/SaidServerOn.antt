@@ -26,7 +26,7 @@ use Rattle.irc_merge.specs.AsideInvitations.{AreReadAlike}
 use Rattle.irc_merge.specs.BurstRead.{brought, new_members, some_far}
 use Rattle.irc_merge.specs.Deeds.{Deed, brings, loses, sets, tops, titled, effects_of}
 use Rattle.irc_merge.specs.Quits.{quits_of, users_at}
-use Rattle.irc_merge.proofs.LookingAside.{alike_read_alike}
+use Rattle.irc_merge.specs.Lemmas.DeedsAlike.{alike_read_alike}
 use Rattle.irc_merge.specs.Lemmas.SpelledMembers.{new_titled}
 use Rattle.irc_relay.specs.Links.{Name}
 use Rattle.irc_relay.specs.Relay.{TakesFrom}
@@ -34,7 +34,7 @@ use Rattle.irc_routes.specs.declared.server_row.ServerRow.{ServerRow}
 use Rattle.irc_routes.specs.Known.{is_itself, is_known, row_of}
 use Rattle.irc_burst.specs.DeedsMeant.{a_deed, as_stored, deeds_meant}
 use Rattle.irc_burst_lines.specs.DeedLines.{mode_parts, njoin_parts, squit_parts, topic_parts}
-use Rattle.irc_burst_lines.proofs.WholeLines.{squit_fits}
+use Rattle.irc_burst_lines.specs.Lemmas.WholeLines.{squit_fits}
 use Rattle.irc_link_reader.specs.Reader.{Reader, is_behind_link, may_come}
 use Rattle.irc_link_words.specs.Words.{are_words}
 use Rattle.irc_stage.specs.EffectTold.{Served, all_changed, in_silence}

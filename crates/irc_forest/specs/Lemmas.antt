@@ -1,2 +1,3 @@
 -- Lemmas, with their proofs, that the crates above cite too. No rule stands here.
 pub mod FoundPlaces
+pub mod NewestLink

@@ -3,7 +3,7 @@ use Rattle.std.proofs.Common.{◌≡◌, ℕ, ◌+◌, ◌≤◌, List, length, 
 use Rattle.std.proofs.lemmas.Bool.Decides.{nat_tests}
 use Rattle.irc_line.specs.Messages.{joined_text}
 use Rattle.irc_line.specs.Lemmas.Lengths.{length-joined_text}
-use Rattle.irc_rules.proofs.RuleFacts.{server-fits}
+use Rattle.irc_names.specs.Lemmas.RuleFacts.{server-fits}
 use Rattle.irc_routes.specs.Info.{IsInfo}
 use Rattle.irc_handshake.specs.GreetingLines.{pass_parts, greeting}
 use Rattle.irc_handshake.specs.Passwords.{IsPassword}

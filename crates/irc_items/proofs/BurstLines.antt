@@ -28,8 +28,8 @@ use Rattle.irc_merge.specs.AsideInvitations.{AreReadAlike}
 use Rattle.irc_merge.specs.BurstRead.{some_far, brought, new_members}
 use Rattle.irc_merge.specs.Bursts.{home_passes}
 use Rattle.irc_merge.specs.Deeds.{Deed, does, brings, sets, tops, is_greater_topic, raised_in}
-use Rattle.irc_merge.proofs.CanBeDone.{changes_do, greater_does, some_there}
-use Rattle.irc_merge.proofs.LookingAside.{alike_read_alike}
+use Rattle.irc_merge.specs.Lemmas.DoableDeeds.{changes_do, greater_does, some_there}
+use Rattle.irc_merge.specs.Lemmas.DeedsAlike.{alike_read_alike}
 use Rattle.irc_relay.specs.Distances.{IsAmong}
 use Rattle.irc_relay.specs.Lemmas.TellingNames.{Telling, alike, unlike, tell, same_when}
 use Rattle.irc_relay.specs.Links.{Name, Link, same, toward, distance, AreJoined, AreLinked, IsForest}

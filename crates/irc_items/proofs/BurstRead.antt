@@ -10,7 +10,8 @@ use Rattle.std.specs.Option.{option_map_or}
 use Rattle.irc_channels.specs.declared.channel.Channel.{Channel}
 use Rattle.irc_channels.specs.declared.flags.Flags.{Flags}
 use Rattle.irc_follow.specs.Lemmas.DeedEffects.{members_quiet, sets_quiet, tops_quiet, users_stay}
-use Rattle.irc_merge.proofs.CanBeDone.{deeds_well, lines_can_be_done}
+use Rattle.irc_merge.specs.Lemmas.DoableDeeds.{deeds_well}
+use Rattle.irc_merge.proofs.CanBeDone.{lines_can_be_done}
 use Rattle.irc_merge.specs.BurstRead.{introduced, new_members, brought, some_far, read_deed, read_all}
 use Rattle.irc_merge.specs.Bursts.{in_lines, members_a_line, bans_a_line, stored_members, burst, user_deeds, channel_deeds, settings_line}
 use Rattle.irc_merge.specs.CanBeDone.{IsOfBurst}

@@ -16,7 +16,7 @@ use Rattle.irc_line.specs.Carried.{is_carried, IsCarried}
 use Rattle.irc_merge.specs.Bursts.{in_lines, members_a_line, bans_a_line, user_deeds, stored_member, stored_members, settings_line, topic_line, channel_deeds, burst}
 use Rattle.irc_merge.specs.Deeds.{does, brings, sets, tops}
 use Rattle.irc_merge.specs.Lemmas.TableWords.{true_is, entries_all}
-use Rattle.irc_mode_words.proofs.SetReadable.{set_is_readable, bans_are_readable}
+use Rattle.irc_mode_words.specs.Lemmas.SetReadable.{set_is_readable, bans_are_readable}
 use Rattle.irc_modes.specs.Lemmas.LimitFacts.{limit-digits}
 use Rattle.irc_modes.specs.Lemmas.LimitText.{limit_written}
 use Rattle.irc_modes.specs.Modes.{is_nil}

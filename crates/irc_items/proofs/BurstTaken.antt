@@ -7,8 +7,8 @@ use Rattle.irc_burst.specs.DeedsMeant.{as_stored}
 use Rattle.irc_channels.specs.declared.channel.Channel.{Channel}
 use Rattle.irc_channels.specs.declared.flags.Flags.{Flags}
 use Rattle.irc_follow.specs.Lemmas.DeedEffects.{members_quiet, users_stay}
-use Rattle.irc_merge.proofs.CanBeDone.{members_do}
-use Rattle.irc_merge.proofs.Tests.{and_not}
+use Rattle.irc_merge.specs.Lemmas.DoableDeeds.{members_do}
+use Rattle.irc_merge.specs.Lemmas.BooleanTests.{and_not}
 use Rattle.irc_merge.specs.BurstRead.{is_new_member, new_members}
 use Rattle.irc_merge.specs.Bursts.{home_passes}
 use Rattle.irc_merge.specs.CanBeDone.{DoesSomething}

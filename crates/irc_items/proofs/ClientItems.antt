@@ -21,7 +21,7 @@ use Rattle.irc_world.specs.Stepping.{Item, Stepped, by_machine, connect, gone, l
 use Rattle.irc_world.specs.WithinLimits.{IsItemWithin}
 use Rattle.irc_world.specs.World.{World, home_in, is_server, place_at}
 use Rattle.irc_world.specs.WorldHolds.{IsWorld, StepKeepsWorld}
-use Rattle.irc_world.proofs.StaysSound.{more_sound, new_home, still_home}
+use Rattle.irc_world.specs.Lemmas.HomesAdded.{more_sound, new_home, still_home}
 use Rattle.irc_follow.specs.AtRest.{part_of, AreRight, IsOfWorld, PlaceIsWorlds}
 use Rattle.irc_follow.specs.Fits.{Fits}
 use Rattle.irc_follow.specs.Part.{Fixed, is_home_of, IsFixed}

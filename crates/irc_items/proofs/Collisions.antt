@@ -27,7 +27,7 @@ use Rattle.irc_routes.specs.Known.{Known, row_of}
 use Rattle.irc_routes.specs.Known as of_known
 use Rattle.irc_burst.specs.DeedsMeant.{a_deed, deeds_meant, effects_told, killed, read_burst_row}
 use Rattle.irc_burst_lines.specs.DeedLines.{kill_parts}
-use Rattle.irc_burst_lines.proofs.WholeLines.{kill_fits}
+use Rattle.irc_burst_lines.specs.Lemmas.WholeLines.{kill_fits}
 use Rattle.irc_handshake.specs.GreetingLines.{greeting, pass_parts}
 use Rattle.irc_link_reader.specs.Reader.{Reader, is_behind_link, may_come, reader_of}
 use Rattle.irc_link_writer.specs.Written.{from, wire}

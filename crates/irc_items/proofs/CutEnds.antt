@@ -5,7 +5,7 @@ use Rattle.irc_relay.specs.Links.{Name, Link, part, joined, linked, links_withou
 use Rattle.irc_relay.specs.Lemmas.TellingNames.{same_unless}
 use Rattle.irc_relay.specs.Lemmas.NextHops.{linked_joined}
 use Rattle.irc_relay.specs.Lemmas.LinkTakenOut.{Ending, ends, ending, linked_tells, passes, rejoins, taken_out, without-ends, without-passes}
-use Rattle.irc_routes.proofs.DistinctLinks.{both_so}
+use Rattle.irc_routes.specs.Lemmas.DistinctLinks.{both_so}
 use Rattle.irc_follow.specs.Lemmas.SideAtRest.{joined_so}
 use Rattle.irc_follow.specs.Lemmas.BehindLinks.{joined_test}
 

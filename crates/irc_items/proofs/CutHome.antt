@@ -11,7 +11,7 @@ use Rattle.irc_merge.specs.Deeds.{loses, after_deeds, shown_by_all}
 use Rattle.irc_merge.specs.Laws.{IsSplitBy}
 use Rattle.irc_merge.specs.ShownAlong.{shown_along}
 use Rattle.irc_merge.specs.Split.{are_distinct, split, split_effects, squits}
-use Rattle.irc_merge.proofs.Splitting.{squits_split}
+use Rattle.irc_merge.specs.Lemmas.SplitInTurn.{squits_split}
 use Rattle.irc_relay.specs.Distances.{EndsAreAmong, IsAmong}
 use Rattle.irc_relay.specs.Following.{all_done}
 use Rattle.irc_relay.specs.Links.{Name, Link, joined, links_without, same, AreJoined, AreLinked, IsForest, IsLeft, HasEnds}

@@ -8,7 +8,7 @@ use Rattle.std.specs.Option.{option_map_or}
 use Rattle.irc_deeds.specs.DeedTold.{losses, split_text}
 use Rattle.irc_merge.specs.Deeds.{Deed, loses, after_deed, after_deeds, shown_by, shown_by_all}
 use Rattle.irc_merge.specs.Split.{squits}
-use Rattle.irc_merge.proofs.Tests.{neither}
+use Rattle.irc_merge.specs.Lemmas.BooleanTests.{neither}
 use Rattle.irc_relay.specs.Following.{all_done, all_seen}
 use Rattle.irc_relay.specs.Links.{Name, same}
 use Rattle.irc_relay.specs.Lemmas.TellingNames.{same_unless, same_when}

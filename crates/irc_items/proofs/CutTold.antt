@@ -12,14 +12,14 @@ use Rattle.irc_line.specs.Reading.{read_of}
 use Rattle.irc_names.specs.Limits.{max_words}
 use Rattle.irc_names.specs.Names.{IsServer, is_nick, is_server}
 use Rattle.irc_names.specs.Spellings.{exactly_same}
-use Rattle.irc_rules.proofs.RuleFacts.{server-fits}
+use Rattle.irc_names.specs.Lemmas.RuleFacts.{server-fits}
 use Rattle.irc_room.specs.Laws.{NamesAreLineWords}
 use Rattle.irc_room.specs.Limits.{IsCarriedText}
 use Rattle.irc_room.specs.Lemmas.Rows.{is_some_map}
 use Rattle.irc_merge.specs.Deeds.{Deed, loses}
 use Rattle.irc_merge.specs.Quits.{users_at}
 use Rattle.irc_merge.specs.Split.{are_distinct}
-use Rattle.irc_merge.proofs.Tests.{not_and, neither}
+use Rattle.irc_merge.specs.Lemmas.BooleanTests.{not_and, neither}
 use Rattle.irc_relay.specs.Distances.{IsAmong}
 use Rattle.irc_relay.specs.Following.{Terms, Tells, nothing, by_line, all_done}
 use Rattle.irc_relay.specs.Links.{Name, Link, joined, same, toward, AreJoined, AreLinked}
@@ -32,7 +32,7 @@ use Rattle.irc_routes.specs.Known as of_known
 use Rattle.irc_burst.specs.DeedsMeant.{a_deed, deeds_meant}
 use Rattle.irc_burst.specs.HandshakeMeant.{handshake_meant}
 use Rattle.irc_burst_lines.specs.DeedLines.{squit_parts}
-use Rattle.irc_burst_lines.proofs.WholeLines.{squit_fits}
+use Rattle.irc_burst_lines.specs.Lemmas.WholeLines.{squit_fits}
 use Rattle.irc_link_reader.specs.Reader.{Reader, reader_of, is_behind_link, may_come}
 use Rattle.irc_link_words.specs.Words.{are_words}
 use Rattle.irc_stage.specs.View.{View}

@@ -7,7 +7,7 @@ use Rattle.irc_names.specs.TableLaws.{same_fold, same_fold-refl, one_fold, row-a
 use Rattle.irc_routes.specs.declared.server_row.ServerRow.{ServerRow}
 use Rattle.irc_routes.specs.Known.{Known, names_behind, is_behind, row_of, unless_behind, without_link, without_server, IsNumbered}
 use Rattle.irc_routes.specs.Laws.{is_among}
-use Rattle.irc_routes.proofs.RouteLaws.{behind_of_link}
+use Rattle.irc_routes.specs.Lemmas.RouteLaws.{behind_of_link}
 use Rattle.std.proofs.lemmas.Bool.{eqb-true}
 use Rattle.std.specs.Prelude.{nat_eq}
 

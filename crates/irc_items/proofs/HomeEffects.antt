@@ -23,7 +23,7 @@ use Rattle.irc_room.specs.Viewers.{line_for, shows_to}
 use Rattle.irc_room.specs.Lemmas.AlikeLaw.{alike_take_alike, home_is_alike}
 use Rattle.irc_room.specs.Lemmas.HomeLaw.{home_follows}
 use Rattle.irc_room.specs.Lemmas.HomeRooms.{home_is_well_formed}
-use Rattle.irc_forest.proofs.Cutting.{both_one, both_other}
+use Rattle.irc_forest.specs.Lemmas.NewestLink.{both_one, both_other}
 use Rattle.irc_link_writer.specs.Written.{wire}
 use Rattle.irc_relay.specs.Links.{Name}
 use Rattle.irc_relay.specs.Links as of_links

@@ -19,7 +19,7 @@ use Rattle.irc_room.specs.Room.{Room, IsWellFormed}
 use Rattle.irc_room.specs.Lemmas.Rows.{same_some}
 use Rattle.irc_room.specs.Lemmas.WellFormedLaw.{after_is_well_formed}
 use Rattle.irc_commands.specs.Doers.{IsDoneBy}
-use Rattle.irc_forest.proofs.Cutting.{both_one}
+use Rattle.irc_forest.specs.Lemmas.NewestLink.{both_one}
 use Rattle.irc_relay.specs.Links.{Name}
 use Rattle.irc_stage.specs.declared.clients.Client.{Client}
 use Rattle.irc_stage.specs.declared.clients.Client.TheVariants.{Registering, Registered}
@@ -27,7 +27,7 @@ use Rattle.irc_stage.specs.Handle.{clients_after, machine_after, renamed_in}
 use Rattle.irc_stage.specs.RoomMachine.{Clients, RoomMachine}
 use Rattle.irc_stage.specs.Lemmas.Numbers.{get-each}
 use Rattle.irc_world.specs.Homes.{HomesPass}
-use Rattle.irc_world.proofs.HomesPassing.{NewPasses, pass_after}
+use Rattle.irc_world.specs.Lemmas.HomesPassing.{NewPasses, pass_after}
 
 module _ (t : Name) where
   -- the user under a fold, if there is one, is of this server

@@ -3,7 +3,7 @@ use Rattle.std.proofs.Common.{◌≡◌, ◌≢◌, ◌⊎◌, inl, inr, Bool, t
 use Rattle.std.proofs.lemmas.Bool.{or_left, or_right}
 use Rattle.irc_relay.specs.Links.{Name, Link, part, joined, linked, AreJoined, AreLinked, IsForest, IsMade, within, over, back}
 use Rattle.irc_relay.specs.Lemmas.LinkTakenOut.{linked_tells, made}
-use Rattle.irc_routes.proofs.DistinctLinks.{both_so}
+use Rattle.irc_routes.specs.Lemmas.DistinctLinks.{both_so}
 use Rattle.irc_follow.specs.Lemmas.SideAtRest.{joined_so}
 use Rattle.irc_follow.specs.Lemmas.BehindLinks.{joined_test}
 

@@ -10,7 +10,7 @@ use Rattle.irc_merge.specs.Laws.{AreApart, BurstReadIsMerge}
 use Rattle.irc_merge.specs.LimitLaws.{WithinLimitsIsTold}
 use Rattle.irc_merge.specs.Merge.{channel_uninvited, merge, uninvited}
 use Rattle.irc_merge.proofs.OwnInvitations.{home_of_merge}
-use Rattle.irc_merge.proofs.ReadMerge.{uninvited_well}
+use Rattle.irc_merge.specs.Lemmas.UninvitedRooms.{uninvited_well}
 use Rattle.irc_names.specs.Fold.{key}
 use Rattle.irc_names.specs.Tables.{Table, each, row}
 use Rattle.irc_names.specs.TableLaws.{row-each, same_table}
@@ -26,7 +26,7 @@ use Rattle.irc_world.specs.ClientsUsers.{fold_of}
 use Rattle.irc_world.specs.Stepping.{clashes_in, merged}
 use Rattle.irc_world.specs.World.{Hall, Setting, World}
 use Rattle.irc_world.specs.WorldHolds.{IsWorld}
-use Rattle.irc_world.proofs.StaysSound.{first_of, get-merged}
+use Rattle.irc_world.specs.Lemmas.MergedClients.{first_of, get-merged}
 use Rattle.irc_follow.specs.Part.{is_home_of}
 use Rattle.irc_follow.specs.Lemmas.SideAtRest.{joined_so}
 use Rattle.irc_items.proofs.LinkGains.{hall_left}

@@ -10,7 +10,7 @@ use Rattle.irc_relay.specs.Lemmas.NextHops.{linked_back, linked_joined, next_hop
 use Rattle.irc_routes.specs.declared.server_row.ServerRow.{ServerRow}
 use Rattle.irc_routes.specs.Known.{Known, is_behind, others, servers_told}
 use Rattle.irc_routes.specs.Lemmas.TableRows.{row_passes, some_stands}
-use Rattle.irc_routes.proofs.DistinctLinks.{both_so}
+use Rattle.irc_routes.specs.Lemmas.DistinctLinks.{both_so}
 use Rattle.irc_follow.specs.AtRest.{AreRight}
 use Rattle.irc_follow.specs.Part.{Fixed, info_in, number}
 use Rattle.irc_follow.specs.Tree.{Shape, shape, shape_in}

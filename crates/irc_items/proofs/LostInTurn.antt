@@ -16,7 +16,7 @@ use Rattle.irc_room.specs.Lemmas.HomeRooms.{home_is_well_formed}
 use Rattle.irc_merge.specs.Deeds.{Deed, loses, after_deed, after_deeds, shown_by, shown_by_all}
 use Rattle.irc_merge.specs.Quits.{quits_of, users_at}
 use Rattle.irc_merge.specs.Lemmas.Quitting.{quits_well}
-use Rattle.irc_merge.proofs.LookingAside.{alike_do_alike, home_follows_deed}
+use Rattle.irc_merge.specs.Lemmas.DeedsAlike.{alike_do_alike, home_follows_deed}
 use Rattle.irc_relay.specs.Links.{Name}
 use Rattle.irc_routes.specs.Known.{Known, without_server}
 use Rattle.irc_burst_lines.specs.DeedLines.{squit_parts}

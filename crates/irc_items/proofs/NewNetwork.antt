@@ -14,7 +14,7 @@ use Rattle.irc_names.specs.TableLaws.{row-each, same_table}
 use Rattle.irc_room.specs.Invitations.{inviting_only, is_at, of_home}
 use Rattle.irc_room.specs.Laws.{no_room}
 use Rattle.irc_routes.specs.Known.{Known, alone_known, row_of, IsNumbered}
-use Rattle.irc_routes.proofs.Numbered.{numbered_alone}
+use Rattle.irc_routes.specs.Lemmas.NumberedRows.{numbered_alone}
 use Rattle.irc_stage.specs.declared.clients.Client.{Client}
 use Rattle.irc_stage.specs.Lemmas.Counting.{get-kept}
 use Rattle.irc_stage.specs.Lemmas.Numbers.{same_clients}

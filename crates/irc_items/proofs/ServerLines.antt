@@ -13,7 +13,7 @@ use Rattle.irc_routes.specs.Known.{Known, distance_of, token_in}
 use Rattle.irc_burst.specs.DeedsMeant.{a_server, deeds_meant, is_next_distance}
 use Rattle.irc_burst.specs.HandshakeMeant.{handshake_meant}
 use Rattle.irc_burst_lines.specs.DeedLines.{server_parts}
-use Rattle.irc_burst_lines.proofs.WholeLines.{server_fits}
+use Rattle.irc_burst_lines.specs.Lemmas.WholeLines.{server_fits}
 use Rattle.irc_link_reader.specs.Reader.{Reader, reader_of, is_behind_link, may_come}
 use Rattle.irc_link_words.specs.Numbers.{is_number, max_number}
 use Rattle.irc_link_writer.specs.Written.{next_distance, written_token}

@@ -11,7 +11,7 @@ use Rattle.irc_line.specs.Lemmas.CutLaws.{cut_all}
 use Rattle.irc_line.specs.Lines.{Begun, HasTaken, Takes, TellsTail, begun_behind, begun_of, completed, has_nothing, is_empty, lines, nothing_begun, stream_for, tail}
 use Rattle.irc_line.specs.Loops.Framing.{go_on, line_begun}
 use Rattle.irc_line.specs.Messages.{Written, joined_text, last_text, line_text, middle_text, prefix_of, prefix_text}
-use Rattle.irc_line.proofs.LineWords.{carried_no_nul}
+use Rattle.irc_line.specs.Lemmas.CarriedBytes.{carried_no_nul}
 use Rattle.irc_line.proofs.Pieces.{lines-run, tail_has_no_end}
 use Rattle.irc_line.proofs.Runs.{no_lines}
 use Rattle.irc_line.proofs.Streams.{is_empty-cut, has_taken_some, length-cut, list_any-cut, new_has_taken, stream_for_has_no_end, takes_append, takes_end, takes_run}

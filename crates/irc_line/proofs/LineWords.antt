@@ -1,5 +1,5 @@
 -- What is known of the words of a line that was read: each stands in the line.
-use Rattle.std.proofs.Common.{◌≡◌, ℕ, ◌≤◌, ◌-◌, Bool, true, false, not, ◌||◌, ◌&&◌, Result, List, [], ◌∷◌, ◌++◌, length, refl, sym, ◌∙◌, ap, subst, arith, length-append}
+use Rattle.std.proofs.Common.{◌≡◌, ℕ, ◌≤◌, ◌-◌, Bool, true, false, ◌||◌, ◌&&◌, Result, List, [], ◌∷◌, ◌++◌, length, refl, sym, ◌∙◌, ap, subst, arith, length-append}
 use Rattle.std.specs.List.{list_any, AllByRecursion}
 use Rattle.std.specs.Cmp.{first_so, second_so}
 use Rattle.std.proofs.lemmas.List.Folds.{list_all-append}
@@ -11,15 +11,8 @@ use Rattle.irc_line.specs.Messages.{Parsed, IsPlainWord}
 use Rattle.irc_line.specs.Grammar.{ReadsParams, no_more, behind_colon, the_rest, one_word, Reads, plain, prefixed, IsReadAs}
 use Rattle.irc_line.specs.Carried.{is_carried_byte, is_carried, IsCarried, IsWordOf, AreLineWords}
 use Rattle.irc_line.specs.Laws.{LinesAreCarried, WordsAreOfTheLine}
+use Rattle.irc_line.specs.Lemmas.CarriedBytes.{carried_byte, carried_no_nul}
 use Rattle.irc_line.proofs.LinesRead.{every_line_is_read}
-
-pub carried_byte : (nul end : Bool) → nul ≡ false → end ≡ false → not (nul || end) ≡ true
-carried_byte true end nul_not end_not = cc
-carried_byte false end nul_not end_not = ap not end_not
-
-no_byte : (nul end : Bool) → not (nul || end) ≡ true → nul ≡ false
-no_byte true end is = cc
-no_byte false end is = refl
 
 neither : (a b : Bool) → (a || b) ≡ false → (a ≡ false) × (b ≡ false)
 neither true b h = cc
@@ -34,12 +27,6 @@ bytes_carried (b ∷ bytes) no_nul no_end =
 
 pub lines_are_carried : LinesAreCarried
 lines_are_carried line is = bytes_carried line is.no_nul is.no_end
-
-pub carried_no_nul : (bytes : List ℕ) → IsCarried bytes → has_nul bytes ≡ false
-carried_no_nul [] all = refl
-carried_no_nul (b ∷ bytes) all =
-    let first = no_byte (is_nul b) (is_line_end b) (first_so (is_carried_byte b) (is_carried bytes) all) in
-    ap (λ v. v || has_nul bytes) first ∙ carried_no_nul bytes (second_so (is_carried_byte b) (is_carried bytes) all)
 
 -- what stands in front, and what stands behind
 front_of : (line front back text : List ℕ) → text ≡ front ++ back → IsWordOf line text → IsWordOf line front

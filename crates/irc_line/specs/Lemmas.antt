@@ -2,3 +2,4 @@
 pub mod CutLaws
 pub mod CutPieces
 pub mod Lengths
+pub mod CarriedBytes

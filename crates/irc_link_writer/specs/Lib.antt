@@ -1,2 +1,3 @@
 pub mod Written
 pub mod Loops
+pub mod Lemmas

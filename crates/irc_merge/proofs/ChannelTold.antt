@@ -35,8 +35,8 @@ use Rattle.irc_merge.specs.Lemmas.Quitting.{peopled}
 use Rattle.irc_merge.specs.Lemmas.Joining.{row-either, either_second}
 use Rattle.irc_merge.proofs.Lines.{joined_lines, all_in_lines, each_line}
 use Rattle.irc_merge.proofs.PlainChanges.{is_plain, only_modes, set_plain, bans_plain, raising_plain}
-use Rattle.irc_merge.proofs.Bringing.{with_member, comes_to, entry_joins, member_joins, row_new, row_spelled, line_in, row_far, all_raised, topic_raised, row_set, topic_row, members_row, modes_row, channel_row}
-use Rattle.irc_merge.proofs.Tests.{and_not, neither, or_second, either_way}
+use Rattle.irc_merge.specs.Lemmas.ChannelRows.{with_member, comes_to, entry_joins, member_joins, row_new, row_spelled, line_in, row_far, all_raised, topic_raised, row_set, topic_row, members_row, modes_row, channel_row}
+use Rattle.irc_merge.specs.Lemmas.BooleanTests.{and_not, neither, or_second, either_way}
 
 none_of : {X : Type 0} (o : Option X) → is_some o ≡ false → o ≡ None
 none_of None e = refl

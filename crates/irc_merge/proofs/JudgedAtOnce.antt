@@ -19,9 +19,9 @@ use Rattle.irc_merge.specs.Deeds.{member_comes}
 use Rattle.irc_merge.specs.Bursts.{home_passes}
 use Rattle.irc_merge.specs.BurstRead.{is_new_member, new_members}
 use Rattle.irc_merge.specs.Laws.{no_member_twice, MembersAtOnce}
-use Rattle.irc_merge.proofs.Bringing.{comes, comes_to}
-use Rattle.irc_merge.proofs.ShownChannels.{row_has}
-use Rattle.irc_merge.proofs.Tests.{and_not, not_and, neither}
+use Rattle.irc_merge.specs.Lemmas.ChannelRows.{comes, comes_to}
+use Rattle.irc_merge.specs.Lemmas.ChannelRows.{row_has}
+use Rattle.irc_merge.specs.Lemmas.BooleanTests.{and_not, not_and, neither}
 
 -- two nicknames that are not the same
 two_folds : (one other : List ℕ) → same one other ≡ false → same_fold (key other) (key one) ≡ false

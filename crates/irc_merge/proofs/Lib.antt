@@ -1,9 +1,6 @@
-pub mod Tests
 pub mod EvenMerge
-pub mod Splitting
 pub mod MembersStaying
 pub mod Lines
-pub mod Bringing
 pub mod PlainChanges
 pub mod ChannelTold
 pub mod ReadMerge

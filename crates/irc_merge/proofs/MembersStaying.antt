@@ -16,7 +16,7 @@ use Rattle.irc_merge.specs.Split.{lost_home}
 use Rattle.irc_merge.specs.StayingMembers.{MembersStay}
 use Rattle.irc_merge.specs.Lemmas.Quitting.{among, thinned, channels_left, among_values}
 use Rattle.irc_merge.specs.Lemmas.TableWords.{row-kept}
-use Rattle.irc_merge.proofs.Splitting.{two_homes}
+use Rattle.irc_merge.specs.Lemmas.SplitInTurn.{two_homes}
 
 module _ (text home other : List ℕ) (room : Room) (nick : List ℕ) (user : User) (two : exactly_same home other ≡ false) (well : IsWellFormed room)
     (at : row room.users nick ≡ Some user) (there : is_home other user ≡ true) where

@@ -30,12 +30,14 @@ use Rattle.irc_merge.specs.Laws.{AreApart, CanBeTold}
 use Rattle.irc_room.specs.Invitations.{is_at, inviting_only, of_home}
 use Rattle.irc_merge.specs.OwnInvitations.{ServerReadsMerge, ServerShowsMerge}
 use Rattle.irc_merge.specs.Lemmas.TableWords.{row-kept, values_each}
-use Rattle.irc_merge.proofs.Tests.{either_way}
+use Rattle.irc_merge.specs.Lemmas.BooleanTests.{either_way}
 use Rattle.irc_merge.specs.Lemmas.Quitting.{among, thinned}
 use Rattle.irc_merge.specs.Lemmas.Introducing.{told_user, both_users}
 use Rattle.irc_merge.specs.Lemmas.Clashing.{clashing, users_without, channels_without}
 use Rattle.irc_merge.specs.Lemmas.Joining.{row-either, row-joined}
-use Rattle.irc_merge.proofs.ReadMerge.{nothing_kept, uninvited_well, uninvited_burst, burst_read_is_merge}
+use Rattle.irc_merge.specs.Lemmas.HomeRows.{home_row}
+use Rattle.irc_merge.specs.Lemmas.UninvitedRooms.{uninvited_well}
+use Rattle.irc_merge.proofs.ReadMerge.{nothing_kept, uninvited_burst, burst_read_is_merge}
 use Rattle.irc_merge.specs.Lemmas.ShownUsers.{quit_to, quit_shows}
 use Rattle.irc_merge.proofs.ShownMerge.{shown_is_merge_shown}
 
@@ -189,15 +191,6 @@ shown_uninvited room other well well_other viewer =
     by_row (Some user) = arrivals_uninvited (room_without room other) (room_without other room) user
 
 -- ---- each server keeps those of its own users
-
-pub home_row : (home : List ℕ) (room : Room) (q : List ℕ)
-    → row (of_home home room).channels q ≡ option_map (inviting_only (is_at home room.users)) (row room.channels q)
-unfolding of_home
-home_row home room q = row-each (λ channel. Some (inviting_only (is_at home room.users) channel)) room.channels q ∙ by_row (row room.channels q)
-  where
-    by_row : (o : Option Channel) → option_and_then (λ channel. Some (inviting_only (is_at home room.users) channel)) o ≡ option_map (inviting_only (is_at home room.users)) o
-    by_row None = refl
-    by_row (Some channel) = refl
 
 home_users : (home : List ℕ) (room : Room) → (of_home home room).users ≡ room.users
 unfolding of_home

@@ -14,7 +14,7 @@ use Rattle.irc_channels.specs.declared.channel.Channel.{Channel}
 use Rattle.irc_modes.specs.ModesSet.{AreWithinLimits}
 use Rattle.irc_room.specs.Room.{Room, IsWellFormed, IsSoundRow}
 use Rattle.irc_room.specs.After.{alter_channel}
-use Rattle.irc_room.specs.Lemmas.Rows.{not_none, not_true, same_some}
+use Rattle.irc_room.specs.Lemmas.Rows.{not_true}
 use Rattle.irc_merge.specs.Deeds.{Deed}
 use Rattle.irc_merge.specs.Bursts.{burst, user_deeds, channel_deeds, home_passes}
 use Rattle.irc_merge.specs.Merge.{clash, room_without, either, joined_channel, merge, uninvited, channel_uninvited}
@@ -25,10 +25,11 @@ use Rattle.irc_merge.specs.Lemmas.Clashing.{clashing, users_without, channels_wi
 use Rattle.irc_merge.specs.Lemmas.Joining.{row-joined}
 use Rattle.irc_merge.specs.Lemmas.Reading.{reads, reads-append}
 use Rattle.irc_merge.specs.Lemmas.Introducing.{told_user, both_users, users_introduced, channels_introduced}
-use Rattle.irc_merge.proofs.Bringing.{channel_row, deeds_row}
+use Rattle.irc_merge.specs.Lemmas.ChannelRows.{channel_row, deeds_row}
 use Rattle.irc_merge.proofs.ChannelTold.{IsNear, IsNearRow, channel_told}
 use Rattle.irc_merge.proofs.NothingNew.{without_comes}
-use Rattle.irc_merge.proofs.Tests.{either_way}
+use Rattle.irc_merge.specs.Lemmas.BooleanTests.{either_way}
+use Rattle.irc_merge.specs.Lemmas.UninvitedRooms.{uninvited_row, uninvited_well}
 
 joined_none : (x : Option Channel) → joined_channel x None ≡ x
 joined_none None = refl
@@ -234,27 +235,6 @@ module _ (far : List ℕ → Bool) (room other : Room) (well : IsWellFormed room
       by_row q (Some channel) = refl
 
 -- ---- invitations are not told
-
-uninvited_row : (o : Option Channel) (channel : Channel) → option_and_then channel_uninvited o ≡ Some channel
-    → (before : Channel) × ((o ≡ Some before) × (record before { invited = empty } ≡ channel))
-uninvited_row None channel is = not_none channel is
-uninvited_row (Some before) channel is = (before, (refl, same_some _ channel is))
-
-uninvited_sound : (users : Table User) (fold : List ℕ) (channel : Channel) → IsSoundRow users fold channel → IsSoundRow users fold (record channel { invited = empty })
-uninvited_sound users fold channel sound = record {
-  named = sound.named;
-  members_known = sound.members_known;
-  invited_known = λ q there. not_true (sym (ap is_some (get-empty {X = Unit {0}} fold_cmp q)) ∙ there);
-  some_member = sound.some_member;
-}
-
-pub uninvited_well : (room : Room) → IsWellFormed room → IsWellFormed (uninvited room)
-uninvited_well room well = record {
-  users_named = well.users_named;
-  channels_sound = λ fold channel is.
-      let found = uninvited_row (row room.channels fold) channel (sym (row-each channel_uninvited room.channels fold) ∙ is) in
-      subst (IsSoundRow room.users fold) found.1.1 (uninvited_sound room.users fold found.0 (well.channels_sound fold found.0 found.1.0));
-}
 
 pub uninvited_told : (room : Room) → CanBeTold room → CanBeTold (uninvited room)
 uninvited_told room told = record {

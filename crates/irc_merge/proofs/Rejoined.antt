@@ -34,7 +34,7 @@ use Rattle.irc_merge.specs.Lemmas.TableWords.{true_is, entries_all}
 use Rattle.irc_merge.proofs.Lines.{joined_lines}
 use Rattle.irc_merge.proofs.ChannelTold.{all_mode_lines}
 use Rattle.irc_merge.proofs.NothingNew.{split_has_nothing_new, without_comes}
-use Rattle.irc_merge.proofs.Splitting.{split_is_well_formed}
+use Rattle.irc_merge.specs.Lemmas.SplitInTurn.{split_is_well_formed}
 
 -- ---- a channel's own modes and topic raise nothing
 

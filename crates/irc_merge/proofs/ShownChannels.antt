@@ -32,8 +32,8 @@ use Rattle.irc_merge.specs.ShownAlong.{shown_along}
 use Rattle.irc_merge.specs.Deeds.{flag_given, member_comes}
 use Rattle.irc_merge.specs.MergeShown.{join_line, flag_line, arrival}
 use Rattle.irc_merge.proofs.PlainChanges.{is_plain}
-use Rattle.irc_merge.proofs.Bringing.{given, with_member, comes_to}
-use Rattle.irc_merge.proofs.Tests.{or_second}
+use Rattle.irc_merge.specs.Lemmas.ChannelRows.{given, with_member, comes_to, row_has}
+use Rattle.irc_merge.specs.Lemmas.BooleanTests.{or_second}
 
 both_false : (b c : Bool) → b ≡ false → c ≡ false → (b || c) ≡ false
 both_false true c e f = cc
@@ -94,10 +94,6 @@ flagged_name letter.Secret flag nick channel = refl
 flagged_name letter.Key flag nick channel = refl
 flagged_name letter.Limit flag nick channel = refl
 flagged_name letter.Ban flag nick channel = refl
-
--- whether a fold is a member of the channel in a row
-abbrev pub row_has : List ℕ → Option Channel → Bool
-row_has fold x = option_map_or (has_member fold) x false
 
 new_outside : (name fold : List ℕ) (x : Option Channel) → row_has fold x ≡ false → has_member fold (unwrap_or x (new_channel name)) ≡ false
 new_outside name fold None outside = ap is_some (get-empty {X = Flags} fold_cmp fold)

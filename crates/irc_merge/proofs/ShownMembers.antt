@@ -25,17 +25,17 @@ use Rattle.irc_merge.specs.Deeds.{brings, member_comes, shown_by, shown_by_all}
 use Rattle.irc_merge.specs.Bursts.{in_lines, members_a_line, home_passes, stored_member, stored_members, channel_deeds}
 use Rattle.irc_merge.specs.BurstRead.{is_new_member, new_members, brought}
 use Rattle.irc_merge.specs.MergeShown.{arrival, mode_lines}
-use Rattle.irc_merge.proofs.Splitting.{shown-append}
+use Rattle.irc_merge.specs.Lemmas.SplitInTurn.{shown-append}
 use Rattle.irc_merge.specs.Lemmas.TableWords.{first_there, above_first}
 use Rattle.irc_merge.proofs.Lines.{joined_lines, all_in_lines}
 use Rattle.irc_merge.specs.Lemmas.Reading.{read_one}
 use Rattle.irc_merge.specs.Lemmas.ShownReading.{shown_one, shown_reads, shown_reads-one, shown_reads-append}
 use Rattle.irc_merge.specs.Lemmas.SpelledMembers.{new_titled}
-use Rattle.irc_merge.proofs.Bringing.{channel_by, channel_twice, comes, comes_to, with_member, member_joins, one_joins, joins_row, spelled, line_spelled, line_joins, lines_row, members_row, told_in_lines}
+use Rattle.irc_merge.specs.Lemmas.ChannelRows.{row_has, channel_by, channel_twice, comes, comes_to, with_member, member_joins, one_joins, joins_row, spelled, line_spelled, line_joins, lines_row, members_row, told_in_lines}
 use Rattle.irc_merge.proofs.ChannelTold.{StandsThere}
-use Rattle.irc_merge.proofs.ShownChannels.{Sees, IsBlind, row_has, come_shown, sees_come, comes_outside, come_unseen, blind_come}
+use Rattle.irc_merge.proofs.ShownChannels.{Sees, IsBlind, come_shown, sees_come, comes_outside, come_unseen, blind_come}
 use Rattle.irc_merge.proofs.ShownModes.{tail}
-use Rattle.irc_merge.proofs.Tests.{and_not}
+use Rattle.irc_merge.specs.Lemmas.BooleanTests.{and_not}
 
 -- ---- member by member
 

@@ -27,10 +27,10 @@ use Rattle.irc_merge.specs.Bursts.{home_passes, topic_line}
 use Rattle.irc_merge.specs.BurstRead.{some_far, read_deed}
 use Rattle.irc_merge.specs.MergeShown.{raised_line, raised_lines, raised_topic}
 use Rattle.irc_merge.specs.Lemmas.ShownReading.{shown_one, shown_reads, shown_reads-one}
-use Rattle.irc_merge.proofs.Bringing.{row_set, set_row, all_raised}
+use Rattle.irc_merge.specs.Lemmas.ChannelRows.{row_has, row_set, set_row, all_raised}
 use Rattle.irc_merge.proofs.ChannelTold.{lines_count}
 use Rattle.irc_merge.proofs.PlainChanges.{is_plain, only_modes, raising_plain}
-use Rattle.irc_merge.proofs.ShownChannels.{Sees, IsBlind, row_has, change_unseen, topic_unseen, changes_shown, topic_shown, still_blind}
+use Rattle.irc_merge.proofs.ShownChannels.{Sees, IsBlind, change_unseen, topic_unseen, changes_shown, topic_shown, still_blind}
 
 -- the lines that tell modes, and the one that tells a topic
 abbrev pub tail : List ℕ → List ℕ → List (List ModeChange) → List ℕ → List Deed

@@ -9,3 +9,11 @@ pub mod ShownReading
 pub mod ShownUsers
 pub mod SpelledMembers
 pub mod TableWords
+pub mod BooleanTests
+pub mod ChannelRows
+pub mod SplitInTurn
+pub mod HomeRows
+pub mod UninvitedRooms
+pub mod WholeSides
+pub mod DeedsAlike
+pub mod DoableDeeds

@@ -1,4 +1,2 @@
 pub mod ModeSteps
-pub mod WrittenRead
-pub mod SetReadable
 pub mod Reworded

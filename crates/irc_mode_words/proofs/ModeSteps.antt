@@ -8,6 +8,7 @@ use Rattle.irc_mode_words.specs.declared.mode_words.ModeItem.{ModeItem}
 use Rattle.irc_mode_words.specs.ModeViews.{asked, all_asked}
 use Rattle.irc_modes.specs.Letters.{plus_byte}
 use Rattle.irc_mode_words.specs.Loops.ModeLimits.{Remembers, Judges}
+use Rattle.irc_mode_words.specs.Lemmas.LettersInTurn.{sign_read, letter_read}
 
 -- ---- which parameter is the next
 
@@ -52,16 +53,6 @@ begins letters words limits items room met none = record {
   remembers = record { room = room; met = λ byte. rw (met) refl };
   completes = ap (λ xs. xs ++ counted [] (letters_read true letters words)) none;
 }
-
-sign_read : (plus : Bool) (byte : ℕ) (letters : List ℕ) (words : List (List ℕ)) → is_sign byte ≡ true
-    → letters_read plus (byte ∷ letters) words ≡ letters_read (nat_eq byte plus_byte) letters words
-sign_read plus byte letters words is =
-    ap (λ b. cond b (letters_read (nat_eq byte plus_byte) letters words) (reading plus byte (next_word words) ∷ letters_read plus letters (words_after plus byte words))) is
-
-pub letter_read : (plus : Bool) (byte : ℕ) (letters : List ℕ) (words : List (List ℕ)) → is_sign byte ≡ false
-    → letters_read plus (byte ∷ letters) words ≡ reading plus byte (next_word words) ∷ letters_read plus letters (words_after plus byte words)
-letter_read plus byte letters words is =
-    ap (λ b. cond b (letters_read (nat_eq byte plus_byte) letters words) (reading plus byte (next_word words) ∷ letters_read plus letters (words_after plus byte words))) is
 
 -- a sign was read
 pub after_sign : (plus next : Bool) (letters : List ℕ) (i : ℕ) (words : List (List ℕ)) (limits : Limits) (items whole : List Asked)

@@ -5,3 +5,6 @@ pub mod LetterReading
 pub mod ModePieces
 pub mod SetAgain
 pub mod WrittenLimit
+pub mod SetReadable
+pub mod WrittenRead
+pub mod LettersInTurn

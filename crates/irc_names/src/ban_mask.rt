@@ -35,7 +35,7 @@ impl Model for BanMask {
 
 impl BanMask {
     /// The mask that these bytes are, where [`is_ban_mask`] takes them.
-    #[tactic(auto, using(irc_rules::proofs::RuleFacts::lengths))]
+    #[tactic(auto, using(irc_rules::specs::Lemmas::RuleFacts::lengths))]
     pub fn read(bytes: &[u8]) -> Option<Self>
         ensures { SomeIff result (IsBanMask bytes.now) bytes.now }
     {

@@ -35,7 +35,7 @@ impl Model for ChannelName {
 
 impl ChannelName {
     /// The channel's name that these bytes are, where [`is_channel`] takes them.
-    #[tactic(auto, using(irc_rules::proofs::RuleFacts::lengths))]
+    #[tactic(auto, using(irc_rules::specs::Lemmas::RuleFacts::lengths))]
     pub fn read(bytes: &[u8]) -> Option<Self>
         ensures { SomeIff result (IsChannel bytes.now) bytes.now }
     {

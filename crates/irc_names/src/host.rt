@@ -28,7 +28,7 @@ impl Model for Host {
 
 impl Host {
     /// The host that these bytes are, where [`is_host`] takes them.
-    #[tactic(auto, using(irc_rules::proofs::RuleFacts::lengths))]
+    #[tactic(auto, using(irc_rules::specs::Lemmas::RuleFacts::lengths))]
     pub fn read(bytes: &[u8]) -> Option<Self>
         ensures { SomeIff result (IsHost bytes.now) bytes.now }
     {

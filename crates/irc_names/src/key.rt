@@ -27,7 +27,7 @@ impl Model for Key {
 
 impl Key {
     /// The key that these bytes are, where [`is_key`] takes them.
-    #[tactic(auto, using(irc_rules::proofs::RuleFacts::lengths))]
+    #[tactic(auto, using(irc_rules::specs::Lemmas::RuleFacts::lengths))]
     pub fn read(bytes: &[u8]) -> Option<Self>
         ensures { SomeIff result (IsKey bytes.now) bytes.now }
     {

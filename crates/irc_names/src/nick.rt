@@ -35,7 +35,7 @@ impl Model for Nick {
 
 impl Nick {
     /// The nickname that these bytes are, where [`is_nick`] takes them.
-    #[tactic(auto, using(irc_rules::proofs::RuleFacts::lengths))]
+    #[tactic(auto, using(irc_rules::specs::Lemmas::RuleFacts::lengths))]
     pub fn read(bytes: &[u8]) -> Option<Self>
         ensures { SomeIff result (IsNick bytes.now) bytes.now }
     {

@@ -28,7 +28,7 @@ impl Model for ServerName {
 
 impl ServerName {
     /// The server's name that these bytes are, where [`is_server`] takes them.
-    #[tactic(auto, using(irc_rules::proofs::RuleFacts::lengths))]
+    #[tactic(auto, using(irc_rules::specs::Lemmas::RuleFacts::lengths))]
     pub fn read(bytes: &[u8]) -> Option<Self>
         ensures { SomeIff result (IsServer bytes.now) bytes.now }
     {

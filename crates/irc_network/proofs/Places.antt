@@ -1,5 +1,5 @@
 -- What stands at a place, and what is put there.
-use Rattle.std.proofs.Common.{◌≡◌, ◌<◌, ◌≤◌, ◌-◌, ℕ, zero, suc, Option, Some, None, List, [], ◌∷◌, ◌++◌, refl, sym, ◌∙◌, ap, arith, length, get_or, subst}
+use Rattle.std.proofs.Common.{◌≡◌, ◌≤◌, ◌-◌, ℕ, zero, suc, Option, Some, None, List, [], ◌∷◌, ◌++◌, refl, sym, ◌∙◌, ap, arith, length, subst}
 use Rattle.std.proofs.lemmas.List.{map-append}
 use Rattle.std.specs.List.{slice_get, slice_set}
 use Rattle.std.specs.Option.{option_map_or}
@@ -23,11 +23,6 @@ seen n = record {
       items_of n.items.items;
   taken = n.taken;
 }
-
-pub found_at : {X : Type 0} (xs : List X) (i : ℕ) (x : X) → i < length xs → x ≡ get_or xs i x → slice_get xs i ≡ Some x
-found_at [] i x within is = absurd (omega (arith, within))
-found_at (y ∷ xs) zero x within is = ap Some (sym is)
-found_at (y ∷ xs) (suc i) x within is = found_at xs i x (omega (arith, within)) is
 
 pub none_here : {X : Type 0} (xs : List X) (i : ℕ) → length xs ≤ i → slice_get xs i ≡ None
 none_here [] i behind = refl

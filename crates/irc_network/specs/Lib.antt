@@ -4,3 +4,4 @@ pub mod Views
 pub mod Calls
 pub mod Laws
 pub mod Loops
+pub mod Lemmas

@@ -11,7 +11,7 @@ use Rattle.irc_shown.specs.After.{after}
 use Rattle.irc_shown.specs.Effects.{has_user, has_channel, is_idle, needs_users, needs_channel}
 use Rattle.irc_shown.specs.Applying.{Kept, room_fault, pairs_of, Applied}
 use Rattle.irc_shown.specs.Lemmas.IdleLaw.{idle_changes_nothing}
-use Rattle.irc_shown.proofs.ToldLaw.{idle_tells_nothing}
+use Rattle.irc_shown.specs.ToldLaws.{idle_tells_nothing}
 
 -- want of memory is no cause that is looked for
 by_causes : (failed no_user no_channel : Bool)

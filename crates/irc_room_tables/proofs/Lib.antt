@@ -6,4 +6,3 @@ pub mod Keeping
 pub mod KeptWell
 pub mod MembersKept
 pub mod Memberships
-pub mod OwnNames

@@ -23,3 +23,4 @@ pub use Rattle.irc_effects.specs.declared.shown_line
 pub mod Codes
 pub mod Indexes
 pub mod Loops
+pub mod OwnNameLaws

@@ -11,7 +11,7 @@ use Rattle.irc_names.specs.TableLaws.{same_fold, same_fold-refl, one_fold, row-a
 use Rattle.irc_tables.specs.Lemmas.OrderedEntries.{find-there, sorted-below}
 use Rattle.irc_routes.specs.Known.{Known, ServerRow, others, alone_known, row_of, has_token, token_in, unless_behind, without_server, without_link, IsNumbered}
 use Rattle.irc_routes.specs.Lemmas.TableRows.{told, row_passes}
-use Rattle.irc_routes.proofs.Numbered.{find_none}
+use Rattle.irc_routes.specs.Lemmas.NumberedRows.{find_none}
 
 -- ---- a server that is found by a number
 

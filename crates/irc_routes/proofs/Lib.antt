@@ -1,11 +1,6 @@
-pub mod DistinctLinks
 pub mod FoundByNumber
 pub mod FullTold
-pub mod KeptRows
 pub mod ServersCounted
-pub mod Numbered
-pub mod RouteLaws
-pub mod SmallestFree
 pub mod TiedTables
 pub mod ToldInOrder
 pub mod TokensTold

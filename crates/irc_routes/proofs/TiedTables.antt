@@ -10,8 +10,8 @@ use Rattle.irc_routes.specs.Info.{IsInfo}
 use Rattle.irc_routes.specs.Known.{Known, ServerRow, row_of, token_in, without_server, without_link, IsNumbered}
 use Rattle.irc_routes.specs.Loops.Rows.{entry, known_by, IsKept, HasMore}
 use Rattle.irc_routes.specs.Loops.Tokens.{TokenRow, token_entry, row_at, HasServer, IsWithoutToken, AreElsewhere, AreTold, IsTied}
-use Rattle.irc_routes.proofs.KeptRows.{alone_is, alone_kept}
-use Rattle.irc_routes.proofs.Numbered.{admitted, map_none}
+use Rattle.irc_routes.specs.Lemmas.KeptRows.{alone_is, alone_kept}
+use Rattle.irc_routes.specs.Lemmas.NumberedRows.{admitted, map_none}
 use Rattle.irc_routes.proofs.FoundByNumber.{nobody_of}
 use Rattle.irc_routes.proofs.TokensTold.{told_alone, told_added, told_forgotten, told_lost}
 

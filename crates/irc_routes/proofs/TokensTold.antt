@@ -11,7 +11,7 @@ use Rattle.irc_tables.specs.Lemmas.RowsAsTable.{row-table_of, nothing-sorted, no
 use Rattle.irc_routes.specs.Known.{Known, ServerRow, alone_known, row_of, has_token, without_server, without_link, IsNumbered}
 use Rattle.irc_routes.specs.Lemmas.TableRows.{filtered-sorted, filtered-table}
 use Rattle.irc_routes.specs.Loops.Tokens.{TokenRow, token_key, token_entry, row_at, server_at, is_on, HasToken, IsWithoutToken, AreElsewhere, AreTold}
-use Rattle.irc_routes.proofs.DistinctLinks.{both_so}
+use Rattle.irc_routes.specs.Lemmas.DistinctLinks.{both_so}
 use Rattle.irc_routes.proofs.FoundByNumber.{some_value, token_alone, token_added, token_forgotten, token_lost}
 
 abbrev name_of : Option TokenRow → Option (List ℕ)

@@ -1,4 +1,3 @@
 pub mod LengthsApart
 pub mod MaskSteps
 pub mod DigitSteps
-pub mod RuleFacts

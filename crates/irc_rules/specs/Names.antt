@@ -1,5 +1,5 @@
 -- The rules of names. Each is a test of a list of bytes; the word that begins with `Is` is the same rule as a fact, which a
--- value of the type of that name always meets. The rules unfold only where a proof says so: `proofs/RuleFacts.antt` says what
+-- value of the type of that name always meets. The rules unfold only where a proof says so: `specs/Lemmas/RuleFacts.antt` says what
 -- follows from each.
 use Rattle.std.specs.Prelude.{ℕ, Bool, false, ◌&&◌, ◌||◌, not, List, [], ◌∷◌, length, nat_eq, nat_le, codes, IsTrue}
 use Rattle.std.specs.List.{list_any, list_all}

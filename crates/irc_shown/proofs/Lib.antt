@@ -2,5 +2,4 @@ pub mod AudienceLaw
 pub mod ModeLine
 pub mod OwnSight
 pub mod RowValues
-pub mod ToldLaw
 pub mod WhoSees

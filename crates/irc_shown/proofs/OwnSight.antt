@@ -20,10 +20,10 @@ use Rattle.irc_room_tables.specs.Indexes.{Index, Names, holds, is_among, joins_b
 use Rattle.irc_room_tables.specs.Invitations.{is_at}
 use Rattle.irc_room_tables.specs.Room.{Room}
 use Rattle.irc_room_tables.specs.Seen.{sees}
-use Rattle.irc_room_tables.proofs.OwnNames.{own_shared}
+use Rattle.irc_room_tables.specs.OwnNameLaws.{own_shared}
 use Rattle.irc_shown.specs.Loops.Sight.{is_name_of, shares_here, sight, AreJust}
 use Rattle.irc_shown.specs.Loops.Viewing.{own_nick, own_nicks, viewers, Gains}
-use Rattle.irc_shown.proofs.ToldLaw.{all_stored, IsStored}
+use Rattle.irc_shown.specs.ToldLaws.{all_stored, IsStored}
 use Rattle.irc_shown.proofs.WhoSees.{none_at_first}
 
 -- ---- names put into a table

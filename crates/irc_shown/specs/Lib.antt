@@ -23,3 +23,4 @@ pub use Rattle.irc_room_tables.specs.shown_line
 pub use Rattle.irc_room_tables.specs.Codes
 pub use Rattle.irc_room_tables.specs.Indexes
 pub mod Loops
+pub mod ToldLaws

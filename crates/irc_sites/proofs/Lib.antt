@@ -1,3 +1,1 @@
-pub mod Outcomes
 pub mod Replying
-pub mod Ways

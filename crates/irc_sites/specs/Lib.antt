@@ -1,2 +1,3 @@
 pub mod Site
 pub mod Loops
+pub mod Lemmas

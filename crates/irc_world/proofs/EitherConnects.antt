@@ -21,7 +21,8 @@ use Rattle.irc_world.specs.Refused.{Refusal, refused, password_for, are_equal, a
 use Rattle.irc_world.specs.Sound.{IsSound}
 use Rattle.irc_world.specs.Even.{AreTheSame, LinkIsEven, CutIsEven}
 use Rattle.irc_world.proofs.Halls.{hall_with}
-use Rattle.irc_world.proofs.StaysSound.{LinkIsTaken, link_taken, link_there, if_taken, two_parts, one_part, was_kept, first_of, survivor, get-kept, get-merged}
+use Rattle.irc_world.proofs.StaysSound.{LinkIsTaken, link_taken, link_there, if_taken, two_parts, one_part, was_kept}
+use Rattle.irc_world.specs.Lemmas.MergedClients.{first_of, survivor, get-kept, get-merged}
 use Rattle.irc_world.proofs.SameWorlds.{looks_same, itself_turned}
 
 -- ---- the other may connect

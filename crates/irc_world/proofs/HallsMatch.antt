@@ -33,7 +33,9 @@ use Rattle.irc_world.proofs.HomesJoined.{passing, near_sides, far_sides, at_lost
 use Rattle.irc_world.proofs.MachineMatches.{home_in_row, IsDue, handled_matched}
 use Rattle.irc_world.proofs.Matches.{same_some, IsOfBoth, fewer_matched, both_matched}
 use Rattle.irc_world.proofs.ServedAlone.{past_end}
-use Rattle.irc_world.proofs.StaysSound.{new_world_is_sound, still_home, LinkIsTaken, link_taken, link_there, two_parts, one_part, first_of, survivor, get-kept, get-merged}
+use Rattle.irc_world.specs.Lemmas.HomesAdded.{still_home}
+use Rattle.irc_world.proofs.StaysSound.{new_world_is_sound, LinkIsTaken, link_taken, link_there, two_parts, one_part}
+use Rattle.irc_world.specs.Lemmas.MergedClients.{first_of, survivor, get-kept, get-merged}
 use Rattle.irc_world.proofs.WhoLeaves.{is_at_one, split_row, split_was, without_row, without_was, merge_row}
 
 abbrev pub MatchedHall : List Name → Hall → Type 0

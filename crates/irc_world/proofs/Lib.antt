@@ -25,4 +25,3 @@ pub mod BoSpeaks
 pub mod SmallWorldsProved
 pub mod LimitsHold
 pub mod RefusedAlone
-pub mod HomesPassing

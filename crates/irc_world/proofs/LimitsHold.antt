@@ -41,7 +41,8 @@ use Rattle.irc_world.proofs.Halls.{hall_with}
 use Rattle.irc_world.proofs.HomesKept.{named}
 use Rattle.irc_world.proofs.MachineMatches.{find_each}
 use Rattle.irc_world.proofs.Matches.{same_some, same_number}
-use Rattle.irc_world.proofs.StaysSound.{new_world_is_sound, first_of, get-kept, get-merged}
+use Rattle.irc_world.proofs.StaysSound.{new_world_is_sound}
+use Rattle.irc_world.specs.Lemmas.MergedClients.{first_of, get-kept, get-merged}
 
 -- what the clients have given that are not registered
 abbrev AreGiven : Clients → Type 0

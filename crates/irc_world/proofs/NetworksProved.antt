@@ -27,7 +27,7 @@ use Rattle.irc_world.specs.World.{home_of}
 use Rattle.irc_world.specs.Stepping.{link, step, clashes_in, merged, meeting_lines, split_text, servers_on_side, leaving_lines}
 use Rattle.irc_world.specs.Refused.{refused, no_such_client}
 use Rattle.irc_world.specs.Networks.{SidesAreJoined, als_settings, bos_settings, a_connects, b_connects, PeopleMeet, LinkIsLost, LinkIsBack, back_again, b_to_c, three_clients, three_doings, three_people, in_a_line, cut_off, als_clients, als_doings, bos_clients, bos_doings, NicknamesClash, zeds_clients, zeds_doings, other_zeds_clients, other_zeds_doings, with_zed, with_other_zed, hall_after, three_peers, two_apart, als_people, bos_people}
-use Rattle.irc_world.proofs.StaysSound.{first_of, survivor, get-kept, get-merged}
+use Rattle.irc_world.specs.Lemmas.MergedClients.{first_of, survivor, get-kept, get-merged}
 use Rattle.irc_world.proofs.ListedHalls.{list_lost, list_split, split_listed, InOrderLeaving, list_seen_leaving, leaving_listed, servers_listed, hall_of, list_clashes, clashes_listed, list_meeting, meeting_listed}
 
 made : (clients : List (ℕ × Client)) (effects : List Effect) → hall_after clients effects ≡ hall_of (from_entries clients) (list_room effects)

@@ -7,7 +7,7 @@ use Rattle.irc_stage.specs.Handle.{Happening, says, goes}
 use Rattle.irc_world.specs.World.{Setting, World, home_in, home_of}
 use Rattle.irc_world.specs.Stepping.{Item, connect, line, gone, link, cut, step, still, by_machine, by_client}
 use Rattle.irc_world.specs.Numbers.{NumbersStay, NextNumberIsNew}
-use Rattle.irc_world.proofs.StaysSound.{still_home}
+use Rattle.irc_world.specs.Lemmas.HomesAdded.{still_home}
 use Rattle.irc_world.proofs.ServedAlone.{past_end}
 
 one_more_home : (homes : List Name) (new : Name) (client : ℕ) (home : Name) → home_in homes client ≡ Some home → home_in (homes ++ new ∷ []) client ≡ Some home

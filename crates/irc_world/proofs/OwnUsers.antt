@@ -16,7 +16,7 @@ use Rattle.irc_stage.specs.declared.clients.Client.{Client}
 use Rattle.irc_stage.specs.declared.clients.Client.TheVariants.{Registering, Registered}
 use Rattle.irc_stage.specs.RoomMachine.{RoomMachine, client_of, with_client, without_client}
 use Rattle.irc_stage.specs.Handle.{Happening, connects, says, goes, Handled, handled, with_effect, stepped, all_stepped, unchanged, closing, client_after, user_decided, said_by, user_of, quits, lost_text}
-use Rattle.irc_world.proofs.HomesPassing.{NewPasses, pass_after}
+use Rattle.irc_world.specs.Lemmas.HomesPassing.{NewPasses, pass_after}
 use Rattle.irc_world.specs.Homes.{HomesPass, ClientsBringOwnUsers}
 
 -- a step that is no effect adds nobody

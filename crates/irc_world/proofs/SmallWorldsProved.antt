@@ -47,7 +47,7 @@ use Rattle.irc_world.specs.SmallWorlds.{LinesAtMost, four_peers, links_of_pairs,
 use Rattle.irc_world.proofs.ListedHalls.{list_lost, InOrderLeaving, list_seen_leaving, leaving_listed, servers_listed, list_meeting}
 use Rattle.irc_world.proofs.NetworksProved.{met, als_in_order, bos_in_order, zeds_in_order, other_zeds_in_order, als_hall, others_hall, als_side, others_side, als_side_in_order, others_side_in_order}
 use Rattle.irc_world.proofs.BoSpeaks.{message, is_read, bo_there, decides, spoken}
-use Rattle.irc_world.proofs.StaysSound.{get-kept}
+use Rattle.irc_world.specs.Lemmas.MergedClients.{get-kept}
 
 abbrev a_net : Name
 a_net = codes "a.net"

@@ -18,7 +18,8 @@ use Rattle.irc_world.specs.Refused.{open_client}
 use Rattle.irc_world.specs.Sound.{IsSound}
 use Rattle.irc_world.specs.Bystanders.{WaitingStay, OtherPartsStay, OnlyConnectedReceive}
 use Rattle.irc_world.proofs.Halls.{hall_with}
-use Rattle.irc_world.proofs.StaysSound.{LinkIsTaken, link_taken, two_parts, first_of, survivor, get-kept, get-merged, link_there}
+use Rattle.irc_world.proofs.StaysSound.{LinkIsTaken, link_taken, two_parts, link_there}
+use Rattle.irc_world.specs.Lemmas.MergedClients.{first_of, survivor, get-kept, get-merged}
 use Rattle.irc_world.proofs.KnowingTheSame.{place_known, link_between, cut_between}
 use Rattle.irc_world.proofs.Unheard.{unheard}
 

@@ -1,32 +1,29 @@
 -- The network stays sound.
 use Rattle.std.proofs.Common.{◌≡◌, ℕ, zero, suc, Bool, true, false, cond, ◌&&◌, ◌||◌, not, Option, Some, None, List, [], ◌∷◌, ◌++◌, ◌⊎◌, ⊎_elim, inl, inr, length, refl, sym, ◌∙◌, ap, subst, is_some, if◌then◌else◌}
 use Rattle.std.proofs.lemmas.Bool.{and_parts}
-use Rattle.std.specs.List.{slice_get}
 use Rattle.std.specs.Option.{option_map_or}
 use Rattle.std.specs.Ordering.{nat_cmp}
-use Rattle.std.specs.Cmp.{nat_cmp_total}
-use Rattle.std.specs.FinMap.{get, empty, get-empty, find, entries, retain_keys, get-from_entries, get-entries, get-retain_keys, nat_cmp-IsAntisymmetric}
+use Rattle.std.specs.FinMap.{get, empty, get-empty}
 use Rattle.irc_relay.specs.Links.{Name, Link, part, joined, links_without, has_ends, AreJoined, AreLinked, IsLeft, IsMade, within, over, back, still, parted, turned}
 use Rattle.irc_relay.specs.Links.{linked as are_linked}
 use Rattle.irc_relay.specs.Laws.{TestsTell, LinkBetweenParts, LinkTakenOut, JoinedOverLink}
 use Rattle.irc_relay.specs.Lemmas.TellingNames.{alike, unlike, tell, same_when}
 use Rattle.irc_line.specs.Reading.{read_of}
-use Rattle.irc_room.specs.Room.{Room, IsWellFormed}
-use Rattle.irc_room.specs.Lemmas.Rows.{same_some}
+use Rattle.irc_room.specs.Room.{IsWellFormed}
 use Rattle.irc_room.specs.Lemmas.WellFormedLaw.{no_room_is_well_formed}
 use Rattle.irc_commands.specs.Possible.{DecidedIsPossible, RegisteringIsPossible}
 use Rattle.irc_merge.specs.Laws.{MergeIsWellFormed, SplitIsWellFormed}
 use Rattle.irc_stage.specs.declared.clients.Client.{Client}
-use Rattle.irc_stage.specs.RoomMachine.{Clients}
-use Rattle.irc_stage.specs.Lemmas.Numbers.{same_number}
 use Rattle.irc_stage.specs.Handle.{Happening, connects, says, goes, handled}
 use Rattle.irc_world.specs.World.{Setting, Hall, World, new_world, is_server, home_in, home_of, machine_at, with_hall}
-use Rattle.irc_world.specs.Stepping.{Item, connect, line, gone, link, cut, step, still as unmoved, by_machine, by_client, merged, link_made, remaining, parted as cut_apart, surviving, clashes_in, split_text, servers_on_side}
+use Rattle.irc_world.specs.Stepping.{Item, connect, line, gone, link, cut, step, still as unmoved, by_machine, by_client, merged, link_made, remaining, parted as cut_apart, clashes_in, split_text, servers_on_side}
 use Rattle.irc_world.specs.Refused.{Refusal, refused, are_peers, link_refusal, no_such_server, link_refused, not_linked}
 use Rattle.irc_world.specs.Owed.{after_items}
 use Rattle.irc_world.specs.Sound.{HasHomeBy, IsSound, AreTaken}
 use Rattle.irc_world.specs.Laws.{NewWorldIsSound, StepStaysSound, WorldIsSound}
+use Rattle.irc_world.specs.Lemmas.HomesAdded.{new_home, more_sound}
 use Rattle.irc_world.proofs.HandledKeeps.{Keeps, Comes, handled_keeps}
+use Rattle.irc_world.specs.Lemmas.MergedClients.{first_of, get-kept, get-merged}
 use Rattle.irc_world.proofs.Halls.{hall_with, one_hall_with}
 
 -- ---- nobody is there
@@ -92,51 +89,6 @@ module _ (decided_possible : DecidedIsPossible) (registering_possible : Register
       by None = sound
       by (Some home) = machine_sound world home happening sound (comes_so home happening comes)
 
--- ---- one more home
-
-pub still_home : (homes : List Name) (new : Name) (earlier : ℕ) (home : Name) → slice_get homes earlier ≡ Some home
-    → slice_get (homes ++ new ∷ []) earlier ≡ Some home
-still_home [] new earlier home is = absurd (cc is)
-still_home (first ∷ homes) new zero home is = is
-still_home (first ∷ homes) new (suc earlier) home is = still_home homes new earlier home is
-
-pub new_home : (homes : List Name) (new : Name) → slice_get (homes ++ new ∷ []) (length homes) ≡ Some new
-new_home [] new = refl
-new_home (first ∷ homes) new = new_home homes new
-
-one_more : (homes : List Name) (new : Name) (earlier : ℕ) (home : Name) → slice_get (homes ++ new ∷ []) earlier ≡ Some home
-    → (slice_get homes earlier ≡ Some home) ⊎ (new ≡ home)
-one_more [] new zero home is = inr (same_some new home is)
-one_more [] new (suc earlier) home is = absurd (cc is)
-one_more (first ∷ homes) new zero home is = inl is
-one_more (first ∷ homes) new (suc earlier) home is = one_more homes new earlier home is
-
-at_home_still : (links : List Link) (homes : List Name) (new : Name) (client : ℕ) (server : Name) → HasHomeBy links homes client server
-    → HasHomeBy links (homes ++ new ∷ []) client server
-at_home_still links homes new zero server at_home = absurd (let none = at_home.is_home in cc none)
-at_home_still links homes new (suc earlier) server at_home = record {
-  home = at_home.home;
-  is_home = still_home homes new earlier at_home.home at_home.is_home;
-  joined = at_home.joined;
-}
-
-pub more_sound : (settings : List Setting) (world : World) (new : Name) → IsSound settings world → is_server settings new ≡ true
-    → IsSound settings (record world { homes = world.homes ++ new ∷ [] })
-more_sound settings world new sound known = record {
-  forest = sound.forest;
-  one_hall = sound.one_hall;
-  well_formed = sound.well_formed;
-  clients_home = λ server client there. at_home_still world.links world.homes new client server (sound.clients_home server client there);
-  homes_known = by;
-  ends_known = sound.ends_known;
-}
-  where
-    by : (client : ℕ) (home : Name) → home_in (world.homes ++ new ∷ []) client ≡ Some home → is_server settings home ≡ true
-    by zero home is = absurd (cc is)
-    by (suc earlier) home is = ⊎_elim (λ (old : slice_get world.homes earlier ≡ Some home). sound.homes_known (suc earlier) home old)
-        (λ (is_new : new ≡ home). subst (λ h. is_server settings h ≡ true) is_new known)
-        (one_more world.homes new earlier home is)
-
 -- ---- two parts are linked
 
 -- why an item is taken, one cause after another
@@ -179,38 +131,6 @@ two_parts links s t is one = let same_part = same_when (part links s) (part link
 
 pub one_part : (links : List Link) (s t : Name) → joined links s t ≡ true → AreJoined links s t
 one_part links s t is = elim (tell (part links s) (part links t)) [ alike _ one ↦ one | unlike two _ ↦ absurd (let clash = sym two ∙ is in cc clash) ]
-
--- the first of two clients that is there
-abbrev pub first_of : Option Client → Option Client → Option Client
-first_of None other = other
-first_of (Some client) other = Some client
-
-find_in_both : (client : ℕ) (xs ys : List (ℕ × Client)) → find nat_cmp client (xs ++ ys) ≡ first_of (find nat_cmp client xs) (find nat_cmp client ys)
-find_in_both client [] ys = refl
-find_in_both client (x ∷ xs) ys = by (same_number client x.0) (find_in_both client xs ys)
-  where
-    by : (b : Bool) → find nat_cmp client (xs ++ ys) ≡ first_of (find nat_cmp client xs) (find nat_cmp client ys)
-        → cond b (Some x.1) (find nat_cmp client (xs ++ ys)) ≡ first_of (cond b (Some x.1) (find nat_cmp client xs)) (find nat_cmp client ys)
-    by true later = refl
-    by false later = later
-
-pub get-kept : (clients : Clients) (passes : ℕ → Bool) (client : ℕ) → get (retain_keys clients passes) client ≡ cond (passes client) (get clients client) None
-get-kept clients passes client =
-    get-retain_keys clients passes client (λ other one. ap passes (sym (nat_cmp-IsAntisymmetric client other one)))
-
--- a client that survives a merge
-abbrev pub survivor : Room → Clients → ℕ → Option Client
-survivor other clients client = cond (not (clashes_in other (get clients client))) (get clients client) None
-
-pub get-merged : (one other : Hall) (client : ℕ) → get (merged one other).clients client
-    ≡ first_of (survivor other.room one.clients client) (survivor one.room other.clients client)
-get-merged one other client =
-    get-from_entries nat_cmp_total (entries (surviving other.room one.clients) ++ entries (surviving one.room other.clients)) client
-    ∙ find_in_both client (entries (surviving other.room one.clients)) (entries (surviving one.room other.clients))
-    ∙ ap (λ o. first_of o (find nat_cmp client (entries (surviving one.room other.clients))))
-    (sym (get-entries (surviving other.room one.clients) client) ∙ get-kept one.clients (λ c. not (clashes_in other.room (get one.clients c))) client)
-    ∙ ap (first_of (survivor other.room one.clients client))
-    (sym (get-entries (surviving one.room other.clients) client) ∙ get-kept other.clients (λ c. not (clashes_in one.room (get other.clients c))) client)
 
 of_either : (b c : Bool) (o p : Option Client) → is_some (first_of (cond b o None) (cond c p None)) ≡ true → (is_some o ≡ true) ⊎ (is_some p ≡ true)
 of_either true c (Some client) p there = inl refl

@@ -19,3 +19,4 @@ pub mod Bystanders
 pub mod Networks
 pub mod SmallWorlds
 pub mod WithinLimits
+pub mod Lemmas

@@ -9,7 +9,7 @@ use Rattle.irc_relay.specs.Links.{Name}
 use Rattle.irc_relay.specs.Lemmas.TellingNames.{Telling, alike, unlike, tell}
 use Rattle.irc_room.specs.Lemmas.Rows.{same_some}
 use Rattle.irc_routes.specs.Lemmas.TableRows.{values_each}
-use Rattle.irc_routes.proofs.RouteLaws.{entries_named}
+use Rattle.irc_routes.specs.Lemmas.RouteLaws.{entries_named}
 use Rattle.irc_world.specs.World.{Setting, is_server, setting_of}
 
 -- ---- keys

@@ -29,7 +29,7 @@ use Rattle.irc_follow.specs.Part as of_side
 use Rattle.irc_follow.specs.Says.{IsDoableEffect, IsDoableGain}
 use Rattle.irc_follow.specs.Lemmas.TreeGains.{gained_is_sound}
 use Rattle.irc_follow.specs.Lemmas.UsersAfter.{fold_after, home_stays, takes_out}
-use Rattle.irc_world.proofs.HomesPassing.{NewPasses, pass_after}
+use Rattle.irc_world.specs.Lemmas.HomesPassing.{NewPasses, pass_after}
 
 -- one test for two nicknames, and for their folds
 pub same_folds : (a b : List ℕ) → same_fold (key a) (key b) ≡ same a b

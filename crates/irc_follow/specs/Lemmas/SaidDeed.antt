@@ -20,7 +20,7 @@ use Rattle.irc_merge.specs.CanBeDone.{DoesSomething}
 use Rattle.irc_merge.specs.AsideInvitations.{CanComeOf, after_deed_at}
 use Rattle.irc_merge.specs.Deeds.{Deed, loses, kills, brings, sets, tops, titled, after_deed, effects_of}
 use Rattle.irc_merge.specs.Quits.{collision_text, quits_of, users_at}
-use Rattle.irc_merge.proofs.LookingAside.{alike_do_alike, home_follows_deed}
+use Rattle.irc_merge.specs.Lemmas.DeedsAlike.{alike_do_alike, home_follows_deed}
 use Rattle.irc_relay.specs.Links.{Name, same, linked, AreLinked}
 use Rattle.irc_relay.specs.Relay.{TakesFrom}
 use Rattle.irc_relay.specs.Lemmas.TellingNames.{Telling, alike, unlike, tell, same_unless}

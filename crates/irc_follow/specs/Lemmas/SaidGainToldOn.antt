@@ -25,7 +25,7 @@ use Rattle.irc_routes.specs.Known.{Known, distance_of, is_full, token_in, token_
 use Rattle.irc_routes.specs.Limits.{max_servers}
 use Rattle.irc_burst.specs.DeedsMeant.{Told, a_server, deeds_meant, first_reason, is_next_distance}
 use Rattle.irc_burst_lines.specs.DeedLines.{server_parts}
-use Rattle.irc_burst_lines.proofs.WholeLines.{server_fits}
+use Rattle.irc_burst_lines.specs.Lemmas.WholeLines.{server_fits}
 use Rattle.irc_link_reader.specs.Reader.{Reader, may_come}
 use Rattle.irc_link_words.specs.Numbers.{is_number, max_number}
 use Rattle.irc_link_writer.specs.Written.{next_distance, written_token}

@@ -12,7 +12,7 @@ use Rattle.irc_line.specs.Laws.{WrittenIsRead, IsReadSoAlone}
 use Rattle.irc_line.specs.Messages.{IsPlain, Parsed, Written, joined_text, line_text, message_of, named, prefix_of, prefix_text}
 use Rattle.irc_line.specs.Reading.{read_of}
 use Rattle.irc_line.specs.Lemmas.Lengths.{length-joined_text, length-named, words_size}
-use Rattle.irc_rules.proofs.RuleFacts.{channel-fits, server-fits}
+use Rattle.irc_names.specs.Lemmas.RuleFacts.{channel-fits, server-fits}
 use Rattle.irc_names.specs.Fold.{key}
 use Rattle.irc_names.specs.Limits.{max_words}
 use Rattle.irc_names.specs.Names.{IsChannel, IsServer, is_channel, is_nick, is_server}
@@ -24,7 +24,7 @@ use Rattle.irc_batch.specs.declared.close_reason.CloseReason.{CloseReason}
 use Rattle.irc_modes.specs.declared.modes.ModeChange.{ModeChange}
 use Rattle.irc_mode_words.specs.ModeWritten.{changes_written, letters_text}
 use Rattle.irc_mode_words.specs.Readable.{AreReadable, has_its_word, is_worded}
-use Rattle.irc_mode_words.proofs.WrittenRead.{written_is_read}
+use Rattle.irc_mode_words.specs.Lemmas.WrittenRead.{written_is_read}
 use Rattle.irc_room.specs.effect.By.{By}
 use Rattle.irc_room.specs.effect.By.TheVariants as by
 use Rattle.irc_room.specs.effect.Effect.{Effect}
@@ -43,7 +43,7 @@ use Rattle.irc_burst.specs.DeedsMeant.{Told, a_deed, as_stored, collided, deeds_
 use Rattle.irc_burst.specs.GoingOn.{line_from}
 use Rattle.irc_burst.specs.HandshakeMeant.{handshake_meant}
 use Rattle.irc_burst_lines.specs.DeedLines.{members_text, mode_parts, njoin_parts, topic_parts}
-use Rattle.irc_burst_lines.proofs.WholeLines.{members_fit}
+use Rattle.irc_burst_lines.specs.Lemmas.WholeLines.{members_fit}
 use Rattle.irc_link_reader.specs.Means.{Checked, first_fault, if_there, of_either, user_mode_line}
 use Rattle.irc_link_reader.specs.Reader.{Reader, is_behind_link, may_come, reader_of}
 use Rattle.irc_link_words.specs.Words.{are_changes, are_members_named, are_words, changes_of, is_mode_word, names_nick}

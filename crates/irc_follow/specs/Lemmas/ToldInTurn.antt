@@ -15,7 +15,7 @@ use Rattle.irc_tables.specs.FoldedRows.{IsInFoldedOrder}
 use Rattle.irc_routes.specs.declared.server_row.ServerRow.{ServerRow}
 use Rattle.irc_routes.specs.Known.{is_behind, is_told_before, others, put_among}
 use Rattle.irc_routes.specs.Lemmas.TableRows.{held, told, values_each}
-use Rattle.irc_routes.proofs.RouteLaws.{entries_named}
+use Rattle.irc_routes.specs.Lemmas.RouteLaws.{entries_named}
 use Rattle.irc_follow.specs.AtRest.{by_distance, ToldByDistance}
 use Rattle.irc_follow.specs.Lemmas.NamedRows.{if_passes, passed_named}
 

@@ -9,7 +9,7 @@ use Rattle.irc_routes.specs.declared.server_row.ServerRow.{ServerRow}
 use Rattle.irc_routes.specs.Known.{Known, is_itself, is_known, row_of, smallest_free, token_out, IsNumbered}
 use Rattle.irc_routes.specs.Limits.{first_token}
 use Rattle.irc_routes.specs.Lemmas.TableRows.{row_passes}
-use Rattle.irc_routes.proofs.RouteLaws.{smallest_is_free}
+use Rattle.irc_routes.specs.Lemmas.RouteLaws.{smallest_is_free}
 
 pub same_some : {X : Type 0} (x y : X) → Some x ≡ Some y → x ≡ y
 same_some x y is = ap (λ o. unwrap_or o x) is

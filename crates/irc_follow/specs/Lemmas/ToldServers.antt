@@ -11,7 +11,7 @@ use Rattle.irc_relay.specs.Lemmas.LinkTakenOut.{sides, taken_out}
 use Rattle.irc_routes.specs.declared.server_row.ServerRow.{ServerRow}
 use Rattle.irc_routes.specs.Known.{Known, is_behind, is_told_before, others, put_among, servers_told}
 use Rattle.irc_routes.specs.Lemmas.TableRows.{row_passes, some_stands}
-use Rattle.irc_routes.proofs.DistinctLinks.{both_so}
+use Rattle.irc_routes.specs.Lemmas.DistinctLinks.{both_so}
 use Rattle.irc_follow.specs.Tree.{Shape, index_in, shape, shape_in}
 use Rattle.irc_follow.specs.Part.{Fixed, info_in, number}
 use Rattle.irc_follow.specs.AtRest.{AreRight, ToldAreThisSide}

@@ -18,8 +18,8 @@ use Rattle.irc_routes.specs.declared.fault.RoutesFault.TheVariants as fault
 use Rattle.irc_routes.specs.Info.{IsInfo}
 use Rattle.irc_routes.specs.Limits.{max_servers}
 use Rattle.irc_routes.specs.Lemmas.TableRows.{length-values, some_stands}
-use Rattle.irc_routes.proofs.SmallestFree.{smallest_is_low}
-use Rattle.irc_routes.proofs.RouteLaws.{added_gets_smallest, stays_numbered}
+use Rattle.irc_routes.specs.Lemmas.SmallestFree.{smallest_is_low}
+use Rattle.irc_routes.specs.Lemmas.RouteLaws.{added_gets_smallest, stays_numbered}
 use Rattle.irc_follow.specs.Tree.{Tree, index_in, shape, shape_in, told_token, known_told, gained, gained_at, IsSoundTree, AreServers, CanGain}
 use Rattle.irc_follow.specs.Lemmas.PlacesOfNames.{one_place}
 use Rattle.irc_follow.specs.Lemmas.FewRows.{two_more}

@@ -7,7 +7,7 @@ use Rattle.irc_relay.specs.Lemmas.TellingNames.{Telling, alike, unlike, tell, sa
 use Rattle.irc_routes.specs.declared.server_row.ServerRow.{ServerRow}
 use Rattle.irc_routes.specs.Known.{Known, is_itself, row_of, token_out, without_server, IsNumbered}
 use Rattle.irc_routes.specs.Limits.{max_servers}
-use Rattle.irc_routes.proofs.RouteLaws.{stays_numbered}
+use Rattle.irc_routes.specs.Lemmas.RouteLaws.{stays_numbered}
 use Rattle.irc_follow.specs.Tree.{Tree, shape, shape_in, lost, lost_at, index_in, IsSoundTree, CanLose}
 
 module _ (names : List Name) (info : Name → List ℕ) (tree : Tree) (sound : IsSoundTree names info tree) (name : List ℕ) (can : CanLose tree name) where

@@ -2,7 +2,7 @@ use Rattle.std.proofs.Common.{◌++◌, ◌∙◌, ap, codes, arith}
 use Rattle.std.proofs.lemmas.Grind.{common_steps}
 use Rattle.irc_line.specs.Bytes.{cut}
 use Rattle.irc_line.specs.Lemmas.CutLaws.{cut_two}
-use Rattle.irc_link_writer.proofs.ModeLines.{mode_written}
+use Rattle.irc_link_writer.specs.Lemmas.ModeLines.{mode_written}
 use Rattle.irc_burst_lines.proofs.mode_line.mode_text.Goals as goal
 
 pub returns : goal.returns

@@ -1,6 +1,6 @@
 use Rattle.std.proofs.Common.{arith}
 use Rattle.std.proofs.lemmas.Grind.{common_steps}
-use Rattle.irc_link_writer.proofs.ModeLines.{mode_written}
+use Rattle.irc_link_writer.specs.Lemmas.ModeLines.{mode_written}
 use Rattle.irc_link_writer.proofs.mode_line.mode_line.Goals as goal
 
 pub returns : goal.returns

@@ -1,4 +1,4 @@
-use Rattle.irc_merge.proofs.LookingAside.{alike_do_alike}
+use Rattle.irc_merge.specs.Lemmas.DeedsAlike.{alike_do_alike}
 use Rattle.irc_merge.proofs.laws.alike_do_alike.Goals as goal
 
 pub returns : goal.returns

@@ -1,4 +1,4 @@
-use Rattle.irc_merge.proofs.LookingAside.{home_follows_deed}
+use Rattle.irc_merge.specs.Lemmas.DeedsAlike.{home_follows_deed}
 use Rattle.irc_merge.proofs.laws.home_follows_deed.Goals as goal
 
 pub returns : goal.returns

@@ -1,4 +1,4 @@
-use Rattle.irc_merge.proofs.Splitting.{others_stay}
+use Rattle.irc_merge.specs.Lemmas.SplitInTurn.{others_stay}
 use Rattle.irc_merge.proofs.laws.others_stay.Goals as goal
 
 pub returns : goal.returns

@@ -1,4 +1,4 @@
-use Rattle.irc_merge.proofs.Splitting.{split_is_well_formed}
+use Rattle.irc_merge.specs.Lemmas.SplitInTurn.{split_is_well_formed}
 use Rattle.irc_merge.proofs.laws.split_is_well_formed.Goals as goal
 
 pub returns : goal.returns

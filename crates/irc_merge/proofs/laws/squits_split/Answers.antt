@@ -1,4 +1,4 @@
-use Rattle.irc_merge.proofs.Splitting.{squits_split}
+use Rattle.irc_merge.specs.Lemmas.SplitInTurn.{squits_split}
 use Rattle.irc_merge.proofs.laws.squits_split.Goals as goal
 
 pub returns : goal.returns

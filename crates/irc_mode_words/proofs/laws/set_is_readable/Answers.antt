@@ -1,4 +1,4 @@
-use Rattle.irc_mode_words.proofs.SetReadable.{set_is_readable}
+use Rattle.irc_mode_words.specs.Lemmas.SetReadable.{set_is_readable}
 use Rattle.irc_mode_words.proofs.laws.set_is_readable.Goals as goal
 
 pub returns : goal.returns

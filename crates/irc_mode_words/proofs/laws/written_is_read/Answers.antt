@@ -1,4 +1,4 @@
-use Rattle.irc_mode_words.proofs.WrittenRead.{written_is_read}
+use Rattle.irc_mode_words.specs.Lemmas.WrittenRead.{written_is_read}
 use Rattle.irc_mode_words.proofs.laws.written_is_read.Goals as goal
 
 pub returns : goal.returns

@@ -5,7 +5,7 @@ use Rattle.irc_shown.specs.Room.{Room}
 use Rattle.irc_shown.specs.Lemmas.IdleLaw.{idle_changes_nothing}
 use Rattle.irc_shown.specs.Lemmas.Rows.{not_true}
 use Rattle.irc_shown.specs.Loops.Telling.{shown_at}
-use Rattle.irc_shown.proofs.ToldLaw.{idle_tells_nothing}
+use Rattle.irc_shown.specs.ToldLaws.{idle_tells_nothing}
 use Rattle.irc_room.proofs.performing.perform.Goals as goal
 
 pub returns-then-is_idle-clause-changed : goal.returns-then-is_idle-clause-changed

@@ -1,4 +1,4 @@
-use Rattle.irc_routes.proofs.RouteLaws.{place_tells}
+use Rattle.irc_routes.specs.Lemmas.RouteLaws.{place_tells}
 use Rattle.irc_routes.proofs.laws.place_tells.Goals as goal
 
 pub returns : goal.returns

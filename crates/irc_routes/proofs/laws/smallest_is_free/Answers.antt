@@ -1,4 +1,4 @@
-use Rattle.irc_routes.proofs.RouteLaws.{smallest_is_free}
+use Rattle.irc_routes.specs.Lemmas.RouteLaws.{smallest_is_free}
 use Rattle.irc_routes.proofs.laws.smallest_is_free.Goals as goal
 
 pub returns : goal.returns

@@ -3,7 +3,7 @@ use Rattle.std.specs.List.{flat_map}
 use Rattle.irc_shown.specs.Loops.LineViews.{line_if}
 use Rattle.irc_shown.specs.Loops.LineViews.{ShowsAt}
 use Rattle.irc_shown.specs.Loops.Viewing.{own_nick, viewers}
-use Rattle.irc_shown.proofs.ToldLaw.{all_is_told, no_line_tells_nothing, told_each}
+use Rattle.irc_shown.specs.ToldLaws.{all_is_told, no_line_tells_nothing, told_each}
 use Rattle.irc_shown.proofs.showing.show.Goals as goal
 
 pub returns-in_ok-add_viewers : goal.returns-in_ok-add_viewers

@@ -5,7 +5,7 @@ use Rattle.irc_tables.specs.Lemmas.RowsAsTable.{ok_also}
 use Rattle.irc_channels.specs.Channels.{has_member}
 use Rattle.irc_room_tables.specs.Indexes.{holds}
 use Rattle.irc_shown.proofs.WhoSees.{gains_alike}
-use Rattle.irc_room_tables.proofs.OwnNames.{own_shared}
+use Rattle.irc_room_tables.specs.OwnNameLaws.{own_shared}
 use Rattle.irc_shown.proofs.RowValues.{list_any-row_name}
 use Rattle.irc_shown.proofs.viewers.put_shared.Goals as goal
 

@@ -3,7 +3,7 @@ use Rattle.std.proofs.lemmas.List.Filters.{dedup_is}
 use Rattle.std.specs.Ordering.{nat_cmp}
 use Rattle.std.specs.FinMap.{keys, from_entries}
 use Rattle.irc_routes.specs.Known.{link_key, next_hop}
-use Rattle.irc_routes.proofs.DistinctLinks.{sorted_once}
+use Rattle.irc_routes.specs.Lemmas.DistinctLinks.{sorted_once}
 use Rattle.irc_links.specs.Ways.{homes_in, homes_of, links_toward}
 use Rattle.irc_links.specs.Loops.Branching.{hops_of}
 use Rattle.irc_links.proofs.Branching.{hops_are, kept_of}

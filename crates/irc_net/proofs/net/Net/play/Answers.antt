@@ -1,7 +1,7 @@
 use Rattle.std.proofs.Common.{◌+◌, arith, subst, sym, take}
 use Rattle.irc_net.specs.Calls.{PlaysSteps}
 use Rattle.irc_net.proofs.Calling.{all_played, none_played, play_stops, play_wants, plays_on, stops}
-use Rattle.irc_network.proofs.Places.{found_at}
+use Rattle.irc_network.specs.Lemmas.FoundAtPlaces.{found_at}
 use Rattle.irc_net.proofs.net.Net.play.Goals as goal
 
 pub loop-step-init : goal.loop-step-init

@@ -2,8 +2,9 @@ use Rattle.std.proofs.Common.{◌≡◌, ◌∙◌, ap, subst}
 use Rattle.irc_server.specs.Happening.{occurrence_of}
 use Rattle.irc_network.specs.Loops.Courses.{course}
 use Rattle.irc_network.specs.Network.{Network, site_asked}
-use Rattle.irc_sites.proofs.Outcomes.{on_ok}
-use Rattle.irc_network.proofs.Places.{found_at, none_here, seen}
+use Rattle.irc_sites.specs.Lemmas.Outcomes.{on_ok}
+use Rattle.irc_network.specs.Lemmas.FoundAtPlaces.{found_at}
+use Rattle.irc_network.proofs.Places.{none_here, seen}
 use Rattle.irc_network.proofs.Taking.{asked_nowhere, asked_there}
 use Rattle.irc_network.proofs.network.Network.ask.Goals as goal
 

@@ -2,7 +2,8 @@ use Rattle.std.proofs.Common.{◌≡◌, ap, refl, subst}
 use Rattle.std.specs.List.{slice_set}
 use Rattle.irc_network.specs.Loops.Courses.{course}
 use Rattle.irc_network.specs.Network.{Network, has_received, receipt}
-use Rattle.irc_network.proofs.Places.{found_at, number_behind, received_one, seen}
+use Rattle.irc_network.specs.Lemmas.FoundAtPlaces.{found_at}
+use Rattle.irc_network.proofs.Places.{number_behind, received_one, seen}
 use Rattle.irc_network.proofs.network.Network.receive.Goals as goal
 
 pub returns : goal.returns

@@ -2,7 +2,8 @@ use Rattle.std.proofs.Common.{subst, refl}
 use Rattle.std.specs.List.{slice_set}
 use Rattle.irc_network.specs.Loops.Courses.{IsLineTaken}
 use Rattle.irc_network.specs.Network.{Network}
-use Rattle.irc_network.proofs.Places.{found_at, line_taken, seen}
+use Rattle.irc_network.specs.Lemmas.FoundAtPlaces.{found_at}
+use Rattle.irc_network.proofs.Places.{line_taken, seen}
 use Rattle.irc_network.proofs.network.Network.take_line.Goals as goal
 
 pub returns : goal.returns

@@ -1,7 +1,7 @@
 use Rattle.std.proofs.Common.{◌∙◌, ap}
 use Rattle.irc_names.specs.Fold.{key}
 use Rattle.irc_room_tables.specs.Indexes.{own_names}
-use Rattle.irc_room_tables.proofs.OwnNames.{names_told}
+use Rattle.irc_room_tables.specs.OwnNameLaws.{names_told}
 use Rattle.irc_room_tables.proofs.indexed_channels.IndexedChannels.names_near.Goals as goal
 
 pub returns : goal.returns

@@ -1,7 +1,7 @@
 use Rattle.std.proofs.Common.{◌∙◌, ap}
 use Rattle.irc_names.specs.Fold.{key}
 use Rattle.irc_room_tables.specs.Indexes.{folds_of, is_named}
-use Rattle.irc_room_tables.proofs.OwnNames.{own_named}
+use Rattle.irc_room_tables.specs.OwnNameLaws.{own_named}
 use Rattle.irc_room_tables.proofs.MembersKept.{drops_alike}
 use Rattle.irc_room_tables.proofs.own_members.OwnMembers.leave_all.Goals as goal
 

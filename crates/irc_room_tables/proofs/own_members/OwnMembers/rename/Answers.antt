@@ -2,7 +2,7 @@ use Rattle.std.proofs.Common.{◌∙◌, ap, sym}
 use Rattle.irc_names.specs.Fold.{key}
 use Rattle.irc_tables.specs.Lemmas.RowsAsTable.{ok_also}
 use Rattle.irc_room_tables.specs.Indexes.{folds_of, is_named}
-use Rattle.irc_room_tables.proofs.OwnNames.{own_named}
+use Rattle.irc_room_tables.specs.OwnNameLaws.{own_named}
 use Rattle.irc_room_tables.proofs.MembersKept.{adds_alike, other_renamed, own_renamed}
 use Rattle.irc_room_tables.proofs.own_members.OwnMembers.rename.Goals as goal
 

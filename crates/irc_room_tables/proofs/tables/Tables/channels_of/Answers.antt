@@ -5,7 +5,7 @@ use Rattle.irc_channels.specs.Channels.{has_member}
 use Rattle.irc_effects.specs.Room.{Room}
 use Rattle.irc_room_tables.specs.Indexes.{entries_under}
 use Rattle.irc_effects.specs.Lemmas.Rows.{found_also}
-use Rattle.irc_room_tables.proofs.OwnNames.{own_found}
+use Rattle.irc_room_tables.specs.OwnNameLaws.{own_found}
 use Rattle.irc_room_tables.proofs.tables.Tables.channels_of.Goals as goal
 
 pub returns : goal.returns

@@ -1,7 +1,7 @@
 use Rattle.std.proofs.Common.{◌∙◌, ap}
 use Rattle.irc_stage.specs.Lemmas.Numbers.{taken-numbered}
 use Rattle.irc_sites.specs.Site.{without_way}
-use Rattle.irc_sites.proofs.Ways.{Queues}
+use Rattle.irc_sites.specs.Lemmas.Ways.{Queues}
 use Rattle.irc_sites.proofs.site.Site.close_way.Goals as goal
 
 pub returns : goal.returns

@@ -2,7 +2,7 @@ use Rattle.std.proofs.Common.{◌∙◌, ap}
 use Rattle.std.specs.FinMap.{keys}
 use Rattle.std.specs.List.{find}
 use Rattle.irc_sites.specs.Site.{Site, waits}
-use Rattle.irc_sites.proofs.Ways.{keys_listed}
+use Rattle.irc_sites.specs.Lemmas.Ways.{keys_listed}
 use Rattle.irc_sites.proofs.site.Site.first_way.Goals as goal
 
 pub loop-to-init : goal.loop-to-init

@@ -3,7 +3,7 @@ use Rattle.std.specs.FinMap.{insert}
 use Rattle.irc_links.specs.Loops.Numbered.{numbered}
 use Rattle.irc_stage.specs.Lemmas.Numbers.{put-numbered}
 use Rattle.irc_sites.specs.Site.{with_way}
-use Rattle.irc_sites.proofs.Ways.{Queues}
+use Rattle.irc_sites.specs.Lemmas.Ways.{Queues}
 use Rattle.irc_sites.proofs.site.Site.open_way.Goals as goal
 
 pub returns-in-Ok : goal.returns-in-Ok

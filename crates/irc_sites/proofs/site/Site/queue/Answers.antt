@@ -4,8 +4,8 @@ use Rattle.std.specs.FinMap.{insert}
 use Rattle.irc_links.specs.Loops.Numbered.{numbered}
 use Rattle.irc_stage.specs.Lemmas.Numbers.{put-numbered}
 use Rattle.irc_sites.specs.Site.{line_queued}
-use Rattle.irc_sites.proofs.Outcomes.{on_ok}
-use Rattle.irc_sites.proofs.Ways.{found_lines, missing_lines, nowhere, put_behind, site_inside}
+use Rattle.irc_sites.specs.Lemmas.Outcomes.{on_ok}
+use Rattle.irc_sites.specs.Lemmas.Ways.{found_lines, missing_lines, nowhere, put_behind, site_inside}
 use Rattle.irc_sites.proofs.site.Site.queue.Goals as goal
 
 pub returns-in_default : goal.returns-in_default

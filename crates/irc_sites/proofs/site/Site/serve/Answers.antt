@@ -2,7 +2,7 @@ use Rattle.std.proofs.Common.{◌∙◌, sym, subst, refl}
 use Rattle.irc_server.specs.Happening.{IsHandled, occurrence_of}
 use Rattle.irc_sites.specs.Site.{Replies, Site}
 use Rattle.irc_sites.proofs.Replying.{answered}
-use Rattle.irc_sites.proofs.Ways.{site_inside}
+use Rattle.irc_sites.specs.Lemmas.Ways.{site_inside}
 use Rattle.irc_sites.proofs.site.Site.serve.Goals as goal
 
 pub returns : goal.returns

@@ -4,7 +4,7 @@ use Rattle.irc_links.specs.Loops.Numbered.{numbered}
 use Rattle.irc_stage.specs.Lemmas.Numbers.{put-numbered}
 use Rattle.irc_sites.specs.Site.{Site}
 use Rattle.irc_sites.specs.Loops.Sites.{IsTaken}
-use Rattle.irc_sites.proofs.Ways.{found_lines, missing_lines, none_taken, site_inside, taken}
+use Rattle.irc_sites.specs.Lemmas.Ways.{found_lines, missing_lines, none_taken, site_inside, taken}
 use Rattle.irc_sites.proofs.site.Site.take_line.Goals as goal
 
 pub returns-in_default : goal.returns-in_default

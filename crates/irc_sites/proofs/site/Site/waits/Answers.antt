@@ -1,6 +1,6 @@
 use Rattle.std.proofs.Common.{◌∙◌, ap, sym, not}
 use Rattle.irc_sites.specs.Site.{Site, is_nothing, waits}
-use Rattle.irc_sites.proofs.Ways.{found_lines, missing_lines, site_inside, waiting_nowhere, waiting_there}
+use Rattle.irc_sites.specs.Lemmas.Ways.{found_lines, missing_lines, site_inside, waiting_nowhere, waiting_there}
 use Rattle.irc_sites.proofs.site.Site.waits.Goals as goal
 
 pub returns-in-Some : goal.returns-in-Some

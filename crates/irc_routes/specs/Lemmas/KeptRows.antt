@@ -16,7 +16,7 @@ use Rattle.irc_routes.specs.Info.{IsInfo}
 use Rattle.irc_routes.specs.Place.{KnownServer}
 use Rattle.irc_routes.specs.Known.{Known, ServerRow, others, alone_known, token_in, is_behind, unless_behind, added, without_server, without_link, known_server, itself, by_name, server_table, smallest_free, IsNumbered}
 use Rattle.irc_routes.specs.Loops.Rows.{entry, known_by, IsKept}
-use Rattle.irc_routes.proofs.Numbered.{numbered_alone, numbered_added, admitted, numbered_without_server, numbered_without_link, stays_elsewhere}
+use Rattle.irc_routes.specs.Lemmas.NumberedRows.{numbered_alone, numbered_added, admitted, numbered_without_server, numbered_without_link, stays_elsewhere}
 use Rattle.irc_routes.specs.Lemmas.TableRows.{values-table_of, filtered-sorted, filtered-table, map_insert}
 
 -- ---- no rows

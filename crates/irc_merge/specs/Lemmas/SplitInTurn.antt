@@ -25,7 +25,7 @@ use Rattle.irc_merge.specs.Split.{lost_home, lost_homes, lost_users, split, spli
 use Rattle.irc_merge.specs.Laws.{OthersStay, HomesOneByOne, SplitIsWellFormed, SquitsSplit}
 use Rattle.irc_merge.specs.Lemmas.TableWords.{values_each}
 use Rattle.irc_merge.specs.Lemmas.Quitting.{users_left, quits_well, among_values}
-use Rattle.irc_merge.proofs.Tests.{not_and, neither}
+use Rattle.irc_merge.specs.Lemmas.BooleanTests.{not_and, neither}
 
 -- ---- the users of a table that pass a test are the values of a table
 

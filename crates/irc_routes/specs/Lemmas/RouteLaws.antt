@@ -17,10 +17,10 @@ use Rattle.irc_tables.specs.Lemmas.RowsAsTable.{row-table_of, nothing-table, not
 use Rattle.irc_routes.specs.Known.{Known, ServerRow, others, is_itself, row_of, next_hop, is_behind, names_behind, links_in, smallest_free, added, unless_behind, known_server, itself, by_name, server_table, place_of, IsNumbered}
 use Rattle.irc_routes.specs.Laws.{SmallestIsFree, AddedGetsSmallest, is_among, BehindIsOfLink, LoseIsOfLink, PlaceListsAll, PlaceTells, AloneIsAlone, StaysNumbered}
 use Rattle.irc_routes.specs.Place.{KnownServer, Place, server_named}
-use Rattle.irc_routes.proofs.DistinctLinks.{both_so}
-use Rattle.irc_routes.proofs.KeptRows.{made_row}
-use Rattle.irc_routes.proofs.Numbered.{numbered_alone, numbered_added, admitted, numbered_without_server, numbered_without_link, stays_elsewhere}
-use Rattle.irc_routes.proofs.SmallestFree.{smallest_is_least}
+use Rattle.irc_routes.specs.Lemmas.DistinctLinks.{both_so}
+use Rattle.irc_routes.specs.Lemmas.KeptRows.{made_row}
+use Rattle.irc_routes.specs.Lemmas.NumberedRows.{numbered_alone, numbered_added, admitted, numbered_without_server, numbered_without_link, stays_elsewhere}
+use Rattle.irc_routes.specs.Lemmas.SmallestFree.{smallest_is_least}
 use Rattle.irc_routes.specs.Lemmas.TableRows.{row_passes, some_stands, values_each, values-table_of, told}
 
 pub smallest_is_free : SmallestIsFree

@@ -15,7 +15,7 @@ use Rattle.irc_routes.specs.declared.fault.RoutesFault.TheVariants as fault
 use Rattle.irc_routes.specs.Info.{IsInfo}
 use Rattle.irc_routes.specs.Limits.{max_servers}
 use Rattle.irc_routes.specs.Known.{Known, ServerRow, others, alone_known, row_of, is_known, is_full, has_token, is_behind, token_in, smallest_free, unless_behind, added, without_server, without_link, IsRow, IsNumbered}
-use Rattle.irc_routes.proofs.SmallestFree.{smallest_is_least}
+use Rattle.irc_routes.specs.Lemmas.SmallestFree.{smallest_is_least}
 use Rattle.irc_routes.specs.Lemmas.TableRows.{length-values, row_passes, length_each}
 
 -- ---- a server that knows no other

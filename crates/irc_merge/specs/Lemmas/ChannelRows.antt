@@ -35,7 +35,7 @@ use Rattle.irc_merge.specs.MergeShown.{letters_line, mode_lines}
 use Rattle.irc_merge.specs.Lemmas.TableWords.{alter_twice}
 use Rattle.irc_merge.specs.Lemmas.Reading.{read_one, reads, reads-one, reads-append}
 use Rattle.irc_merge.specs.Lemmas.SpelledMembers.{new_titled}
-use Rattle.irc_merge.proofs.Tests.{and_not}
+use Rattle.irc_merge.specs.Lemmas.BooleanTests.{and_not}
 
 -- ---- one row
 
@@ -57,6 +57,10 @@ pub channel_twice : (name : List ℕ) (first second : Option Channel → Option 
 channel_twice name first second room = ap (λ (t : Table Channel). record room { channels = t }) (alter_twice (key name) first second room.channels)
 
 -- ---- one member comes
+
+-- whether a fold is a member of the channel in a row
+abbrev pub row_has : List ℕ → Option Channel → Bool
+row_has fold x = option_map_or (has_member fold) x false
 
 -- a channel with one member more, who is not invited any more
 abbrev pub with_member : List ℕ → Flags → Channel → Channel

@@ -13,7 +13,7 @@ use Rattle.irc_mode_words.specs.ModeWords.{Reading, is_once_with, counts, counte
 use Rattle.irc_mode_words.specs.ModeWritten.{letters_behind, letters_text}
 use Rattle.irc_mode_words.specs.Readable.{IsOnce, has_its_word, is_of, is_worded}
 use Rattle.irc_mode_words.specs.Lemmas.LetterReading.{letter_no_sign, read_with, IsReadBack, read_back}
-use Rattle.irc_mode_words.proofs.ModeSteps.{letter_read}
+use Rattle.irc_mode_words.specs.Lemmas.LettersInTurn.{letter_read}
 
 abbrev pub read_as : ModeChange → Reading
 read_as c = read_with c.plus c.letter c.word

@@ -11,7 +11,7 @@ use Rattle.irc_line.specs.Lemmas.CutLaws.{cut_all}
 use Rattle.irc_line.specs.Lemmas.Lengths.{length-joined_text, length-named}
 use Rattle.irc_names.specs.Limits.{max_nick}
 use Rattle.irc_names.specs.Names.{is_nick}
-use Rattle.irc_rules.proofs.RuleFacts.{nick-fits, channel-fits, server-fits}
+use Rattle.irc_names.specs.Lemmas.RuleFacts.{nick-fits, channel-fits, server-fits}
 use Rattle.irc_channels.specs.declared.flags.Flags.{Flags}
 use Rattle.irc_routes.specs.Info.{IsInfo}
 use Rattle.irc_merge.specs.Bursts.{members_a_line}

@@ -1,0 +1,3 @@
+-- Lemmas, with their proofs, that the crates above cite too. No rule stands here.
+pub mod Outcomes
+pub mod Ways
