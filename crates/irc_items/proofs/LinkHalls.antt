@@ -9,7 +9,7 @@ use Rattle.irc_merge.specs.Deeds.{after_deeds}
 use Rattle.irc_merge.specs.Laws.{AreApart, BurstReadIsMerge}
 use Rattle.irc_merge.specs.LimitLaws.{WithinLimitsIsTold}
 use Rattle.irc_merge.specs.Merge.{channel_uninvited, merge, uninvited}
-use Rattle.irc_merge.proofs.OwnInvitations.{home_of_merge}
+use Rattle.irc_merge.specs.Lemmas.HomeOfMerge.{home_of_merge}
 use Rattle.irc_merge.specs.Lemmas.UninvitedRooms.{uninvited_well}
 use Rattle.irc_names.specs.Fold.{key}
 use Rattle.irc_names.specs.Tables.{Table, each, row}

@@ -34,7 +34,8 @@ use Rattle.irc_merge.specs.Merge.{merge}
 use Rattle.irc_merge.specs.MergeShown.{merge_shown}
 use Rattle.irc_merge.specs.Examples.{an_operator, a_member, of_a, with_modes, als_side, bos_side, secret_side, keyed_side, modes_written, bo_has_come, topic_of_b, zeds_side, other_zeds_side, ChannelIsTold, ThirtyOneMembers, ChannelsAreJoined, ModesAreJoined, GreaterTopicIsSet, NicknameOnBothSides}
 use Rattle.irc_merge.proofs.ChannelTold.{one_passes}
-use Rattle.irc_merge.specs.Lemmas.ListedMerge.{AreInOrder, burst_listed, user_merged, channel_merged, flags_merged, merge_listed}
+use Rattle.irc_merge.specs.Lemmas.ListedMerge.{AreInOrder, burst_listed, user_merged, channel_merged, merge_listed}
+use Rattle.irc_merge.proofs.FlagsMerged.{flags_merged}
 
 made : (effects : List Effect) → room_after effects ≡ room_of (list_room effects)
 made effects = all_listed no_list effects

@@ -1,3 +1,6 @@
+pub mod UsersRead
+pub mod UsersShown
+pub mod FlagsMerged
 pub mod EvenMerge
 pub mod MembersStaying
 pub mod Lines

@@ -12,7 +12,8 @@ use Rattle.irc_merge.specs.Agreeing.{are_alike, agree}
 use Rattle.irc_merge.specs.AsideInvitations.{AgreeLooksAtNoInvitation, BurstTellsNoInvitation}
 use Rattle.irc_merge.specs.Merge.{room_without, uninvited, channel_uninvited}
 use Rattle.irc_merge.specs.Lemmas.TableWords.{entries_each}
-use Rattle.irc_merge.proofs.OwnInvitations.{of_home_uninvited, of_home_burst, without_uninvited, same_without}
+use Rattle.irc_merge.specs.Lemmas.HomeOfMerge.{same_without}
+use Rattle.irc_merge.proofs.OwnInvitations.{of_home_uninvited, of_home_burst, without_uninvited}
 
 -- ---- agreement
 

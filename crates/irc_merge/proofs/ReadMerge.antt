@@ -24,7 +24,8 @@ use Rattle.irc_merge.specs.Lemmas.Quitting.{among, peopled, thinned}
 use Rattle.irc_merge.specs.Lemmas.Clashing.{clashing, users_without, channels_without, without_well}
 use Rattle.irc_merge.specs.Lemmas.Joining.{row-joined}
 use Rattle.irc_merge.specs.Lemmas.Reading.{reads, reads-append}
-use Rattle.irc_merge.specs.Lemmas.Introducing.{told_user, both_users, users_introduced, channels_introduced}
+use Rattle.irc_merge.specs.Lemmas.Introducing.{told_user, both_users}
+use Rattle.irc_merge.proofs.UsersRead.{users_introduced, channels_introduced}
 use Rattle.irc_merge.specs.Lemmas.ChannelRows.{channel_row, deeds_row}
 use Rattle.irc_merge.proofs.ChannelTold.{IsNear, IsNearRow, channel_told}
 use Rattle.irc_merge.proofs.NothingNew.{without_comes}

@@ -28,8 +28,9 @@ use Rattle.irc_merge.specs.Lemmas.Quitting.{thinned}
 use Rattle.irc_merge.specs.Lemmas.Clashing.{clashing, users_without, channels_without, without_well}
 use Rattle.irc_merge.specs.Lemmas.Joining.{row-either, either_first, union_well}
 use Rattle.irc_merge.specs.Lemmas.ShownReading.{shown_reads, shown_reads-append}
-use Rattle.irc_merge.specs.Lemmas.Introducing.{told_user, both_users, users_introduced, channels_introduced}
-use Rattle.irc_merge.specs.Lemmas.ShownUsers.{kills_shown}
+use Rattle.irc_merge.specs.Lemmas.Introducing.{told_user, both_users}
+use Rattle.irc_merge.proofs.UsersRead.{users_introduced, channels_introduced}
+use Rattle.irc_merge.proofs.UsersShown.{kills_shown}
 use Rattle.irc_merge.specs.Lemmas.ChannelRows.{members_row, deeds_row}
 use Rattle.irc_merge.proofs.ChannelTold.{IsNear, IsNearRow, IsTellable, StandsThere, come, some_come, none_come, kept_far, near_alone, either_none, with_empty, no_rows, lines_plain, entries_pass}
 use Rattle.irc_merge.proofs.ReadMerge.{gone, passes_is, left_passes, left_kept, none_near, near_channel, near_row, told_deeds, step_row, step_here}

@@ -17,3 +17,4 @@ pub mod UninvitedRooms
 pub mod WholeSides
 pub mod DeedsAlike
 pub mod DoableDeeds
+pub mod HomeOfMerge

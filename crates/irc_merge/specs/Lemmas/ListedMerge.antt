@@ -118,10 +118,10 @@ user_merged one other order_one order_other q =
     ∙ (λ i. either ((ap (λ (r : Room). row r.users q) (without_listed one other order_one) ∙ user_listed (list_without one other) q) i)
     ((ap (λ (r : Room). row r.users q) (without_listed other one order_other) ∙ user_listed (list_without other one) q) i))
 
-abbrev flags_in : List ℕ → Option ListedChannel → Option Flags
+abbrev pub flags_in : List ℕ → Option ListedChannel → Option Flags
 flags_in nick x = option_and_then (λ (c : ListedChannel). find fold_cmp nick c.members) x
 
-joined_flags : (nick : List ℕ) (x y : Option ListedChannel)
+pub joined_flags : (nick : List ℕ) (x y : Option ListedChannel)
     → option_and_then (λ (c : Channel). row c.members nick) (joined_channel (option_map channel_of x) (option_map channel_of y)) ≡ either (flags_in nick x) (flags_in nick y)
 joined_flags nick None None = refl
 joined_flags nick None (Some d) = row_listed (λ f. f) d.members nick ∙ map_itself (find fold_cmp nick d.members)
@@ -144,13 +144,6 @@ channel_merged one other order_one order_other channel =
     row-joined (room_without (room_of one) (room_of other)).channels (room_without (room_of other) (room_of one)).channels channel
     ∙ (λ i. joined_channel ((ap (λ (r : Room). row r.channels channel) (without_listed one other order_one) ∙ channel_listed (list_without one other) channel) i)
     ((ap (λ (r : Room). row r.channels channel) (without_listed other one order_other) ∙ channel_listed (list_without other one) channel) i))
-
-pub flags_merged : (one other : ListedRoom) → AreInOrder one → AreInOrder other → (nick channel : List ℕ)
-    → option_and_then (λ (c : Channel). row c.members nick) (row (merge (room_of one) (room_of other)).channels channel)
-    ≡ either (flags_in nick (find fold_cmp channel (list_without one other).channels)) (flags_in nick (find fold_cmp channel (list_without other one).channels))
-flags_merged one other order_one order_other nick channel =
-    ap (option_and_then (λ (c : Channel). row c.members nick)) (channel_merged one other order_one order_other channel)
-    ∙ joined_flags nick (find fold_cmp channel (list_without one other).channels) (find fold_cmp channel (list_without other one).channels)
 
 -- ---- what a merge shows
 
