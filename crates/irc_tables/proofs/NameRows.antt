@@ -1,4 +1,4 @@
--- The map behind a map by nickname, as the table that a clause speaks of.
+-- The map behind a map by name, as the table that a clause speaks of.
 use Rattle.std.proofs.Common.{◌≡◌, ℕ, Some, None, List, sym, ◌∙◌, ap}
 use Rattle.std.specs.BTreeMap.{BTreeMap, UpdatesBy, get_by}
 use Rattle.std.specs.Cmp.Lexicographic.{nat_list_cmp_total}
