@@ -1,5 +1,5 @@
 -- A row of a table whose value is changed where it stands.
-use Rattle.std.proofs.Common.{◌≡◌, ℕ, Bool, true, false, cond, Option, Some, None, List, refl, sym, ◌∙◌, ap, option_map, Result, Ok, Err, OnErr}
+use Rattle.std.proofs.Common.{◌≡◌, ℕ, Bool, true, false, cond, Some, None, List, refl, sym, ◌∙◌, ap, option_map, Result, Ok, Err, OnErr}
 use Rattle.irc_names.specs.Tables.{Table, row, alter}
 use Rattle.irc_names.specs.TableLaws.{same_fold, one_fold, row-alter, same_table}
 use Rattle.irc_tables.specs.Lemmas.RowsAsTable.{alter-absent, alter_alike}

@@ -12,7 +12,7 @@ use std::marker::Model;
 
 /// A name that is no longer than the longest of a channel, told from others by its fold alone.
 #[derive(Drop)]
-pub(crate) struct Folded {
+pub struct Folded {
     name: ArrayVec<u8, MAX_CHANNEL>,
 }
 

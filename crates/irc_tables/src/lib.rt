@@ -6,6 +6,7 @@ mod name_map;
 mod nick_map;
 mod table;
 
+pub use folded::Folded;
 pub use name_map::NameMap;
 pub use nick_map::NickMap;
 pub use table::{NameTable, Row, RowAttempt, RowChange};

@@ -1,6 +1,6 @@
 //! A table by name in which no row moves all others.
 ghost use Rattle.std.specs.Prelude.{◌≡◌, ◌≤◌, None, IfNone, IfSome, OnOk, OnErr, IsOk, IsTrue, is_some, length};
-ghost use Rattle.std.specs.FinMap.{empty};
+ghost use Rattle.std.specs.FinMap.{empty, keys, values};
 ghost use Rattle.std.specs.Option.{option_copied};
 ghost use Rattle.irc_names.specs.Fold.{key};
 ghost use Rattle.irc_names.specs.Tables.{row};
@@ -11,6 +11,7 @@ use crate::table::RowAttempt;
 use irc_names::MAX_CHANNEL;
 use std::alloc::{AllocError, Global};
 use std::collections::BTreeMap;
+use std::collections::btree_map::Values;
 use std::marker::Model;
 
 /// Values, each under a name. A row that comes or goes moves a few others, however many there are;
@@ -44,6 +45,20 @@ impl<V: Drop> NameMap<V> {
         NameMap {
             rows: BTreeMap::new(alloc),
         }
+    }
+
+    /// How many rows there are.
+    pub fn len(&self) -> usize
+        ensures { result ≡ length (keys self.now) }
+    {
+        self.rows.len()
+    }
+
+    /// All values, in folded order of their names.
+    pub fn values(&self) -> Values<'_, Folded, V>
+        ensures { result ≡ values self.now }
+    {
+        self.rows.values()
     }
 
     /// What stands under a name, if anything does.

@@ -1,4 +1,4 @@
-use Rattle.std.proofs.Common.{◌∙◌, sym}
+use Rattle.std.proofs.Common.{◌∙◌}
 use Rattle.irc_names.specs.Fold.{key}
 use Rattle.irc_tables.proofs.NameRows.{row_in}
 use Rattle.irc_tables.proofs.name_map.NameMap.get.Goals as goal

@@ -1,4 +1,4 @@
-use Rattle.std.proofs.Common.{◌∙◌, ap, false, is_some, option_map, refl, sym, subst, IsTrue, Some}
+use Rattle.std.proofs.Common.{◌∙◌, ap, false, is_some, refl, sym, subst, IsTrue, Some}
 use Rattle.std.specs.BTreeMap.{BTreeMap}
 use Rattle.std.specs.FinMap.{from_entries}
 use Rattle.std.specs.Option.{option_map_or}
