@@ -4,6 +4,8 @@
 #[cfg(test)]
 mod channel_tests;
 #[cfg(test)]
+mod clash_tests;
+#[cfg(test)]
 mod invite_tests;
 #[cfg(test)]
 mod joined_tests;
