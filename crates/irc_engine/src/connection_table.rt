@@ -268,8 +268,8 @@ impl ConnectionTable {
     }
 
     /// Takes bytes that have come from a connection, up to the end of its next line, which is put
-    /// into `line`: how many, and of which kind it is; nothing, where it is not open. A line is half
-    /// a kilobyte, and each result that holds it is a copy.
+    /// into `line`: how many, and of which kind it is; nothing, where it is not open. (A line is
+    /// half a kilobyte, and each result with a line in it would be one more copy.)
     pub(crate) fn take(
         &mut self,
         conn: u64,

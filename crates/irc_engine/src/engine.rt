@@ -201,13 +201,14 @@ impl<W: Wire> Core<W> {
         }
     }
 
-    /// A client has connected, from a host. (An event is half a kilobyte, and is cleared before it is
-    /// made: so it is made in a function that runs only then.)
+    /// A client has connected, from a host. An event is half a kilobyte, which is cleared as the
+    /// function that makes it begins: so each is made in one that runs for it alone.
     fn start_client(&mut self, conn: u64, host: Host, room: usize) -> Result<(), AllocError>
         requires at_one { IsAtOneIn self.old }
         requires told { AllTold (moment_of self.old) }
         ensures at_one { OnOk result (IsAtOneIn self.new) }
-        ensures done { OnOk result (Spans (Starts W.is_after Kind.Client room conn (Event.Connect conn host)) self.old self.new) }
+        ensures done { OnOk result (Spans (Starts W.is_after Kind.Client room conn
+            (Event.Connect conn host)) self.old self.new) }
         ensures told { OnOk result (KeepsTold self.old self.new) }
         ensures notes { OnOk result (KeepsNotes self.old.connections self.new.connections) }
     {
@@ -224,7 +225,8 @@ impl<W: Wire> Core<W> {
         requires at_one { IsAtOneIn self.old }
         requires told { AllTold (moment_of self.old) }
         ensures at_one { OnOk result (IsAtOneIn self.new) }
-        ensures done { OnOk result (Spans (Starts W.is_after Kind.Link room conn (Event.LinkUp conn starts)) self.old self.new) }
+        ensures done { OnOk result (Spans (Starts W.is_after Kind.Link room conn
+            (Event.LinkUp conn starts)) self.old self.new) }
         ensures told { OnOk result (KeepsTold self.old self.new) }
         ensures notes { OnOk result (KeepsNotes self.old.connections self.new.connections) }
     {
@@ -343,8 +345,10 @@ impl<W: Wire> Core<W> {
     fn handle_end(&mut self, conn: u64, kind: Kind) -> Result<(), AllocError>
         requires { IsToHearIn (end_event_of kind conn) self.old }
         ensures at_one { OnOk result (IsAtOneIn self.new) }
-        ensures count { OnOk result (count_of self.new.connections ≤ count_of self.old.connections) }
-        ensures asks { OnOk result (Spans (AsksOnce W.is_after (end_event_of kind conn)) self.old self.new) }
+        ensures count { OnOk result
+            (count_of self.new.connections ≤ count_of self.old.connections) }
+        ensures asks { OnOk result
+            (Spans (AsksOnce W.is_after (end_event_of kind conn)) self.old self.new) }
         ensures marks { OnOk result (KeepsMarks self.old.connections self.new.connections) }
         ensures same { self.new.buffer ≡ self.old.buffer }
     {

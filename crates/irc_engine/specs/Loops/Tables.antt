@@ -94,7 +94,8 @@ Frames old piece (Some taken) new = FramesSome old piece taken.0 taken.1 taken.2
 Frames old piece None new = (old.framer ≡ None) × (new ≡ old)
 
 -- what was taken, with the line that was put aside
-abbrev pub with_line : Option (ℕ × Kind) → Option (ArrayVec ℕ) → Option (ℕ × Kind × Option (ArrayVec ℕ))
+abbrev pub with_line : Option (ℕ × Kind) → Option (ArrayVec ℕ)
+    → Option (ℕ × Kind × Option (ArrayVec ℕ))
 with_line (Some taken) line = Some (taken.0, taken.1, line)
 with_line None line = None
 
