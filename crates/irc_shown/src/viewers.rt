@@ -64,7 +64,7 @@ fn only<'a>(
     ensures { IfOk result (λ found. Finds tables.now (λ room. same nick.now) found.items) }
 {
     let mut found = Vec::new(alloc);
-    add_named(&tables.users, &mut 0, nick.as_bytes(), &mut found)?;
+    add_named(&tables.users, nick.as_bytes(), &mut found)?;
     Ok(found)
 }
 
