@@ -197,7 +197,8 @@ impl Stage {
     }
 
     /// An effect changes the room, is shown to its viewers, and is told on links: the one door for effects on a server's room, by which what is said in
-    /// it goes out. On links it is told as it is written in the room before. Where no link is open, none is looked for.
+    /// it goes out. On links it is told as it is written in the room before. Where no link is open, none is looked for,
+    /// and where it goes on none, as at a server at the edge for what comes by its one link, its line is not written.
     ///
     /// # Errors
     /// Where memory runs out.
@@ -224,6 +225,9 @@ impl Stage {
             ends: &self.ends,
         };
         self.ways.find(around, origin.arrival(), effect)?;
+        if self.ways.links.is_empty() {
+            return self.change(origin, effect, out);
+        }
         let line = write_effect(effect, &self.room, &self.routes, EVERY_LINK);
         self.change(origin, effect, out)?;
         send_on_all(&line, self.ways.links.as_slice(), out)
