@@ -1,12 +1,13 @@
 -- What stands by which nickname after each change of an index.
-use Rattle.std.proofs.Common.{◌≡◌, ℕ, Bool, true, false, cond, not, ◌&&◌, ◌||◌, Option, Some, None, List, refl, sym, ◌∙◌, ap, is_some, option_map, Result, Ok, Err, IsOk, IsTrue, OnOk, OnErr, is_err}
+use Rattle.std.proofs.Common.{◌≡◌, ℕ, Bool, true, false, cond, not, ◌&&◌, ◌||◌, Option, Some, None, List, [], ◌∷◌, refl, sym, ◌∙◌, ap, is_some, option_map, Result, Ok, Err, IsOk, IsTrue, OnOk, OnErr, is_err}
 use Rattle.std.specs.Option.{option_map_or}
-use Rattle.std.specs.FinMap.{empty, get-empty}
+use Rattle.std.specs.FinMap.{empty, entries, find, get-empty, get-entries}
 use Rattle.irc_names.specs.Fold.{key, same}
 use Rattle.irc_names.specs.FoldLaws.{same-tells}
 use Rattle.irc_names.specs.Tables.{fold_cmp, row, alter, moved}
 use Rattle.irc_names.specs.TableLaws.{same_fold, same_fold-refl, one_fold, row-alter, row-alter_same, row-moved, row-moved_none, same_table}
-use Rattle.irc_room_tables.specs.Indexes.{Names, Index, is_among, stands, HasWay, IsAlike, IsOpened, Adds, Drops}
+use Rattle.irc_modes.specs.Modes.{is_nil}
+use Rattle.irc_room_tables.specs.Indexes.{Names, Index, is_among, names_in, stands, HasWay, IsAlike, IsOpened, IsUsed, Adds, Drops}
 
 -- one row of the index is changed
 stands-alter : (nick : List ℕ) (change : Option Names → Option Names) (index : Index) (n c : List ℕ)
@@ -171,3 +172,30 @@ moved_nowhere index nick new one = by (row index nick) refl
     by None none = same_table index _ (λ q. sym (row-moved_none nick new (λ names. names) index none q))
     by (Some x) there = same_table index _ (λ q.
         here x there q (same_fold q new) (same_fold q nick) refl refl ∙ sym (row-moved nick new (λ names. names) index x there q))
+
+-- a name that is taken out, and then a row that may go, since nothing stands in it
+pub dropped_alike : (before between after : Index) (nick name : List ℕ) → Drops before between nick name → IsAlike between after → Drops before after nick name
+dropped_alike before between after nick name drops alike = record { at = λ n c. alike.at n c ∙ drops.at n c }
+
+nil_is : {X : Type 0} (xs : List X) → is_nil xs ≡ true → xs ≡ []
+nil_is [] none = refl
+nil_is (x ∷ xs) none = cc none
+
+-- in a row without names there is none
+none_among : (o : Option Names) (c : List ℕ) → is_nil (names_in o) ≡ true → is_among c o ≡ false
+none_among None c none = refl
+none_among (Some ns) c none = ap is_some (get-entries ns c ∙ ap (find fold_cmp c) (nil_is (entries ns) none))
+
+-- a row in which nothing stands is taken out
+pub closed_alike : (before after : Index) (nick : List ℕ) → is_nil (names_in (row before nick)) ≡ true
+    → after ≡ alter nick (λ _. None) before → IsAlike before after
+closed_alike before after nick none is = record {
+  at = λ n c. ap (λ i. stands i n c) is ∙ stands-alter nick (λ _. None) before n c ∙ by_fold n c (same_fold n nick) refl;
+}
+  where
+    by_fold : (n c : List ℕ) (b : Bool) → same_fold n nick ≡ b → cond b false (stands before n c) ≡ stands before n c
+    by_fold n c true one = sym (ap (λ q. stands before q c) (one_fold n nick one) ∙ none_among (row before nick) c none)
+    by_fold n c false two = refl
+
+pub closed_used : (before after : Index) (nick : List ℕ) → after ≡ alter nick (λ _. None) before → IsUsed after nick
+closed_used before after nick is = record { at = λ _. ap (λ i. row i nick) is ∙ row-alter_same nick (λ _. None) before }

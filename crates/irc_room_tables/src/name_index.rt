@@ -1,11 +1,12 @@
 //! Names by names: of channels by nickname, or nicknames by channel.
 ghost use Rattle.std.specs.Prelude.{◌≡◌, ◌≤◌, Some, None, OnOk, OnErr, is_some, length, map, true};
 ghost use Rattle.std.specs.FinMap.{empty};
+ghost use Rattle.irc_modes.specs.Modes.{is_nil};
 ghost use Rattle.irc_names.specs.Fold.{key};
 ghost use Rattle.irc_names.specs.Tables.{row, alter, moved};
 ghost use Rattle.irc_tables.specs.RowViews.{row_entry};
 ghost use Rattle.irc_tables.specs.TableChanges.{with_value};
-ghost use Rattle.irc_room_tables.specs.Indexes.{names_in, HasWay, IsAlike, IsOpened, Adds, Drops};
+ghost use Rattle.irc_room_tables.specs.Indexes.{names_in, HasWay, IsAlike, IsOpened, IsUsed, Adds, Drops};
 
 use irc_names::{ChannelName, MAX_CHANNEL, Nick};
 use irc_tables::{NameMap, NameTable, Row, RowAttempt};
@@ -64,13 +65,14 @@ impl NameIndex {
         self.rows.try_at(channel, &AddingNick { nick })
     }
 
-    /// Takes a name by a nickname out; where it does not stand there nothing changes. It takes no memory.
+    /// Takes a name by a nickname out; where it does not stand there nothing changes. A row in which
+    /// nothing is left goes, so that ever new names leave nothing behind. It takes no memory.
     pub fn remove(&mut self, nick: &[u8], name: &[u8])
-        ensures { Drops self.old.rows self.new.rows (key nick.now) (key name.now) }
+        ensures dropped { Drops self.old.rows self.new.rows (key nick.now) (key name.now) }
+        ensures used { IsUsed self.new.rows (key nick.now) }
     {
-        if self.rows.try_at(nick, &Removing { name }).is_err() {
-            unreachable!();
-        }
+        take_name(&mut self.rows, nick, name);
+        close(&mut self.rows, nick);
     }
 
     /// Takes all names by a nickname out, and gives them. It takes no memory.
@@ -142,6 +144,35 @@ fn has_row(rows: &NameMap<NameTable<()>>, nick: &[u8]) -> bool
     ensures { result ≡ is_some (row rows.now (key nick.now)) }
 {
     rows.get(nick).is_some()
+}
+
+/// Takes a name by a nickname out. It takes no memory.
+fn take_name(rows: &mut NameMap<NameTable<()>>, nick: &[u8], name: &[u8])
+    ensures { Drops rows.old rows.new (key nick.now) (key name.now) }
+{
+    if rows.try_at(nick, &Removing { name }).is_err() {
+        unreachable!();
+    }
+}
+
+/// Takes out the row of a nickname in which nothing stands. It takes no memory.
+fn close(rows: &mut NameMap<NameTable<()>>, nick: &[u8])
+    ensures alike { IsAlike rows.old rows.new }
+    ensures used { IsUsed rows.new (key nick.now) }
+{
+    if has_none(rows, nick) {
+        rows.remove(nick);
+    }
+}
+
+/// Whether nothing stands by a nickname.
+fn has_none(rows: &NameMap<NameTable<()>>, nick: &[u8]) -> bool
+    ensures { result ≡ is_nil (names_in (row rows.now (key nick.now))) }
+{
+    match rows.get(nick) {
+        Some(names) => names.as_slice().is_empty(),
+        None => true,
+    }
 }
 
 /// A name is put in.

@@ -1,15 +1,7 @@
-use Rattle.std.proofs.Common.{◌∙◌, sym}
 use Rattle.irc_names.specs.Fold.{key}
-use Rattle.irc_names.specs.Tables.{row}
-use Rattle.irc_room_tables.proofs.IndexChanges.{dropped, surely_taken, went_well}
+use Rattle.irc_room_tables.proofs.IndexChanges.{dropped_alike}
 use Rattle.irc_room_tables.proofs.name_index.NameIndex.remove.Goals as goal
 
-pub unreachable-requires : goal.unreachable-requires
-unreachable-requires c =
-    surely_taken (row c.args.self.now.rows (key c.args.nick.now)) c.try_at.result c.try_at.ensures.absent c.try_at.ensures.sure
-    (sym c.is_err.ensures.value ∙ c.if-is_err.true)
-
-pub returns : goal.returns
-returns c =
-    went_well c.try_at.result (sym c.is_err.ensures.value ∙ c.if-is_err.false)
-    (dropped c.args.self.now.rows _ (key c.args.nick.now) (key c.args.name.now)) c.try_at.ensures.ok
+pub returns-clause-dropped : goal.returns-clause-dropped
+returns-clause-dropped c =
+    dropped_alike c.args.self.now.rows _ _ (key c.args.nick.now) (key c.args.name.now) c.take_name.ensures c.close.ensures.alike
