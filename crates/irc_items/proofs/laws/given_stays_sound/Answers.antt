@@ -1,9 +1,9 @@
-use Rattle.irc_items.proofs.ClientItems.{AreItemLaws}
-use Rattle.irc_items.proofs.CutItem.{AreCutItemLaws}
+use Rattle.irc_items.proofs.Client.Items.{AreItemLaws}
+use Rattle.irc_items.proofs.Cut.Item.{AreCutItemLaws}
 use Rattle.irc_items.proofs.GivenStaysSound.{given_stays_sound}
-use Rattle.irc_items.proofs.HomeEvents.{AreDecisionLaws}
-use Rattle.irc_items.proofs.HomeTells.{tells_from_home, AreTellingLaws}
-use Rattle.irc_items.proofs.LinkItem.{AreLinkItemLaws}
+use Rattle.irc_items.proofs.Home.Events.{AreDecisionLaws}
+use Rattle.irc_items.proofs.Home.Tells.{tells_from_home, AreTellingLaws}
+use Rattle.irc_items.proofs.Link.Item.{AreLinkItemLaws}
 use Rattle.irc_follow.specs.Lemmas.SidesFollowed.{IsKnownOfLine}
 use Rattle.irc_items.proofs.laws.given_stays_sound.Goals as goal
 

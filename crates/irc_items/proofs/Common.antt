@@ -1,0 +1,10 @@
+pub mod Rest
+pub mod AtRest
+pub mod Begun
+pub mod FewLines
+pub mod Counting
+pub mod ItemsMore
+pub mod OtherServers
+pub mod OthersAlong
+pub mod SourceFacts
+pub mod Gains

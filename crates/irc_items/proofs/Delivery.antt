@@ -1,0 +1,4 @@
+pub mod FirstOnWay
+pub mod Unheard
+pub mod Delivering
+pub mod TurnsAreFew

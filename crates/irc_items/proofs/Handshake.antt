@@ -1,0 +1,3 @@
+pub mod Greetings
+pub mod PassLines
+pub mod ServerLines

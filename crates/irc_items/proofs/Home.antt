@@ -1,0 +1,10 @@
+pub mod Users
+pub mod Clients
+pub mod Effects
+pub mod Steps
+pub mod Events
+pub mod Fits
+pub mod Doable
+pub mod Lines
+pub mod Along
+pub mod Tells
