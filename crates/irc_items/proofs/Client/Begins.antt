@@ -1,17 +1,14 @@
 -- A client's item begins: where it comes to once all its lines are taken.
 use Rattle.std.proofs.Common.{◌≡◌, ◌≢◌, ◌⊎◌, ℕ, ◌<◌, ◌≤◌, Bool, true, false, Option, Some, None, is_some, List, [], ◌∷◌, ◌++◌, length, refl, sym, ap, subst, ◌∙◌, arith, inl, inr, unwrap_or}
-use Rattle.std.specs.FinMap.{get, get-empty}
-use Rattle.std.specs.Cmp.Lexicographic.{same_text}
+use Rattle.std.specs.FinMap.{get}
 use Rattle.std.specs.List.{list_any}
-use Rattle.std.specs.Ordering.{nat_cmp}
-use Rattle.std.specs.Option.{option_and_then, option_map, option_map_or}
-use mathlib.Core.Path.{fun_ext}
+use Rattle.std.specs.Option.{option_and_then, option_map}
 use Rattle.irc_batch.specs.Batches.{Sent}
 use Rattle.irc_merge.specs.Deeds.{Deed}
 use Rattle.irc_relay.specs.Distances.{IsAmong}
 use Rattle.irc_relay.specs.Following.{Tells, Starts, all_seen}
 use Rattle.irc_relay.specs.Lemmas.TellingNames.{Telling, alike, unlike, tell}
-use Rattle.irc_relay.specs.Links.{Name, part, same, linked, joined, AreJoined, AreLinked}
+use Rattle.irc_relay.specs.Links.{Name, part, same, linked, AreJoined, AreLinked}
 use Rattle.irc_relay.specs.Relay.{from_one, under_way, GoesAway}
 use Rattle.irc_relay.specs.Lemmas.StreamsFlow.{from_source_goes_away, one_covers}
 use Rattle.irc_relay.specs.Lemmas.NextHops.{linked_joined}
@@ -33,23 +30,24 @@ use Rattle.irc_follow.specs.Fits.{Fits}
 use Rattle.irc_follow.specs.Part.{Fixed, is_home_of, number}
 use Rattle.irc_follow.specs.Says.{lines_on, machine, play}
 use Rattle.irc_follow.specs.Tree.{index_in}
-use Rattle.irc_follow.specs.Lemmas.SideAtRest.{joined_alike}
 use Rattle.irc_follow.specs.Lemmas.SidesFollowed.{IsKnownOfLine}
 use Rattle.irc_follow.specs.Lemmas.SaidEffectShown.{append_nil}
 use Rattle.irc_network.specs.Laws.{RestStays}
 use Rattle.irc_network.specs.Network.{Network, received_by}
 use Rattle.irc_items.specs.GoodLines.{no_answers}
-use Rattle.irc_items.specs.Relayed.{owed_at, owed_to, relayed, way_at, way_between}
+use Rattle.irc_items.specs.Relayed.{owed_to, relayed, way_at, way_between}
 use Rattle.irc_items.specs.SetUp.{no_view, routes_in, settings_of, view_at}
-use Rattle.irc_items.specs.Sound.{owed_now, world_now, IsUnderWay}
-use Rattle.irc_items.proofs.Common.Begun.{begins, IsBegun}
+use Rattle.irc_items.specs.Sound.{owed_now, world_now}
+use Rattle.irc_items.proofs.Common.Begun.{IsBegun, IsGoingOn}
 use Rattle.irc_items.proofs.Client.Side.{below_among, fits_here, fixed_here, home_fixed, of_world, right_here, IsClientStep}
 use Rattle.irc_items.proofs.Good.GoodLines.{good_terms, well_follow}
 use Rattle.irc_items.proofs.Home.Fits.{DoesAsMachine}
-use Rattle.irc_items.proofs.Common.OtherServers.{comes_to_world, deeds_at, elsewhere_stays, shows_its_clients, IsKnownOfEvents}
+use Rattle.irc_items.proofs.Client.OtherServers.{comes_to_world, deeds_at, elsewhere_stays, shows_its_clients, IsKnownOfEvents}
+use Rattle.irc_items.proofs.Common.Reading.{home_is, no_way, owed_by_none, put_behind}
 use Rattle.irc_items.proofs.Common.Rest.{nothing_owed, quiet_ways}
 use Rattle.irc_items.specs.Lemmas.SetUpFacts.{viewed_nowhere}
-use Rattle.irc_items.proofs.Common.SourceFacts.{IsFartherFrom, IsNextTo, at_no_depth, farther, next_to, source_of_farther}
+use Rattle.irc_items.proofs.Common.SourceFacts.{IsFartherFrom, IsNextTo, at_no_depth, farther, next_to, source_of_farther, stands_from_one}
+use Rattle.irc_items.proofs.Common.Sources.{starts_from, one_moment}
 
 -- what is put out on links tells whoever is linked to the client's server of its effects, and goes well in the world that they make
 pub record IsToldByHome (s : Fixed) (world after : World) (routes : Name → Known) (h : Name) (view : View) (happening : Happening) : Type 0 where
@@ -64,25 +62,6 @@ served_so : (view : View) (happening : Happening) → served view (of_client hap
 unfolding served
 served_so view happening = refl
 
-pub owed_by_none : (s : Fixed) (y : Name) → owed_to s no_view y ≡ []
-owed_by_none s y = ap (λ o. option_map_or (owed_at s no_view y) o []) (get-empty nat_cmp (number s y))
-
-pub put_behind : (o : Option (List (List ℕ))) (lines : List (List ℕ)) → is_some o ≡ true → unwrap_or o [] ≡ []
-    → unwrap_or (option_map (λ before. before ++ lines) o) [] ≡ lines
-put_behind None lines there none = cc there
-put_behind (Some before) lines there none = ap (λ b. b ++ lines) none
-
-pub no_way : (o : Option (List (List ℕ))) (lines : List (List ℕ)) → is_some o ≡ false → unwrap_or (option_map (λ before. before ++ lines) o) [] ≡ []
-no_way None lines none = refl
-no_way (Some before) lines none = cc none
-
-pub home_is : (homes : List Name) (client : ℕ) (t : Name) → is_home_of homes t client ≡ true → home_in homes client ≡ Some t
-home_is homes client t is = by (home_in homes client) refl
-  where
-    by : (o : Option Name) → home_in homes client ≡ o → home_in homes client ≡ Some t
-    by None e = cc (sym is ∙ ap (λ o. option_map_or (same t) o false) e)
-    by (Some home) e = e ∙ ap Some (sym (same_text t home (sym (sym (ap (λ o. option_map_or (same t) o false) e) ∙ is))))
-
 -- what is known of clients, of servers that follow, and of whom an item does not touch
 pub record AreClientLaws : Type 0 where
   pub events : IsKnownOfEvents
@@ -91,10 +70,7 @@ pub record AreClientLaws : Type 0 where
   pub other_parts : OtherPartsStay
   pub only_connected : OnlyConnectedReceive
 
-module _ (laws : AreClientLaws) (net base new : Network) (world : World) (h : Name) (happening : Happening) (item : Item)
-    (given : IsClientStep net base new world h happening item)
-    (at_home : DoesAsMachine (home_fixed net world h) world (routes_in net) h (view_at net h) happening)
-    (tells : IsToldByHome (home_fixed net world h) world (by_machine (settings_of net) world h happening).world (routes_in net) h (view_at net h)
+module _ (laws : AreClientLaws) {net base new : Network} {world : World} {h : Name} {happening : Happening} {item : Item} (given : IsClientStep net base new world h happening item) (at_home : DoesAsMachine (home_fixed net world h) world (routes_in net) h (view_at net h) happening) (tells : IsToldByHome (home_fixed net world h) world (by_machine (settings_of net) world h happening).world (routes_in net) h (view_at net h)
     happening) where
   abbrev s : Fixed
   s = home_fixed net world h
@@ -106,7 +82,7 @@ module _ (laws : AreClientLaws) (net base new : Network) (world : World) (h : Na
   after = (by_machine (settings_of net) world h happening).world
 
   pub fits_before : (t : Name) → IsAmong net.names t → Fits s t (part_of s world (routes_in net) t) (view_at net t)
-  fits_before = fits_here laws.events.at_rest net base new world h happening item given
+  fits_before = fits_here laws.events.at_rest given
 
   view_home : view_at new h ≡ (client_told (view_at net h) happening).view
   view_home = given.served.view ∙ ap (λ r. r.view) (served_so (view_at net h) happening)
@@ -129,7 +105,7 @@ module _ (laws : AreClientLaws) (net base new : Network) (world : World) (h : Na
           ∙ among (list_any (same x) net.names) refl
 
   same_place : (y : Name) → index_in new.names y ≡ number s y
-  same_place y = ap (λ names. index_in names y) given.served.names
+  same_place y = ap (λ names. index_in names y) given.step.taken.names
 
   queued_home : (y : Name) → unwrap_or (way_between new h y) [] ≡ lines_on (number s y) out
   queued_home y =
@@ -140,18 +116,17 @@ module _ (laws : AreClientLaws) (net base new : Network) (world : World) (h : Na
       ∙ by (linked world.links h y) refl
     where
       there : is_some (way_at net h (number s y)) ≡ linked world.links h y
-      there = given.sound.ways h y ∙ ap (λ links. linked links h y) given.links
+      there = given.step.sound.ways h y ∙ ap (λ links. linked links h y) given.links
 
       by : (b : Bool) → linked world.links h y ≡ b
           → unwrap_or (option_map (λ before. before ++ lines_on (number s y) out) (way_at net h (number s y))) [] ≡ lines_on (number s y) out
-      by true e = put_behind (way_at net h (number s y)) (lines_on (number s y) out) (there ∙ e)
-          (quiet_ways laws.quiet net given.rest h (number s y))
+      by true e = put_behind (way_at net h (number s y)) (lines_on (number s y) out) (there ∙ e) (quiet_ways laws.quiet net given.step.rest h (number s y))
       by false e = no_way (way_at net h (number s y)) (lines_on (number s y) out) (there ∙ e)
           ∙ sym (tells.unlinked y (λ l. let x = sym ((tests_tell world.links h y y).2.1 l) ∙ e in cc x))
 
   queued_elsewhere : (x y : Name) → x ≢ h → unwrap_or (way_between new x y) [] ≡ []
   queued_elsewhere x y two =
-      ap (λ o. unwrap_or o []) (given.served.other_ways x (index_in new.names y) two) ∙ quiet_ways laws.quiet net given.rest x (index_in new.names y)
+      ap (λ o. unwrap_or o []) (given.served.other_ways x (index_in new.names y) two) ∙ quiet_ways laws.quiet net given.step.rest x (index_in new.names y)
 
   module _ (client : ℕ) where
     pub from_home : (y : Name) → under_way (relayed s new client) h y ≡ lines_on (number s y) out
@@ -166,21 +141,16 @@ module _ (laws : AreClientLaws) (net base new : Network) (world : World) (h : Na
     abbrev deeds : List Deed
     deeds = deeds_at s world h happening
 
-    here_is : (t : Name) → AreJoined world.links t h → ◌≡◌ {A = Name → Bool} (λ x. joined world.links x t) (λ x. joined world.links x h)
-    here_is t together = fun_ext (λ x. joined_alike world.links x t h together)
-
-    one_part : (t : Name) → AreJoined world.links t h → part_of s world (routes_in net) t ≡ part_of s world (routes_in net) h
-    one_part t together = λ i. record {
-      tree = record { forest = world.links; here = here_is t together i; knows = here_is t together i; routes = routes_in net };
-      hall = given.holds.sound.one_hall t h together i;
-    }
+    one_part : (t p : Name) → AreJoined world.links t p → part_of s world (routes_in net) t ≡ part_of s world (routes_in net) p
+    one_part t p together = one_moment world.links world.links world.links (routes_in net) world.hall t p together together
+        (given.holds.sound.one_hall t p together)
 
     far : (t : Name) → 0 < s.streams.depth t → IsFartherFrom world.links h t
     far t below = farther world.links given.holds.sound.forest h t below
 
     pub fits_taker : (t : Name) → 0 < s.streams.depth t → Fits s t (part_of s world (routes_in net) t) (view_at new t)
     fits_taker t below = subst (Fits s t (part_of s world (routes_in net) t)) (sym (given.served.other_views t (far t below).other))
-        (fits_before t (below_among laws.events.at_rest net base new world h happening item given t below))
+        (fits_before t (below_among laws.events.at_rest given t below))
 
     told_first : (t : Name) → s.streams.depth t ≡ 1
         → Tells (machine s client) (play s client) (good_terms s no_answers after (routes_in net)) (s.streams.parent t) t (part_of s world (routes_in net) t)
@@ -197,14 +167,9 @@ module _ (laws : AreClientLaws) (net base new : Network) (world : World) (h : Na
 
     starts : Starts (machine s client) (play s client) (good_terms s no_answers after (routes_in net)) s.streams (relayed s new client)
         (part_of s world (routes_in net)) (λ t. deeds)
-    starts = record {
-      first = told_first;
-      still = λ t above deeper. from_elsewhere (s.streams.parent t) t (far (s.streams.parent t) above).other;
-      one_world = λ t above deeper. one_part t (far t (omega arith)).joined_to ∙ sym (one_part (s.streams.parent t) (far (s.streams.parent t) above).joined_to);
-      one_list = λ t above deeper. refl;
-      meets = λ t above deeper. tt;
-      fits = λ t below. fits_taker t below;
-    }
+    starts = starts_from no_answers after (routes_in net) new client (stands_from_one world.links given.holds.sound.forest h) (omega arith)
+        (record { one_side = one_part; one_list = λ t p together. refl }) fits_taker told_first
+        (λ t above deep. from_elsewhere (s.streams.parent t) t (far (s.streams.parent t) above).other)
 
     away : GoesAway s.streams (relayed s new client)
     away = from_source_goes_away world.links (from_one world.links h) (relayed s new client) given.holds.sound.forest
@@ -235,7 +200,7 @@ module _ (laws : AreClientLaws) (net base new : Network) (world : World) (h : Na
     received t is =
         given.served.received client t (ap (λ homes. home_in homes client) given.homes ∙ home_is world.homes client t is)
         ∙ ap (λ (r : Served). received_by net client ++ lines_to client r.out) (served_so (view_at net h) happening)
-        ∙ ap (λ before. before ++ lines_to client out) (given.one.received client)
+        ∙ ap (λ before. before ++ lines_to client out) (given.step.one.received client)
 
     none_put_out : (t : Name) → is_home_of world.homes t client ≡ true → t ≢ h → lines_to client out ≡ []
     none_put_out t is two = by (lines_to client out) refl
@@ -249,7 +214,7 @@ module _ (laws : AreClientLaws) (net base new : Network) (world : World) (h : Na
     before = world_now net
 
     none_lines : (t : Name) → is_home_of world.homes t client ≡ true → (AreJoined world.links t h → ⊥) → lines ≡ []
-    none_lines t is apart = sym (ap (λ (st : Stepped). st.lines client) given.stepped) ∙ by (get (before.hall t).clients client) refl
+    none_lines t is apart = sym (ap (λ (st : Stepped). st.lines client) given.step.stepped) ∙ by (get (before.hall t).clients client) refl
       where
         open_there : (o : Option Name) → home_in before.homes client ≡ o → get (before.hall t).clients client ≡ None → open_client before client ≡ None
         open_there None e none = ap (option_and_then (λ home. get (before.hall home).clients client)) e
@@ -257,13 +222,13 @@ module _ (laws : AreClientLaws) (net base new : Network) (world : World) (h : Na
             ∙ ap (λ v. get (before.hall v).clients client) one_home ∙ none
           where
             one_home : home ≡ t
-            one_home = let x = sym (given.old_homes client home (ap (λ homes. home_in homes client) given.sound.homes ∙ e))
+            one_home = let x = sym (given.old_homes client home (ap (λ homes. home_in homes client) given.step.sound.homes ∙ e))
                 ∙ home_is world.homes client t is in cc x
 
         by : (o : Option Client) → get (before.hall t).clients client ≡ o → (step (settings_of net) before item).lines client ≡ []
-        by (Some c) e = (laws.other_parts (settings_of net) before item t given.holds_before.sound given.not_refused (given.elsewhere t apart)).lines client
+        by (Some c) e = (laws.other_parts (settings_of net) before item t given.step.holds.sound given.step.not_refused (given.elsewhere t apart)).lines client
             (ap is_some e)
-        by None e = laws.only_connected (settings_of net) before item client given.holds_before.sound given.not_refused
+        by None e = laws.only_connected (settings_of net) before item client given.step.holds.sound given.step.not_refused
             (open_there (home_in before.homes client) refl e)
 
     told_source : (t : Name) → is_home_of s.homes t client ≡ true → s.streams.depth t ≡ 0 → received_by new client ≡ owed
@@ -287,8 +252,7 @@ module _ (laws : AreClientLaws) (net base new : Network) (world : World) (h : Na
       where
         by : (t ≡ h) ⊎ (AreJoined world.links t h → ⊥) → Fits s t (part_of s after (routes_in net) t) (view_at new t)
         by (inl e) = subst (λ v. Fits s v (part_of s after (routes_in net) v) (view_at new v)) (sym e) fits_home
-        by (inr apart) = subst (Fits s t (part_of s after (routes_in net) t))
-            (sym (given.served.other_views t (λ e. apart (ap (part world.links) e))))
+        by (inr apart) = subst (Fits s t (part_of s after (routes_in net) t)) (sym (given.served.other_views t (λ e. apart (ap (part world.links) e))))
             (elsewhere_stays s world (routes_in net) h t happening (view_at net t) apart (fits_before t among))
 
     pub begun : IsBegun s no_answers after (routes_in net) new client owed (part_of s world (routes_in net)) (λ t. deeds)
@@ -297,14 +261,18 @@ module _ (laws : AreClientLaws) (net base new : Network) (world : World) (h : Na
       away = away;
       at_source = at_source;
       comes_to = λ t view among below fits. comes_to_world laws.events s world (routes_in net) h t happening client view
-          (fixed_here laws.events.at_rest net base new world h happening item given) given.among among (far t below).other (far t below).joined_to given.holds
-          (of_world laws.events.at_rest net base new world h happening item given) (right_here laws.events.at_rest net base new world h happening item given)
-          given.holds_after given.due fits;
+          (fixed_here laws.events.at_rest given) given.among among (far t below).other (far t below).joined_to given.holds
+          (of_world laws.events.at_rest given) (right_here laws.events.at_rest given)
+          given.step.holds_after given.due fits;
       told_source = told_source;
       told = told_others;
     }
 
-    pub client_under_way : IsUnderWay s no_answers after (routes_in net) new client owed
-    client_under_way = begins s no_answers after (from_one world.links h) (routes_in net) new client owed (part_of s world (routes_in net)) (λ t. deeds)
-        given.holds.sound.forest (one_covers world.links h) refl
-        (well_follow laws.line s client (fixed_here laws.events.at_rest net base new world h happening item given) no_answers after (routes_in net)) begun
+    pub client_goes_on : IsGoingOn s no_answers after (from_one world.links h) (routes_in net) new client owed (part_of s world (routes_in net)) (λ t. deeds)
+    client_goes_on = record {
+      forest = given.holds.sound.forest;
+      covers = one_covers world.links h;
+      streams = refl;
+      follow = well_follow laws.line s client (fixed_here laws.events.at_rest given) no_answers after (routes_in net);
+      begun = begun;
+    }

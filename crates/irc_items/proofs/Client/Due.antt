@@ -11,6 +11,12 @@ use Rattle.irc_stage.specs.Handle.{Happening, connects, says, goes}
 use Rattle.irc_world.specs.World.{World, home_in}
 use Rattle.irc_follow.specs.Part.{Fixed}
 
+-- by whom something happens
+abbrev pub client_in : Happening → ℕ
+client_in (connects conn host) = conn
+client_in (says conn read) = conn
+client_in (goes conn) = conn
+
 -- this was read of a line that has neither NUL, CR nor LF
 pub record IsReadOfLine (read : Result Parsed LineFault) : Type 0 where
   pub bytes : List ℕ

@@ -5,7 +5,7 @@ use Rattle.std.specs.List.{list_any, slice_get}
 use Rattle.std.specs.Option.{option_and_then, option_map, option_map_or}
 use Rattle.irc_line.specs.Reading.{read_of}
 use Rattle.irc_relay.specs.Distances.{IsAmong}
-use Rattle.irc_relay.specs.Links.{Link, Name, same}
+use Rattle.irc_relay.specs.Links.{Name, same}
 use Rattle.irc_stage.specs.Handle.{Happening, connects, goes, says}
 use Rattle.irc_stage.specs.View.{View}
 use Rattle.irc_server.specs.Owed.{lines_to}
@@ -20,9 +20,10 @@ use Rattle.irc_network.specs.Network.{Course, Network, Reply, site_asked, site_a
 use Rattle.irc_network.specs.Refusing.{fault_at_rest, has_client, is_there}
 use Rattle.irc_items.specs.OneRoom.{IsOneRoom}
 use Rattle.irc_items.specs.Relayed.{way_at}
-use Rattle.irc_items.specs.SetUp.{settings_of, view_at, IsSetUp}
+use Rattle.irc_items.specs.SetUp.{view_at, IsSetUp}
 use Rattle.irc_items.specs.Sound.{IsSound, world_now}
-use Rattle.irc_items.proofs.Sites.Asked.{asked_there, IsAskedAt}
+use Rattle.irc_items.proofs.Common.Step.{HasTaken}
+use Rattle.irc_items.proofs.Sites.Asked.{asked_there, reply_taken, set_up_besides, IsAskedAt}
 use Rattle.irc_items.specs.Lemmas.SetUpFacts.{placed_if, there, viewed, viewed_nowhere}
 
 -- what a server does by something of a client
@@ -31,14 +32,7 @@ done_at net h happening = served (view_at net h) (of_client happening)
 
 -- The client's server has served it, and nothing else has changed; `base` has one home more where the client connects.
 pub record IsServedFor (net base new : Network) (h : Name) (happening : Happening) (item : Item) : Type 0 where
-  pub names : new.names ≡ net.names
-  pub links : new.links ≡ net.links
-  pub homes : new.homes ≡ base.homes
-  pub items : new.items ≡ net.items ++ item ∷ []
-  pub taken : new.taken ≡ 0
-  pub inboxes : length new.received ≡ length new.homes
-  pub settings : settings_of new ≡ settings_of net
-  pub set_up : IsSetUp new
+  pub taken : HasTaken net new item base.homes net.links
   pub view : view_at new h ≡ (done_at net h happening).view
   pub other_views : (u : Name) → u ≢ h → view_at new u ≡ view_at net u
   pub way : (place : ℕ) → way_at new h place ≡ option_map (λ lines. lines ++ lines_on place (done_at net h happening).out) (way_at net h place)
@@ -46,18 +40,6 @@ pub record IsServedFor (net base new : Network) (h : Name) (happening : Happenin
   pub received : (client : ℕ) (home : Name) → home_in base.homes client ≡ Some home
       → received_by new client ≡ received_by net client ++ lines_to client (done_at net h happening).out
   pub nobody : (client : ℕ) → home_in base.homes client ≡ None → received_by new client ≡ []
-
--- servers are set up whatever else becomes of the network
-pub set_up_besides : (net : Network) (links : List Link) (homes : List Name) (received : List (List (List ℕ))) (items : List Item) (taken : ℕ) → IsSetUp net
-    → IsSetUp (record net { links = links; homes = homes; received = received; items = items; taken = taken })
-set_up_besides net links homes received items taken set_up =
-    record { named = set_up.named; once = set_up.once; few = set_up.few; configured = set_up.configured }
-
--- what is not refused is served
-pub reply_taken : (view : View) (occurrence : Occurrence) → serves_occurrence view occurrence ≡ true
-    → reply view occurrence ≡ record { view = (served view occurrence).view; out = (served view occurrence).out }
-reply_taken view occurrence taken =
-    ap (λ b. if b then record { view = (served view occurrence).view; out = (served view occurrence).out } else record { view = view; out = [] }) taken
 
 -- the network with these homes, and with what clients have received
 abbrev pub homed : Network → List Name → List (List (List ℕ)) → Network
@@ -80,14 +62,16 @@ module _ (stays : ServedKeepsItsSetting) (net : Network) (homes : List Name) (re
 
   served_for : IsServedFor net base (record course.net { items = course.net.items ++ item ∷ []; taken = 0 }) h happening item
   served_for = record {
-    names = answered.names;
-    links = answered.links;
-    homes = answered.homes;
-    items = ap (λ items. items ++ item ∷ []) answered.items;
-    taken = refl;
-    inboxes = answered.inboxes ∙ inboxes ∙ ap length (sym answered.homes);
-    settings = answered.settings;
-    set_up = set_up_besides course.net course.net.links course.net.homes course.net.received (course.net.items ++ item ∷ []) 0 answered.set_up;
+    taken = record {
+      names = answered.names;
+      links = answered.links;
+      homes = answered.homes;
+      items = ap (λ items. items ++ item ∷ []) answered.items;
+      taken = refl;
+      inboxes = answered.inboxes ∙ inboxes ∙ ap length (sym answered.homes);
+      settings = answered.settings;
+      set_up = set_up_besides course.net course.net.links course.net.homes course.net.received (course.net.items ++ item ∷ []) 0 answered.set_up;
+    };
     view = answered.view ∙ ap (λ (r : Reply). r.view) is_reply;
     other_views = answered.other_views;
     way = λ place. answered.way place ∙ ap (λ (r : Reply). option_map (λ lines. lines ++ lines_on place r.out) (way_at net h place)) is_reply;

@@ -16,28 +16,27 @@ use Rattle.irc_stage.specs.declared.clients.Client.{Client}
 use Rattle.irc_server.specs.Served.{ServedKeepsItsSetting}
 use Rattle.irc_world.specs.Bounds.{most, most_of_client, part_size}
 use Rattle.irc_world.specs.Bystanders.{IsElsewhere}
-use Rattle.irc_world.specs.Refused.{refused}
-use Rattle.irc_world.specs.Stepping.{Item, Stepped, by_machine, connect, gone, line, still, step}
+use Rattle.irc_world.specs.Stepping.{Item, by_machine, connect, gone, line, still, step}
 use Rattle.irc_world.specs.WithinLimits.{IsItemWithin}
 use Rattle.irc_world.specs.World.{World, home_in, is_server, place_at}
-use Rattle.irc_world.specs.WorldHolds.{IsWorld, StepKeepsWorld}
+use Rattle.irc_world.specs.WorldHolds.{IsWorld}
 use Rattle.irc_world.specs.Lemmas.HomesAdded.{more_sound, new_home, still_home}
 use Rattle.irc_follow.specs.AtRest.{part_of, AreRight, IsOfWorld, PlaceIsWorlds}
 use Rattle.irc_follow.specs.Fits.{Fits}
 use Rattle.irc_follow.specs.Part.{Fixed, is_home_of, IsFixed}
 use Rattle.irc_network.specs.Network.{Network, given, is_at_rest, next_client, with_client}
 use Rattle.irc_network.specs.Refusing.{fault_at_rest}
-use Rattle.irc_items.specs.Laws.{RefusalsAreTheWorlds}
 use Rattle.irc_items.specs.OneRoom.{IsOneRoom}
 use Rattle.irc_items.specs.SetUp.{routes_in, settings_of, view_at}
 use Rattle.irc_items.specs.Sound.{world_now, IsSound}
 use Rattle.irc_items.proofs.Client.Begins.{AreClientLaws, IsToldByHome}
-use Rattle.irc_items.proofs.Client.Given.{connect_is_given, gone_is_given, line_is_given, next_has_none, IsConnected, IsDoneAtHome}
+use Rattle.irc_items.proofs.Client.Given.{connect_is_given, gone_is_given, line_is_given, next_has_none, IsConnected, IsDoneAtHome, IsServedFor}
 use Rattle.irc_items.proofs.Client.Side.{ends, fits_here, fixed_here, home_fixed, of_world, right_here, IsClientStep}
 use Rattle.irc_items.proofs.Client.Sound.{client_sound}
+use Rattle.irc_items.proofs.Common.Step.{is_step, AreStepLaws, HasTaken, IsStep}
 use Rattle.irc_items.proofs.Client.Due.{IsDueAtHome}
 use Rattle.irc_items.proofs.Home.Fits.{does_as_machine, AreHomeLaws}
-use Rattle.irc_items.specs.Lemmas.SetUpFacts.{listed, servers_named}
+use Rattle.irc_items.specs.Lemmas.SetUpFacts.{listed}
 
 -- a client's server tells its neighbours of the effects
 abbrev pub TellsByHome : Type 0
@@ -52,8 +51,7 @@ pub record AreItemLaws : Type 0 where
   pub tells : TellsByHome
   pub place : PlaceIsWorlds
   pub kept : ServedKeepsItsSetting
-  pub step_keeps : StepKeepsWorld
-  pub refusals : RefusalsAreTheWorlds
+  pub steps : AreStepLaws
 
 one_up : (n : ℕ) → n + 1 ≡ suc n
 one_up n = omega arith
@@ -61,12 +59,12 @@ one_up n = omega arith
 module _ (laws : AreItemLaws) (net : Network) (sound : IsSound net) (rest : is_at_rest net ≡ true) (one : IsOneRoom net)
     (holds : IsWorld (settings_of net) (world_now net)) where
   -- whatever is known of a client's item makes the network sound
-  item_sound : (base : Network) (world : World) (h : Name) (happening : Happening) (item : Item)
+  served_sound : (base : Network) (world : World) (h : Name) (happening : Happening) (item : Item)
       → IsClientStep net base (given item net).net world h happening item → IsSound (given item net).net
-  item_sound base world h happening item step =
-      client_sound laws.client net base (given item net).net world h happening item step
+  served_sound base world h happening item step =
+      client_sound laws.client step
       (does_as_machine laws.home s world (routes_in net) h (view_at net h) happening fixed_so step.among step.holds of_so right_so
-      (fits_so h step.among) step.holds_after place_so step.due)
+      (fits_so h step.among) step.step.holds_after place_so step.due)
       (laws.tells s world (by_machine (settings_of net) world h happening).world (routes_in net) h (view_at net h) happening refl fixed_so
       step.holds.sound.forest refl step.among step.holds of_so right_so (fits_so h step.among) place_so step.due)
     where
@@ -74,28 +72,32 @@ module _ (laws : AreItemLaws) (net : Network) (sound : IsSound net) (rest : is_a
       s = home_fixed net world h
 
       fixed_so : IsFixed (home_fixed net world h)
-      fixed_so = fixed_here laws.client.events.at_rest net base (given item net).net world h happening item step
+      fixed_so = fixed_here laws.client.events.at_rest step
 
       of_so : IsOfWorld (home_fixed net world h) world
-      of_so = of_world laws.client.events.at_rest net base (given item net).net world h happening item step
+      of_so = of_world laws.client.events.at_rest step
 
       right_so : AreRight (home_fixed net world h) world.links (routes_in net)
-      right_so = right_here laws.client.events.at_rest net base (given item net).net world h happening item step
+      right_so = right_here laws.client.events.at_rest step
 
       fits_so : (t : Name) → IsAmong net.names t → Fits (home_fixed net world h) t (part_of (home_fixed net world h) world (routes_in net) t) (view_at net t)
-      fits_so = fits_here laws.client.events.at_rest net base (given item net).net world h happening item step
+      fits_so = fits_here laws.client.events.at_rest step
 
       place_so : place_of (routes_in net h) ≡ place_at (settings_of net) world.links h
       place_so = laws.place (home_fixed net world h) world.links (routes_in net) h fixed_so step.holds.sound.forest
-          (ends laws.client.events.at_rest net base (given item net).net world h happening item step) right_so step.among
+          (ends laws.client.events.at_rest step) right_so step.among
 
-  not_refused : (item : Item) → fault_at_rest net item ≡ None → refused (settings_of net) (world_now net) item ≡ None
-  not_refused item taken = sym (laws.refusals net item sound rest) ∙ taken
-
-  world_after : (item : Item) → IsItemWithin item → fault_at_rest net item ≡ None
-      → IsWorld (settings_of net) (step (settings_of net) (world_now net) item).world
-  world_after item within taken =
-      laws.step_keeps (settings_of net) (world_now net) item (servers_named net sound.set_up) holds within (not_refused item taken)
+  -- what is known of an item that a server has served
+  served_step : (base : Network) (world : World) (h : Name) (happening : Happening) (item : Item) → fault_at_rest net item ≡ None → IsItemWithin item
+      → step (settings_of net) (world_now net) item ≡ by_machine (settings_of net) world h happening
+      → IsServedFor net base (given item net).net h happening item → base.homes ≡ world.homes → net.links ≡ world.links
+      → ((client : ℕ) → home_in world.homes client ≡ None → home_in net.homes client ≡ None)
+      → IsStep net (given item net).net item world.homes (by_machine (settings_of net) world h happening)
+  served_step base world h happening item taken within stepped served homes links before =
+      is_step laws.steps net sound rest one holds item taken within (given item net).net world.homes (by_machine (settings_of net) world h happening) stepped
+      (subst (HasTaken net (given item net).net item world.homes) links
+      (subst (λ homes. HasTaken net (given item net).net item homes net.links) homes served.taken))
+      refl before
 
   -- a client that its server has is one of its part
   in_hall : (h : Name) (client : ℕ) → IsAmong net.names h → is_some (get (view_at net h).clients client) ≡ true
@@ -122,10 +124,9 @@ module _ (laws : AreItemLaws) (net : Network) (sound : IsSound net) (rest : is_a
       → most (settings_of net) (world_now net) item ≡ most_of_client (settings_of net) (world_now net) (Some done.home) happening
       → IsSound (given item net).net
   at_home_step client happening item done taken within stepped elsewhere due bound =
-      item_sound net (world_now net) done.home happening item (record {
-        sound = sound;
-        rest = rest;
-        one = one;
+      served_sound net (world_now net) done.home happening item (record {
+        step = served_step net (world_now net) done.home happening item taken within stepped done.served sound.homes sound.links
+            (λ client none. ap (λ homes. home_in homes client) sound.homes ∙ none);
         served = done.served;
         among = done.at_home.among;
         homes = sound.homes;
@@ -133,11 +134,6 @@ module _ (laws : AreItemLaws) (net : Network) (sound : IsSound net) (rest : is_a
         links = sound.links;
         hall = λ t. refl;
         holds = holds;
-        holds_before = holds;
-        holds_after = subst (λ (st : Stepped). IsWorld (settings_of net) st.world) stepped (world_after item within taken);
-        stepped = stepped;
-        not_refused = not_refused item taken;
-        within = within;
         elsewhere = elsewhere;
         due = due;
         few = let same = bound in omega arith;
@@ -190,6 +186,13 @@ module _ (laws : AreItemLaws) (net : Network) (sound : IsSound net) (rest : is_a
     old_home zero home is = absurd (cc is)
     old_home (suc earlier) home is = still_home (world_now net).homes server earlier home is
 
+    no_home_before : (client : ℕ) → home_in world.homes client ≡ None → home_in net.homes client ≡ None
+    no_home_before client none = by (home_in net.homes client) refl
+      where
+        by : (o : Option Name) → home_in net.homes client ≡ o → home_in net.homes client ≡ None
+        by None e = e
+        by (Some home) e = cc (sym none ∙ old_home client home (home_now client home e))
+
     holds_more : IsWorld (settings_of net) world
     holds_more = record {
       sound = more_sound (settings_of net) (world_now net) server holds.sound known;
@@ -226,10 +229,9 @@ module _ (laws : AreItemLaws) (net : Network) (sound : IsSound net) (rest : is_a
 
     pub connect_sound : IsSound (given (connect server host) net).net
     unfolding most
-    connect_sound = item_sound (with_client server net) world server (connects (next_client net) host) (connect server host) (record {
-      sound = sound;
-      rest = rest;
-      one = one;
+    connect_sound = served_sound (with_client server net) world server (connects (next_client net) host) (connect server host) (record {
+      step = served_step (with_client server net) world server (connects (next_client net) host) (connect server host) taken is_host stepped connected.served
+          (ap (λ homes. homes ++ server ∷ []) sound.homes) sound.links no_home_before;
       served = connected.served;
       among = connected.among;
       homes = ap (λ homes. homes ++ server ∷ []) sound.homes;
@@ -237,11 +239,6 @@ module _ (laws : AreItemLaws) (net : Network) (sound : IsSound net) (rest : is_a
       links = sound.links;
       hall = λ t. refl;
       holds = holds_more;
-      holds_before = holds;
-      holds_after = subst (λ (st : Stepped). IsWorld (settings_of net) st.world) stepped (world_after (connect server host) is_host taken);
-      stepped = stepped;
-      not_refused = not_refused (connect server host) taken;
-      within = is_host;
       elsewhere = λ t apart together. apart together;
       due = (new_is_home, is_host, nobody_yet);
       few = none_told (part_size (settings_of net) world.links server - 1);

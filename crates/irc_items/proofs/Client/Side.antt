@@ -15,22 +15,22 @@ use Rattle.irc_stage.specs.Lemmas.Counting.{get-kept}
 use Rattle.irc_stage.specs.Lemmas.Numbers.{same_clients}
 use Rattle.irc_world.specs.Bounds.{effects_at, most, part_size}
 use Rattle.irc_world.specs.Bystanders.{IsElsewhere}
-use Rattle.irc_world.specs.Refused.{refused}
 use Rattle.irc_world.specs.Sound.{HasHomeBy}
-use Rattle.irc_world.specs.Stepping.{Item, by_machine, step}
-use Rattle.irc_world.specs.WithinLimits.{IsItemWithin}
+use Rattle.irc_world.specs.Stepping.{Item, by_machine}
 use Rattle.irc_world.specs.World.{Hall, World, home_in, machine_at}
 use Rattle.irc_world.specs.WorldHolds.{IsWorld}
 use Rattle.irc_follow.specs.AtRest.{part_of, AreRight, IsOfWorld, PartAtRestIsSound}
 use Rattle.irc_follow.specs.Fits.{Fits, IsNumberOf}
 use Rattle.irc_follow.specs.Part.{Fixed, is_home_of, IsFixed}
-use Rattle.irc_network.specs.Network.{Network, is_at_rest}
-use Rattle.irc_items.specs.OneRoom.{at_rest_of, IsOneRoom}
+use Rattle.irc_network.specs.Network.{Network}
+use Rattle.irc_items.specs.OneRoom.{at_rest_of}
 use Rattle.irc_items.specs.Relayed.{fixed_of}
 use Rattle.irc_items.specs.SetUp.{routes_in, settings_of, view_at}
-use Rattle.irc_items.specs.Sound.{world_now, IsSound}
+use Rattle.irc_items.specs.Sound.{world_now}
 use Rattle.irc_items.proofs.Client.Given.{IsServedFor}
 use Rattle.irc_items.proofs.Client.Due.{IsDueAtHome}
+use Rattle.irc_items.proofs.Common.Right.{right_wherever}
+use Rattle.irc_items.proofs.Common.Step.{IsStep}
 use Rattle.irc_items.specs.Lemmas.SetUpFacts.{fixed}
 use Rattle.irc_items.proofs.Common.SourceFacts.{IsFartherFrom, farther}
 
@@ -52,9 +52,7 @@ home_fixed net world h = record {
 
 -- What is known of a client's item, in a world that has the client already where it connects.
 pub record IsClientStep (net base new : Network) (world : World) (h : Name) (happening : Happening) (item : Item) : Type 0 where
-  pub sound : IsSound net
-  pub rest : is_at_rest net ≡ true
-  pub one : IsOneRoom net
+  pub step : IsStep net new item world.homes (by_machine (settings_of net) world h happening)
   pub served : IsServedFor net base new h happening item
   pub among : IsAmong net.names h
   pub homes : base.homes ≡ world.homes
@@ -62,17 +60,12 @@ pub record IsClientStep (net base new : Network) (world : World) (h : Name) (hap
   pub links : net.links ≡ world.links
   pub hall : (t : Name) → world.hall t ≡ (world_now net).hall t
   pub holds : IsWorld (settings_of net) world
-  pub holds_before : IsWorld (settings_of net) (world_now net)
-  pub holds_after : IsWorld (settings_of net) (by_machine (settings_of net) world h happening).world
-  pub stepped : step (settings_of net) (world_now net) item ≡ by_machine (settings_of net) world h happening
-  pub not_refused : refused (settings_of net) (world_now net) item ≡ None
-  pub within : IsItemWithin item
   pub elsewhere : (t : Name) → (AreJoined world.links t h → ⊥) → IsElsewhere (world_now net) item t
   pub due : IsDueAtHome (home_fixed net world h) world h happening
   pub few : length (effects_at (machine_at (settings_of net) world h) happening) * (part_size (settings_of net) world.links h - 1)
       ≤ most (settings_of net) (world_now net) item
 
-module _ (side : PartAtRestIsSound) (net base new : Network) (world : World) (h : Name) (happening : Happening) (item : Item)
+module _ (side : PartAtRestIsSound) {net base new : Network} {world : World} {h : Name} {happening : Happening} {item : Item}
     (given : IsClientStep net base new world h happening item) where
   abbrev s : Fixed
   s = home_fixed net world h
@@ -84,7 +77,7 @@ module _ (side : PartAtRestIsSound) (net base new : Network) (world : World) (h 
   fixed_here = record { servers = f.servers; few = f.few; listed = f.listed }
     where
       f : IsFixed (fixed_of net s.streams)
-      f = fixed net given.sound.set_up s.streams
+      f = fixed net given.step.sound.set_up s.streams
 
   pub ends : EndsAreAmong net.names world.links
   ends t u l = sym (fixed_here.listed t) ∙ given.holds.sound.ends_known t u l
@@ -105,21 +98,10 @@ module _ (side : PartAtRestIsSound) (net base new : Network) (world : World) (h 
   of_world = record { homes = refl; parents = takes_linked }
 
   pub right_here : AreRight s world.links (routes_in net)
-  right_here = record {
-    named = r.named;
-    described = r.described;
-    created = r.created;
-    rows = r.rows;
-    numbered = r.numbered;
-    low = r.low;
-    tokens = r.tokens;
-  }
-    where
-      r : AreRight (at_rest_of net) world.links (routes_in net)
-      r = subst (λ links. AreRight (at_rest_of net) links (routes_in net)) given.links given.one.right
+  right_here = right_wherever s.homes s.streams (subst (λ links. AreRight (at_rest_of net) links (routes_in net)) given.links given.step.one.right)
 
   same_links : (world_now net).links ≡ world.links
-  same_links = sym given.sound.links ∙ given.links
+  same_links = sym given.step.sound.links ∙ given.links
 
   -- a client that is there has the home that it had
   own_clients : (t : Name) → retain_keys ((world_now net).hall t).clients (is_home_of net.homes t) ≡ retain_keys (world.hall t).clients
@@ -138,10 +120,10 @@ module _ (side : PartAtRestIsSound) (net base new : Network) (world : World) (h 
           (ap (λ o. option_map_or (same t) o false) (before ∙ sym (given.old_homes q there.home before)))
         where
           there : HasHomeBy (world_now net).links (world_now net).homes q t
-          there = given.holds_before.sound.clients_home t q (ap is_some is)
+          there = given.step.holds.sound.clients_home t q (ap is_some is)
 
           before : home_in net.homes q ≡ Some there.home
-          before = ap (λ homes. home_in homes q) given.sound.homes ∙ there.is_home
+          before = ap (λ homes. home_in homes q) given.step.sound.homes ∙ there.is_home
 
   -- each server is at the part of the world that it is in
   pub fits_here : (t : Name) → IsAmong net.names t → Fits s t (part_of s world (routes_in net) t) (view_at net t)
@@ -158,7 +140,7 @@ module _ (side : PartAtRestIsSound) (net base new : Network) (world : World) (h 
   }
     where
       f : Fits (at_rest_of net) t (part_of (at_rest_of net) (world_now net) (routes_in net) t) (view_at net t)
-      f = given.one.servers t among
+      f = given.step.one.servers t among
 
       by : (k : ℕ) → IsNumberOf (at_rest_of net) k → IsNumberOf s k
       by k n = record { server = n.server; among = n.among; is = n.is }

@@ -39,31 +39,37 @@ pub none_at_source : {State Line Shown : Type 0} (m : Machine State Line Shown) 
 unfolding coming_within
 none_at_source m streams net t none = ap (λ n. coming_within m streams net n t) none
 
-module _ (s : Fixed) (asks : Answering) (world : World) (source : Name → Name) (routes : Name → Known) (net : Network) (client : ℕ) (owed : List (List ℕ))
-    (part : Name → Part) (deeds : Name → List Deed) (forest : IsForest world.links) (covers : Covers world.links source)
-    (streams : s.streams ≡ streams_from world.links source)
-    (follow : Follows (machine s client) (play s client) (good_terms s asks world routes) world.links s.streams)
-    (begun : IsBegun s asks world routes net client owed part deeds) where
+-- an item that has begun, and how servers follow it along the links of the world that it makes
+pub record IsGoingOn (s : Fixed) (asks : Answering) (world : World) (source : Name → Name) (routes : Name → Known) (net : Network) (client : ℕ)
+    (owed : List (List ℕ)) (part : Name → Part) (deeds : Name → List Deed) : Type 0 where
+  pub forest : IsForest world.links
+  pub covers : Covers world.links source
+  pub streams : s.streams ≡ streams_from world.links source
+  pub follow : Follows (machine s client) (play s client) (good_terms s asks world routes) world.links s.streams
+  pub begun : IsBegun s asks world routes net client owed part deeds
+
+module _ {s : Fixed} {asks : Answering} {world : World} {source : Name → Name} {routes : Name → Known} {net : Network} {client : ℕ} {owed : List (List ℕ)}
+    {part : Name → Part} {deeds : Name → List Deed} (goes : IsGoingOn s asks world source routes net client owed part deeds) where
   -- the same, with the streams in full
   follow_along : Follows (machine s client) (play s client) (good_terms s asks world routes) world.links (streams_from world.links source)
-  follow_along = subst (λ from. Follows (machine s client) (play s client) (good_terms s asks world routes) world.links from) streams follow
+  follow_along = subst (λ from. Follows (machine s client) (play s client) (good_terms s asks world routes) world.links from) goes.streams goes.follow
 
   starts_along : Starts (machine s client) (play s client) (good_terms s asks world routes) (streams_from world.links source) (relayed s net client) part deeds
   starts_along =
-      subst (λ from. Starts (machine s client) (play s client) (good_terms s asks world routes) from (relayed s net client) part deeds) streams begun.starts
+      subst (λ from. Starts (machine s client) (play s client) (good_terms s asks world routes) from (relayed s net client) part deeds) goes.streams goes.begun.starts
 
   pub follows : (t : Name) → 0 < s.streams.depth t
       → IsFollowing (machine s client) (play s client) (good_terms s asks world routes) s.streams (relayed s net client) (part t) (deeds t) t
   follows t below =
       subst (λ from. IsFollowing (machine s client) (play s client) (good_terms s asks world routes) from (relayed s net client) (part t) (deeds t) t)
-      (sym streams)
-      (followed View (List ℕ) (List ℕ) Part Deed (machine s client) (play s client) (good_terms s asks world routes) world.links source forest covers
-      follow_along (relayed s net client) part deeds starts_along t (subst (λ from. 0 < from.depth t) streams below))
+      (sym goes.streams)
+      (followed View (List ℕ) (List ℕ) Part Deed (machine s client) (play s client) (good_terms s asks world routes) world.links source goes.forest goes.covers
+      follow_along (relayed s net client) part deeds starts_along t (subst (λ from. 0 < from.depth t) goes.streams below))
 
   well : GoesWell (machine s client) s.streams (IsGoodLine s asks world routes) (relayed s net client)
   well =
-      subst (λ from. GoesWell (machine s client) from (IsGoodLine s asks world routes) (relayed s net client)) (sym streams)
-      (all_well View (List ℕ) (List ℕ) Part Deed (machine s client) (play s client) (good_terms s asks world routes) world.links source forest covers
+      subst (λ from. GoesWell (machine s client) from (IsGoodLine s asks world routes) (relayed s net client)) (sym goes.streams)
+      (all_well View (List ℕ) (List ℕ) Part Deed (machine s client) (play s client) (good_terms s asks world routes) world.links source goes.forest goes.covers
       follow_along (relayed s net client) part deeds starts_along)
 
   will_fit : (t : Name) → IsAmong s.names t → Fits s t (part_of s world routes t) (final (machine s client) s.streams (relayed s net client) t)
@@ -72,8 +78,8 @@ module _ (s : Fixed) (asks : Answering) (world : World) (source : Name → Name)
       by : (n : ℕ) → s.streams.depth t ≡ n → Fits s t (part_of s world routes t) (final (machine s client) s.streams (relayed s net client) t)
       by zero none =
           subst (λ lines. Fits s t (part_of s world routes t) (after (machine s client) t (s.streams.parent t) (view_at net t) lines))
-          (sym (none_at_source (machine s client) s.streams (relayed s net client) t none)) (begun.at_source t among none)
-      by (suc n) deep = begun.comes_to t (final (machine s client) s.streams (relayed s net client) t) among (omega arith) (follows t (omega arith)).fits
+          (sym (none_at_source (machine s client) s.streams (relayed s net client) t none)) (goes.begun.at_source t among none)
+      by (suc n) deep = goes.begun.comes_to t (final (machine s client) s.streams (relayed s net client) t) among (omega arith) (follows t (omega arith)).fits
 
   has_shown : (t : Name) → is_home_of s.homes t client ≡ true → (relayed s net client).shown t ≡ received_by net client
   has_shown t home = ap (λ b. cond b (received_by net client) []) home
@@ -87,20 +93,12 @@ module _ (s : Fixed) (asks : Answering) (world : World) (source : Name → Name)
           (none_at_source (machine s client) s.streams (relayed s net client) t none)
           ∙ append-nil ((relayed s net client).shown t)
           ∙ has_shown t home
-          ∙ begun.told_source t home none
+          ∙ goes.begun.told_source t home none
       by (suc n) deep =
           (follows t (omega arith)).shown
           ∙ ap (λ v. v ++ all_seen (play s client) t (part t) (deeds t)) (has_shown t home)
-          ∙ begun.told t home (omega arith)
+          ∙ goes.begun.told t home (omega arith)
 
--- Servers follow along these links from these sources.
-pub begins : (s : Fixed) (asks : Answering) (world : World) (source : Name → Name) (routes : Name → Known) (net : Network) (client : ℕ) (owed : List (List ℕ))
-    (part : Name → Part) (deeds : Name → List Deed) → IsForest world.links → Covers world.links source → s.streams ≡ streams_from world.links source
-    → Follows (machine s client) (play s client) (good_terms s asks world routes) world.links s.streams
-    → IsBegun s asks world routes net client owed part deeds → IsUnderWay s asks world routes net client owed
-begins s asks world source routes net client owed part deeds forest covers streams follow begun = record {
-  away = begun.away;
-  fits = will_fit s asks world source routes net client owed part deeds forest covers streams follow begun;
-  told = will_receive s asks world source routes net client owed part deeds forest covers streams follow begun;
-  well = well s asks world source routes net client owed part deeds forest covers streams follow begun;
-}
+  -- Servers follow along these links from these sources.
+  pub begins : IsUnderWay s asks world routes net client owed
+  begins = record { away = goes.begun.away; fits = will_fit; told = will_receive; well = well }

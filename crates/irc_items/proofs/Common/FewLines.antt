@@ -17,7 +17,7 @@ use Rattle.irc_network.specs.Network.{Network}
 use Rattle.irc_items.specs.GoodLines.{no_answers, Answering}
 use Rattle.irc_items.specs.Relayed.{relayed}
 use Rattle.irc_items.specs.SetUp.{view_at}
-use Rattle.irc_items.proofs.Common.Begun.{follows, none_at_source as nothing_at_source, IsBegun}
+use Rattle.irc_items.proofs.Common.Begun.{follows, none_at_source as nothing_at_source, IsGoingOn}
 use Rattle.irc_items.proofs.Good.GoodLines.{good_terms}
 
 -- ---- any machine
@@ -73,15 +73,12 @@ onward links source forest covers t k above deep = record {
 
 -- ---- an item that is begun
 
-module _ (s : Fixed) (asks : Answering) (world : World) (source : Name → Name) (routes : Name → Known) (net : Network) (client : ℕ) (owed : List (List ℕ))
-    (part : Name → Part) (deeds : Name → List Deed) (forest : IsForest world.links) (covers : Covers world.links source)
-    (streams : s.streams ≡ streams_from world.links source)
-    (follow : Follows (machine s client) (play s client) (good_terms s asks world routes) world.links s.streams)
-    (begun : IsBegun s asks world routes net client owed part deeds) where
+module _ {s : Fixed} {asks : Answering} {world : World} {source : Name → Name} {routes : Name → Known} {net : Network} {client : ℕ} {owed : List (List ℕ)}
+    {part : Name → Part} {deeds : Name → List Deed} (goes : IsGoingOn s asks world source routes net client owed part deeds) where
   in_turn : (t : Name) → ComesInTurn (machine s client) s.streams (relayed s net client) t
   in_turn t =
-      subst (λ from. ComesInTurn (machine s client) from (relayed s net client) t) (sym streams)
-      (comes_in_turn (machine s client) world.links (streams_from world.links source) (relayed s net client) t (covers_flows world.links source forest covers))
+      subst (λ from. ComesInTurn (machine s client) from (relayed s net client) t) (sym goes.streams)
+      (comes_in_turn (machine s client) world.links (streams_from world.links source) (relayed s net client) t (covers_flows world.links source goes.forest goes.covers))
 
   pub none_at_source : (t : Name) → s.streams.depth t ≡ 0 → coming (machine s client) s.streams (relayed s net client) t ≡ []
   none_at_source t none = nothing_at_source (machine s client) s.streams (relayed s net client) t none
@@ -99,7 +96,7 @@ module _ (s : Fixed) (asks : Answering) (world : World) (source : Name → Name)
   onward_here : (t : Name) (k : ℕ) → s.streams.depth (s.streams.parent t) ≡ suc k → s.streams.depth t ≡ suc (suc k) → IsOnward world.links s.streams t
   onward_here =
       subst (λ from. (t : Name) (k : ℕ) → from.depth (from.parent t) ≡ suc k → from.depth t ≡ suc (suc k) → IsOnward world.links from t)
-      (sym streams) (onward world.links source forest covers)
+      (sym goes.streams) (onward world.links source goes.forest goes.covers)
 
   -- what a server takes from another will tell on
   abbrev from_above : Name → List (List ℕ)
@@ -110,15 +107,15 @@ module _ (s : Fixed) (asks : Answering) (world : World) (source : Name → Name)
   few_from_above : (t : Name) (k : ℕ) → s.streams.depth (s.streams.parent t) ≡ suc k → s.streams.depth t ≡ suc (suc k)
       → length (from_above t) ≤ length (deeds (s.streams.parent t))
   few_from_above t k above deep =
-      told_most (machine s client) (play s client) (good_terms s asks world routes) world.links s.streams follow (s.streams.parent (s.streams.parent t))
+      told_most (machine s client) (play s client) (good_terms s asks world routes) world.links s.streams goes.follow (s.streams.parent (s.streams.parent t))
       (s.streams.parent t) t (onward_here t k above deep).linked (record { parent = refl; below = below })
       (record { parent = refl; below = omega arith }) (onward_here t k above deep).apart
       (part (s.streams.parent t)) (view_at net (s.streams.parent t)) (view_at net t) (deeds (s.streams.parent t))
       (coming (machine s client) s.streams (relayed s net client) (s.streams.parent t))
-      (begun.starts.fits (s.streams.parent t) below)
-      (subst (λ w. (good_terms s asks world routes).fits t w (view_at net t)) (begun.starts.one_world t below next) (begun.starts.fits t (omega arith)))
-      (begun.starts.meets t below next)
-      (follows s asks world source routes net client owed part deeds forest covers streams follow begun (s.streams.parent t) below).tells
+      (goes.begun.starts.fits (s.streams.parent t) below)
+      (subst (λ w. (good_terms s asks world routes).fits t w (view_at net t)) (goes.begun.starts.one_world t below next) (goes.begun.starts.fits t (omega arith)))
+      (goes.begun.starts.meets t below next)
+      (follows goes (s.streams.parent t) below).tells
     where
       below : 0 < s.streams.depth (s.streams.parent t)
       below = omega arith
@@ -138,9 +135,9 @@ module _ (s : Fixed) (asks : Answering) (world : World) (source : Name → Name)
       by (at_source none comes) = absurd (let no_way : ⊥ = omega arith in no_way)
       by (from_source first comes) = absurd (let no_way : ⊥ = omega arith in no_way)
       by (from_parent below deeper comes) =
-          let all = ap length comes ∙ ap (λ lines. length (lines ++ from_above t)) (begun.starts.still t below deeper) in
+          let all = ap length comes ∙ ap (λ lines. length (lines ++ from_above t)) (goes.begun.starts.still t below deeper) in
           let told = few (s.streams.depth (s.streams.parent t)) refl below deeper in
-          let list = ap length (begun.starts.one_list t below deeper) in
+          let list = ap length (goes.begun.starts.one_list t below deeper) in
           omega arith
 
 -- where no line is answered, none counts twice

@@ -1,10 +1,12 @@
 -- Where lines come from, and how far, where one server is the source of its whole part.
 use Rattle.std.proofs.Common.{◌≡◌, ◌≢◌, ◌⊎◌, ◌<◌, Bool, true, false, List, refl, sym, ap, subst, ◌∙◌, arith, inl, inr, if◌then◌else◌}
-use Rattle.irc_relay.specs.Links.{Name, Link, joined, distance, toward, AreJoined, AreLinked, IsForest, IsNextHop}
-use Rattle.irc_relay.specs.Relay.{from_one}
+use Rattle.irc_relay.specs.Links.{Name, Link, part, joined, distance, toward, AreJoined, AreLinked, IsForest, IsNextHop}
+use Rattle.irc_relay.specs.Relay.{streams_from, from_one}
+use Rattle.irc_relay.specs.Lemmas.TellingNames.{Telling, alike, unlike, tell}
 use Rattle.irc_relay.specs.Lemmas.StreamsFlow.{source_is_one}
 use Rattle.irc_relay.specs.Lemmas.NextHops.{distance_self, distance_zero, linked_back, next_hop}
 use Rattle.irc_relay.specs.Lemmas.LinkTakenOut.{tests_tell}
+use Rattle.irc_items.proofs.Common.Sources.{Stands, at_end, behind, aside}
 
 -- a server that lines come to over one link or more
 pub record IsFartherFrom (links : List Link) (h t : Name) : Type 0 where
@@ -74,3 +76,15 @@ module _ (links : List Link) (forest : IsForest links) (h : Name) where
 
       back : h ≡ toward links t h
       back = sym (distance_zero links (toward links t h) h forest hop.joined near)
+
+  pub stands_from_one : (t : Name) → Stands (λ e o. e ≡ h) links (streams_from links (from_one links h)) 0 t
+  stands_from_one t = by (decide t) (tell t h)
+    where
+      by : AreJoined links t h ⊎ (AreJoined links t h → ⊥) → Telling t h → Stands (λ e o. e ≡ h) links (streams_from links (from_one links h)) 0 t
+      by joined (alike _ e) = at_end h e (ap (λ v. distance links v (from_one links h v)) e ∙ home_depth)
+      by (inl on) (unlike _ two) =
+          let hop = next_hop links t h forest on two in
+          let away = ap (distance links t) (source_is_one links h t on) in
+          behind h h refl on two (subst (λ v. AreJoined links (toward links t v) h) (sym (source_is_one links h t on)) hop.joined)
+          (let nearer = hop.nearer in omega arith)
+      by (inr apart) (unlike _ two) = aside (λ e o is on. apart (on ∙ ap (part links) is)) (apart_depth t apart)

@@ -99,16 +99,19 @@ module _ (links left : List Link) (a b : Name) (cut : AreCutEnds links left a b)
           let one = joined_so left x t so in
           and_from _ _ (joined_test links x t (cut.kept x t one).joined) (ap not (not_beyond x (one ∙ here)))
 
-  -- links of that side stay, but for the lost one
-  pub side_linked : (t x : Name) → AreJoined left t a → (t ≡ a → x ≡ b → ⊥) → linked links t x ≡ linked left t x
-  side_linked t x here other =
-      both_so _ _ (λ so. (linked_tells left t x).1 (forth (cut.after t x ((linked_tells links t x).0 so))))
+  -- links stay, but for the lost one
+  pub linked_same : (t x : Name) → (t ≡ a → x ≡ b → ⊥) → (t ≡ b → x ≡ a → ⊥) → linked links t x ≡ linked left t x
+  linked_same t x forth back =
+      both_so _ _ (λ so. (linked_tells left t x).1 (there (cut.after t x ((linked_tells links t x).0 so))))
       (λ so. (linked_tells links t x).1 (cut.before t x ((linked_tells left t x).0 so)))
     where
-      forth : IsLeftOrLost left a b t x → AreLinked left t x
-      forth (stays there) = there
-      forth (goes from to) = absurd (other from to)
-      forth (goes_back from to) = absurd (cut.apart (ap (part left) (sym from) ∙ here))
+      there : IsLeftOrLost left a b t x → AreLinked left t x
+      there (stays still_linked) = still_linked
+      there (goes from to) = absurd (forth from to)
+      there (goes_back from to) = absurd (back from to)
+
+  pub side_linked : (t x : Name) → AreJoined left t a → (t ≡ a → x ≡ b → ⊥) → linked links t x ≡ linked left t x
+  side_linked t x here other = linked_same t x other (λ from to. cut.apart (ap (part left) (sym from) ∙ here))
 
   -- it is not there
   pub ends_unlinked : linked left a b ≡ false
@@ -131,11 +134,4 @@ module _ (links left : List Link) (a b : Name) (cut : AreCutEnds links left a b)
         ]
 
     pub aside_linked : (x : Name) → linked links t x ≡ linked left t x
-    aside_linked x =
-        both_so _ _ (λ so. (linked_tells left t x).1 (forth (cut.after t x ((linked_tells links t x).0 so))))
-        (λ so. (linked_tells links t x).1 (cut.before t x ((linked_tells left t x).0 so)))
-      where
-        forth : IsLeftOrLost left a b t x → AreLinked left t x
-        forth (stays there) = there
-        forth (goes from to) = absurd (not_near (ap (part left) from))
-        forth (goes_back from to) = absurd (not_far (ap (part left) from))
+    aside_linked x = linked_same t x (λ from to. not_near (ap (part left) from)) (λ from to. not_far (ap (part left) from))

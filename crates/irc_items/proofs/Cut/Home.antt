@@ -1,5 +1,5 @@
 -- A link is lost: what the server at one end does. It loses all that were behind the link, tells its other neighbours of each, and shows its clients who quits.
-use Rattle.std.proofs.Common.{◌≡◌, ◌≢◌, ℕ, Bool, true, false, cond, Option, Some, None, List, [], ◌∷◌, map, filter, inl, inr, nat_eq, is_some, refl, sym, ◌∙◌, ap, subst, if◌then◌else◌}
+use Rattle.std.proofs.Common.{◌≡◌, ◌≢◌, ℕ, Bool, true, false, cond, Option, Some, None, List, [], ◌∷◌, map, filter, nat_eq, is_some, refl, sym, ◌∙◌, ap, subst, if◌then◌else◌}
 use Rattle.std.proofs.lemmas.Bool.{eqb-true}
 use Rattle.std.specs.FinMap.{get, remove}
 use Rattle.std.specs.List.{AllByRecursion}
@@ -7,23 +7,19 @@ use Rattle.std.specs.Option.{option_map_or}
 use Rattle.irc_line.specs.Messages.{line_text}
 use Rattle.irc_room.specs.Invitations.{of_home}
 use Rattle.irc_room.specs.Room.{Room, IsWellFormed}
-use Rattle.irc_merge.specs.Deeds.{loses, after_deeds, shown_by_all}
-use Rattle.irc_merge.specs.Laws.{IsSplitBy}
-use Rattle.irc_merge.specs.ShownAlong.{shown_along}
-use Rattle.irc_merge.specs.Split.{are_distinct, split, split_effects, squits}
+use Rattle.irc_merge.specs.Deeds.{loses, after_deeds}
+use Rattle.irc_merge.specs.Split.{are_distinct, split}
 use Rattle.irc_merge.specs.Lemmas.SplitInTurn.{squits_split}
 use Rattle.irc_relay.specs.Distances.{EndsAreAmong, IsAmong}
 use Rattle.irc_relay.specs.Following.{all_done}
-use Rattle.irc_relay.specs.Links.{Name, Link, joined, links_without, same, AreJoined, AreLinked, IsForest, IsLeft, HasEnds}
+use Rattle.irc_relay.specs.Links.{Name, Link, joined, links_without, same, AreJoined, AreLinked, IsForest, IsLeft}
 use Rattle.irc_relay.specs.Lemmas.TellingNames.{Telling, alike, unlike, tell}
-use Rattle.irc_relay.specs.Lemmas.NextHops.{linked_back, linked_joined, linked_other, next_hop, toward_linked}
-use Rattle.irc_relay.specs.Lemmas.LinkTakenOut.{Ending, ends, ending, passes, taken_out, tests_tell, without-ends, without-passes, without_turned}
+use Rattle.irc_relay.specs.Lemmas.NextHops.{linked_back, linked_joined, linked_other}
+use Rattle.irc_relay.specs.Lemmas.LinkTakenOut.{ends, taken_out, tests_tell, without_turned}
 use Rattle.irc_routes.specs.Known.{Known, names_behind, without_link, without_server, IsNumbered}
 use Rattle.irc_burst_lines.specs.DeedLines.{squit_parts}
 use Rattle.irc_links.specs.Ends.{is_met}
 use Rattle.irc_links.specs.Ways.{but, met_links}
-use Rattle.irc_stage.specs.declared.clients.Client.{Client}
-use Rattle.irc_stage.specs.declared.clients.Client.TheVariants.{Registering, Registered}
 use Rattle.irc_stage.specs.EffectTold.{Served, in_silence}
 use Rattle.irc_stage.specs.Linked.{unlinked}
 use Rattle.irc_stage.specs.View.{End, View}
@@ -45,12 +41,15 @@ use Rattle.irc_follow.specs.Lemmas.LinesOnLinks.{among_met, but_another}
 use Rattle.irc_follow.specs.Lemmas.Neighbours.{met_end, HasEnd}
 use Rattle.irc_follow.specs.Lemmas.PlacesOfNames.{one_place}
 use Rattle.irc_items.specs.GoodLines.{closings}
+use Rattle.irc_items.proofs.Cut.Losses.{leaving_seen, room_lost, staying_sees}
+use Rattle.irc_items.proofs.Cut.Ends.{cut_ends, stays, goes, goes_back, AreCutEnds}
 use Rattle.irc_items.proofs.Cut.Sides.{cut_after, cut_side}
 use Rattle.irc_items.proofs.Cut.Forgetting.{all_forgotten, nobody_behind}
-use Rattle.irc_items.proofs.Cut.ListedOnce.{all_pass, keys_once}
-use Rattle.irc_items.proofs.Cut.LostInTurn.{has_lost, seen_by, serving, HasLost}
+use Rattle.irc_items.proofs.Cut.NamesPassing.{all_pass}
+use Rattle.irc_items.proofs.Cut.LostInTurn.{has_lost, serving, HasLost}
 use Rattle.irc_items.proofs.Good.MetEnds.{end_linked, linked_as_itself}
 use Rattle.irc_items.proofs.Good.PutOut.{but_itself}
+use Rattle.irc_items.proofs.Cut.Names.{keys_distinct}
 
 -- ---- a link between a and b that is lost in a world at rest
 
@@ -81,34 +80,11 @@ routes_lost s client a b (name ∷ names) w t here =
     routes_lost s client a b names (done s w (loses a name (split_text a b))) t here
     ∙ ap (λ c. all_forgotten names (if c then without_server name (w.tree.routes t) else w.tree.routes t)) here
 
-losses_are_squits : (a b : Name) (names : List Name) → losses a b names ≡ squits a (split_text a b) names
-losses_are_squits a b [] = refl
-losses_are_squits a b (name ∷ names) = ap (λ deeds. loses a name (split_text a b) ∷ deeds) (losses_are_squits a b names)
-
 pub all_so : (P Q : Name → Type 0) → ((x : Name) → P x → Q x) → (names : List Name) → AllByRecursion P names → AllByRecursion Q names
 all_so P Q so [] all = tt
 all_so P Q so (name ∷ names) all = (so name all.0, all_so P Q so names all.1)
 
--- a link stays while another is taken out
-module _ (a b t u : Name) (forth : (t ≡ a → u ≡ b → ⊥)) (back : (t ≡ b → u ≡ a → ⊥)) where
-  not_it : (l : Link) → HasEnds l a b → HasEnds l t u → ⊥
-  not_it l (inl (near, far)) (inl (first, second)) = forth (sym first ∙ near) (sym second ∙ far)
-  not_it l (inl (near, far)) (inr (first, second)) = back (sym second ∙ far) (sym first ∙ near)
-  not_it l (inr (near, far)) (inl (first, second)) = back (sym first ∙ near) (sym second ∙ far)
-  not_it l (inr (near, far)) (inr (first, second)) = forth (sym second ∙ far) (sym first ∙ near)
-
-  link_stays : (links : List Link) → AreLinked links t u → AreLinked (links_without links a b) t u
-  link_stays [] near = absurd near
-  link_stays (l ∷ links) near = by (ending l a b) near (link_stays links)
-    where
-      by : Ending l a b → AreLinked (l ∷ links) t u → (AreLinked links t u → AreLinked (links_without links a b) t u)
-          → AreLinked (links_without (l ∷ links) a b) t u
-      by (ends is its) (inl newest) later = absurd (not_it l its newest)
-      by (ends is its) (inr older) later = subst (λ ls. AreLinked ls t u) (sym (without-ends l links a b is)) older
-      by (passes is _) (inl newest) later = subst (λ ls. AreLinked ls t u) (sym (without-passes l links a b is)) (inl newest)
-      by (passes is _) (inr older) later = subst (λ ls. AreLinked ls t u) (sym (without-passes l links a b is)) (inr (later older))
-
-module _ (s : Fixed) (world : World) (routes : Name → Known) (left : List Link) (a b : Name) (cut : IsCutAt s world routes left a b) where
+module _ {s : Fixed} {world : World} {routes : Name → Known} {left : List Link} {a b : Name} (cut : IsCutAt s world routes left a b) where
   pub forest : IsForest world.links
   forest = cut.holds.sound.forest
 
@@ -126,16 +102,18 @@ module _ (s : Fixed) (world : World) (routes : Name → Known) (left : List Link
 
   -- ---- who is linked without that link
 
+  cut_off : AreCutEnds world.links left a b
+  cut_off = cut_ends world.links left a b forest cut.linked_ends (sym cut.is_left)
+
   pub linked_before : (t u : Name) → AreLinked left t u → AreLinked world.links t u
-  linked_before t u near =
-      subst (AreLinked world.links t) (sym (rest.kept t u on).toward_same ∙ toward_linked left t u rest.forest near)
-      (next_hop world.links t u forest (rest.kept t u on).joined (linked_other left t u rest.forest near)).linked
-    where
-      on : AreJoined left t u
-      on = linked_joined left t u near
+  linked_before = cut_off.before
 
   pub linked_still : (t u : Name) → (t ≡ a → u ≡ b → ⊥) → (t ≡ b → u ≡ a → ⊥) → AreLinked world.links t u → AreLinked left t u
-  linked_still t u forth back near = subst (λ ls. AreLinked ls t u) (sym cut.is_left) (link_stays a b t u forth back world.links near)
+  linked_still t u forth back near = elim (cut_off.after t u near) [
+    | stays there ↦ there
+    | goes from to ↦ absurd (forth from to)
+    | goes_back from to ↦ absurd (back from to)
+  ]
 
   -- ---- who is lost
 
@@ -148,7 +126,7 @@ module _ (s : Fixed) (world : World) (routes : Name → Known) (left : List Link
       ∙ ap (λ ls. servers_on_side s.settings ls b) (sym cut.is_left)
 
   pub lost_once : are_distinct lost ≡ true
-  lost_once = subst (λ names. are_distinct names ≡ true) (sym lost_are) (keys_once _)
+  lost_once = subst (λ names. are_distinct names ≡ true) (sym lost_are) (keys_distinct _)
 
   pub lost_beyond : AllByRecursion (λ x. AreJoined left x b) lost
   lost_beyond =
@@ -183,7 +161,7 @@ pub record IsParted (s : Fixed) (world : World) (routes : Name → Known) (left 
       ≡ (if is_home_of s.homes a client then leaving_lines s.settings left a b (world.hall a).room (get (world.hall a).clients client) else [])
   pub closes_none : closings now.out ≡ []
 
-module _ (s : Fixed) (world : World) (routes : Name → Known) (left : List Link) (a b : Name) (cut : IsCutAt s world routes left a b) (view : View)
+module _ {s : Fixed} {world : World} {routes : Name → Known} {left : List Link} {a b : Name} (cut : IsCutAt s world routes left a b) (view : View)
     (fits : Fits s a (part_of s world routes a) view) where
   abbrev k : ℕ
   k = number s b
@@ -201,12 +179,12 @@ module _ (s : Fixed) (world : World) (routes : Name → Known) (left : List Link
 
   met : (u : Name) → AreLinked world.links a u → HasEnd view (number s u) u
   met u near = met_end view (number s u) u
-      (fits.ends u (all_among s world routes left a b cut u a (linked_back world.links a u near))
+      (fits.ends u (all_among cut u a (linked_back world.links a u near))
       ∙ ap (λ c. if c then Some (if joined world.links u a then Some u else None) else None) ((tests_tell world.links a u u).2.1 near)
       ∙ ap (λ c. Some (if c then Some u else None)) ((tests_tell world.links u a u).1.1 (sym (linked_joined world.links a u near))))
 
   own : view.routes.name ≡ a
-  own = ap (λ (known : Known). known.name) fits.routes ∙ named_a s world routes left a b cut
+  own = ap (λ (known : Known). known.name) fits.routes ∙ named_a cut
 
   loses_them : lost_behind view k (get view.ends k) ≡ losses a b gone
   loses_them =
@@ -234,21 +212,15 @@ module _ (s : Fixed) (world : World) (routes : Name → Known) (left : List Link
       ∙ ap (λ now. closed (deeds_told (Some k) (losses a b gone) now)) at_first
 
   has : HasLost view a b k (routes a) room [] gone so
-  has = has_lost view a b k gone (routes a) room [] (named_a s world routes left a b cut) (lost_are_others s world routes left a b cut) well
-
-  split_so : IsSplitBy a (split_text a b) gone room
-  split_so = squits_split a (split_text a b) gone room (lost_once s world routes left a b cut) well
+  has = has_lost view a b k gone (routes a) room [] (named_a cut) (lost_are_others cut) well
 
   -- ---- its room and its routes
 
   room_left : after_deeds room (losses a b gone) ≡ split (split_text a b) (servers_on_side s.settings left b) room
-  room_left =
-      ap (after_deeds room) (losses_are_squits a b gone)
-      ∙ split_so.room_left
-      ∙ ap (λ names. split (split_text a b) names room) (lost_are s world routes left a b cut)
+  room_left = ap (λ names. after_deeds room (losses a b names)) (lost_are cut) ∙ room_lost squits_split s.settings left a b room well
 
   numbered : IsNumbered (routes a)
-  numbered = cut.right.numbered a (a_among s world routes left a b cut)
+  numbered = cut.right.numbered a (a_among cut)
 
   forgets_them : (closed so).view.routes ≡ all_forgotten gone (routes a)
   forgets_them = ap (λ (v : View). without_link k v.routes) has.view_is ∙ nobody_behind (routes a) k numbered
@@ -260,7 +232,7 @@ module _ (s : Fixed) (world : World) (routes : Name → Known) (left : List Link
     where
       by : (c : Bool) → nat_eq k (number s u) ≡ c → c ≡ false
       by false is = refl
-      by true is = absurd (two (sym (one_place s.names b u (b_among s world routes left a b cut) (eqb-true k (number s u) is))))
+      by true is = absurd (two (sym (one_place s.names b u (b_among cut) (eqb-true k (number s u) is))))
 
   on_met : (u : Name) → u ≢ b → filter (λ n. nat_eq n (number s u)) (but (Some k) (met_links view.ends))
       ≡ (if option_map_or is_met (get view.ends (number s u)) false then number s u ∷ [] else [])
@@ -274,10 +246,10 @@ module _ (s : Fixed) (world : World) (routes : Name → Known) (left : List Link
       ∙ ap (λ o. if is_some o then number s u ∷ [] else []) its_end.named)
     where
       rest_of : IsLeft left world.links a b
-      rest_of = rest s world routes left a b cut
+      rest_of = rest cut
 
       its_end : HasEnd view (number s u) u
-      its_end = met u (linked_before s world routes left a b cut a u near)
+      its_end = met u (linked_before cut a u near)
 
   told_nobody_else : (u : Name) → (AreLinked left a u → ⊥) → lines_on (number s u) so.out ≡ []
   told_nobody_else u apart = has.lines (number s u) false (by (tell u b))
@@ -285,8 +257,7 @@ module _ (s : Fixed) (world : World) (routes : Name → Known) (left : List Link
       no_end : u ≢ b → (o : Option End) → get view.ends (number s u) ≡ o → option_map_or is_met o false ≡ false
       no_end two None there = refl
       no_end two (Some end) there =
-          absurd (apart (linked_still s world routes left a b cut a u (λ e f. two f)
-          (λ e f. linked_other world.links a b (forest s world routes left a b cut) cut.linked_ends e)
+          absurd (apart (linked_still cut a u (λ e f. two f) (λ e f. linked_other world.links a b (forest cut) cut.linked_ends e)
           (end_linked s world.links a (part_of s world routes a) view fits (linked_as_itself world.links a) u end there)))
 
       by : Telling u b → filter (λ n. nat_eq n (number s u)) (but (Some k) (met_links view.ends)) ≡ []
@@ -296,23 +267,17 @@ module _ (s : Fixed) (world : World) (routes : Name → Known) (left : List Link
 
   -- ---- what it shows
 
-  leaving_seen : (client : Option Client) → seen_by room (losses a b gone) client ≡ leaving_lines s.settings left a b room client
-  leaving_seen None = refl
-  leaving_seen (Some (Registering pending)) = refl
-  leaving_seen (Some (Registered nick)) =
-      ap (shown_by_all nick room) (losses_are_squits a b gone)
-      ∙ split_so.shown nick
-      ∙ ap (λ names. shown_along nick room (split_effects (split_text a b) names room)) (lost_are s world routes left a b cut)
-
-  shown_there : (client : ℕ) → seen_by room (losses a b gone) (get view.clients client)
+  shown_there : (client : ℕ) → staying_sees (losses a b gone) room (get view.clients client)
       ≡ (if is_home_of s.homes a client then leaving_lines s.settings left a b room (get (world.hall a).clients client) else [])
   shown_there client =
-      ap (seen_by room (losses a b gone)) (ap (λ clients. get clients client) fits.clients ∙ get-kept (world.hall a).clients (is_home_of s.homes a) client)
+      ap (staying_sees (losses a b gone) room) (ap (λ clients. get clients client) fits.clients ∙ get-kept (world.hall a).clients (is_home_of s.homes a) client)
       ∙ by (is_home_of s.homes a client)
     where
-      by : (c : Bool) → seen_by room (losses a b gone) (cond c (get (world.hall a).clients client) None)
+      by : (c : Bool) → staying_sees (losses a b gone) room (cond c (get (world.hall a).clients client) None)
           ≡ (if c then leaving_lines s.settings left a b room (get (world.hall a).clients client) else [])
-      by true = leaving_seen (get (world.hall a).clients client)
+      by true =
+          ap (λ names. staying_sees (losses a b names) room (get (world.hall a).clients client)) (lost_are cut)
+          ∙ leaving_seen squits_split s.settings left a b room well (get (world.hall a).clients client)
       by false = refl
 
   -- ----

@@ -7,21 +7,24 @@ use Rattle.std.specs.List.{list_any}
 use Rattle.std.specs.Option.{option_map_or}
 use Rattle.irc_deeds.specs.DeedTold.{losses, split_text}
 use Rattle.irc_merge.specs.Deeds.{Deed, loses, after_deed, after_deeds, shown_by, shown_by_all}
-use Rattle.irc_merge.specs.Split.{squits}
+use Rattle.irc_merge.specs.Split.{squits, split}
 use Rattle.irc_merge.specs.Lemmas.BooleanTests.{neither}
+use Rattle.irc_merge.specs.Laws.{IsSplitBy, SquitsSplit}
 use Rattle.irc_relay.specs.Following.{all_done, all_seen}
-use Rattle.irc_relay.specs.Links.{Name, same}
+use Rattle.irc_relay.specs.Links.{Name, same, Link, joined}
 use Rattle.irc_relay.specs.Lemmas.TellingNames.{same_unless, same_when}
-use Rattle.irc_room.specs.Room.{Room}
+use Rattle.irc_room.specs.Room.{Room, IsWellFormed}
 use Rattle.irc_routes.specs.Known.{Known, without_server}
 use Rattle.irc_stage.specs.declared.clients.Client.{Client}
 use Rattle.irc_stage.specs.declared.clients.Client.TheVariants.{Registering, Registered}
 use Rattle.irc_stage.specs.Lemmas.Counting.{get-kept}
 use Rattle.irc_stage.specs.RoomMachine.{Clients}
-use Rattle.irc_world.specs.World.{home_in}
+use Rattle.irc_world.specs.World.{home_in, Setting}
+use Rattle.irc_world.specs.Stepping.{leaving_lines, servers_on_side}
 use Rattle.irc_follow.specs.Part.{Fixed, Part, client_sees, clients_elsewhere, done, is_home_of}
 use Rattle.irc_follow.specs.Says.{play}
 use Rattle.irc_follow.specs.Tree.{Tree, lost_at}
+use Rattle.irc_items.proofs.Cut.Names.{servers_distinct}
 
 -- ---- one loss
 
@@ -82,10 +85,26 @@ staying_sees deeds room None = []
 staying_sees deeds room (Some (Registering pending)) = []
 staying_sees deeds room (Some (Registered nick)) = shown_by_all nick room deeds
 
-nothing_yet : (room : Room) (o : Option Client) → [] ≡ staying_sees [] room o
+pub nothing_yet : (room : Room) (o : Option Client) → [] ≡ staying_sees [] room o
 nothing_yet room None = refl
 nothing_yet room (Some (Registering pending)) = refl
 nothing_yet room (Some (Registered nick)) = refl
+
+-- all servers beyond a link are lost: what is left of a room, and what its clients see
+module _ (squits : SquitsSplit) (settings : List Setting) (left : List Link) (a b : Name) (room : Room) (well : IsWellFormed room) where
+  abbrev gone : List Name
+  gone = servers_on_side settings left b
+
+  abbrev split_so : IsSplitBy a (split_text a b) gone room
+  split_so = squits a (split_text a b) gone room (servers_distinct settings (joined left b)) well
+
+  pub room_lost : after_deeds room (losses a b gone) ≡ split (split_text a b) gone room
+  room_lost = ap (after_deeds room) (losses_are a b gone) ∙ split_so.room_left
+
+  pub leaving_seen : (o : Option Client) → staying_sees (losses a b gone) room o ≡ leaving_lines settings left a b room o
+  leaving_seen None = refl
+  leaving_seen (Some (Registering pending)) = refl
+  leaving_seen (Some (Registered nick)) = ap (shown_by_all nick room) (losses_are a b gone) ∙ split_so.shown nick
 
 sees_first : (server name text : List ℕ) (deeds : List Deed) (room : Room) (o : Option Client)
     → client_sees (loses server name text) room o ++ staying_sees deeds (after_deed room (loses server name text)) o

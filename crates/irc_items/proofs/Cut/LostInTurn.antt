@@ -13,7 +13,7 @@ use Rattle.irc_room.specs.Room.{Room, IsWellFormed}
 use Rattle.irc_room.specs.Lemmas.AlikeLaw.{alike_have_alike, alike_stay_alike, alike_take_alike, home_is_alike}
 use Rattle.irc_room.specs.Lemmas.HomeLaw.{home_follows}
 use Rattle.irc_room.specs.Lemmas.HomeRooms.{home_is_well_formed}
-use Rattle.irc_merge.specs.Deeds.{Deed, loses, after_deed, after_deeds, shown_by, shown_by_all}
+use Rattle.irc_merge.specs.Deeds.{Deed, loses, after_deed, after_deeds, shown_by}
 use Rattle.irc_merge.specs.Quits.{quits_of, users_at}
 use Rattle.irc_merge.specs.Lemmas.Quitting.{quits_well}
 use Rattle.irc_merge.specs.Lemmas.DeedsAlike.{alike_do_alike, home_follows_deed}
@@ -23,7 +23,7 @@ use Rattle.irc_burst_lines.specs.DeedLines.{squit_parts}
 use Rattle.irc_links.specs.Ways.{but, met_links}
 use Rattle.irc_stage.specs.declared.clients.Client.{Client}
 use Rattle.irc_stage.specs.declared.clients.Client.TheVariants.{Registering, Registered}
-use Rattle.irc_stage.specs.EffectTold.{Served, all_changed, changed, changed_if, counts, on_links, shown_at}
+use Rattle.irc_stage.specs.EffectTold.{Served, all_changed, on_links}
 use Rattle.irc_stage.specs.Linked.{without_row}
 use Rattle.irc_stage.specs.View.{View}
 use Rattle.irc_deeds.specs.DeedTold.{deed_told, deeds_told, losses, split_text}
@@ -36,7 +36,8 @@ use Rattle.irc_follow.specs.Lemmas.SaidEffectShown.{all_lines, append_nil, but_l
 use Rattle.irc_items.specs.GoodLines.{closings, reason_of}
 use Rattle.irc_items.proofs.Cut.Forgetting.{all_forgotten}
 use Rattle.irc_items.proofs.Cut.LostUsersQuit.{quits_do}
-use Rattle.irc_items.proofs.Good.PutOut.{none_closed_by_effect, none_closed_on_links}
+use Rattle.irc_items.proofs.Good.PutOut.{none_closed_on_links, none_closed_by_all}
+use Rattle.irc_items.proofs.Cut.Losses.{nothing_yet, staying_sees}
 
 -- ---- no link is closed by it
 
@@ -44,23 +45,7 @@ closed_before : (one other : List Sent) → closings other ≡ [] → closings (
 closed_before one other none =
     filter_map-append reason_of one other ∙ ap (λ l. closings one ++ l) none ∙ append_nil (closings one)
 
-none_closed_by_one : (effect : Effect) (s : Served) → closings (changed_if effect s).out ≡ closings s.out
-none_closed_by_one effect s = by (counts s.view effect)
-  where
-    by : (b : Bool) → closings (if b then changed effect s else s).out ≡ closings s.out
-    by true = closed_before s.out (shown_at s.view effect) (none_closed_by_effect s.view effect)
-    by false = refl
-
-none_closed_by_all : (effects : List Effect) (s : Served) → closings (all_changed effects s).out ≡ closings s.out
-none_closed_by_all [] s = refl
-none_closed_by_all (effect ∷ effects) s = none_closed_by_all effects (changed_if effect s) ∙ none_closed_by_one effect s
-
 -- ---- what a client sees of some deeds
-
-abbrev pub seen_by : Room → List Deed → Option Client → List (List ℕ)
-seen_by room deeds None = []
-seen_by room deeds (Some (Registering pending)) = []
-seen_by room deeds (Some (Registered nick)) = shown_by_all nick room deeds
 
 abbrev seen_first : Room → Deed → Option Client → List (List ℕ)
 seen_first room deed None = []
@@ -68,15 +53,10 @@ seen_first room deed (Some (Registering pending)) = []
 seen_first room deed (Some (Registered nick)) = shown_by nick room deed
 
 seen_in_turn : (room : Room) (deed : Deed) (deeds : List Deed) (client : Option Client)
-    → seen_first room deed client ++ seen_by (after_deed room deed) deeds client ≡ seen_by room (deed ∷ deeds) client
+    → seen_first room deed client ++ staying_sees deeds (after_deed room deed) client ≡ staying_sees (deed ∷ deeds) room client
 seen_in_turn room deed deeds None = refl
 seen_in_turn room deed deeds (Some (Registering pending)) = refl
 seen_in_turn room deed deeds (Some (Registered nick)) = refl
-
-seen_none : (room : Room) (client : Option Client) → seen_by room [] client ≡ []
-seen_none room None = refl
-seen_none room (Some (Registering pending)) = refl
-seen_none room (Some (Registered nick)) = refl
 
 -- ---- the link to far is lost at t
 
@@ -181,14 +161,14 @@ module _ (view : View) (t far : Name) (k : ℕ) where
     pub view_is : so.view ≡ moment (all_forgotten names known) (after_deeds room (losses t far names))
     pub lines : (j : ℕ) (b : Bool) → filter (λ n. nat_eq n j) other_links ≡ (if b then j ∷ [] else [])
         → lines_on j so.out ≡ lines_on j out ++ (if b then map told_line names else [])
-    pub shown : (who : ℕ) → lines_to who so.out ≡ lines_to who out ++ seen_by room (losses t far names) (get view.clients who)
+    pub shown : (who : ℕ) → lines_to who so.out ≡ lines_to who out ++ staying_sees (losses t far names) room (get view.clients who)
     pub closes : closings so.out ≡ closings out
 
   lost_none : (known : Known) (room : Room) (out : List Sent) → HasLost known room out [] (serving known room out)
   lost_none known room out = record {
     view_is = refl;
     lines = λ j b is. by j b;
-    shown = λ who. sym (ap (λ l. lines_to who out ++ l) (seen_none room (get view.clients who)) ∙ append_nil (lines_to who out));
+    shown = λ who. sym (ap (λ l. lines_to who out ++ l) (sym (nothing_yet room (get view.clients who))) ∙ append_nil (lines_to who out));
     closes = refl;
   }
     where
@@ -209,10 +189,10 @@ module _ (view : View) (t far : Name) (k : ℕ) where
         ∙ ap (λ l. lines_on j out ++ l) (ap (λ links. map (λ _. told_line name) links ++ (if b then map told_line names else [])) is ∙ by j b);
     shown = λ who.
         rest.shown who
-        ∙ ap (λ l. l ++ seen_by (after_deed room (loses t name text)) (losses t far names) (get view.clients who))
+        ∙ ap (λ l. l ++ staying_sees (losses t far names) (after_deed room (loses t name text)) (get view.clients who))
         (loss_shown known room out name own two well who)
         ∙ append_assoc (lines_to who out) (seen_first room (loses t name text) (get view.clients who))
-        (seen_by (after_deed room (loses t name text)) (losses t far names) (get view.clients who))
+        (staying_sees (losses t far names) (after_deed room (loses t name text)) (get view.clients who))
         ∙ ap (λ l. lines_to who out ++ l) (seen_in_turn room (loses t name text) (losses t far names) (get view.clients who));
     closes = rest.closes ∙ loss_closes known room out name own two well;
   }

@@ -14,7 +14,7 @@ use Rattle.irc_deeds.specs.DeedTold.{split_text}
 use Rattle.irc_stage.specs.View.{View}
 use Rattle.irc_world.specs.World.{World}
 use Rattle.irc_follow.specs.AtRest.{part_of}
-use Rattle.irc_follow.specs.Fits.{Fits, IsNumberOf}
+use Rattle.irc_follow.specs.Fits.{Fits}
 use Rattle.irc_follow.specs.Part.{Fixed, Part, number, IsSoundPart}
 use Rattle.irc_follow.specs.Relinked.{taking_from, FlowsAlong}
 use Rattle.irc_follow.specs.Says.{machine, play, Says}
@@ -25,6 +25,7 @@ use Rattle.irc_follow.specs.Lemmas.BehindSources.{behind_source_is_far, other_so
 use Rattle.irc_follow.specs.Lemmas.Neighbours.{IsKnownOfLines}
 use Rattle.irc_follow.specs.Lemmas.NewLink.{parent_is_linked}
 use Rattle.irc_follow.specs.Lemmas.SideFlows.{one_side_is_left, other_side_is_left}
+use Rattle.irc_items.proofs.Common.Right.{refits}
 use Rattle.irc_items.proofs.Cut.Home.{forest, linked_before, linked_still, rest, IsCutAt}
 use Rattle.irc_items.proofs.Cut.Sides.{cut_side, deeds_of_cut}
 use Rattle.irc_items.proofs.Cut.Told.{said_to, tells_in_turn, IsLossOfCut, IsToldByEnd, SaysInTurn}
@@ -34,17 +35,17 @@ pub record IsEnd (world : World) (routes : Name → Known) (left : List Link) (s
   pub told : (x : Name) → AreJoined left x o → IsToldOf left source (cut_side world routes left e).tree x
   pub source_is : (t : Name) → AreJoined left t e → source t ≡ e
 
-module _ (s : Fixed) (world : World) (routes : Name → Known) (left : List Link) (a b : Name) (cut : IsCutAt s world routes left a b) where
+module _ {s : Fixed} {world : World} {routes : Name → Known} {left : List Link} {a b : Name} (cut : IsCutAt s world routes left a b) where
   side_at : (e : Name) → IsSide left e (cut_side world routes left e).tree
   side_at e = λ t. (tests_tell left t e t).1
 
   parted_ends : AreJoined left a b → ⊥
-  parted_ends = (rest s world routes left a b cut).parted
+  parted_ends = (rest cut).parted
 
   pub near_is_end : IsEnd world routes left (from_near_end left a b) a b
   near_is_end = record {
     told = λ x on. subst (λ ls. IsToldOf ls (from_near_end ls a b) (cut_side world routes left a).tree x) (sym cut.is_left)
-        (one_side_is_left (cut_side world routes left a).tree a b x (forest s world routes left a b cut) cut.linked_ends
+        (one_side_is_left (cut_side world routes left a).tree a b x (forest cut) cut.linked_ends
         (subst (λ ls. IsSide ls a (cut_side world routes left a).tree) cut.is_left (side_at a)) (subst (λ ls. AreJoined ls x b) cut.is_left on));
     source_is = λ t on. ((sources_are left a b t parted_ends).0 on).2;
   }
@@ -52,21 +53,21 @@ module _ (s : Fixed) (world : World) (routes : Name → Known) (left : List Link
   pub far_is_end : IsEnd world routes left (from_near_end left a b) b a
   far_is_end = record {
     told = λ x on. subst (λ ls. IsToldOf ls (from_near_end ls a b) (cut_side world routes left b).tree x) (sym cut.is_left)
-        (other_side_is_left (cut_side world routes left b).tree a b x (forest s world routes left a b cut) cut.linked_ends
+        (other_side_is_left (cut_side world routes left b).tree a b x (forest cut) cut.linked_ends
         (subst (λ ls. IsSide ls b (cut_side world routes left b).tree) cut.is_left (side_at b)) (subst (λ ls. AreJoined ls x a) cut.is_left on));
     source_is = λ t on. ((sources_are left a b t parted_ends).1 on).1;
   }
 
-module _ (s : Fixed) (world : World) (routes : Name → Known) (left : List Link) (e o : Name) (cut : IsCutAt s world routes left e o) (source : Name → Name)
+module _ {s : Fixed} {world : World} {routes : Name → Known} {left : List Link} {e o : Name} (cut : IsCutAt s world routes left e o) {source : Name → Name}
     (is_end : IsEnd world routes left source e o) where
   abbrev side : Part
   side = cut_side world routes left e
 
   kept : IsLeft left world.links e o
-  kept = rest s world routes left e o cut
+  kept = rest cut
 
   world_forest : IsForest world.links
-  world_forest = forest s world routes left e o cut
+  world_forest = forest cut
 
   flows : FlowsAlong left source side.tree
   flows = (is_end.told o refl).along
@@ -114,19 +115,8 @@ module _ (s : Fixed) (world : World) (routes : Name → Known) (left : List Link
 
     pub cut_side_fits : (base : Fixed) (view : View) → Fits base t (part_of base world routes t) view
         → Fits (taking_from left source base) t (cut_side world routes left t) view
-    cut_side_fits base view fits = record {
-      here = joined_test left t t refl;
-      sound = cut_side_sound base fits.sound;
-      peers = fits.peers;
-      routes = fits.routes;
-      ends = fits.ends;
-      no_others = λ k end is. by k (fits.no_others k end is);
-      clients = fits.clients;
-      room = fits.room;
-    }
-      where
-        by : (k : ℕ) → IsNumberOf base k → IsNumberOf (taking_from left source base) k
-        by k n = record { server = n.server; among = n.among; is = n.is }
+    cut_side_fits base view fits =
+        refits base.streams fits (joined_test left t t refl) (cut_side_sound base fits.sound) refl (λ x among. refl) refl refl
 
   -- ---- where its lines come from
 
@@ -139,7 +129,7 @@ module _ (s : Fixed) (world : World) (routes : Name → Known) (left : List Link
     takes_left t p takes = parent_is_linked left source t p kept.forest flows.covers (taking t p takes)
 
     pub takes_linked : (t p : Name) → TakesFrom s.streams t p → AreLinked world.links t p
-    takes_linked t p takes = linked_before s world routes left e o cut t p (takes_left t p takes)
+    takes_linked t p takes = linked_before cut t p (takes_left t p takes)
 
     pub taker_is_another : (t p : Name) → AreJoined left t e → TakesFrom s.streams t p → t ≢ e
     taker_is_another t p on takes is =
@@ -169,7 +159,7 @@ module _ (s : Fixed) (world : World) (routes : Name → Known) (left : List Link
     -- who is linked to one that takes lines is of its side
     pub within_side : (t p u : Name) → AreJoined left t e → TakesFrom s.streams t p → AreLinked world.links t u → AreJoined left u e
     within_side t p u on takes near =
-        sym (linked_joined left t u (linked_still s world routes left e o cut t u (λ is _. taker_is_another t p on takes is)
+        sym (linked_joined left t u (linked_still cut t u (λ is _. taker_is_another t p on takes is)
         (λ is _. kept.parted (sym on ∙ ap (part left) is)) near))
         ∙ on
 
@@ -194,7 +184,7 @@ module _ (s : Fixed) (world : World) (routes : Name → Known) (left : List Link
         → SaysInTurn s e u (IsLossOfCut world.links left e) (cut_side world routes left u) other (deeds_of_cut s routes e o)
         (map (λ x. line_text (squit_parts e x (split_text e o))) (names_behind (routes e) (number s o)))
     said_next known u other near reader =
-        said_to known s world routes left e o cut ways_of_end u (next_takes u near) (cut_side world routes left u) other
+        said_to known cut ways_of_end u (next_takes u near) (cut_side world routes left u) other
         (record { forest = refl; here = λ x. joined_alike left x u e on })
         (λ x there. joined_test world.links x u (there ∙ (kept.kept e u (sym on)).joined)) reader
       where

@@ -1,23 +1,26 @@
 -- The network just after a link is lost: both ends have done what there is to do, and the other servers of each side are about to be told.
-use Rattle.std.proofs.Common.{◌≡◌, ◌≢◌, ◌<◌, ℕ, true, None, List, refl, sym, ap, subst, ◌∙◌, arith, if◌then◌else◌}
-use Rattle.irc_relay.specs.Distances.{EndsAreAmong}
-use Rattle.irc_relay.specs.Lemmas.TellingNames.{Telling, alike, unlike, tell, same_unless}
-use Rattle.irc_relay.specs.Links.{Name, Link, part, joined, toward, distance, links_without, AreJoined, AreLinked, IsForest, IsLeft}
+use Rattle.std.proofs.Common.{◌≡◌, List, inl, refl, sym, ap, subst, ◌∙◌, arith}
+use Rattle.irc_relay.specs.Distances.{EndsAreAmong, IsAmong}
+use Rattle.irc_relay.specs.Lemmas.TellingNames.{Telling, alike, unlike, tell}
+use Rattle.irc_relay.specs.Links.{Name, Link, joined, toward, distance, links_without, AreJoined, AreLinked, HasEnds, IsForest}
 use Rattle.irc_relay.specs.Relay.{streams_from, from_near_end, Covers}
-use Rattle.irc_relay.specs.Lemmas.StreamsFlow.{near_ends_cover, sources_are}
-use Rattle.irc_relay.specs.Lemmas.NextHops.{distance_self, next_hop}
-use Rattle.irc_relay.specs.Lemmas.LinkTakenOut.{taken_out}
-use Rattle.irc_world.specs.Refused.{refused}
+use Rattle.irc_relay.specs.Lemmas.StreamsFlow.{near_ends_cover}
+use Rattle.irc_relay.specs.Lemmas.NextHops.{distance_self, linked_back, next_hop}
+use Rattle.irc_relay.specs.Lemmas.LinkTakenOut.{without_turned}
 use Rattle.irc_world.specs.Stepping.{cut, parted}
 use Rattle.irc_world.specs.World.{World}
-use Rattle.irc_world.specs.WorldHolds.{IsWorld}
 use Rattle.irc_follow.specs.AtRest.{AreRight}
 use Rattle.irc_follow.specs.Part.{Fixed, IsFixed}
-use Rattle.irc_network.specs.Network.{Network, is_at_rest}
-use Rattle.irc_items.specs.OneRoom.{at_rest_of, IsOneRoom}
+use Rattle.irc_network.specs.Network.{Network}
+use Rattle.irc_items.specs.OneRoom.{at_rest_of}
 use Rattle.irc_items.specs.Relayed.{fixed_of}
 use Rattle.irc_items.specs.SetUp.{routes_in, settings_of}
-use Rattle.irc_items.specs.Sound.{world_now, IsSound}
+use Rattle.irc_items.specs.Sound.{world_now}
+use Rattle.irc_items.proofs.Common.Ends.{OnSide, on_side, on_neither, both_ends, chosen_at, chosen_aside, which_side}
+use Rattle.irc_items.proofs.Common.Right.{right_wherever}
+use Rattle.irc_items.proofs.Common.Sources.{Stands, at_end, behind, aside}
+use Rattle.irc_items.proofs.Common.Step.{IsStep}
+use Rattle.irc_items.proofs.Cut.Ends.{cut_ends, AreCutEnds}
 use Rattle.irc_items.proofs.Cut.Given.{IsCut, IsParting}
 use Rattle.irc_items.specs.Lemmas.SetUpFacts.{fixed}
 
@@ -30,24 +33,11 @@ abbrev pub cut_fixed : Network → Name → Name → Fixed
 cut_fixed net near far = fixed_of net (streams_from (left_of net near far) (from_near_end (left_of net near far) near far))
 
 pub record IsCutStep (net new : Network) (near far : Name) : Type 0 where
-  pub sound : IsSound net
-  pub rest : is_at_rest net ≡ true
-  pub one : IsOneRoom net
+  pub step : IsStep net new (cut near far) net.homes (parted (settings_of net) (world_now net) (left_of net near far) near far)
   pub parting : IsParting net near far
   pub cut_so : IsCut net new near far
-  pub holds : IsWorld (settings_of net) (world_now net)
-  pub holds_after : IsWorld (settings_of net) (parted (settings_of net) (world_now net) (left_of net near far) near far).world
-  pub not_refused : refused (settings_of net) (world_now net) (cut near far) ≡ None
 
--- Where a server is: it is an end, or takes lines from its own side, or is of neither side.
-pub data Stands (left : List Link) (near far : Name) (parent : Name) (depth : ℕ) (t : Name) : Type 0 where
-  at_near : t ≡ near → depth ≡ 0 → Stands left near far parent depth t
-  at_far : t ≡ far → depth ≡ 0 → Stands left near far parent depth t
-  behind_near : AreJoined left t near → t ≢ near → AreJoined left parent near → depth ≡ distance left t near → 0 < depth → Stands left near far parent depth t
-  behind_far : AreJoined left t far → t ≢ far → AreJoined left parent far → depth ≡ distance left t far → 0 < depth → Stands left near far parent depth t
-  aside : (AreJoined left t near → ⊥) → (AreJoined left t far → ⊥) → depth ≡ 0 → Stands left near far parent depth t
-
-module _ (net new : Network) (near far : Name) (given : IsCutStep net new near far) where
+module _ {net new : Network} {near far : Name} (given : IsCutStep net new near far) where
   abbrev s : Fixed
   s = cut_fixed net near far
 
@@ -57,77 +47,62 @@ module _ (net new : Network) (near far : Name) (given : IsCutStep net new near f
   abbrev left : List Link
   left = left_of net near far
 
-  pub linked_before : AreLinked world.links near far
-  linked_before = subst (λ links. AreLinked links near far) given.sound.links given.parting.linked
+  abbrev l : Link
+  l = record { near = near; far = far }
 
-  pub is_left : IsLeft left world.links near far
-  is_left = taken_out world.links near far given.holds.sound.forest linked_before
+  pub ends_linked : (a b : Name) → HasEnds l a b → AreLinked world.links a b
+  ends_linked = both_ends l (AreLinked world.links) before (linked_back world.links near far before)
+    where
+      before : AreLinked world.links near far
+      before = subst (λ links. AreLinked links near far) given.step.sound.links given.parting.linked
+
+  pub left_is : (a b : Name) → HasEnds l a b → links_without world.links a b ≡ left
+  left_is = both_ends l (λ a b. links_without world.links a b ≡ left) refl (without_turned world.links far near)
+
+  -- what the loss parts, as each end sees it
+  pub cut_off : (a b : Name) → HasEnds l a b → AreCutEnds world.links left a b
+  cut_off a b ends = cut_ends world.links left a b given.step.holds.sound.forest (ends_linked a b ends) (left_is a b ends)
 
   pub apart : AreJoined left near far → ⊥
-  apart = is_left.parted
+  apart on = (cut_off near far (inl (refl, refl))).apart (sym on)
 
   pub forest : IsForest left
-  forest = is_left.forest
+  forest = (cut_off near far (inl (refl, refl))).forest
 
   pub covers : Covers left (from_near_end left near far)
   covers = near_ends_cover left near far
 
   pub fixed_here : IsFixed s
-  fixed_here = fixed net given.sound.set_up s.streams
+  fixed_here = fixed net given.step.sound.set_up s.streams
 
   pub old_ends : EndsAreAmong net.names world.links
-  old_ends t u linked = sym (fixed_here.listed t) ∙ given.holds.sound.ends_known t u linked
+  old_ends t u linked = sym (fixed_here.listed t) ∙ given.step.holds.sound.ends_known t u linked
+
+  pub end_among : (a b : Name) → HasEnds l a b → IsAmong net.names a
+  end_among a b ends = old_ends a b (ends_linked a b ends)
 
   pub right_here : AreRight s world.links (routes_in net)
-  right_here = record {
-    named = r.named;
-    described = r.described;
-    created = r.created;
-    rows = r.rows;
-    numbered = r.numbered;
-    low = r.low;
-    tokens = r.tokens;
-  }
-    where
-      r : AreRight (at_rest_of net) world.links (routes_in net)
-      r = subst (λ links. AreRight (at_rest_of net) links (routes_in net)) given.sound.links given.one.right
+  right_here = right_wherever s.homes s.streams
+      (subst (λ links. AreRight (at_rest_of net) links (routes_in net)) given.step.sound.links given.step.one.right)
 
   -- ---- where lines come from
 
-  pub near_source : (t : Name) → AreJoined left t near → from_near_end left near far t ≡ near
-  near_source t on = ((sources_are left near far t apart).0 on).2
+  pub source_at : (t a b : Name) → HasEnds l a b → AreJoined left t a → from_near_end left near far t ≡ a
+  source_at t a b ends on = chosen_at l left apart (λ e o. e) t t a b ends on
 
-  pub far_source : (t : Name) → AreJoined left t far → from_near_end left near far t ≡ far
-  far_source t on = ((sources_are left near far t apart).1 on).1
-
-  own_source : (t : Name) → (AreJoined left t near → ⊥) → (AreJoined left t far → ⊥) → from_near_end left near far t ≡ t
-  own_source t m n =
-      ap (λ c. if c then near else (if joined left t far then far else t)) (same_unless (part left t) (part left near) m)
-      ∙ ap (λ c. if c then far else t) (same_unless (part left t) (part left far) n)
-
-  pub stands : (t : Name) → Stands left near far (s.streams.parent t) (s.streams.depth t) t
-  stands t = by (tell (part left t) (part left near)) (tell (part left t) (part left far))
+  pub stands : (t : Name) → Stands (HasEnds l) left s.streams 0 t
+  stands t = by (which_side l left t)
     where
-      at : (e : Name) → from_near_end left near far e ≡ e → t ≡ e → s.streams.depth t ≡ 0
-      at e own same_one =
-          ap (λ v. distance left v (from_near_end left near far v)) same_one ∙ ap (distance left e) own ∙ distance_self left e
-
-      hops : (e : Name) → AreJoined left t e → t ≢ e → from_near_end left near far t ≡ e
-          → AreJoined left (s.streams.parent t) e × ((s.streams.depth t ≡ distance left t e) × (0 < s.streams.depth t))
-      hops e on two source =
-          let hop = next_hop left t e forest on two in
+      on : (a b : Name) → HasEnds l a b → AreJoined left t a → Telling t a → Stands (HasEnds l) left s.streams 0 t
+      on a b ends here (alike _ e) = at_end b (subst (λ v. HasEnds l v b) (sym e) ends)
+          (ap (distance left t) (source_at t a b ends here ∙ sym e) ∙ distance_self left t)
+      on a b ends here (unlike _ two) =
+          let hop = next_hop left t a forest here two in
+          let source = source_at t a b ends here in
           let away = ap (distance left t) source in
-          (subst (λ v. AreJoined left (toward left t v) e) (sym source) hop.joined, (away, (let nearer = hop.nearer in omega arith)))
+          behind a b ends here two (subst (λ v. AreJoined left (toward left t v) a) (sym source) hop.joined)
+          (let nearer = hop.nearer in omega arith)
 
-      of_near : AreJoined left t near → Telling t near → Stands left near far (s.streams.parent t) (s.streams.depth t) t
-      of_near on (alike _ e) = at_near e (at near (near_source near refl) e)
-      of_near on (unlike _ two) = let h = hops near on two (near_source t on) in behind_near on two h.0 h.1.0 h.1.1
-
-      of_far : AreJoined left t far → Telling t far → Stands left near far (s.streams.parent t) (s.streams.depth t) t
-      of_far on (alike _ e) = at_far e (at far (far_source far refl) e)
-      of_far on (unlike _ two) = let h = hops far on two (far_source t on) in behind_far on two h.0 h.1.0 h.1.1
-
-      by : Telling (part left t) (part left near) → Telling (part left t) (part left far) → Stands left near far (s.streams.parent t) (s.streams.depth t) t
-      by (alike _ on) other = of_near on (tell t near)
-      by (unlike _ m) (alike _ on) = of_far on (tell t far)
-      by (unlike _ m) (unlike _ n) = aside m n (ap (distance left t) (own_source t m n) ∙ distance_self left t)
+      by : OnSide l left t → Stands (HasEnds l) left s.streams 0 t
+      by (on_side a b ends here) = on a b ends here (tell t a)
+      by (on_neither none) = aside none (ap (distance left t) (chosen_aside l left t (λ e o. e) t none) ∙ distance_self left t)

@@ -160,8 +160,7 @@ module _ (known : IsKnownOfLines) (s : Fixed) (fixed : IsFixed s) (t u : Name) (
 
   pub loss_said : Says s t u w other (loses t name text) (line_text parts)
   loss_said = record {
-    is_line = known.as_line parts
-        (squit_carried known.names t (rule t doable.by_server.known) name text (rule name doable.can.known) doable.by_server.told);
+    is_line = known.as_line parts (squit_carried known.names t (rule t doable.by_server.known) name text (rule name doable.can.known) doable.by_server.told);
     end = readers_end.end;
     is_end = readers_end.there;
     means = heard_so;
@@ -208,7 +207,7 @@ pub record IsToldByEnd (s : Fixed) (world : World) (left : List Link) (a b : Nam
   pub end_far : (t p : Name) → AreJoined left t a → TakesFrom s.streams t p → toward world.links t a ≡ p
   pub not_linked : (t p x : Name) → AreJoined left t a → TakesFrom s.streams t p → AreJoined left x b → AreLinked world.links t x → ⊥
 
-module _ (known : IsKnownOfLines) (s : Fixed) (world : World) (routes : Name → Known) (left : List Link) (a b : Name) (cut : IsCutAt s world routes left a b)
+module _ (known : IsKnownOfLines) {s : Fixed} {world : World} {routes : Name → Known} {left : List Link} {a b : Name} (cut : IsCutAt s world routes left a b)
     (ways : IsToldByEnd s world left a b) where
   abbrev text : List ℕ
   text = split_text a b
@@ -229,7 +228,7 @@ module _ (known : IsKnownOfLines) (s : Fixed) (world : World) (routes : Name →
     };
     can = record {
       known = knows_it;
-      elsewhere = side.here name ∙ same_unless _ _ (λ e. (rest s world routes left a b cut).parted (sym e ∙ beyond));
+      elsewhere = side.here name ∙ same_unless _ _ (λ e. (rest cut).parted (sym e ∙ beyond));
     };
     far = λ t p here takes. ap (λ links. toward links t name) side.forest ∙ ways.far t p name (here_joined w side t here) takes beyond;
     not_linked = λ t p here takes near.
@@ -240,7 +239,7 @@ module _ (known : IsKnownOfLines) (s : Fixed) (world : World) (routes : Name →
       rule x is = cut.fixed.servers.named x (sound.tree.known_among x is)
 
       ends_b : IsAmong s.names b
-      ends_b = of_cut.b_among s world routes left a b cut
+      ends_b = of_cut.b_among cut
 
   -- the others that are to be lost are known still
   known_still : (knows : Name → Bool) (name : Name) (names : List Name) → list_any (exactly_same name) names ≡ false
@@ -268,9 +267,8 @@ module _ (known : IsKnownOfLines) (s : Fixed) (world : World) (routes : Name →
         let said = loss_said known s cut.fixed a u w other next reader name text doable in
         says_first (record { side = side; loss = tt }) said
         (said_along names (done s w (loses a name text)) (neighbour_served s a other (line_text (squit_parts a name text))).view
-        (record { forest = side.forest; here = side.here })
-        (said_loses_fits s a u w other next reader a name text (line_text (squit_parts a name text)) said)
-        (λ i. knows_a i && not (same_unless a name (λ e. (rest s world routes left a b cut).parted (subst (λ v. AreJoined left v b) (sym e) beyond.0)) i))
+        (record { forest = side.forest; here = side.here }) (said_loses_fits s a u w other next reader a name text (line_text (squit_parts a name text)) said)
+        (λ i. knows_a i && not (same_unless a name (λ e. (rest cut).parted (subst (λ v. AreJoined left v b) (sym e) beyond.0)) i))
         (known_still w.tree.knows name names parts.0 knows.1) beyond.1 parts.1)
 
     -- whoever fits the side that it is on is told of all of them
@@ -279,9 +277,8 @@ module _ (known : IsKnownOfLines) (s : Fixed) (world : World) (routes : Name →
         (map (λ x. line_text (squit_parts a x text)) (names_behind (routes a) (number s b)))
     said_to w other side knows reader =
         said_along (names_behind (routes a) (number s b)) w other side reader (knows a refl)
-        (of_cut.all_so (λ x. AreJoined left x b) (λ x. w.tree.knows x ≡ true) (λ x on. knows x (of_cut.lost_joined s world routes left a b cut x on))
-        (names_behind (routes a) (number s b)) (lost_beyond s world routes left a b cut))
-        (lost_beyond s world routes left a b cut) (lost_once s world routes left a b cut)
+        (of_cut.all_so (λ x. AreJoined left x b) (λ x. w.tree.knows x ≡ true) (λ x on. knows x (of_cut.lost_joined cut x on))
+        (names_behind (routes a) (number s b)) (lost_beyond cut)) (lost_beyond cut) (lost_once cut)
 
   -- ---- what they come to
 
@@ -294,7 +291,7 @@ module _ (known : IsKnownOfLines) (s : Fixed) (world : World) (routes : Name →
       let parts = not_and (list_any (exactly_same name) names) (are_distinct names) once in
       lost_along law names (done s w (loses a name text)) (record { forest = side.forest; here = side.here })
       (law s w (loses a name text) cut.fixed sound (doable_loss w name side sound knows_a knows.0 beyond.0))
-      (λ i. knows_a i && not (same_unless a name (λ e. (rest s world routes left a b cut).parted (subst (λ v. AreJoined left v b) (sym e) beyond.0)) i))
+      (λ i. knows_a i && not (same_unless a name (λ e. (rest cut).parted (subst (λ v. AreJoined left v b) (sym e) beyond.0)) i))
       (known_still w.tree.knows name names parts.0 knows.1) beyond.1 parts.1
 
   -- the side is sound once all of them are lost
@@ -302,6 +299,5 @@ module _ (known : IsKnownOfLines) (s : Fixed) (world : World) (routes : Name →
       → IsSoundPart s w → IsSoundPart s (all_done (play s 0) w (deeds_of_cut s routes a b))
   side_without law w side knows sound =
       lost_along law (names_behind (routes a) (number s b)) w side sound (knows a refl)
-      (of_cut.all_so (λ x. AreJoined left x b) (λ x. w.tree.knows x ≡ true) (λ x on. knows x (of_cut.lost_joined s world routes left a b cut x on))
-      (names_behind (routes a) (number s b)) (lost_beyond s world routes left a b cut))
-      (lost_beyond s world routes left a b cut) (lost_once s world routes left a b cut)
+      (of_cut.all_so (λ x. AreJoined left x b) (λ x. w.tree.knows x ≡ true) (λ x on. knows x (of_cut.lost_joined cut x on))
+      (names_behind (routes a) (number s b)) (lost_beyond cut)) (lost_beyond cut) (lost_once cut)

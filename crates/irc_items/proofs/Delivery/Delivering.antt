@@ -45,8 +45,8 @@ use Rattle.irc_items.specs.SetUp.{settings_of, view_at, IsConfigured}
 use Rattle.irc_items.specs.Sound.{most_now, most_of_last, owed_now, world_now, is_met, is_calling, AreCalled, HasCalled, IsPlaceOf, IsSound, IsSoundFrom, IsUnderWay}
 use Rattle.irc_items.proofs.Sites.Asked.{asked_there, reply_alike, IsAskedAt}
 use Rattle.irc_items.proofs.Common.AtRest.{ends_now, flowing, forest_now, holds_now}
-use Rattle.irc_items.proofs.Client.Begins.{home_is}
-use Rattle.irc_items.proofs.Client.Sound.{stays_some}
+use Rattle.irc_items.proofs.Common.Reading.{home_is}
+use Rattle.irc_items.proofs.Common.Reading.{stays_some}
 use Rattle.irc_items.proofs.Sites.Delivered.{delivered_between, IsDeliveredTo}
 use Rattle.irc_items.proofs.Delivery.FirstOnWay.{goes_well}
 use Rattle.irc_items.proofs.Handshake.Greetings.{GreetingIsMet}

@@ -1,8 +1,6 @@
 -- A line that says a deed of a server goes well at its turn, where clients are shown effects in turn and one line goes on: NJOIN, MODE, TOPIC and SQUIT.
 use Rattle.std.proofs.Common.{◌≡◌, ◌≢◌, inr, ℕ, Bool, true, false, cond, Option, Some, None, List, [], ◌∷◌, ◌++◌, append-nil, map, is_some, nat_eq, option_map, refl, sym, ◌∙◌, ap, if◌then◌else◌}
-use Rattle.std.proofs.lemmas.List.Elements.{filter_map-append}
 use Rattle.std.specs.FinMap.{get}
-use Rattle.std.specs.List.{flat_map}
 use Rattle.std.specs.Option.{option_map_or}
 use Rattle.irc_batch.specs.Batches.{Sent}
 use Rattle.irc_channels.specs.declared.flags.Flags.{Flags}
@@ -13,7 +11,6 @@ use Rattle.irc_room.specs.After.{titled_by}
 use Rattle.irc_room.specs.effect.Effect.{Effect}
 use Rattle.irc_room.specs.effect.Effect.TheVariants.{AddUser, Rename, Quit, Join, Part, Kick, ChangeModes, SetTopic, Say, Invite, UserMode}
 use Rattle.irc_room.specs.Room.{Room}
-use Rattle.irc_room.specs.Seen.{Showing, seen}
 use Rattle.irc_burst.specs.DeedsMeant.{a_deed}
 use Rattle.irc_burst_lines.specs.DeedLines.{deed_parts}
 use Rattle.irc_links.specs.Ends.{is_met}
@@ -21,8 +18,8 @@ use Rattle.irc_links.specs.Ways.{but, met_links}
 use Rattle.irc_merge.specs.Deeds.{Deed, loses, brings, sets, tops, effects_of}
 use Rattle.irc_relay.specs.Links.{Name, Link, AreLinked}
 use Rattle.irc_relay.specs.Relay.{TakesFrom}
-use Rattle.irc_stage.specs.EffectTold.{Served, all_changed, changed, changed_if, counts, in_silence, is_elsewhere, on_links, shown_at}
-use Rattle.irc_stage.specs.Handle.{clients_after, renamed_in, to_viewer}
+use Rattle.irc_stage.specs.EffectTold.{Served, all_changed, changed, changed_if, counts, in_silence, on_links, shown_at}
+use Rattle.irc_stage.specs.Handle.{clients_after, renamed_in}
 use Rattle.irc_stage.specs.Linked.{told_on_all}
 use Rattle.irc_stage.specs.RoomMachine.{Clients}
 use Rattle.irc_stage.specs.View.{End, View}
@@ -35,50 +32,19 @@ use Rattle.irc_follow.specs.Part.{Fixed, is_home_of, number}
 use Rattle.irc_follow.specs.Part as of_side
 use Rattle.irc_follow.specs.Fits.{Fits}
 use Rattle.irc_follow.specs.Says.{neighbour_served, lines_on, Says}
-use Rattle.irc_follow.specs.Lemmas.ClientLines.{to_one, told_line}
 use Rattle.irc_follow.specs.Lemmas.LinesOnLinks.{but_another, ends_by_all, lines_behind, none_by_all, on_these}
 use Rattle.irc_follow.specs.Lemmas.SaidDeed.{deed_served}
 use Rattle.irc_follow.specs.Lemmas.SaidEffect.{client_here}
 use Rattle.irc_follow.specs.Lemmas.SaidEffectShown.{but_links, lines_behind as lines_to_behind}
-use Rattle.irc_items.specs.GoodLines.{closings, reason_of, IsGoodReply, PaysNothing}
+use Rattle.irc_items.specs.GoodLines.{closings, IsGoodReply, PaysNothing}
 use Rattle.irc_items.specs.Relayed.{owed_at, owed_to}
 use Rattle.irc_items.proofs.Good.GoodEffects.{on_arrival, teller_is_met}
 use Rattle.irc_items.proofs.Good.MetEnds.{end_linked, far_is, met_known, met_linked, owes_none, AreLinkedAlike}
-use Rattle.irc_items.proofs.Good.PutOut.{closed_behind, none_back, none_closed_by_effect, none_closed_on_links}
-
--- ---- effects in turn close no link
-
-closed_by_one : (effect : Effect) (s : Served) → closings (changed_if effect s).out ≡ closings s.out
-closed_by_one effect s = by (counts s.view effect)
-  where
-    by : (b : Bool) → closings (if b then changed effect s else s).out ≡ closings s.out
-    by true =
-        filter_map-append reason_of s.out (shown_at s.view effect)
-        ∙ ap (λ l. closings s.out ++ l) (none_closed_by_effect s.view effect)
-        ∙ append-nil (closings s.out)
-    by false = refl
-
-closed_by_all : (effects : List Effect) (s : Served) → closings (all_changed effects s).out ≡ closings s.out
-closed_by_all [] s = refl
-closed_by_all (effect ∷ effects) s = closed_by_all effects (changed_if effect s) ∙ closed_by_one effect s
+use Rattle.irc_items.proofs.Good.PutOut.{closed_behind, none_back, none_closed_on_links, none_closed_by_all, none_shown}
 
 -- ---- and show nothing to who is no client
 
 module _ (client : ℕ) where
-  none_to_viewers : (clients : Clients) → get clients client ≡ None → (showings : List Showing) → lines_to client (flat_map (to_viewer clients) showings) ≡ []
-  none_to_viewers clients none [] = refl
-  none_to_viewers clients none (showing ∷ showings) =
-      lines_to_behind client (to_viewer clients showing) (flat_map (to_viewer clients) showings)
-      ∙ ap (λ l. l ++ lines_to client (flat_map (to_viewer clients) showings)) (to_one client clients showing ∙ ap (told_line client showing) none)
-      ∙ none_to_viewers clients none showings
-
-  pub none_shown : (view : View) (effect : Effect) → get view.clients client ≡ None → lines_to client (shown_at view effect) ≡ []
-  none_shown view effect none = by (is_elsewhere view effect)
-    where
-      by : (b : Bool) → lines_to client (if b then [] else flat_map (to_viewer view.clients) (seen view.room effect)) ≡ []
-      by true = refl
-      by false = none_to_viewers view.clients none (seen view.room effect)
-
   still_none : (effect : Effect) (clients : Clients) → get clients client ≡ None → get (clients_after effect clients) client ≡ None
   still_none (Rename nick new) clients none = get-each (renamed_in nick new) clients client ∙ ap (option_map (renamed_in nick new)) none
   still_none (AddUser user) clients none = none
@@ -98,7 +64,7 @@ module _ (client : ℕ) where
       by : (b : Bool) → lines_to client (if b then changed effect s else s).out ≡ lines_to client s.out
       by true =
           lines_to_behind client s.out (shown_at s.view effect)
-          ∙ ap (λ l. lines_to client s.out ++ l) (none_shown s.view effect none)
+          ∙ ap (λ l. lines_to client s.out ++ l) (none_shown client s.view effect none)
           ∙ append-nil (lines_to client s.out)
       by false = refl
 
@@ -139,7 +105,7 @@ module _ (s : Fixed) (links : List Link) (p t : Name) (w : of_side.Part) (view :
     none_closed : closings after.out ≡ []
     none_closed =
         ap closings told.out
-        ∙ closed_behind shown (on_links others told.parts) (closed_by_all told.effects before) (none_closed_on_links others told.parts)
+        ∙ closed_behind shown (on_links others told.parts) (none_closed_by_all told.effects before) (none_closed_on_links others told.parts)
 
     lines_are : (u : Name) → lines_on (number s u) after.out ≡ lines_on (number s u) (on_links others told.parts)
     lines_are u =

@@ -2,7 +2,6 @@
 use Rattle.std.proofs.Common.{◌≡◌, ◌≢◌, ℕ, Bool, true, false, cond, Option, Some, None, Result, Ok, Err, List, [], ◌∷◌, ◌++◌, map, is_some, nat_eq, refl, sym, ◌∙◌, ap, subst, unwrap_or, if◌then◌else◌}
 use Rattle.std.proofs.lemmas.Bool.{eqb-true}
 use Rattle.std.specs.FinMap.{get}
-use Rattle.std.specs.List.{flat_map}
 use Rattle.irc_batch.specs.Batches.{Sent}
 use Rattle.irc_batch.specs.declared.close_reason.CloseReason.{CloseReason}
 use Rattle.irc_handshake.specs.declared.openings.Opening.{Opening}
@@ -13,9 +12,6 @@ use Rattle.irc_line.specs.declared.reading.LineFault.TheVariants as fault
 use Rattle.irc_line.specs.Messages.{Parsed, Written, line_text}
 use Rattle.irc_line.specs.Reading.{read_of}
 use Rattle.irc_room.specs.effect.Effect.{Effect}
-use Rattle.irc_room.specs.Room.{IsWellFormed}
-use Rattle.irc_room.specs.Seen.{seen}
-use Rattle.irc_room.specs.Lemmas.HomeRooms.{home_is_well_formed}
 use Rattle.irc_burst.specs.DeedsMeant.{Told, a_deed, deeds_meant}
 use Rattle.irc_burst.specs.HandshakeMeant.{handshake_meant}
 use Rattle.irc_link_writer.specs.Written.{wire}
@@ -24,8 +20,7 @@ use Rattle.irc_links.specs.Ways.{told_homes, ways_toward}
 use Rattle.irc_merge.specs.Deeds.{does}
 use Rattle.irc_relay.specs.Links.{Name, Link, AreLinked}
 use Rattle.irc_relay.specs.Relay.{TakesFrom}
-use Rattle.irc_stage.specs.EffectTold.{Served, is_elsewhere, on_links, shown_at, ways_at}
-use Rattle.irc_stage.specs.Handle.{to_viewer}
+use Rattle.irc_stage.specs.EffectTold.{Served, on_links, shown_at, ways_at}
 use Rattle.irc_stage.specs.View.{End, View, password_for}
 use Rattle.irc_deeds.specs.Heard.{tells, heard, met_unless, of_met, opened}
 use Rattle.irc_server.specs.Owed.{lines_to}
@@ -33,7 +28,6 @@ use Rattle.irc_follow.specs.Part.{Fixed, done, is_home_of, number}
 use Rattle.irc_follow.specs.Part as of_side
 use Rattle.irc_follow.specs.Fits.{Fits}
 use Rattle.irc_follow.specs.Says.{neighbour_served, lines_on, Says}
-use Rattle.irc_follow.specs.Lemmas.ClientLines.{client_shown, effect_lines}
 use Rattle.irc_follow.specs.Lemmas.LinesOnLinks.{but_another, lines_behind, none_by_effect, on_these}
 use Rattle.irc_follow.specs.Lemmas.PlacesOfNames.{one_place}
 use Rattle.irc_follow.specs.Lemmas.SaidEffect.{client_here, effect_served}
@@ -41,7 +35,7 @@ use Rattle.irc_follow.specs.Lemmas.SaidEffectShown.{but_links}
 use Rattle.irc_items.specs.GoodLines.{closings, IsGoodReply}
 use Rattle.irc_items.specs.Relayed.{owed_to}
 use Rattle.irc_items.proofs.Good.MetEnds.{among_linked, good_reply, met_known, owes_none, ways_linked, AreLinkedAlike, IsAnswer, IsLaterSide}
-use Rattle.irc_items.proofs.Good.PutOut.{closed_behind, none_back, none_closed_by_effect, none_closed_on_links}
+use Rattle.irc_items.proofs.Good.PutOut.{closed_behind, none_back, none_closed_by_effect, none_closed_on_links, none_shown}
 
 -- ---- only a server that has named itself tells of something
 
@@ -111,26 +105,14 @@ module _ (s : Fixed) (links : List Link) (p t : Name) (w : of_side.Part) (view :
             ∙ ap (map (λ _. line_text parts))
             (but_another (number s u) (number s p) other (ways_toward view.ends view.routes (told_homes view.room effect)))) ∙ is)
 
-    well_here : IsWellFormed view.room
-    well_here = subst IsWellFormed (sym fits.room) (home_is_well_formed t w.hall.room fits.sound.well)
-
-    none_shown : (client : ℕ) → is_home_of s.homes t client ≡ false → lines_to client (shown_at view effect) ≡ []
-    none_shown client away = by (is_elsewhere view effect)
-      where
-        by : (b : Bool) → lines_to client (if b then [] else flat_map (to_viewer view.clients) (seen view.room effect)) ≡ []
-        by true = refl
-        by false =
-            effect_lines client view.clients view.room effect well_here
-            ∙ ap (client_shown client view.room effect)
-            (client_here s p t w view takes fits client ∙ ap (λ b. cond b (get w.hall.clients client) None) away)
-
     to_own : (client : ℕ) (line : List ℕ) (lines : List (List ℕ)) → lines_to client put_out ≡ line ∷ lines → is_home_of s.homes t client ≡ true
     to_own client line lines is = by (is_home_of s.homes t client) refl
       where
         by : (b : Bool) → is_home_of s.homes t client ≡ b → b ≡ true
         by true home = refl
         by false away =
-            cc (sym (but_links client (shown_at view effect) (ways_at view (Some (number s p)) effect) parts ∙ none_shown client away) ∙ is)
+            cc (sym (but_links client (shown_at view effect) (ways_at view (Some (number s p)) effect) parts ∙ none_shown client view effect
+            (client_here s p t w view takes fits client ∙ ap (λ b. cond b (get w.hall.clients client) None) away)) ∙ is)
 
     module _ (line : List ℕ) (says : Says s p t w view (does effect) line) where
       out_is : (neighbour_served s p view line).out ≡ put_out

@@ -37,10 +37,9 @@ use Rattle.irc_follow.specs.Lemmas.SaidEffect.{client_here, own_name}
 use Rattle.irc_follow.specs.Lemmas.SaidEffectShown.{but_links, lines_behind as lines_to_behind}
 use Rattle.irc_items.specs.GoodLines.{closings, IsGoodReply, PaysNothing}
 use Rattle.irc_items.specs.Relayed.{owed_to}
-use Rattle.irc_items.proofs.Good.GoodDeeds.{none_shown}
 use Rattle.irc_items.proofs.Good.GoodEffects.{on_arrival, teller_is_met}
 use Rattle.irc_items.proofs.Good.MetEnds.{met_known, met_linked, owes_none, AreLinkedAlike}
-use Rattle.irc_items.proofs.Good.PutOut.{but_itself, closed_behind, is_on, none_closed_by_effect, none_closed_on_links, none_closed_to_viewer}
+use Rattle.irc_items.proofs.Good.PutOut.{but_itself, closed_behind, is_on, none_closed_by_effect, none_closed_on_links, none_closed_to_viewer, none_shown}
 use Rattle.irc_registering.specs.Closing.{error_line}
 
 -- ---- the end of a client is no line, and the end of no link

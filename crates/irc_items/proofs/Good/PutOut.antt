@@ -1,8 +1,8 @@
 -- What is put out: which of it closes a link, and which of it goes on one link.
-use Rattle.std.proofs.Common.{◌≡◌, ℕ, true, false, cond, Bool, Option, Some, None, List, [], ◌∷◌, ◌++◌, map, filter, filter_map, nat_eq, not, refl, sym, ◌∙◌, ap, if◌then◌else◌}
+use Rattle.std.proofs.Common.{◌≡◌, ℕ, true, false, cond, Bool, Option, Some, None, List, [], ◌∷◌, ◌++◌, map, filter, filter_map, nat_eq, not, refl, sym, ◌∙◌, ap, if◌then◌else◌, append-nil}
 use Rattle.std.proofs.lemmas.Bool.{eqb-true, eq-eqb}
 use Rattle.std.proofs.lemmas.List.Elements.{filter_map-append}
-use Rattle.std.specs.FinMap.{entries}
+use Rattle.std.specs.FinMap.{entries, get}
 use Rattle.std.specs.List.{cons_option, flat_map}
 use Rattle.irc_batch.specs.Batches.{Sent, line_to}
 use Rattle.irc_line.specs.Messages.{Written, line_text, text}
@@ -10,7 +10,7 @@ use Rattle.irc_room.specs.effect.Effect.{Effect}
 use Rattle.irc_room.specs.Seen.{Showing, seen}
 use Rattle.irc_links.specs.Ways.{but}
 use Rattle.irc_stage.specs.declared.clients.Client.{Client}
-use Rattle.irc_stage.specs.EffectTold.{is_elsewhere, on_links, shown_at}
+use Rattle.irc_stage.specs.EffectTold.{is_elsewhere, on_links, shown_at, Served, all_changed, changed, changed_if, counts}
 use Rattle.irc_stage.specs.Handle.{is_client, to_viewer}
 use Rattle.irc_stage.specs.RoomMachine.{Clients}
 use Rattle.irc_stage.specs.View.{View}
@@ -18,6 +18,8 @@ use Rattle.irc_deeds.specs.LinkServed.{on_link}
 use Rattle.irc_server.specs.Owed.{lines_to}
 use Rattle.irc_follow.specs.Says.{body, lines_on}
 use Rattle.irc_follow.specs.Lemmas.LinesOnLinks.{bare, on_these}
+use Rattle.irc_follow.specs.Lemmas.ClientLines.{to_one, told_line}
+use Rattle.irc_follow.specs.Lemmas.SaidEffectShown.{lines_behind as lines_to_behind}
 use Rattle.irc_items.specs.GoodLines.{closings, reason_of}
 
 -- ---- no link is closed
@@ -58,6 +60,21 @@ none_closed_by_effect view effect = by (is_elsewhere view effect)
     by true = refl
     by false = none_closed_to_viewers view.clients (seen view.room effect)
 
+-- nor by effects in turn
+none_closed_by_one : (effect : Effect) (s : Served) → closings (changed_if effect s).out ≡ closings s.out
+none_closed_by_one effect s = by (counts s.view effect)
+  where
+    by : (b : Bool) → closings (if b then changed effect s else s).out ≡ closings s.out
+    by true =
+        filter_map-append reason_of s.out (shown_at s.view effect)
+        ∙ ap (λ l. closings s.out ++ l) (none_closed_by_effect s.view effect)
+        ∙ append-nil (closings s.out)
+    by false = refl
+
+pub none_closed_by_all : (effects : List Effect) (s : Served) → closings (all_changed effects s).out ≡ closings s.out
+none_closed_by_all [] s = refl
+none_closed_by_all (effect ∷ effects) s = none_closed_by_all effects (changed_if effect s) ∙ none_closed_by_one effect s
+
 -- ---- on one link
 
 abbrev pub is_on : ℕ → ℕ → Bool
@@ -93,3 +110,19 @@ all_on_it k (parts ∷ lines) =
 pub none_to_clients : (who link : ℕ) (lines : List Written) → lines_to who (on_link link lines) ≡ []
 none_to_clients who link [] = refl
 none_to_clients who link (parts ∷ lines) = none_to_clients who link lines
+
+-- who is no client is shown nothing
+module _ (client : ℕ) where
+  none_to_viewers : (clients : Clients) → get clients client ≡ None → (showings : List Showing) → lines_to client (flat_map (to_viewer clients) showings) ≡ []
+  none_to_viewers clients none [] = refl
+  none_to_viewers clients none (showing ∷ showings) =
+      lines_to_behind client (to_viewer clients showing) (flat_map (to_viewer clients) showings)
+      ∙ ap (λ l. l ++ lines_to client (flat_map (to_viewer clients) showings)) (to_one client clients showing ∙ ap (told_line client showing) none)
+      ∙ none_to_viewers clients none showings
+
+  pub none_shown : (view : View) (effect : Effect) → get view.clients client ≡ None → lines_to client (shown_at view effect) ≡ []
+  none_shown view effect none = by (is_elsewhere view effect)
+    where
+      by : (b : Bool) → lines_to client (if b then [] else flat_map (to_viewer view.clients) (seen view.room effect)) ≡ []
+      by true = refl
+      by false = none_to_viewers view.clients none (seen view.room effect)

@@ -46,9 +46,9 @@ use Rattle.irc_stage.specs.RoomMachine.{RoomMachine}
 use Rattle.irc_stage.specs.View.{View, machine_of}
 use Rattle.irc_stage.specs.Lemmas.MatchedEvents.{quit_possible}
 use Rattle.irc_world.specs.Bounds.{effects_at, effects_left, effects_of_user, effects_said}
-use Rattle.irc_items.proofs.Client.Due.{IsReadOfLine}
+use Rattle.irc_items.proofs.Client.Due.{IsReadOfLine, client_in}
 use Rattle.irc_items.proofs.Home.Users.{IsOwnAt, IsOwnStep, own_after, own_in_turn}
-use Rattle.irc_items.proofs.Home.Events.{AreDecisionLaws, IsHomeOf, client_in, client_is, decision_is, no_effects, registering_is, same_user, users_are}
+use Rattle.irc_items.proofs.Home.Events.{AreDecisionLaws, IsHomeOf, client_is, decision_is, no_effects, registering_is, same_user, users_are}
 
 -- what is known of decisions
 pub record AreSpokenLaws : Type 0 where

@@ -2,15 +2,14 @@
 use Rattle.std.proofs.Common.{◌≡◌, ℕ, Bool, true, false, cond, not, ◌&&◌, Option, Some, None, List, [], ◌∷◌, ◌++◌, refl, sym, ◌∙◌, ap, is_some, option_map, option_to_list, if◌then◌else◌}
 use Rattle.std.proofs.lemmas.List.Elements.{filter_map-append}
 use Rattle.std.specs.Cmp.Lexicographic.{bytes_decides}
-use Rattle.std.specs.FinMap.{entries, get}
-use Rattle.std.specs.List.{cons_option, filter_map, flat_map, list_all}
+use Rattle.std.specs.FinMap.{get}
+use Rattle.std.specs.List.{flat_map, list_all}
 use Rattle.std.specs.Option.{option_and_then, option_map_or}
-use Rattle.irc_line.specs.Messages.{Written}
 use Rattle.irc_names.specs.Fold.{key, same}
 use Rattle.irc_names.specs.Tables.{row}
 use Rattle.irc_users.specs.declared.user.User.{User}
 use Rattle.irc_users.specs.UserTable.{is_home}
-use Rattle.irc_batch.specs.Batches.{Sent, line_to}
+use Rattle.irc_batch.specs.Batches.{Sent}
 use Rattle.irc_room.specs.effect.Effect.{Effect}
 use Rattle.irc_room.specs.effect.Effect.TheVariants.{AddUser, Rename, Quit, Join, Part, Kick, ChangeModes, SetTopic, Say, Invite, UserMode}
 use Rattle.irc_room.specs.After.{after}
@@ -18,7 +17,7 @@ use Rattle.irc_room.specs.Effects.{has_user, needs_users, IsPossible}
 use Rattle.irc_room.specs.Invitations.{after_at, is_at, of_home}
 use Rattle.irc_room.specs.OtherInvitations.{AreAlike}
 use Rattle.irc_room.specs.Room.{Room}
-use Rattle.irc_room.specs.Seen.{Showing, seen, shown_line}
+use Rattle.irc_room.specs.Seen.{seen, shown_line}
 use Rattle.irc_room.specs.Viewers.{line_for, shows_to}
 use Rattle.irc_room.specs.Lemmas.AlikeLaw.{alike_take_alike, home_is_alike}
 use Rattle.irc_room.specs.Lemmas.HomeLaw.{home_follows}
@@ -31,8 +30,8 @@ use Rattle.irc_routes.specs.Known.{next_hop}
 use Rattle.irc_stage.specs.declared.clients.Client.{Client}
 use Rattle.irc_stage.specs.declared.clients.Client.TheVariants.{Registering, Registered}
 use Rattle.irc_stage.specs.EffectTold.{Served, effect_told, is_elsewhere, on_links, room_after, shown_at, view_after, ways_at}
-use Rattle.irc_stage.specs.Handle.{Handled, is_client, machine_after, to_viewer, with_effect}
-use Rattle.irc_stage.specs.RoomMachine.{Clients, RoomMachine}
+use Rattle.irc_stage.specs.Handle.{Handled, machine_after, to_viewer, with_effect}
+use Rattle.irc_stage.specs.RoomMachine.{RoomMachine}
 use Rattle.irc_stage.specs.View.{View}
 use Rattle.irc_server.specs.Owed.{lines_to}
 use Rattle.irc_follow.specs.Lemmas.ClientLines.{client_shown, effect_lines}
@@ -40,40 +39,12 @@ use Rattle.irc_follow.specs.Lemmas.SaidEffectShown.{but_links, lines_behind}
 use Rattle.irc_items.specs.GoodLines.{closings, reason_of}
 use Rattle.irc_items.proofs.Home.Clients.{staying, staying_after, staying_at}
 use Rattle.irc_items.proofs.Home.Users.{IsHomeRoom, IsOwnStep}
+use Rattle.irc_items.proofs.Good.PutOut.{none_closed_by_effect, none_closed_on_links}
 
 -- ---- nothing of it closes a link
 
 pub closings_behind : (one other : List Sent) → closings one ≡ [] → closings (one ++ other) ≡ closings other
 closings_behind one other none = filter_map-append reason_of one other ∙ ap (λ l. l ++ closings other) none
-
-line_closes_none : (showing : Showing) (es : List (ℕ × Client))
-    → closings (filter_map (λ (c : ℕ × Client). if is_client showing.viewer c.1 then Some (line_to c.0 showing.line) else None) es) ≡ []
-line_closes_none showing [] = refl
-line_closes_none showing (e ∷ es) = by (is_client showing.viewer e.1) (line_closes_none showing es)
-  where
-    rest : List Sent
-    rest = filter_map (λ (c : ℕ × Client). if is_client showing.viewer c.1 then Some (line_to c.0 showing.line) else None) es
-
-    by : (b : Bool) → closings rest ≡ [] → closings (cons_option (if b then Some (line_to e.0 showing.line) else None) rest) ≡ []
-    by true none = none
-    by false none = none
-
-showings_close_none : (clients : Clients) (showings : List Showing) → closings (flat_map (to_viewer clients) showings) ≡ []
-showings_close_none clients [] = refl
-showings_close_none clients (showing ∷ showings) =
-    closings_behind (to_viewer clients showing) (flat_map (to_viewer clients) showings) (line_closes_none showing (entries clients))
-    ∙ showings_close_none clients showings
-
-links_close_none : (links : List ℕ) (parts : Written) → closings (on_links links parts) ≡ []
-links_close_none [] parts = refl
-links_close_none (link ∷ links) parts = links_close_none links parts
-
-shown_closes_none : (view : View) (effect : Effect) → closings (shown_at view effect) ≡ []
-shown_closes_none view effect = by (is_elsewhere view effect)
-  where
-    by : (b : Bool) → closings (if b then [] else flat_map (to_viewer view.clients) (seen view.room effect)) ≡ []
-    by true = refl
-    by false = showings_close_none view.clients (seen view.room effect)
 
 -- what both are where something is so, and nothing else
 pub both_here : (b : Bool) (one other : List (List ℕ)) → cond b one [] ++ cond b other [] ≡ cond b (one ++ other) []
@@ -257,6 +228,6 @@ module _ (t : Name) (stays : ℕ → Bool) (start : View) where
         ∙ told_more knows ways h.machine is who effect v.out h.out step.possible.users_there (one.told who);
     closes_none =
         closings_behind (v.out ++ shown_at v.view effect) (on_links (ways_at v.view None effect) (wire v.view.room v.view.routes effect))
-        (closings_behind v.out (shown_at v.view effect) one.closes_none ∙ shown_closes_none v.view effect)
-        ∙ links_close_none (ways_at v.view None effect) (wire v.view.room v.view.routes effect);
+        (closings_behind v.out (shown_at v.view effect) one.closes_none ∙ none_closed_by_effect v.view effect)
+        ∙ none_closed_on_links (ways_at v.view None effect) (wire v.view.room v.view.routes effect);
   }

@@ -42,6 +42,7 @@ use Rattle.irc_items.proofs.Home.Clients.{staying_there}
 use Rattle.irc_items.proofs.Home.Users.{IsHomeRoom, IsOwnAt, IsOwnStep, own_in_turn}
 use Rattle.irc_items.proofs.Home.Effects.{AreOneAt, KnowsWays, effect_so, view_in}
 use Rattle.irc_items.proofs.Home.Steps.{begins_so, carried_so, seated_room, seated_view, unseated_room, unseated_view}
+use Rattle.irc_items.proofs.Client.Due.{client_in}
 
 -- what is known of decisions
 pub record AreDecisionLaws : Type 0 where
@@ -52,12 +53,6 @@ pub record AreDecisionLaws : Type 0 where
   pub by_itself : DecidedByItself
   pub added : RegisteredIsAdded
   pub unchanging : UnregisteredChangesNothing
-
--- by whom something happens
-abbrev pub client_in : Happening → ℕ
-client_in (connects conn host) = conn
-client_in (says conn read) = conn
-client_in (goes conn) = conn
 
 -- steps without an effect
 pub no_effects : (acts : List Act) → list_any is_effect acts ≡ false → effects_among acts ≡ []

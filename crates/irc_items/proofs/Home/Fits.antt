@@ -28,10 +28,10 @@ use Rattle.irc_follow.specs.Fits.{Fits}
 use Rattle.irc_follow.specs.Part.{Fixed, info_in, is_home_of, IsFixed}
 use Rattle.irc_follow.specs.Tree.{shape, shape_in}
 use Rattle.irc_items.specs.GoodLines.{closings}
-use Rattle.irc_items.proofs.Client.Due.{IsDueAtHome}
+use Rattle.irc_items.proofs.Client.Due.{IsDueAtHome, client_in}
 use Rattle.irc_items.proofs.Home.Clients.{staying}
 use Rattle.irc_items.proofs.Home.Effects.{AreOneAt, KnowsWays, view_in}
-use Rattle.irc_items.proofs.Home.Events.{AreDecisionLaws, IsHomeOf, client_in, handled_so}
+use Rattle.irc_items.proofs.Home.Events.{AreDecisionLaws, IsHomeOf, handled_so}
 
 pub record DoesAsMachine (s : Fixed) (world : World) (routes : Name → Known) (h : Name) (view : View) (happening : Happening) : Type 0 where
   pub fits : Fits s h (part_of s (by_machine s.settings world h happening).world routes h) (client_told view happening).view

@@ -43,7 +43,7 @@ use Rattle.irc_follow.specs.Lemmas.EffectsReadNext.{agrees, can_be_read, link_of
 use Rattle.irc_follow.specs.Lemmas.SaidEffect.{rooms_alike}
 use Rattle.irc_follow.specs.Lemmas.SaidEffectToldOn.{no_row, one_deed, sent_by, told_alike}
 
-module _ (s : Fixed) (h : Name) (w : Part) (view : View) (writer : Fits s h w view) where
+module _ {s : Fixed} {h : Name} {w : Part} {view : View} (writer : Fits s h w view) where
   sound : IsSoundPart s w
   sound = writer.sound
 

@@ -40,13 +40,13 @@ use Rattle.irc_follow.specs.SideFlows.{IsToldOf, SourceTells}
 use Rattle.irc_follow.specs.Lemmas.SidesFollowed.{IsKnownOfLine}
 use Rattle.irc_items.specs.GoodLines.{no_answers}
 use Rattle.irc_items.proofs.Client.Begins.{IsToldByHome}
-use Rattle.irc_items.proofs.Client.Due.{IsDueAtHome}
+use Rattle.irc_items.proofs.Client.Due.{IsDueAtHome, client_in}
 use Rattle.irc_items.proofs.Good.GoodLines.{good_terms, IsWithinSide}
 use Rattle.irc_items.proofs.Good.MetEnds.{linked_as_itself}
 use Rattle.irc_items.proofs.Home.Along.{few_along, in_room, lines_along, told_along}
 use Rattle.irc_items.proofs.Home.Doable.{effects_told, same_effects, AreSpokenLaws, IsClientWithin, IsOwnTold, IsSaidWell}
 use Rattle.irc_items.proofs.Home.Effects.{room_now, KnowsWays}
-use Rattle.irc_items.proofs.Home.Events.{client_in, IsHomeOf}
+use Rattle.irc_items.proofs.Home.Events.{IsHomeOf}
 use Rattle.irc_items.proofs.Home.Fits.{due_mine, home_so, ways_known}
 use Rattle.irc_items.proofs.Home.Lines.{goes_there, lines_there, no_line_there}
 use Rattle.irc_items.proofs.Common.SourceFacts.{farther}
@@ -172,10 +172,9 @@ module _ (laws : AreTellingLaws) (s : Fixed) (fixed : IsFixed s) (links : List L
     tells_along (effect ∷ effects) w other telling reader each =
         let doable = doable_now w telling effect each.now in
         subst (λ room. AreToldTo w other (does effect ∷ map does effects)
-        (lines_there s h w (twin w) telling.writer u effect ++ lines_along (number s u) view room effects))
-        (sym (room_so w effect telling each.now.step.possible))
+        (lines_there telling.writer u effect ++ lines_along (number s u) view room effects)) (sym (room_so w effect telling each.now.step.possible))
         (one_more w other effect (map does effects) _ (lines_along (number s u) view (of_home h (after w.hall.room effect)) effects) telling.side reader
-        (goes_there s h w (twin w) telling.writer u laws.read_back fixed other next reader effect doable)
+        (goes_there telling.writer u laws.read_back fixed other next reader effect doable)
         (λ now fits. tells_along effects (done s w (does effect)) now (still_tells w effect telling doable) fits each.later))
 
   -- ---- a server that it is not linked to
@@ -186,7 +185,7 @@ module _ (laws : AreTellingLaws) (s : Fixed) (fixed : IsFixed s) (links : List L
   none_along v [] w apart telling each = refl
   none_along v (effect ∷ effects) w apart telling each =
       let doable = doable_now w telling effect each.now in
-      (λ i. no_line_there s h w (twin w) telling.writer v apart effect i
+      (λ i. no_line_there telling.writer v apart effect i
       ++ lines_along (number s v) view (room_so w effect telling each.now.step.possible i) effects)
       ∙ none_along v effects (done s w (does effect)) apart (still_tells w effect telling doable) each.later
 
@@ -228,8 +227,7 @@ module _ (laws : AreTellingLaws) (s : Fixed) (world : World) (routes : Name → 
     side = record {
       alike = λ t p there takes. linked_as_itself world.links t;
       here = λ t p u there takes linked apart.
-          same_when (part world.links u) (part world.links h)
-          (sym (linked_joined world.links t u linked) ∙ (tests_tell world.links t h t).1.0 there);
+          same_when (part world.links u) (part world.links h) (sym (linked_joined world.links t u linked) ∙ (tests_tell world.links t h t).1.0 there);
     };
     ways = ways_known s world routes h view fits;
   }
@@ -285,8 +283,7 @@ module _ (laws : AreTellingLaws) (s : Fixed) (world : World) (routes : Name → 
 
   few_next : (u : Name) → length (lines_on (number s u) (client_told view happening).out) ≤ length effects
   few_next u =
-      subst (λ lines. length lines ≤ length effects) (sym (lines_so (number s u)))
-      (few_along (number s u) view (of_home h (world.hall h).room) effects)
+      subst (λ lines. length lines ≤ length effects) (sym (lines_so (number s u))) (few_along (number s u) view (of_home h (world.hall h).room) effects)
 
   none_elsewhere : (v : Name) → (AreLinked world.links h v → ⊥) → lines_on (number s v) (client_told view happening).out ≡ []
   none_elsewhere v apart = lines_so (number s v) ∙ none_along laws s fixed world.links h view v effects here apart begins each

@@ -42,7 +42,7 @@ both_are_gone one other well well_other q here there =
     gone room beside well_formed this that =
         users_without room beside well_formed q ∙ (λ i. cond (this i && that i) None (row room.users q))
 
-module _ (laws : IsKnownOfLines) (known : IsKnownOfSides) (s : Fixed) (l : Link) (world : World) (routes : Name → Known) (t b : Name)
+module _ (laws : IsKnownOfLines) (known : IsKnownOfSides) {s : Fixed} {l : Link} {world : World} {routes : Name → Known} {t b : Name}
     (is : IsSideOfLink s l world routes t b) where
   abbrev forest : List Link
   forest = l ∷ world.links
@@ -51,7 +51,7 @@ module _ (laws : IsKnownOfLines) (known : IsKnownOfSides) (s : Fixed) (l : Link)
   both = merged (world.hall l.near) (world.hall l.far)
 
   abbrev after : World
-  after = linked_world known s l world routes t b is
+  after = linked_world known is
 
   turned : HasEnds l t b → HasEnds l b t
   turned (inl (e, f)) = inr (e, f)
@@ -87,24 +87,22 @@ module _ (laws : IsKnownOfLines) (known : IsKnownOfSides) (s : Fixed) (l : Link)
       where
         by : HasEnds l t b → row both.room.users (key user.nick) ≡ None
         by (inl (e, f)) = both_are_gone (world.hall l.near).room (world.hall l.far).room (is.holds.sound.well_formed l.near) (is.holds.sound.well_formed l.far)
-            (key user.nick)
-            (ap (λ v. is_some (row (world.hall v).room.users (key user.nick))) e ∙ ap is_some here)
+            (key user.nick) (ap (λ v. is_some (row (world.hall v).room.users (key user.nick))) e ∙ ap is_some here)
             (ap (λ v. is_some (row (world.hall v).room.users (key user.nick))) f ∙ ap is_some there)
         by (inr (e, f)) = both_are_gone (world.hall l.near).room (world.hall l.far).room (is.holds.sound.well_formed l.near) (is.holds.sound.well_formed l.far)
-            (key user.nick)
-            (ap (λ v. is_some (row (world.hall v).room.users (key user.nick))) e ∙ ap is_some there)
+            (key user.nick) (ap (λ v. is_some (row (world.hall v).room.users (key user.nick))) e ∙ ap is_some there)
             (ap (λ v. is_some (row (world.hall v).room.users (key user.nick))) f ∙ ap is_some here)
 
     gone_there : row (after.hall b).room.users (key holder.nick) ≡ None
     gone_there = ap (λ c. row (if c then both else world.hall b).room.users (key holder.nick)) joined_there ∙ gone
 
-    pub may_answer : CanAnswer s (answers_of l) after (linked_routes known s l world routes t b is) b t holder.nick
+    pub may_answer : CanAnswer s (answers_of l) after (linked_routes known is) b t holder.nick
         (line_text (wire (of_home b (world.hall b).room) (routes b) (AddUser user)))
     may_answer = record {
       answered = user_introduces (of_home b (world.hall b).room) (routes b) user;
       not_again = kill_introduces_nobody t holder.nick;
       between = between;
       to_end = (back_over.parent, back_over.depth);
-      unheard = λ view fits. kill_unheard laws s after (linked_routes known s l world routes t b is) b t holder.nick view is.fixed fits linked_ends is.t_among
+      unheard = λ view fits. kill_unheard laws s after (linked_routes known is) b t holder.nick view is.fixed fits linked_ends is.t_among
           ((is.holds.within t).room.users (key user.nick) holder here).nick gone_there;
     }

@@ -45,7 +45,7 @@ use Rattle.irc_follow.specs.Says.{play}
 use Rattle.irc_follow.specs.Lemmas.DeedEffects.{AllQuiet, members_quiet, sets_quiet, tops_quiet, users_stay}
 use Rattle.irc_follow.specs.Lemmas.PartEffects.{same_folds}
 use Rattle.irc_items.proofs.Burst.Stated.{both_all}
-use Rattle.irc_items.proofs.Common.Gains.{clients_left, clients_spared, hall_left, in_hall, read_deed_done}
+use Rattle.irc_items.proofs.Link.Gains.{clients_left, clients_spared, hall_left, in_hall, read_deed_done}
 use Rattle.irc_items.proofs.Link.Sides.{IsReadDeed}
 use Rattle.irc_registering.specs.Closing.{error_line}
 

@@ -45,7 +45,7 @@ use Rattle.irc_items.proofs.Burst.Told.{AreComing, AreTheirChanges, AreTheirMemb
 use Rattle.irc_items.proofs.Burst.Collisions.{answers_of, user_collides}
 use Rattle.irc_items.proofs.Good.GoodLines.{MayKill}
 use Rattle.irc_items.proofs.Link.Answers.{may_answer}
-use Rattle.irc_items.proofs.Common.Gains.{hall_left, read_deed_done}
+use Rattle.irc_items.proofs.Link.Gains.{hall_left, read_deed_done}
 use Rattle.irc_items.proofs.Link.Sides.{room_deeds, IsReadDeed}
 use Rattle.irc_items.proofs.Link.Starts.{knows_all, linked_routes, linked_world, moment, over, takes_b, way, within, AreTold, IsKnownOfSides, IsSideOfLink, IsToldThen, room_lines}
 
@@ -54,13 +54,13 @@ pub record AreRoomLaws : Type 0 where
   pub line : IsKnownOfLine
   pub read_back : EachIsReadBack
 
-module _ (laws : AreRoomLaws) (s : Fixed) (l : Link) (world : World) (routes : Name → Known) (t b : Name) (is : IsSideOfLink s l world routes t b)
+module _ (laws : AreRoomLaws) {s : Fixed} {l : Link} {world : World} {routes : Name → Known} {t b : Name} (is : IsSideOfLink s l world routes t b)
     (client : ℕ) (known_at : Name → Known) (at_b : known_at b ≡ routes b) where
   abbrev links : List Link
   links = world.links
 
   abbrev knows : Name → Bool
-  knows = knows_all laws.sides s l world routes t b is
+  knows = knows_all laws.sides is
 
   -- who is of b's side
   abbrev far : Name → Bool
@@ -71,13 +71,13 @@ module _ (laws : AreRoomLaws) (s : Fixed) (l : Link) (world : World) (routes : N
 
   -- this side, with this hall
   abbrev w : Hall → Part
-  w hall = moment laws.sides s l world routes t b is knows known_at hall
+  w hall = moment laws.sides is knows known_at hall
 
   abbrev IsTold : Hall → View → List Deed → List (List ℕ) → Type 0
-  IsTold hall view deeds lines = AreTold laws.sides s l world routes t b is client (w hall) view deeds lines
+  IsTold hall view deeds lines = AreTold laws.sides is client (w hall) view deeds lines
 
   way_to : (x v : Name) → AreJoined links x t → AreJoined links b v → toward (l ∷ links) x v ≡ s.streams.parent x
-  way_to x v on j = way laws.sides s l world routes t b is x on v j
+  way_to x v on j = way laws.sides is x on v j
 
   -- ---- who is behind the new link
 
@@ -89,7 +89,7 @@ module _ (laws : AreRoomLaws) (s : Fixed) (l : Link) (world : World) (routes : N
       or_true false = refl
 
   t_apart : AreJoined links t b → ⊥
-  t_apart = (over laws.sides s l world routes t b is).apart
+  t_apart = (over laws.sides is).apart
 
   by_row : (o : Option ServerRow) → option_map_or (nat_eq (number s b)) (option_map (λ (r : ServerRow). r.link) o) false
       ≡ option_map_or (λ (sh : Shape). nat_eq (number s b) sh.link) (option_map shape o) false
@@ -108,7 +108,7 @@ module _ (laws : AreRoomLaws) (s : Fixed) (l : Link) (world : World) (routes : N
 
     on_far : (x : Name) → far x ≡ true → is_on (kept x) ≡ true
     on_far x j =
-        ap (λ v. nat_eq (number s b) (number s v)) (way_to t x refl (sym (joined_so links x b j)) ∙ (over laws.sides s l world routes t b is).parent)
+        ap (λ v. nat_eq (number s b) (number s v)) (way_to t x refl (sym (joined_so links x b j)) ∙ (over laws.sides is).parent)
         ∙ eq-eqb (number s b) (number s b) refl
 
     on_near : (x : Name) → AreJoined links x t → x ≢ t → is_on (kept x) ≡ false
@@ -118,7 +118,7 @@ module _ (laws : AreRoomLaws) (s : Fixed) (l : Link) (world : World) (routes : N
         at false e = refl
         at true e =
             let hop = next_hop links t x is.forest.1 (sym j) (λ f. two (sym f)) in
-            let stays = ((over laws.sides s l world routes t b is).kept t x (sym j)).toward_same in
+            let stays = ((over laws.sides is).kept t x (sym j)).toward_same in
             let there : b ≡ toward (l ∷ links) t x = one_place s.names b (toward (l ∷ links) t x) is.b_among (eqb-true (number s b) (kept x).link e) in
             absurd (t_apart (subst (AreJoined links t) (sym (there ∙ sym stays)) (linked_joined links t (toward links t x) hop.linked)))
 
@@ -149,7 +149,7 @@ module _ (laws : AreRoomLaws) (s : Fixed) (l : Link) (world : World) (routes : N
     reader : IsBurstReader s b t (w hall) view
     reader = record {
       fixed = is.fixed;
-      takes = takes_b laws.sides s l world routes t b is;
+      takes = takes_b laws.sides is;
       fits = fits;
       known = b_known;
       far = λ x p here takes. way_to x b (joined_so links x t here) refl ∙ takes.parent;
@@ -157,7 +157,7 @@ module _ (laws : AreRoomLaws) (s : Fixed) (l : Link) (world : World) (routes : N
     }
 
     new : IsNewNeighbour s l links routes b t (w hall)
-    new = record { over = over laws.sides s l world routes t b is; right = is.right; forest = refl; keeps = at_b }
+    new = record { over = over laws.sides is; right = is.right; forest = refl; keeps = at_b }
 
     both_sides : KnowsBothSides links b t (w hall)
     both_sides = record { here = λ x here. joined_so links x t here; known = λ x known. by x (joined links x t) refl known }
@@ -177,20 +177,19 @@ module _ (laws : AreRoomLaws) (s : Fixed) (l : Link) (world : World) (routes : N
 
       read_aside : (line : List ℕ) → Aside s b t (w hall) view line → IsReadSo line []
       read_aside line aside more =
-          aside_line (record { aside = aside; side = within laws.sides s l world routes t b is knows known_at hall })
+          aside_line (record { aside = aside; side = within laws.sides is knows known_at hall })
           (more (neighbour_served s b view line).view (laws.line.aside s b t (w hall) view line fits aside).fits)
 
       abbrev May : Deed → List ℕ → Type 0
-      May deed line = MayKill s (answers_of l) (linked_world laws.sides s l world routes t b is)
-          (linked_routes laws.sides s l world routes t b is) b t deed line
+      May deed line = MayKill s (answers_of l) (linked_world laws.sides is) (linked_routes laws.sides is) b t deed line
 
       read_said : (line : List ℕ) (deed : Deed) → IsReadDeed t deed → May deed line → Says s b t (w hall) view deed line → IsReadSo line (deed ∷ [])
       read_said line deed read may says more =
-          by_line (record { says = says; may = may; side = within laws.sides s l world routes t b is knows known_at hall })
-          (subst (λ part. AreTold laws.sides s l world routes t b is client part (neighbour_served s b view line).view deeds lines) (sym done_is)
+          by_line (record { says = says; may = may; side = within laws.sides is knows known_at hall })
+          (subst (λ part. AreTold laws.sides is client part (neighbour_served s b view line).view deeds lines) (sym done_is)
           (more (neighbour_served s b view line).view
           (subst (λ part. Fits s t part (neighbour_served s b view line).view) done_is
-          (laws.line.fits s b t (w hall) view deed line is.fixed (takes_b laws.sides s l world routes t b is) fits says))))
+          (laws.line.fits s b t (w hall) view deed line is.fixed (takes_b laws.sides is) fits says))))
         where
           done_is : done s (w hall) deed ≡ w (hall_left (deed ∷ []) hall)
           done_is = read_deed_done s t deed (w hall) read
@@ -275,7 +274,7 @@ module _ (laws : AreRoomLaws) (s : Fixed) (l : Link) (world : World) (routes : N
             → IsReadSo (line_of (does (AddUser user))) (kills t holder.nick ∷ [])
         holder_killed holder taken first =
             read_said (line_of (does (AddUser user))) (kills t holder.nick) refl
-            (λ own. may_answer laws.sides.handshakes.lines laws.sides s l world routes t b is user holder first told.told.there
+            (λ own. may_answer laws.sides.handshakes.lines laws.sides is user holder first told.told.there
             (held_by t b far their_room room user holder told taken).same_key)
             (user_collides s b t (w hall) view reader l links routes new both_sides user
             (sym (joined_so links user.home b home_far)) home_known told.told.within holder taken
@@ -319,7 +318,7 @@ module _ (laws : AreRoomLaws) (s : Fixed) (l : Link) (world : World) (routes : N
       (λ now fits_now. tells_room deeds (hall_left (read_deed t far hall.room deed) hall) now fits_now told.1 held.1)
 
 pub room_told : (laws : AreRoomLaws) (s : Fixed) (l : Link) (world : World) (routes : Name → Known) (t b : Name) (is : IsSideOfLink s l world routes t b)
-    (client : ℕ) → IsToldThen laws.sides s l world routes t b is client (knows_all laws.sides s l world routes t b is) (world.hall t) (room_deeds world t b)
-    (room_lines laws.sides s l world routes t b is)
+    (client : ℕ) → IsToldThen laws.sides is client (knows_all laws.sides is) (world.hall t) (room_deeds world t b)
+    (room_lines laws.sides is)
 room_told laws s l world routes t b is client known_at view at_b fits =
-    tells_room laws s l world routes t b is client known_at at_b (burst b (world.hall b).room) (world.hall t) view fits is.rooms.told is.rooms.held
+    tells_room laws is client known_at at_b (burst b (world.hall b).room) (world.hall t) view fits is.rooms.told is.rooms.held

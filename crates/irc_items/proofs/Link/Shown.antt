@@ -1,5 +1,5 @@
 -- What the clients of one side see of a new link: just what they receive by it. Nobody else sees anything.
-use Rattle.std.proofs.Common.{◌≡◌, ℕ, true, Option, Some, None, is_some, [], ◌++◌, refl, sym, ◌∙◌, ap, append-nil}
+use Rattle.std.proofs.Common.{◌≡◌, ℕ, true, Option, Some, None, is_some, [], ◌++◌, refl, sym, ◌∙◌, ap, append-nil, List, inl}
 use Rattle.std.specs.FinMap.{get}
 use Rattle.std.specs.List.{AllByRecursion}
 use Rattle.irc_merge.specs.Laws.{ShownIsMergeShown}
@@ -7,7 +7,7 @@ use Rattle.irc_merge.specs.LimitLaws.{WithinLimitsIsTold}
 use Rattle.irc_names.specs.Fold.{key}
 use Rattle.irc_names.specs.Tables.{row}
 use Rattle.irc_relay.specs.Following.{all_done, all_seen}
-use Rattle.irc_relay.specs.Links.{Name, Link, AreJoined, joined}
+use Rattle.irc_relay.specs.Links.{Name, Link, AreJoined, joined, HasEnds}
 use Rattle.irc_routes.specs.Known.{Known}
 use Rattle.irc_stage.specs.declared.clients.Client.{Client}
 use Rattle.irc_stage.specs.declared.clients.Client.TheVariants.{Registering, Registered}
@@ -16,7 +16,9 @@ use Rattle.irc_world.specs.World.{Hall, World}
 use Rattle.irc_world.specs.WorldHolds.{IsWorld}
 use Rattle.irc_follow.specs.Part.{Fixed, Part, is_home_of}
 use Rattle.irc_follow.specs.Says.{play}
-use Rattle.irc_items.proofs.Common.Gains.{all_gained, nothing_seen, seen_in_turn}
+use Rattle.irc_items.proofs.Common.Ends.{both_ends}
+use Rattle.irc_items.proofs.Common.DeedsInTurn.{seen_in_turn}
+use Rattle.irc_items.proofs.Link.Gains.{all_gained, nothing_seen}
 use Rattle.irc_items.proofs.Link.Halls.{client_fares, none_there, rooms_apart, user_of, users_there}
 use Rattle.irc_items.proofs.Link.Kills.{burst_seen, end_line, none_sees, registering_sees, seen_in}
 use Rattle.irc_items.proofs.Link.Sides.{IsReadDeed, deeds_of_link, room_deeds, server_deeds, side_of}
@@ -61,24 +63,24 @@ module _ (shows : ShownIsMergeShown) (told : WithinLimitsIsTold) (s : Fixed) (l 
 
 -- ---- both sides
 
-module _ (s : Fixed) (world : World) (near far : Name) (holds : IsWorld s.settings world) (homes : s.homes ≡ world.homes) (client : ℕ) (t : Name)
+module _ (s : Fixed) (l : Link) (world : World) (holds : IsWorld s.settings world) (homes : s.homes ≡ world.homes) (client : ℕ) (t : Name)
     (home : is_home_of s.homes t client ≡ true) where
-  -- a client of one side receives what that side is shown
-  pub near_receives : (AreJoined world.links t far → ⊥)
-      → meeting_lines (world.hall near) (world.hall far) (get (world.hall near).clients client) ≡ (link_made world near far).lines client
-  near_receives other =
-      let lines = meeting_lines (world.hall near) (world.hall far) (get (world.hall near).clients client) in
-      sym (ap (λ o. lines ++ meeting_lines (world.hall far) (world.hall near) o) (none_there s.settings world holds s.homes homes far t client other home)
-      ∙ append-nil lines)
+  abbrev shown : Name → Name → Option Client → List (List ℕ)
+  shown e o = meeting_lines (world.hall e) (world.hall o)
 
-  pub far_receives : (AreJoined world.links t near → ⊥)
-      → meeting_lines (world.hall far) (world.hall near) (get (world.hall far).clients client) ≡ (link_made world near far).lines client
-  far_receives two =
-      let lines = meeting_lines (world.hall far) (world.hall near) (get (world.hall far).clients client) in
-      sym (ap (λ o. meeting_lines (world.hall near) (world.hall far) o ++ lines) (none_there s.settings world holds s.homes homes near t client two home))
+  abbrev in_hall : Name → Option Client
+  in_hall e = get (world.hall e).clients client
+
+  none_in : (e : Name) → (AreJoined world.links t e → ⊥) → in_hall e ≡ None
+  none_in e two = none_there s.settings world holds s.homes homes e t client two home
+
+  -- a client of one side receives what that side is shown
+  pub side_receives : (e o : Name) → HasEnds l e o → (AreJoined world.links t o → ⊥) → shown e o (in_hall e) ≡ (link_made world l.near l.far).lines client
+  side_receives = both_ends l (λ e o. (AreJoined world.links t o → ⊥) → shown e o (in_hall e) ≡ (link_made world l.near l.far).lines client)
+      (λ other. sym (ap (λ o. shown l.near l.far (in_hall l.near) ++ shown l.far l.near o) (none_in l.far other)
+      ∙ append-nil (shown l.near l.far (in_hall l.near))))
+      (λ other. sym (ap (λ o. shown l.near l.far o ++ shown l.far l.near (in_hall l.far)) (none_in l.near other)))
 
   -- one of another part receives nothing
-  pub aside_receives : (AreJoined world.links t near → ⊥) → (AreJoined world.links t far → ⊥) → (link_made world near far).lines client ≡ []
-  aside_receives two other =
-      sym (near_receives other)
-      ∙ ap (meeting_lines (world.hall near) (world.hall far)) (none_there s.settings world holds s.homes homes near t client two home)
+  pub aside_receives : (AreJoined world.links t l.near → ⊥) → (AreJoined world.links t l.far → ⊥) → (link_made world l.near l.far).lines client ≡ []
+  aside_receives two other = sym (side_receives l.near l.far (inl (refl, refl)) other) ∙ ap (shown l.near l.far) (none_in l.near two)

@@ -1,43 +1,34 @@
 -- One end's side of a new link, once it knows the other: it is joined to it, what each of its servers keeps is right, its room has what the other's has, and
 -- whoever is killed has no client there.
-use Rattle.std.proofs.Common.{◌≡◌, ℕ, ◌≤◌, not, ◌&&◌, ◌||◌, Some, None, List, ◌∷◌, refl, sym, ◌∙◌, ap, subst, if◌then◌else◌}
+use Rattle.std.proofs.Common.{◌≡◌, ℕ, not, ◌&&◌, ◌||◌, Some, None, List, ◌∷◌, refl, sym, ◌∙◌, ap, subst, if◌then◌else◌}
 use Rattle.std.proofs.Math.Path.{fun_ext}
 use Rattle.std.specs.List.{AllByRecursion}
-use Rattle.std.specs.Option.{option_map}
 use Rattle.irc_relay.specs.Distances.{EndsAreAmong, IsAmong}
 use Rattle.irc_relay.specs.Following.{all_done}
 use Rattle.irc_relay.specs.Links.{Name, Link, part, joined, same, AreJoined, AreLinked, IsForest}
 use Rattle.irc_relay.specs.Lemmas.TellingNames.{same_unless}
 use Rattle.irc_routes.specs.declared.server_row.ServerRow.{ServerRow}
-use Rattle.irc_routes.specs.Known.{Known, row_of, servers_told, token_out, IsNumbered}
-use Rattle.irc_routes.specs.Limits.{max_servers}
+use Rattle.irc_routes.specs.Known.{Known, row_of, servers_told, token_out}
 use Rattle.irc_stage.specs.View.{View}
 use Rattle.irc_world.specs.World.{World}
-use Rattle.irc_follow.specs.AtRest.{created_in, AreRight}
+use Rattle.irc_follow.specs.AtRest.{AreRight}
 use Rattle.irc_follow.specs.Fits.{Fits}
 use Rattle.irc_follow.specs.Part.{Fixed, Part, info_in, number, IsSoundPart}
 use Rattle.irc_follow.specs.Says.{play}
-use Rattle.irc_follow.specs.Tree.{index_in, shape, shape_in}
+use Rattle.irc_follow.specs.Tree.{index_in, shape_in}
 use Rattle.irc_follow.specs.Lemmas.BehindLinks.{joined_test}
 use Rattle.irc_items.proofs.Link.Ends.{AreEnds}
-use Rattle.irc_items.proofs.Common.Gains.{HasGained, KeepsKnown, all_gained, burst_done, done_in_turn, hall_left, same_done}
+use Rattle.irc_items.proofs.Common.Right.{IsRightAt}
+use Rattle.irc_items.proofs.Common.DeedsInTurn.{done_in_turn, same_done}
+use Rattle.irc_items.proofs.Link.Gains.{HasGained, KeepsKnown, all_gained, burst_done, hall_left}
 use Rattle.irc_items.proofs.Link.Sides.{IsReadDeed, deeds_of_link, room_deeds, server_deeds, side_after, side_of}
 use Rattle.irc_items.proofs.Link.ServersTold.{told_are_that_side}
+use Rattle.irc_items.proofs.Common.Sources.{one_moment}
 
 -- the servers that the side of t is told of, by b and of it
 abbrev pub told_rows : Fixed → (Name → Known) → Name → Name → List ServerRow
 told_rows s routes t b =
     record { link = 0; uplink = t; name = b; distance = 0; token = 0; ours = 0; info = info_in s.settings b } ∷ servers_told (routes b) (number s t)
-
--- what one server keeps is right
-pub record IsRightAt (s : Fixed) (links : List Link) (t : Name) (known : Known) : Type 0 where
-  pub named : known.name ≡ t
-  pub described : known.info ≡ info_in s.settings t
-  pub created : known.created ≡ created_in s.settings t
-  pub rows : (x : Name) → option_map shape (row_of known x)
-      ≡ (if joined links x t && not (same x t) then Some (shape_in s.names (info_in s.settings) links t x) else None)
-  pub numbered : IsNumbered known
-  pub low : (x : Name) (r : ServerRow) → row_of known x ≡ Some r → r.ours ≤ max_servers
 
 module _ (s : Fixed) (l : Link) (world : World) (routes : Name → Known) (a b : Name) where
   abbrev routes_now : Name → Known
@@ -74,15 +65,7 @@ module _ (s : Fixed) (l : Link) (world : World) (routes : Name → Known) (a b :
 
   -- each server of the side meets the link with the same side
   pub side_alike : (t : Name) → AreJoined world.links t a → world.hall t ≡ world.hall a → side_of s l world routes t ≡ side_of s l world routes a
-  side_alike t here one_hall = λ i. record {
-    tree = record {
-      forest = l ∷ world.links;
-      here = λ x. same (part world.links x) (here i);
-      knows = λ x. same (part world.links x) (here i);
-      routes = routes;
-    };
-    hall = one_hall i;
-  }
+  side_alike t here one_hall = one_moment world.links world.links (l ∷ world.links) routes world.hall t a here here one_hall
 
   module _ (forest : IsForest world.links) (ends : EndsAreAmong s.names world.links) (right : AreRight s world.links routes)
       (are_ends : AreEnds l world.links a b) (among : IsAmong s.names b) where

@@ -1,34 +1,25 @@
 -- A network is sound once a link is made between two parts that share no nickname.
-use Rattle.std.proofs.Common.{◌≡◌, ◌≢◌, ◌⊎◌, ℕ, zero, suc, ◌+◌, ◌*◌, ◌-◌, ◌<◌, ◌≤◌, Bool, true, false, ◌||◌, Option, Some, None, is_some, List, [], ◌∷◌, ◌++◌, length, count_by, refl, sym, ap, subst, ◌∙◌, arith, inl, inr, unwrap_or, if◌then◌else◌}
-use Rattle.std.specs.FinMap.{get}
-use Rattle.std.specs.List.{slice_get, AllByRecursion}
-use Rattle.std.specs.Option.{option_and_then, option_map, option_map_or}
+use Rattle.std.proofs.Common.{◌≡◌, ◌≢◌, ◌⊎◌, ℕ, suc, ◌+◌, ◌*◌, ◌-◌, ◌<◌, ◌≤◌, Bool, true, false, ◌||◌, Some, is_some, List, [], ◌∷◌, ◌++◌, length, count_by, refl, sym, ap, subst, ◌∙◌, arith, inl, inr, unwrap_or}
 use Rattle.irc_handshake.specs.GreetingLines.{greeting, pass_parts}
 use Rattle.irc_line.specs.Messages.{line_text}
 use Rattle.std.proofs.lemmas.List.{length-append, length-map}
 use Rattle.std.proofs.Math.Nat.{mul-le-mul_right}
 use Rattle.irc_merge.specs.Deeds.{Deed, gains}
 use Rattle.irc_relay.specs.Distances.{IsAmong}
-use Rattle.irc_relay.specs.Following.{Follows, all_done, all_seen}
-use Rattle.irc_relay.specs.Lemmas.TellingNames.{same_when, same_unless}
+use Rattle.irc_relay.specs.Following.{all_done, all_seen}
 use Rattle.irc_relay.specs.Links.{Name, Link, part, has_ends, joined, linked, same, AreJoined, AreLinked, HasEnds}
-use Rattle.irc_relay.specs.Relay.{streams_from, from_other_end, coming, lines_coming, lines_pending, under_way, Covers}
-use Rattle.irc_relay.specs.Lemmas.NextHops.{linked_joined, linked_back}
-use Rattle.irc_relay.specs.Lemmas.LinkTakenOut.{tests_tell}
+use Rattle.irc_relay.specs.Relay.{streams_from, from_other_end, coming, lines_coming, lines_pending, under_way}
+use Rattle.irc_relay.specs.Lemmas.NextHops.{linked_back}
 use Rattle.irc_routes.specs.Known.{Known, servers_told}
 use Rattle.irc_stage.specs.Lemmas.Numbers.{one_number, same_number, same_number-is}
-use Rattle.irc_stage.specs.View.{End, View, password_for}
-use Rattle.irc_links.specs.Ends.{is_met as has_far}
+use Rattle.irc_stage.specs.View.{View, password_for}
 use Rattle.irc_merge.specs.Bursts.{burst}
 use Rattle.irc_world.specs.Bounds.{most, part_size}
 use Rattle.irc_world.specs.Bystanders.{OnlyConnectedReceive}
-use Rattle.irc_world.specs.Owed.{owed_by_network, world_of}
-use Rattle.irc_world.specs.Sound.{AreTaken}
 use Rattle.irc_world.specs.Stepping.{Stepped, link, link_made, step}
-use Rattle.irc_world.specs.WithinLimits.{IsItemWithin}
-use Rattle.irc_world.specs.World.{World, home_in, new_world}
-use Rattle.irc_follow.specs.AtRest.{part_of, AreRight}
-use Rattle.irc_follow.specs.Fits.{Fits, far_of}
+use Rattle.irc_world.specs.World.{World}
+use Rattle.irc_follow.specs.AtRest.{part_of}
+use Rattle.irc_follow.specs.Fits.{Fits}
 use Rattle.irc_follow.specs.Part.{Fixed, Part, is_home_of, number}
 use Rattle.irc_follow.specs.Relinked.{PartAfterLink}
 use Rattle.irc_follow.specs.Says.{machine, play}
@@ -38,19 +29,22 @@ use Rattle.irc_follow.specs.Lemmas.PlacesOfNames.{one_place}
 use Rattle.irc_follow.specs.Lemmas.SaidEffectShown.{append_nil}
 use Rattle.irc_network.specs.Laws.{RestStays}
 use Rattle.irc_network.specs.Network.{Network, received_by}
-use Rattle.irc_items.specs.Relayed.{fixed_of, is_met_with, relayed, way_at, way_between}
+use Rattle.irc_items.specs.Relayed.{relayed, way_at, way_between}
 use Rattle.irc_items.specs.SetUp.{routes_in, settings_of, view_at}
-use Rattle.irc_items.specs.Sound.{most_now, most_of_last, owed_now, world_now, is_met, is_calling, AreCalled, HasCalled, IsPlaceOf, IsSound, IsSoundFrom, IsUnderWay}
-use Rattle.irc_items.proofs.Common.Begun.{begins, none_at_source, IsBegun}
-use Rattle.irc_items.proofs.Common.Counting.{part_counted, sides_most}
+use Rattle.irc_items.specs.Sound.{owed_now, world_now, is_met, is_calling, HasCalled, IsPlaceOf, IsSound}
 use Rattle.irc_items.proofs.Burst.Collisions.{answers_of, introduces}
-use Rattle.irc_items.proofs.Common.FewLines.{deeper_are_few, next_is_under_way}
+use Rattle.irc_items.proofs.Common.Begun.{begins, IsGoingOn}
+use Rattle.irc_items.proofs.Common.Counting.{part_counted}
+use Rattle.irc_items.proofs.Common.Ends.{both_ends, is_either, one_end}
+use Rattle.irc_items.proofs.Common.FewLines.{next_is_under_way}
+use Rattle.irc_items.proofs.Common.Sources.{Stands, at_end, behind, aside, few_from_two, source_of, AreFew}
+use Rattle.irc_items.proofs.Common.Step.{item_sound, ComesTo}
 use Rattle.irc_items.proofs.Good.GoodLines.{well_follow}
-use Rattle.irc_items.proofs.Common.ItemsMore.{each_more, most_more, owed_more, taken_more, world_more}
-use Rattle.irc_items.proofs.Link.Begins.{Takes, at_near, at_far, behind_near, behind_far, apart_from_both, away, deeds, starts, taker_among, takes, terms_of_link, IsToldByLink}
-use Rattle.irc_items.proofs.Link.Step.{apart, covers, meet, fits_begun, fixed_here, forest, has_ends_so, link_fixed, not_ends, old_ends, as_before, IsLinkStep}
-use Rattle.irc_items.proofs.Link.Sides.{deeds_of_link, room_deeds, routes_after, server_deeds, side_of}
-use Rattle.irc_items.proofs.Link.Ways.{link_lines, to_far, to_near}
+use Rattle.irc_items.proofs.Link.Begins.{away, deeds, deeds_at, starts, IsToldByLink}
+use Rattle.irc_items.proofs.Link.Coming.{ComesToLinked}
+use Rattle.irc_items.proofs.Link.Step.{apart, as_before, covers, fixed_here, forest, from_other, has_ends_so, link_fixed, met_before, not_ends, stands, IsLinkStep}
+use Rattle.irc_items.proofs.Link.Sides.{room_deeds, routes_after, server_deeds, side_of}
+use Rattle.irc_items.proofs.Link.Ways.{link_lines, to_end}
 
 pub record AreLinkLaws : Type 0 where
   pub after_link : PartAfterLink
@@ -63,39 +57,16 @@ abbrev told_by : Network → Name → ℕ → ℕ
 told_by net t way = length (servers_told (routes_in net t) way) + length (burst t ((world_now net).hall t).room)
 
 -- where the sides come to, and how many lines that takes
-pub record ComesToOne (laws : AreLinkLaws) (net new : Network) (near far : Name) (given : IsLinkStep net new near far)
-    (tells : IsToldByLink laws.after_link laws.quiet net new near far given) : Type 0 where
-  pub right : AreRight (link_fixed net near far) (record { near = near; far = far } ∷ (world_now net).links)
-      (routes_after (link_fixed net near far) (record { near = near; far = far }) (world_now net) (routes_in net))
-  pub comes : (client : ℕ) (t : Name) (view : View) → IsAmong net.names t → 0 < (link_fixed net near far).streams.depth t
-      → Fits (link_fixed net near far) t
-      (all_done (play (link_fixed net near far) client)
-      (side_of (link_fixed net near far) (record { near = near; far = far }) (world_now net) (routes_in net) t)
-      (deeds laws.after_link laws.quiet net new near far given tells client t)) view
-      → Fits (link_fixed net near far) t (part_of (link_fixed net near far) (link_made (world_now net) near far).world
-      (routes_after (link_fixed net near far) (record { near = near; far = far }) (world_now net) (routes_in net)) t) view
-  pub others : (t : Name) → IsAmong net.names t → (AreJoined (world_now net).links t near → ⊥) → (AreJoined (world_now net).links t far → ⊥)
-      → Fits (link_fixed net near far) t (part_of (link_fixed net near far) (link_made (world_now net) near far).world
-      (routes_after (link_fixed net near far) (record { near = near; far = far }) (world_now net) (routes_in net)) t) (view_at new t)
-  pub seen : (client : ℕ) (t : Name) → IsAmong net.names t → is_home_of (link_fixed net near far).homes t client ≡ true
-      → 0 < (link_fixed net near far).streams.depth t
-      → all_seen (play (link_fixed net near far) client) t
-      (side_of (link_fixed net near far) (record { near = near; far = far }) (world_now net) (routes_in net) t)
-      (deeds laws.after_link laws.quiet net new near far given tells client t) ≡ (link_made (world_now net) near far).lines client
-  pub unseen : (client : ℕ) (t : Name) → is_home_of (link_fixed net near far).homes t client ≡ true → (AreJoined (world_now net).links t near → ⊥)
-      → (AreJoined (world_now net).links t far → ⊥) → (link_made (world_now net) near far).lines client ≡ []
-  pub near_lines : length (link_lines laws.after_link laws.quiet net new near far given far near)
-      ≤ 2 + told_by net far (number (link_fixed net near far) near)
-  pub far_lines : length (link_lines laws.after_link laws.quiet net new near far given near far)
-      ≤ 2 + told_by net near (number (link_fixed net near far) far)
-  pub near_answered : count_by introduces (link_lines laws.after_link laws.quiet net new near far given far near)
-      ≤ 1 + told_by net far (number (link_fixed net near far) near)
-  pub far_answered : count_by introduces (link_lines laws.after_link laws.quiet net new near far given near far)
-      ≤ 1 + told_by net near (number (link_fixed net near far) far)
-  pub near_read : length (room_deeds (world_now net) near far) ≤ length (burst far ((world_now net).hall far).room)
-  pub far_read : length (room_deeds (world_now net) far near) ≤ length (burst near ((world_now net).hall near).room)
-  pub near_counted : length (servers_told (routes_in net near) (number (link_fixed net near far) far)) < part_size (settings_of net) (world_now net).links near
-  pub far_counted : length (servers_told (routes_in net far) (number (link_fixed net near far) near)) < part_size (settings_of net) (world_now net).links far
+pub record ComesToOne {net new : Network} {near far : Name} (laws : AreLinkLaws) (given : IsLinkStep net new near far) : Type 0 where
+  pub comes : ComesToLinked (link_fixed net near far) (record { near = near; far = far }) (world_now net) (routes_in net)
+  pub few_lines : (t b : Name) → HasEnds (record { near = near; far = far }) t b
+      → length (link_lines laws.after_link laws.quiet given b t) ≤ 2 + told_by net b (number (link_fixed net near far) t)
+  pub few_answered : (t b : Name) → HasEnds (record { near = near; far = far }) t b
+      → count_by introduces (link_lines laws.after_link laws.quiet given b t) ≤ 1 + told_by net b (number (link_fixed net near far) t)
+  pub few_read : (t b : Name) → HasEnds (record { near = near; far = far }) t b
+      → length (room_deeds (world_now net) t b) ≤ length (burst b ((world_now net).hall b).room)
+  pub counted : (t b : Name) → HasEnds (record { near = near; far = far }) t b
+      → length (servers_told (routes_in net t) (number (link_fixed net near far) b)) < part_size (settings_of net) (world_now net).links t
 
 -- one side, of p servers, is told by an end that has k lines besides its own, of which there are at most m; those that may be answered count twice
 side_few : (k p m : ℕ) → k ≤ m → ((2 + k) + p * (1 + k)) + (1 + k) ≤ 1 + (1 + m) * (suc p + 1)
@@ -132,8 +103,8 @@ some_more less = omega (less, arith)
 told_at_most : (servers room size : ℕ) → servers < size → servers + room ≤ (size - 1) + room
 told_at_most servers room size less = omega arith
 
-module _ (laws : AreLinkLaws) (net new : Network) (near far : Name) (given : IsLinkStep net new near far)
-    (tells : IsToldByLink laws.after_link laws.quiet net new near far given) (comes : ComesToOne laws net new near far given tells) where
+module _ {net new : Network} {near far : Name} (laws : AreLinkLaws) (given : IsLinkStep net new near far)
+    (tells : IsToldByLink laws.after_link laws.quiet given) (one : ComesToOne laws given) where
   abbrev s : Fixed
   s = link_fixed net near far
 
@@ -143,8 +114,8 @@ module _ (laws : AreLinkLaws) (net new : Network) (near far : Name) (given : IsL
   abbrev l : Link
   l = record { near = near; far = far }
 
-  abbrev after : World
-  after = (link_made world near far).world
+  abbrev made : Stepped
+  made = link_made world near far
 
   abbrev source : Name → Name
   source = from_other_end world.links near far
@@ -154,253 +125,131 @@ module _ (laws : AreLinkLaws) (net new : Network) (near far : Name) (given : IsL
 
   module _ (client : ℕ) where
     received_same : received_by new client ≡ owed_now net client
-    received_same = same_received client ∙ given.one.received client
-      where
-        same_received : (client : ℕ) → received_by new client ≡ received_by net client
-        same_received zero = refl
-        same_received (suc n) = ap (λ boxes. unwrap_or (slice_get boxes n) []) given.linked.received
+    received_same = given.linked.received client ∙ given.step.one.received client
 
     abbrev sides : Name → Part
     sides = side_of s l world (routes_in net)
 
     abbrev acts : Name → List Deed
-    acts = deeds laws.after_link laws.quiet net new near far given tells client
-
-    source_apart : (t : Name) → s.streams.depth t ≡ 0 → (AreJoined world.links t near → ⊥) × (AreJoined world.links t far → ⊥)
-    source_apart t none = by (takes laws.after_link laws.quiet net new near far given tells client t)
-      where
-        by : Takes laws.after_link laws.quiet net new near far given tells client t → (AreJoined world.links t near → ⊥) × (AreJoined world.links t far → ⊥)
-        by (at_near _ one) = absurd (let no : ⊥ = omega arith in no)
-        by (at_far _ one) = absurd (let no : ⊥ = omega arith in no)
-        by (behind_near _ _ deep _) = absurd (let no : ⊥ = omega arith in no)
-        by (behind_far _ _ deep _) = absurd (let no : ⊥ = omega arith in no)
-        by (apart_from_both m n _) = (m, n)
-
-    abbrev lines : List (List ℕ)
-    lines = (link_made world near far).lines client
+    acts = deeds laws.after_link laws.quiet given tells client
 
     abbrev owed : List (List ℕ)
-    owed = owed_now net client ++ lines
+    owed = owed_now net client ++ made.lines client
 
     -- whoever takes no lines is of another part
+    source_aside : (t : Name) → s.streams.depth t ≡ 0 → (e o : Name) → HasEnds l e o → AreJoined world.links t e → ⊥
+    source_aside t none = by (stands given t)
+      where
+        by : Stands (HasEnds l) world.links s.streams 1 t → (e o : Name) → HasEnds l e o → AreJoined world.links t e → ⊥
+        by (at_end o ends one_off) = absurd (let no : ⊥ = omega arith in no)
+        by (behind e o ends on two above deep) = absurd (let no : ⊥ = omega arith in no)
+        by (aside away _) = away
+
     told_source : (t : Name) → is_home_of s.homes t client ≡ true → s.streams.depth t ≡ 0 → received_by new client ≡ owed
     told_source t home none =
-        let apart = source_apart t none in
-        received_same ∙ sym (ap (λ more. owed_now net client ++ more) (comes.unseen client t home apart.0 apart.1) ∙ append_nil (owed_now net client))
+        received_same ∙ sym (ap (λ more. owed_now net client ++ more) (one.comes.aside_seen client t home (source_aside t none)) ∙ append_nil (owed_now net client))
 
-    pub begun : IsBegun s (answers_of l) after routes new client owed sides acts
-    begun = record {
-      starts = starts laws.after_link laws.quiet net new near far given tells client;
-      away = away laws.after_link laws.quiet net new near far given tells client;
-      at_source = λ t among none. comes.others t among (source_apart t none).0 (source_apart t none).1;
-      comes_to = λ t view among below fits. comes.comes client t view among below fits;
-      told_source = told_source;
-      told = λ t home below. ap (λ shown. shown ++ all_seen (play s client) t (sides t) (acts t)) received_same
-          ∙ ap (λ more. owed_now net client ++ more)
-          (comes.seen client t (taker_among laws.after_link laws.quiet net new near far given tells client t below) home below);
+    at_source : (t : Name) → IsAmong net.names t → s.streams.depth t ≡ 0 → Fits s t (part_of s made.world routes t) (view_at new t)
+    at_source t among none = one.comes.others (streams_from net.links (λ server. server)) t (view_at new t) among away
+        (subst (Fits (record s { streams = streams_from net.links (λ server. server) }) t (part_of s world (routes_in net) t))
+        (sym (given.linked.other_views t (λ e. away near far (inl (refl, refl)) (ap (part world.links) e))
+        (λ e. away far near (inr (refl, refl)) (ap (part world.links) e))))
+        (given.step.one.servers t among))
+      where
+        away : (e o : Name) → HasEnds l e o → AreJoined world.links t e → ⊥
+        away = source_aside t none
+
+    comes_to : (t : Name) (view : View) → IsAmong net.names t → 0 < s.streams.depth t → Fits s t (all_done (play s client) (sides t) (acts t)) view
+        → Fits s t (part_of s made.world routes t) view
+    comes_to t view among below fits =
+        let at = source_of (stands given t) below in
+        one.comes.comes at.e at.o at.ends client t view among at.on
+        (subst (λ deeds. Fits s t (all_done (play s client) (sides t) deeds) view)
+        (deeds_at laws.after_link laws.quiet given tells client t at.e at.o at.ends at.on) fits)
+
+    told_taker : (t : Name) → is_home_of s.homes t client ≡ true → 0 < s.streams.depth t
+        → received_by new client ++ all_seen (play s client) t (sides t) (acts t) ≡ owed
+    told_taker t home below =
+        let at = source_of (stands given t) below in
+        ap (λ shown. shown ++ all_seen (play s client) t (sides t) (acts t)) received_same
+        ∙ ap (λ deeds. owed_now net client ++ all_seen (play s client) t (sides t) deeds)
+        (deeds_at laws.after_link laws.quiet given tells client t at.e at.o at.ends at.on)
+        ∙ ap (λ more. owed_now net client ++ more) (one.comes.seen at.e at.o at.ends client t at.on home)
+
+    goes_on : IsGoingOn s (answers_of l) made.world source routes new client owed sides acts
+    goes_on = record {
+      forest = forest given;
+      covers = covers given;
+      streams = refl;
+      follow = well_follow laws.line s client (fixed_here given) (answers_of l) made.world routes;
+      begun = record {
+        starts = starts laws.after_link laws.quiet given tells client;
+        away = away laws.after_link laws.quiet given tells client;
+        at_source = at_source;
+        comes_to = comes_to;
+        told_source = told_source;
+        told = told_taker;
+      };
     }
-
-    follow : Follows (machine s client) (play s client) (terms_of_link net near far) (l ∷ world.links) s.streams
-    follow = well_follow laws.line s client (fixed_here laws.after_link net new near far given) (answers_of l) after routes
-
-    pub link_under_way : IsUnderWay s (answers_of l) after routes new client owed
-    link_under_way = begins s (answers_of l) after source routes new client owed sides acts
-        (forest laws.after_link net new near far given) (covers laws.after_link net new near far given) refl follow begun
 
     -- ---- few lines
 
-    abbrev count : Name → ℕ
-    count t = length (coming (machine s client) s.streams (relayed s new client) t)
+    lines_come : (t b : Name) → HasEnds l t b → coming (machine s client) s.streams (relayed s new client) t ≡ link_lines laws.after_link laws.quiet given b t
+    lines_come t b ends =
+        next_is_under_way goes_on t (from_other given t b ends).1
+        ∙ ap (λ p. under_way (relayed s new client) p t) (from_other given t b ends).0
+        ∙ to_end laws.after_link laws.quiet given client t b ends
 
-    next_lines : (t : Name) → s.streams.depth t ≡ 1
-        → coming (machine s client) s.streams (relayed s new client) t ≡ under_way (relayed s new client) (s.streams.parent t) t
-    next_lines t one =
-        next_is_under_way s (answers_of l) after source routes new client owed sides acts
-        (forest laws.after_link net new near far given) (covers laws.after_link net new near far given) refl follow begun t one
-
-    next : (t : Name) → s.streams.depth t ≡ 1 → count t ≡ length (under_way (relayed s new client) (s.streams.parent t) t)
-    next t one = ap (λ (lines : List (List ℕ)). length lines) (next_lines t one)
-
-    deeper : (t : Name) → 1 < s.streams.depth t → count t ≤ length (acts t)
-    deeper t deep = deeper_are_few s (answers_of l) after source routes new client owed sides acts
-        (forest laws.after_link net new near far given) (covers laws.after_link net new near far given) refl follow begun t deep
-
-    none_at : (t : Name) → s.streams.depth t ≡ 0 → count t ≡ 0
-    none_at t none = ap (λ (lines : List (List ℕ)). length lines) (none_at_source (machine s client) s.streams (relayed s new client) t none)
-
-    abbrev told_near : ℕ
-    told_near = told_by net far (number s near)
-
-    abbrev told_far : ℕ
-    told_far = told_by net near (number s far)
-
-    near_depth : s.streams.depth near ≡ 1
-    near_depth = (meet laws.after_link net new near far given).near_depth
-
-    at_near_few : count near ≤ 2 + told_near
-    at_near_few =
-        let one = next near near_depth
-        ∙ ap (λ p. length (under_way (relayed s new client) p near)) (meet laws.after_link net new near far given).near_parent
-        ∙ ap (λ (lines : List (List ℕ)). length lines) (to_near laws.after_link laws.quiet net new near far given client) in
-        let few = comes.near_lines in
+    acts_few : (t a b : Name) → HasEnds l a b → AreJoined world.links t a → length (acts t) ≤ 1 + told_by net b (number s a)
+    acts_few t a b ends on =
+        let all = ap (λ (deeds : List Deed). length deeds) (deeds_at laws.after_link laws.quiet given tells client t a b ends on)
+        ∙ length-append (server_deeds s (routes_in net) a b) (room_deeds world a b) in
+        let servers = length-map (servers_told (routes_in net b) (number s a)) (λ r. gains r.uplink r.name r.info) in
+        let room = one.few_read a b ends in
         omega arith
 
-    at_far_few : count far ≤ 2 + told_far
-    at_far_few =
-        let one = next far (meet laws.after_link net new near far given).far_depth
-        ∙ ap (λ p. length (under_way (relayed s new client) p far)) (meet laws.after_link net new near far given).far_parent
-        ∙ ap (λ (lines : List (List ℕ)). length lines) (to_far laws.after_link laws.quiet net new near far given client) in
-        let few = comes.far_lines in
-        omega arith
-
-    acts_near : (t : Name) → AreJoined world.links t near → length (acts t) ≤ 1 + told_near
-    acts_near t j =
-        let all = ap (λ b. length (if b then deeds_of_link s world (routes_in net) near far else deeds_of_link s world (routes_in net) far near))
-        ((tests_tell world.links t near t).1.1 j)
-        ∙ length-append (server_deeds s (routes_in net) near far) (room_deeds world near far) in
-        let servers = length-map (servers_told (routes_in net far) (number s near)) (λ r. gains r.uplink r.name r.info) in
-        let room = comes.near_read in
-        omega arith
-
-    acts_far : (t : Name) → AreJoined world.links t far → length (acts t) ≤ 1 + told_far
-    acts_far t j =
-        let all = ap (λ b. length (if b then deeds_of_link s world (routes_in net) near far else deeds_of_link s world (routes_in net) far near))
-        (same_unless (part world.links t) (part world.links near) (λ e. apart laws.after_link net new near far given (sym e ∙ j)))
-        ∙ length-append (server_deeds s (routes_in net) far near) (room_deeds world far near) in
-        let servers = length-map (servers_told (routes_in net near) (number s far)) (λ r. gains r.uplink r.name r.info) in
-        let room = comes.far_read in
-        omega arith
-
-    near_others : (t : Name) → t ≢ near → joined world.links near t ≡ true → count t ≤ 1 + told_near
-    near_others t two so = by (takes laws.after_link laws.quiet net new near far given tells client t)
+    -- next to their source are the ends alone
+    none_next : (t a b : Name) → HasEnds l a b → AreJoined world.links t a → t ≢ a → s.streams.depth t ≡ 1 → ⊥
+    none_next t a b ends on two depth = by (stands given t)
       where
-        j : AreJoined world.links t near
-        j = sym ((tests_tell world.links near t t).1.0 so)
+        by : Stands (HasEnds l) world.links s.streams 1 t → ⊥
+        by (at_end o its _) = two (one_end l world.links (apart given) t o a b its ends on)
+        by (behind e o its _ _ _ deep) = let no : ⊥ = omega arith in no
+        by (aside away _) = away a b ends on
 
-        by : Takes laws.after_link laws.quiet net new near far given tells client t → count t ≤ 1 + told_near
-        by (at_near e _) = absurd (two e)
-        by (at_far e _) = absurd (apart laws.after_link net new near far given (sym j ∙ ap (part world.links) e))
-        by (behind_near _ _ deep _) = let few = deeper t deep in let acts = acts_near t j in omega arith
-        by (behind_far k _ _ _) = absurd (apart laws.after_link net new near far given (sym j ∙ k))
-        by (apart_from_both m _ _) = absurd (m j)
+    few : AreFew (HasEnds l) world.links s new client acts (λ t b. 2 + told_by net b (number s t)) (λ t b. 1 + told_by net b (number s t))
+    few = record {
+      at_end = λ t b ends. subst (λ lines. length lines ≤ 2 + told_by net b (number s t)) (sym (lines_come t b ends)) (one.few_lines t b ends);
+      next = λ t a b ends on two depth. absurd (none_next t a b ends on two depth);
+      told = acts_few;
+    }
 
-    far_others : (t : Name) → t ≢ far → joined world.links far t ≡ true → count t ≤ 1 + told_far
-    far_others t two so = by (takes laws.after_link laws.quiet net new near far given tells client t)
-      where
-        j : AreJoined world.links t far
-        j = sym ((tests_tell world.links far t t).1.0 so)
+    answered_few : (t b : Name) → HasEnds l t b
+        → count_by introduces (coming (machine s client) s.streams (relayed s new client) t) ≤ 1 + told_by net b (number s t)
+    answered_few t b ends =
+        subst (λ lines. count_by introduces lines ≤ 1 + told_by net b (number s t)) (sym (lines_come t b ends)) (one.few_answered t b ends)
 
-        by : Takes laws.after_link laws.quiet net new near far given tells client t → count t ≤ 1 + told_far
-        by (at_near e _) = absurd (apart laws.after_link net new near far given (sym (ap (part world.links) e) ∙ j))
-        by (at_far e _) = absurd (two e)
-        by (behind_near k _ _ _) = absurd (apart laws.after_link net new near far given (sym k ∙ j))
-        by (behind_far _ _ deep _) = let few = deeper t deep in let acts = acts_far t j in omega arith
-        by (apart_from_both _ m _) = absurd (m j)
-
-    neither_none : (t : Name) → joined world.links near t ≡ false → joined world.links far t ≡ false → count t ≡ 0
-    neither_none t m n = by (takes laws.after_link laws.quiet net new near far given tells client t)
-      where
-        off : (e : Name) → joined world.links e t ≡ false → AreJoined world.links t e → ⊥
-        off e so j = let no = sym ((tests_tell world.links e t t).1.1 (sym j)) ∙ so in cc no
-
-        by : Takes laws.after_link laws.quiet net new near far given tells client t → count t ≡ 0
-        by (at_near e _) = absurd (off near m (ap (part world.links) e))
-        by (at_far e _) = absurd (off far n (ap (part world.links) e))
-        by (behind_near k _ _ _) = absurd (off near m k)
-        by (behind_far k _ _ _) = absurd (off far n k)
-        by (apart_from_both _ _ none) = none_at t none
-
-    near_answered : count_by introduces (coming (machine s client) s.streams (relayed s new client) near) ≤ 1 + told_near
-    near_answered =
-        let same = ap (count_by introduces) (next_lines near near_depth
-        ∙ ap (λ p. under_way (relayed s new client) p near) (meet laws.after_link net new near far given).near_parent
-        ∙ to_near laws.after_link laws.quiet net new near far given client) in
-        let few = comes.near_answered in
-        omega arith
-
-    far_answered : count_by introduces (coming (machine s client) s.streams (relayed s new client) far) ≤ 1 + told_far
-    far_answered =
-        let same = ap (count_by introduces) (next_lines far (meet laws.after_link net new near far given).far_depth
-        ∙ ap (λ p. under_way (relayed s new client) p far) (meet laws.after_link net new near far given).far_parent
-        ∙ to_far laws.after_link laws.quiet net new near far given client) in
-        let few = comes.far_answered in
-        omega arith
-
-    few_come : lines_pending (machine s client) s.streams (relayed s new client) net.names introduces near far ≤ most (settings_of net) world (link near far)
+    pending : lines_pending (machine s client) s.streams (relayed s new client) net.names introduces near far ≤ most (settings_of net) world (link near far)
     unfolding most
-    few_come =
-        let sum = sides_most net.names (joined world.links near) (joined world.links far) near far (2 + told_near) (1 + told_near) (2 + told_far)
-        (1 + told_far) count
-        (record {
-          there = same_when (part world.links near) (part world.links near) refl;
-          once = given.sound.set_up.once near given.meeting.near_among;
-          most = at_near_few;
-          others = λ t among two so. near_others t two so;
-        })
-        (record {
-          there = same_when (part world.links far) (part world.links far) refl;
-          once = given.sound.set_up.once far given.meeting.far_among;
-          most = at_far_few;
-          others = λ t among two so. far_others t two so;
-        }) (λ t among m n. neither_none t m n) in
+    pending =
         allowed (lines_coming (machine s client) s.streams (relayed s new client) net.names)
         (count_by introduces (coming (machine s client) s.streams (relayed s new client) near))
-        (count_by introduces (coming (machine s client) s.streams (relayed s new client) far)) told_near told_far
+        (count_by introduces (coming (machine s client) s.streams (relayed s new client) far)) (told_by net far (number s near)) (told_by net near (number s far))
         (count_by (joined world.links near) net.names) (count_by (joined world.links far) net.names)
         (part_size (settings_of net) world.links near) (part_size (settings_of net) world.links far)
         (part_size (settings_of net) world.links near - 1 + length (burst near (world.hall near).room))
-        (part_size (settings_of net) world.links far - 1 + length (burst far (world.hall far).room)) sum near_answered far_answered
-        (part_counted net given.sound.set_up world.links near) (part_counted net given.sound.set_up world.links far)
-        (some_more comes.near_counted) (some_more comes.far_counted)
+        (part_size (settings_of net) world.links far - 1 + length (burst far (world.hall far).room))
+        (few_from_two goes_on (stands given) few net.names near far (inl (refl, refl)) (inr (refl, refl)) (is_either l)
+        (given.step.sound.set_up.once near given.meeting.near_among) (given.step.sound.set_up.once far given.meeting.far_among))
+        (answered_few near far (inl (refl, refl))) (answered_few far near (inr (refl, refl)))
+        (part_counted net given.step.sound.set_up world.links near) (part_counted net given.step.sound.set_up world.links far)
+        (some_more (one.counted near far (inl (refl, refl)))) (some_more (one.counted far near (inr (refl, refl))))
         (told_at_most (length (servers_told (routes_in net near) (number s far))) (length (burst near (world.hall near).room))
-        (part_size (settings_of net) world.links near) comes.near_counted)
+        (part_size (settings_of net) world.links near) (one.counted near far (inl (refl, refl))))
         (told_at_most (length (servers_told (routes_in net far) (number s near))) (length (burst far (world.hall far).room))
-        (part_size (settings_of net) world.links far) comes.far_counted)
+        (part_size (settings_of net) world.links far) (one.counted far near (inr (refl, refl))))
 
-  -- ---- the network afterwards
-
-  same_settings : settings_of new ≡ settings_of net
-  same_settings = given.linked.settings
-
-  same_links : new.links ≡ l ∷ world.links
-  same_links = given.linked.links ∙ ap (λ links. l ∷ links) given.sound.links
-
-  fixed_same : fixed_of new (streams_from new.links source) ≡ s
-  fixed_same i = record {
-    settings = same_settings i;
-    names = given.linked.names i;
-    homes = given.linked.homes i;
-    streams = streams_from (same_links i) source;
-  }
-
-  stepped : step (settings_of net) world (link near far) ≡ link_made world near far
-  unfolding step
-  stepped = refl
-
-  world_is : world_now new ≡ after
-  world_is =
-      ap (λ settings. world_of settings new.items) same_settings ∙ ap (λ items. world_of (settings_of net) items) given.linked.items
-      ∙ world_more (settings_of net) net.items (link near far) ∙ ap (λ (st : Stepped). st.world) stepped
-
-  owed_is : (client : ℕ) → owed_now new client ≡ owed_now net client ++ (link_made world near far).lines client
-  owed_is client =
-      ap (λ settings. owed_by_network settings new.items client) same_settings
-      ∙ ap (λ items. owed_by_network (settings_of net) items client) given.linked.items
-      ∙ owed_more (settings_of net) net.items (link near far) client
-      ∙ ap (λ (st : Stepped). owed_now net client ++ st.lines client) stepped
-
-  most_is : most_now new ≡ most (settings_of net) world (link near far)
-  most_is =
-      ap (λ settings. most_of_last settings new_world new.items) same_settings ∙ ap (λ items. most_of_last (settings_of net) new_world items) given.linked.items
-      ∙ most_more (settings_of net) net.items (link near far)
-
-  few_now : (client : ℕ) → new.taken + lines_pending (machine s client) s.streams (relayed s new client) new.names introduces near far ≤ most_now new
-  few_now client =
-      let here = few_come client in
-      let none = given.linked.taken in
-      let names = ap (λ names. lines_pending (machine s client) s.streams (relayed s new client) names introduces near far) given.linked.names in
-      let most = most_is in
-      omega arith
+  -- ---- who has called
 
   pass_line : List ℕ
   pass_line = line_text (pass_parts (unwrap_or (password_for (view_at net near) far) []))
@@ -411,122 +260,62 @@ module _ (laws : AreLinkLaws) (net new : Network) (near far : Name) (given : IsL
   calling = is_calling (pass_line ∷ []) []
       (given.linked.calls
       ∙ ap (λ k. Some (pass_line ∷ line_text (greeting k) ∷ []))
-      (sym (as_before laws.after_link net new near far given (λ v. v.routes) (λ k starts view. refl) near)))
+      (sym (as_before given (λ v. v.routes) (λ k starts view. refl) near)))
 
-  met_on_side : (x y : Name) → IsAmong net.names x → IsAmong net.names y → AreLinked world.links x y → is_met_with s (view_at new y) x ≡ true
-  met_on_side x y x_among y_among linked_so = by (get (view_at new y).ends (number s x)) refl
+  called : (x y : Name) → HasEnds l x y ⊎ AreLinked world.links x y → HasCalled s new x y ⊎ HasCalled s new y x
+  called x y (inl ends) = both_ends l (λ x y. HasCalled s new x y ⊎ HasCalled s new y x) (inl calling) (inr calling) x y ends
+  called x y (inr linked_so) = inl (is_met (met_before given laws.after_link y x (linked_back world.links x y linked_so)))
+
+  -- ---- ways
+
+  ways_now : (x y : Name) → is_some (way_at new x (number s y)) ≡ linked (l ∷ world.links) x y
+  ways_now x y = by (has_ends l x y) refl
     where
-      back : AreLinked world.links y x
-      back = linked_back world.links x y linked_so
+      named : (x y : Name) → is_some (way_at new x (number s y)) ≡ is_some (way_between new x y)
+      named x y = ap (λ names. is_some (way_at new x (index_in names y))) (sym given.step.taken.names)
 
-      end_is : option_map far_of (get (view_at new y).ends (number s x)) ≡ Some (Some x)
-      end_is = (fits_begun laws.after_link net new near far given y y_among).ends x x_among
-          ∙ ap (λ b. if b then Some (if joined world.links x y then Some x else None) else None) ((tests_tell (l ∷ world.links) y x x).2.1 (inr back))
-          ∙ ap (λ b. Some (if b then Some x else None)) ((tests_tell world.links x y y).1.1 (linked_joined world.links x y linked_so))
+      at_ends : (x y : Name) → HasEnds l x y → is_some (way_at new x (number s y)) ≡ true
+      at_ends = both_ends l (λ x y. is_some (way_at new x (number s y)) ≡ true) (named near far ∙ ap is_some given.linked.calls)
+          (named far near ∙ ap is_some given.linked.waits)
 
-      far_some : (end : End) → Some (far_of end) ≡ Some (Some x) → has_far end ≡ true
-      far_some end e = ap (λ (o : Option (Option Name)). option_map_or is_some o false) e
-
-      by : (o : Option End) → get (view_at new y).ends (number s x) ≡ o → is_met_with s (view_at new y) x ≡ true
-      by None is = cc (sym (ap (option_map far_of) is) ∙ end_is)
-      by (Some end) is = ap (λ o. option_map_or has_far o false) is ∙ far_some end (sym (ap (option_map far_of) is) ∙ end_is)
-
-  called : AreCalled s new
-  called x y l_xy = by (subst (λ links. AreLinked links x y) same_links l_xy)
-    where
-      by : HasEnds l x y ⊎ AreLinked world.links x y → HasCalled s new x y ⊎ HasCalled s new y x
-      by (inl (inl (e, f))) = inl (subst (λ v. HasCalled s new v y) e (subst (λ v. HasCalled s new near v) f calling))
-      by (inl (inr (e, f))) = inr (subst (λ v. HasCalled s new y v) f (subst (λ v. HasCalled s new v far) e calling))
-      by (inr linked_so) = inl (is_met (met_on_side x y (old_ends laws.after_link net new near far given x y linked_so)
-          (old_ends laws.after_link net new near far given y x (linked_back world.links x y linked_so)) linked_so))
-
-  coming_now : IsSoundFrom source routes (answers_of l) new s
-  coming_now = record {
-    covers = subst (λ links. Covers links source) (sym same_links) (covers laws.after_link net new near far given);
-    right = subst (λ links. AreRight s links routes) (sym same_links) comes.right;
-    called = called;
-    under_way = λ client. subst (λ w. IsUnderWay s (answers_of l) w routes new client (owed_now new client)) (sym world_is)
-        (subst (IsUnderWay s (answers_of l) after routes new client) (sym (owed_is client)) (link_under_way client));
-    few = few_now;
-  }
-
-  same_place : (y : Name) → index_in new.names y ≡ number s y
-  same_place y = ap (λ names. index_in names y) given.linked.names
-
-  ways_now : (x y : Name) → is_some (way_between new x y) ≡ linked new.links x y
-  ways_now x y = by (has_ends l x y) refl ∙ ap (λ links. linked links x y) (sym same_links)
-    where
-      at_ends : HasEnds l x y → is_some (way_between new x y) ≡ true
-      at_ends (inl (e, f)) = ap is_some (ap (λ v. way_between new v y) (sym e) ∙ ap (λ v. way_between new near v) (sym f) ∙ given.linked.calls)
-      at_ends (inr (e, f)) = ap is_some (ap (λ v. way_between new v y) (sym f) ∙ ap (λ v. way_between new far v) (sym e) ∙ given.linked.waits)
-
-      by : (b : Bool) → has_ends l x y ≡ b → is_some (way_between new x y) ≡ (has_ends l x y || linked world.links x y)
-      by true e = at_ends (has_ends_so laws.after_link net new near far given x y e) ∙ sym (ap (λ b. b || linked world.links x y) e)
+      by : (b : Bool) → has_ends l x y ≡ b → is_some (way_at new x (number s y)) ≡ (has_ends l x y || linked world.links x y)
+      by true e = at_ends x y (has_ends_so given x y e) ∙ sym (ap (λ b. b || linked world.links x y) e)
       by false e =
-          ap (λ place. is_some (way_at new x place)) (same_place y)
-          ∙ ap is_some (given.linked.other_ways x (number s y)
+          ap is_some (given.linked.other_ways x (number s y)
           (λ n same. none (inl (sym n, one_place net.names far y given.meeting.far_among (sym same))))
           (λ n same. none (inr (one_place net.names near y given.meeting.near_among (sym same), sym n))))
-          ∙ given.sound.ways x y ∙ ap (λ links. linked links x y) given.sound.links ∙ sym (ap (λ b. b || linked world.links x y) e)
+          ∙ given.step.sound.ways x y ∙ ap (λ links. linked links x y) given.step.sound.links ∙ sym (ap (λ b. b || linked world.links x y) e)
         where
           none : HasEnds l x y → ⊥
-          none = not_ends laws.after_link net new near far given x y e
+          none = not_ends given x y e
 
-  to_servers_now : (x : Name) (place : ℕ) → is_some (way_at new x place) ≡ true → IsPlaceOf new place
-  to_servers_now x place is = by (same_number place (number s far)) refl (same_number place (number s near)) refl
+  to_servers : (x : Name) (place : ℕ) → is_some (way_at new x place) ≡ true → IsPlaceOf net place
+  to_servers x place is = by (same_number place (number s far)) refl (same_number place (number s near)) refl
     where
-      there : (b : Name) → IsAmong net.names b → same_number place (number s b) ≡ true → IsPlaceOf new place
-      there b among e = record {
-        server = b;
-        among = subst (λ names. IsAmong names b) (sym given.linked.names) among;
-        is = same_place b ∙ sym (one_number place (number s b) e);
-      }
+      there : (b : Name) → IsAmong net.names b → same_number place (number s b) ≡ true → IsPlaceOf net place
+      there b among e = record { server = b; among = among; is = sym (one_number place (number s b) e) }
 
       other : (b : Name) → same_number place (number s b) ≡ false → place ≡ number s b → ⊥
       other b e same = let no = sym (same_number-is place (number s b) same) ∙ e in cc no
 
-      old : IsPlaceOf net place → IsPlaceOf new place
-      old p = record {
-        server = p.server;
-        among = subst (λ names. IsAmong names p.server) (sym given.linked.names) p.among;
-        is = ap (λ names. index_in names p.server) given.linked.names ∙ p.is;
-      }
-
-      by : (a : Bool) → same_number place (number s far) ≡ a → (b : Bool) → same_number place (number s near) ≡ b → IsPlaceOf new place
+      by : (a : Bool) → same_number place (number s far) ≡ a → (b : Bool) → same_number place (number s near) ≡ b → IsPlaceOf net place
       by true e b f = there far given.meeting.far_among e
       by false e true f = there near given.meeting.near_among f
-      by false e false f = old (given.sound.to_servers x place
-          (sym (ap is_some (given.linked.other_ways x place (λ n same. other far e same) (λ n same. other near f same))) ∙ is))
+      by false e false f = given.step.sound.to_servers x place
+          (sym (ap is_some (given.linked.other_ways x place (λ n same. other far e same) (λ n same. other near f same))) ∙ is)
 
-  nobody_now : (client : ℕ) → home_in new.homes client ≡ None → owed_now new client ≡ []
-  nobody_now client none =
-      owed_is client
-      ∙ ap (λ more. owed_now net client ++ more) (sym (ap (λ (st : Stepped). st.lines client) stepped) ∙ lines_none)
-      ∙ ap (λ before. before ++ []) (given.sound.nobody client no_home)
-    where
-      no_home : home_in net.homes client ≡ None
-      no_home = ap (λ homes. home_in homes client) (sym given.linked.homes) ∙ none
+  -- ---- where that brings the network
 
-      lines_none : (step (settings_of net) world (link near far)).lines client ≡ []
-      lines_none = laws.only_connected (settings_of net) world (link near far) client given.holds.sound given.not_refused
-          (ap (option_and_then (λ home. get (world.hall home).clients client)) (ap (λ homes. home_in homes client) (sym given.sound.homes) ∙ no_home))
+  brings : ComesTo net new (link near far) net.homes made source routes (answers_of l)
+  brings = record {
+    covers = covers given;
+    right = one.comes.right;
+    called = called;
+    under_way = λ client. begins (goes_on client);
+    few = pending;
+    ways = ways_now;
+    to_servers = to_servers;
+  }
 
   pub link_sound : IsSound new
-  link_sound = record {
-    set_up = given.linked.set_up;
-    taken = subst (λ settings. AreTaken settings new_world new.items) (sym same_settings)
-        (subst (AreTaken (settings_of net) new_world) (sym given.linked.items)
-        (taken_more (settings_of net) net.items (link near far) given.sound.taken given.not_refused));
-    within = subst (AllByRecursion IsItemWithin) (sym given.linked.items) (each_more IsItemWithin net.items (link near far) given.sound.within tt);
-    links = same_links ∙ sym (ap (λ (w : World). w.links) world_is);
-    homes = given.linked.homes ∙ given.sound.homes ∙ sym (ap (λ (w : World). w.homes) world_is);
-    inboxes = ap (λ (boxes : List (List (List ℕ))). length boxes) given.linked.received ∙ given.sound.inboxes
-        ∙ ap (λ (homes : List Name). length homes) (sym given.linked.homes);
-    ways = ways_now;
-    to_servers = to_servers_now;
-    nobody = nobody_now;
-    source = source;
-    routes = routes;
-    asks = answers_of l;
-    coming = subst (IsSoundFrom source routes (answers_of l) new) (sym fixed_same) coming_now;
-  }
+  link_sound = item_sound laws.only_connected given.step brings

@@ -64,7 +64,7 @@ use Rattle.irc_items.specs.GoodLines.{Answering}
 use Rattle.irc_items.proofs.Burst.Collisions.{answers_of, count_but_first, introduces, pass_introduces_nobody}
 use Rattle.irc_items.proofs.Good.GoodLines.{AsideWell, IsWithinSide, SaysWell, good_terms}
 use Rattle.irc_items.proofs.Handshake.Greetings.{IsKnownOfHandshakes, heard_is, greeting_is_line}
-use Rattle.irc_items.proofs.Common.Gains.{or_in_turn, or_none}
+use Rattle.irc_items.proofs.Link.Gains.{or_in_turn, or_none}
 use Rattle.irc_items.proofs.Link.Over.{over_link, way_over, IsOver}
 use Rattle.irc_items.proofs.Link.Rooms.{AreRooms}
 use Rattle.irc_items.proofs.Link.ServersTold.{told_are_that_side}
@@ -99,7 +99,7 @@ pub record IsKnownOfSides : Type 0 where
   pub whole : WholeSide
   pub untold : BurstTellsNoInvitation
 
-module _ (known : IsKnownOfSides) (s : Fixed) (l : Link) (world : World) (routes : Name → Known) (t b : Name) (is : IsSideOfLink s l world routes t b) where
+module _ (known : IsKnownOfSides) {s : Fixed} {l : Link} {world : World} {routes : Name → Known} {t b : Name} (is : IsSideOfLink s l world routes t b) where
   abbrev laws : IsKnownOfHandshakes
   laws = known.handshakes
 
@@ -227,8 +227,7 @@ module _ (known : IsKnownOfSides) (s : Fixed) (l : Link) (world : World) (routes
             (ap (λ c. if c then t else toward links b b) (same_when b b refl)) itself
 
         module _ (word : List ℕ) (kept : password_for view b ≡ Some word) (end : End) (is_end : get view.ends (number s b) ≡ Some end)
-            (not_met : end.far ≡ None)
-            (given : end.password ≡ Some word) where
+            (not_met : end.far ≡ None) (given : end.password ≡ Some word) where
           b_name : (routes b).name ≡ b
           b_name = is.right.named b is.b_among
 
@@ -249,8 +248,7 @@ module _ (known : IsKnownOfSides) (s : Fixed) (l : Link) (world : World) (routes
               ∙ ap (λ (o : Option (List ℕ)). opened view end (greeting_opens (is_some o) (Some ((routes b).name, (routes b).info)))) given
               ∙ ap (λ n. opened view end (greeting_opens true (Some (n, (routes b).info)))) b_name
               ∙ ap (λ i. opened view end (greeting_opens true (Some (b, i)))) b_info
-              ∙ ap (λ c. opened view end (if c then Ok (opening.Greeting b (info b)) else Err reason.UnknownPeer))
-              (is.fixed.servers.named b is.b_among)
+              ∙ ap (λ c. opened view end (if c then Ok (opening.Greeting b (info b)) else Err reason.UnknownPeer)) (is.fixed.servers.named b is.b_among)
               ∙ ap (λ o. met_unless o b (info b)) not_refused
 
           pub b_says : SaysWell s answers linked_world linked_routes b t w view (gains t b (info b)) (line_text (greeting (routes b)))
@@ -489,8 +487,7 @@ module _ (known : IsKnownOfSides) (s : Fixed) (l : Link) (world : World) (routes
       (tell_rows client (servers_told (routes b) (number s t)) (λ x. joined links x t || same x b) (gained_at s.names first.tree t b (info b)) (world.hall t)
       (neighbour_served s b view greeting_line).view (b_stays knows_first routes (world.hall t) t b (info b) refl) b_known
       (said_gain_fits s is.fixed b t first view takes_b fits t b (info b) greeting_line says.says)
-      (come_in_turn s links routes b is.forest.1 is.right is.b_among ends_there t is.t_among over.apart
-      (λ x. joined links x t || same x b) b_known
+      (come_in_turn s links routes b is.forest.1 is.right is.b_among ends_there t is.t_among over.apart (λ x. joined links x t || same x b) b_known
       (λ x j two. ap (λ c. c || same x b) (away x (sym j)) ∙ same_unless x b two))
       (room_deeds world t b) room_lines (subst (λ now. IsToldThen client now (world.hall t) (room_deeds world t b) room_lines) (sym all_known) more))
     where
@@ -558,8 +555,7 @@ module _ (known : IsKnownOfSides) (s : Fixed) (l : Link) (world : World) (routes
     link_tells client kept other_kept end is_end not_met no_word more =
         subst (AreTold client first view (deeds_of_link s world routes t b)) (sym (lines_are other_kept)) (aside_line aside (
         from_greeting client (neighbour_served s b view pass_line).view word (record end { password = Some word })
-        (aside_stays s b t first view pass_line fits aside.aside).fits
-        (ap (λ (v : View). password_for v b) after ∙ kept)
+        (aside_stays s b t first view pass_line fits aside.aside).fits (ap (λ (v : View). password_for v b) after ∙ kept)
         (ap (λ (v : View). get v.ends (number s b)) after ∙ word_kept laws word is_word view (number s b) end not_met no_word)
         not_met refl more
         ))

@@ -1,8 +1,8 @@
 -- The two ends of a new link tell each other's side of their own.
-use Rattle.std.proofs.Common.{◌≡◌, count_by, None, Some, ◌+◌, ◌≤◌, length, refl, sym, ◌∙◌, arith, inl, inr}
+use Rattle.std.proofs.Common.{◌≡◌, count_by, Some, ◌+◌, ◌≤◌, length, refl, ◌∙◌, arith, ℕ}
 use Rattle.irc_merge.specs.Bursts.{burst}
 use Rattle.irc_relay.specs.Distances.{IsAmong}
-use Rattle.irc_relay.specs.Links.{Name, Link}
+use Rattle.irc_relay.specs.Links.{Name, Link, HasEnds}
 use Rattle.irc_room.specs.Invitations.{of_home}
 use Rattle.irc_routes.specs.Known.{servers_told}
 use Rattle.irc_stage.specs.View.{fresh_end, password_for}
@@ -14,14 +14,19 @@ use Rattle.irc_network.specs.Network.{Network}
 use Rattle.irc_items.specs.SetUp.{routes_in, settings_of, view_at}
 use Rattle.irc_items.specs.Sound.{world_now}
 use Rattle.irc_items.proofs.Burst.Collisions.{introduces}
-use Rattle.irc_items.proofs.Link.Begins.{IsToldByLink}
+use Rattle.irc_items.proofs.Link.Begins.{terms_of_link}
 use Rattle.irc_items.proofs.Link.RoomTold.{room_told, AreRoomLaws}
 use Rattle.irc_items.proofs.Link.Rooms.{rooms_meet}
-use Rattle.irc_items.proofs.Link.Step.{apart, as_before, fits_begun, fixed_here, forest, link_fixed, right_here, IsLinkStep}
+use Rattle.irc_items.proofs.Link.Step.{apart, as_before, end_among, end_is, fits_begun, fixed_here, forest, link_fixed, opened, right_here, IsLinkStep}
 use Rattle.irc_items.proofs.Link.Starts.{answered_of_link, lines_of_link, link_tells, IsSideOfLink}
-use Rattle.irc_items.proofs.Link.Ways.{end_far, end_near, link_lines}
+use Rattle.irc_items.proofs.Link.Ways.{link_lines}
+use Rattle.irc_items.proofs.Link.Sides.{deeds_of_link, side_of}
+use Rattle.irc_items.proofs.Common.Ends.{both_ends, not_both, other_end}
+use Rattle.irc_follow.specs.Says.{machine, play}
+use Rattle.irc_relay.specs.Following.{Tells}
 
-module _ (laws : AreRoomLaws) (after_link : PartAfterLink) (quiet : RestStays) (net new : Network) (near far : Name) (given : IsLinkStep net new near far) where
+module _ {net new : Network} {near far : Name} (laws : AreRoomLaws) (after_link : PartAfterLink) (quiet : RestStays)
+    (given : IsLinkStep net new near far) where
   abbrev s : Fixed
   s = link_fixed net near far
 
@@ -31,86 +36,54 @@ module _ (laws : AreRoomLaws) (after_link : PartAfterLink) (quiet : RestStays) (
   abbrev l : Link
   l = record { near = near; far = far }
 
-  side_near : IsSideOfLink s l world (routes_in net) near far
-  side_near = record {
-    ends = inl (refl, refl);
-    t_among = given.meeting.near_among;
-    b_among = given.meeting.far_among;
-    fixed = fixed_here after_link net new near far given;
+  side : (t b : Name) → HasEnds l t b → IsSideOfLink s l world (routes_in net) t b
+  side t b ends = record {
+    ends = ends;
+    t_among = end_among given t b ends;
+    b_among = end_among given b t (other_end l t b ends);
+    fixed = fixed_here given;
     streams = refl;
-    forest = forest after_link net new near far given;
-    right = right_here after_link net new near far given;
-    holds = given.holds;
-    rooms = rooms_meet (settings_of net) world given.holds near far (apart after_link net new near far given);
-  }
-
-  side_far : IsSideOfLink s l world (routes_in net) far near
-  side_far = record {
-    ends = inr (refl, refl);
-    t_among = given.meeting.far_among;
-    b_among = given.meeting.near_among;
-    fixed = fixed_here after_link net new near far given;
-    streams = refl;
-    forest = forest after_link net new near far given;
-    right = right_here after_link net new near far given;
-    holds = given.holds;
-    rooms = rooms_meet (settings_of net) world given.holds far near (λ j. apart after_link net new near far given (sym j));
+    forest = forest given;
+    right = right_here given;
+    holds = given.step.holds;
+    rooms = rooms_meet (settings_of net) world given.step.holds t b (λ on. not_both l world.links (apart given) t t b ends refl on);
   }
 
   room_of : (t : Name) → IsAmong net.names t → (view_at new t).room ≡ of_home t (world.hall t).room
-  room_of t among = as_before after_link net new near far given (λ v. v.room) (λ k starts view. refl) t ∙ (given.one.servers t among).room
+  room_of t among = as_before given (λ v. v.room) (λ k starts view. refl) t ∙ (given.step.one.servers t among).room
 
   routes_of : (t : Name) → (view_at new t).routes ≡ routes_in net t
-  routes_of t = as_before after_link net new near far given (λ v. v.routes) (λ k starts view. refl) t
+  routes_of t = as_before given (λ v. v.routes) (λ k starts view. refl) t
 
-  word_of : (t b : Name) → password_for (view_at net t) b ≡ Some given.meeting.word → password_for (view_at new t) b ≡ Some given.meeting.word
-  word_of t b is = as_before after_link net new near far given (λ v. password_for v b) (λ k starts view. refl) t ∙ is
+  word_of : (t b : Name) → HasEnds l t b → password_for (view_at new t) b ≡ Some given.meeting.word
+  word_of t b ends = as_before given (λ v. password_for v b) (λ k starts view. refl) t
+      ∙ both_ends l (λ t b. password_for (view_at net t) b ≡ Some given.meeting.word) given.meeting.near_word given.meeting.far_word t b ends
 
-  pub told_by_link : IsToldByLink after_link quiet net new near far given
-  told_by_link = record {
-    near_told = λ client. link_tells laws.sides s l world (routes_in net) near far side_near (view_at new near) (view_at new far)
-        (fits_begun after_link net new near far given near given.meeting.near_among) (routes_of far)
-        (room_of far given.meeting.far_among) given.meeting.word given.meeting.is_word client
-        (word_of near far given.meeting.near_word) (word_of far near given.meeting.far_word) (fresh_end (Some far))
-        (end_near after_link quiet net new near far given) refl refl (room_told laws s l world (routes_in net) near far side_near client);
-    far_told = λ client. link_tells laws.sides s l world (routes_in net) far near side_far (view_at new far) (view_at new near)
-        (fits_begun after_link net new near far given far given.meeting.far_among) (routes_of near)
-        (room_of near given.meeting.near_among) given.meeting.word given.meeting.is_word client
-        (word_of far near given.meeting.far_word) (word_of near far given.meeting.near_word) (fresh_end None)
-        (end_far after_link quiet net new near far given) refl refl (room_told laws s l world (routes_in net) far near side_far client);
-  }
+  module _ (t b : Name) (ends : HasEnds l t b) where
+    far_among : IsAmong net.names b
+    far_among = end_among given b t (other_end l t b ends)
 
-  pub near_lines : length (link_lines after_link quiet net new near far given far near)
-      ≤ 2 + (length (servers_told (routes_in net far) (number s near)) + length (burst far (world.hall far).room))
-  near_lines =
-      let long = lines_of_link laws.sides s l world (routes_in net) near far side_near (view_at new near) (view_at new far)
-      (fits_begun after_link net new near far given near given.meeting.near_among) (routes_of far)
-      (room_of far given.meeting.far_among) given.meeting.word given.meeting.is_word
-      (word_of far near given.meeting.far_word) in
-      omega arith
+    pub told_by_link : (client : ℕ)
+        → Tells (machine s client) (play s client) (terms_of_link net near far) b t (side_of s l world (routes_in net) t) (view_at new t)
+        (deeds_of_link s world (routes_in net) t b) (link_lines after_link quiet given b t)
+    told_by_link client =
+        link_tells laws.sides (side t b ends) (view_at new t) (view_at new b)
+        (fits_begun given after_link t (end_among given t b ends)) (routes_of b) (room_of b far_among) given.meeting.word given.meeting.is_word client
+        (word_of t b ends) (word_of b t (other_end l t b ends)) (fresh_end (opened given t b ends).starts) (end_is given t b ends) refl refl
+        (room_told laws s l world (routes_in net) t b (side t b ends) client)
 
-  pub far_lines : length (link_lines after_link quiet net new near far given near far)
-      ≤ 2 + (length (servers_told (routes_in net near) (number s far)) + length (burst near (world.hall near).room))
-  far_lines =
-      let long = lines_of_link laws.sides s l world (routes_in net) far near side_far (view_at new far) (view_at new near)
-      (fits_begun after_link net new near far given far given.meeting.far_among) (routes_of near)
-      (room_of near given.meeting.near_among) given.meeting.word given.meeting.is_word
-      (word_of near far given.meeting.near_word) in
-      omega arith
+    pub few_lines : length (link_lines after_link quiet given b t)
+        ≤ 2 + (length (servers_told (routes_in net b) (number s t)) + length (burst b (world.hall b).room))
+    few_lines =
+        let long = lines_of_link laws.sides (side t b ends) (view_at new t) (view_at new b)
+        (fits_begun given after_link t (end_among given t b ends)) (routes_of b) (room_of b far_among) given.meeting.word given.meeting.is_word
+        (word_of b t (other_end l t b ends)) in
+        omega arith
 
-  -- of which so many may be answered
-  pub near_answered : count_by introduces (link_lines after_link quiet net new near far given far near)
-      ≤ 1 + (length (servers_told (routes_in net far) (number s near)) + length (burst far (world.hall far).room))
-  near_answered =
-      answered_of_link laws.sides s l world (routes_in net) near far side_near (view_at new near) (view_at new far)
-      (fits_begun after_link net new near far given near given.meeting.near_among) (routes_of far)
-      (room_of far given.meeting.far_among) given.meeting.word given.meeting.is_word
-      (word_of far near given.meeting.far_word)
-
-  pub far_answered : count_by introduces (link_lines after_link quiet net new near far given near far)
-      ≤ 1 + (length (servers_told (routes_in net near) (number s far)) + length (burst near (world.hall near).room))
-  far_answered =
-      answered_of_link laws.sides s l world (routes_in net) far near side_far (view_at new far) (view_at new near)
-      (fits_begun after_link net new near far given far given.meeting.far_among) (routes_of near)
-      (room_of near given.meeting.near_among) given.meeting.word given.meeting.is_word
-      (word_of near far given.meeting.near_word)
+    -- of which so many may be answered
+    pub few_answered : count_by introduces (link_lines after_link quiet given b t)
+        ≤ 1 + (length (servers_told (routes_in net b) (number s t)) + length (burst b (world.hall b).room))
+    few_answered =
+        answered_of_link laws.sides (side t b ends) (view_at new t) (view_at new b)
+        (fits_begun given after_link t (end_among given t b ends)) (routes_of b) (room_of b far_among) given.meeting.word given.meeting.is_word
+        (word_of b t (other_end l t b ends))

@@ -6,14 +6,15 @@ use Rattle.std.specs.Option.{option_and_then, option_map, option_map_or}
 use Rattle.irc_names.specs.Names.{IsServer}
 use Rattle.irc_routes.specs.Info.{IsInfo}
 use Rattle.irc_relay.specs.Distances.{IsAmong}
-use Rattle.irc_relay.specs.Links.{Name}
+use Rattle.irc_relay.specs.Links.{Link, Name}
 use Rattle.irc_server.specs.Owed.{lines_to}
 use Rattle.irc_server.specs.Served.{IsSetAlike, Occurrence, ServedKeepsItsSetting, served}
 use Rattle.irc_stage.specs.View.{View}
+use Rattle.irc_world.specs.Stepping.{Item}
 use Rattle.irc_world.specs.World.{home_in}
 use Rattle.irc_follow.specs.Says.{lines_on}
 use Rattle.irc_follow.specs.Tree.{index_in}
-use Rattle.irc_network.specs.Network.{Course, Reply, Site, all_sent_out, site_asked, asked_at, serves_occurrence, received_by, reply, with_reply, with_site}
+use Rattle.irc_network.specs.Network.{Course, Network, Reply, Site, all_sent_out, site_asked, asked_at, serves_occurrence, received_by, reply, with_reply, with_site}
 use Rattle.irc_items.specs.Relayed.{way_at}
 use Rattle.irc_items.specs.SetUp.{setting_now, settings_of, view_at, HasPassword, IsConfigured, IsSetUp}
 use Rattle.irc_items.proofs.Common.AtRest.{beyond, nothing_received}
@@ -148,3 +149,15 @@ pub asked_there : ServedKeepsItsSetting → (old : Course) → IsSetUp old.net �
 asked_there kept old set_up inboxes t among occurrence =
     subst (IsAskedAt t (reply (view_at old.net t) occurrence) old) (sym (asked_is kept old set_up t among occurrence))
     (asked_so kept old set_up t among occurrence inboxes)
+
+-- servers are set up whatever else becomes of the network
+pub set_up_besides : (net : Network) (links : List Link) (homes : List Name) (received : List (List (List ℕ))) (items : List Item) (taken : ℕ) → IsSetUp net
+    → IsSetUp (record net { links = links; homes = homes; received = received; items = items; taken = taken })
+set_up_besides net links homes received items taken set_up =
+    record { named = set_up.named; once = set_up.once; few = set_up.few; configured = set_up.configured }
+
+-- what is not refused is served
+pub reply_taken : (view : View) (occurrence : Occurrence) → serves_occurrence view occurrence ≡ true
+    → reply view occurrence ≡ record { view = (served view occurrence).view; out = (served view occurrence).out }
+reply_taken view occurrence taken =
+    ap (λ b. if b then record { view = (served view occurrence).view; out = (served view occurrence).out } else record { view = view; out = [] }) taken

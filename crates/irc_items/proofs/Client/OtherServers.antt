@@ -1,6 +1,6 @@
 -- What the effects of a client's event make of its side, as the other servers follow it: just what the event makes of the world. What those servers show their
 -- clients is just what these receive by it.
-use Rattle.std.proofs.Common.{◌≡◌, ◌≢◌, ℕ, Bool, true, false, cond, Option, Some, None, List, [], ◌∷◌, ◌++◌, refl, sym, ◌∙◌, ap, subst, map, append-nil, if◌then◌else◌}
+use Rattle.std.proofs.Common.{◌≡◌, ◌≢◌, ℕ, Bool, true, false, Option, Some, None, List, [], ◌∷◌, ◌++◌, refl, sym, ◌∙◌, ap, subst, map, append-nil, if◌then◌else◌}
 use Rattle.std.specs.FinMap.{get, retain_keys}
 use Rattle.std.specs.Option.{option_map_or}
 use Rattle.irc_room.specs.effect.Effect.{Effect}
@@ -16,9 +16,7 @@ use Rattle.irc_routes.specs.Known.{Known}
 use Rattle.irc_stage.specs.declared.clients.Client.{Client}
 use Rattle.irc_stage.specs.declared.clients.Client.TheVariants.{Registering, Registered}
 use Rattle.irc_stage.specs.Handle.{Happening, connects, says, goes, handled}
-use Rattle.irc_stage.specs.Lemmas.Counting.{get-kept}
-use Rattle.irc_stage.specs.Lemmas.Numbers.{one_number, same_clients, same_number}
-use Rattle.irc_stage.specs.RoomMachine.{Clients}
+use Rattle.irc_stage.specs.Lemmas.Numbers.{one_number, same_number}
 use Rattle.irc_stage.specs.View.{View}
 use Rattle.irc_world.specs.Bounds.{effects_at}
 use Rattle.irc_world.specs.Stepping.{by_machine}
@@ -29,8 +27,9 @@ use Rattle.irc_follow.specs.Fits.{Fits}
 use Rattle.irc_follow.specs.Part.{Fixed, Part, client_sees, done, hall_after, is_home_of, IsFixed}
 use Rattle.irc_follow.specs.Says.{play}
 use Rattle.irc_follow.specs.Lemmas.ClientLines.{client_shown}
-use Rattle.irc_items.proofs.Client.Due.{IsDueAtHome}
-use Rattle.irc_items.proofs.Common.OthersAlong.{IsAsHall, IsKnownOfDecisions, client_in, hall_along, hall_of, handled_so, seen_along}
+use Rattle.irc_items.proofs.Common.Right.{same_kept}
+use Rattle.irc_items.proofs.Client.Due.{IsDueAtHome, client_in}
+use Rattle.irc_items.proofs.Client.OthersAlong.{IsAsHall, IsKnownOfDecisions, hall_along, hall_of, handled_so, seen_along}
 
 -- the deeds of a client's event
 abbrev pub deeds_at : Fixed → World → Name → Happening → List Deed
@@ -83,16 +82,6 @@ another_client homes h t conn q home apart here = by (same_number q conn) refl
         ∙ ap (λ o. option_map_or (same t) o false) home
         ∙ same_unless t h apart))
     by false two = refl
-
-pub same_kept : (homes : List Name) (t : Name) (one other : Clients) → ((q : ℕ) → is_home_of homes t q ≡ true → get one q ≡ get other q)
-    → retain_keys one (is_home_of homes t) ≡ retain_keys other (is_home_of homes t)
-same_kept homes t one other alike =
-    same_clients (retain_keys one (is_home_of homes t)) (retain_keys other (is_home_of homes t)) (λ q.
-    get-kept one (is_home_of homes t) q ∙ by q (is_home_of homes t q) refl ∙ sym (get-kept other (is_home_of homes t) q))
-  where
-    by : (q : ℕ) (b : Bool) → is_home_of homes t q ≡ b → cond b (get one q) None ≡ cond b (get other q) None
-    by q true here = alike q here
-    by q false there = refl
 
 -- ---- the event in the world
 

@@ -45,6 +45,7 @@ use Rattle.irc_world.specs.ClientsUsers.{AreMatched, fold_of, registered_as}
 use Rattle.irc_world.specs.World.{Hall}
 use Rattle.irc_follow.specs.Part.{clients_left, hall_after}
 use Rattle.irc_follow.specs.Lemmas.ClientLines.{client_shown, effect_lines}
+use Rattle.irc_items.proofs.Client.Due.{client_in}
 
 -- ---- effects one after another
 
@@ -213,11 +214,6 @@ pub record IsKnownOfDecisions : Type 0 where
   pub unchanging : UnregisteredChangesNothing
 
 -- ---- what a client does
-
-abbrev pub client_in : Happening → ℕ
-client_in (connects conn host) = conn
-client_in (says conn read) = conn
-client_in (goes conn) = conn
 
 module _ (known : IsKnownOfDecisions) (homes : ℕ → Option Name) (machine : RoomMachine) (well : IsWellFormed machine.room)
     (matched : AreMatched homes (home_under machine.room) (registered_as machine.clients)) where

@@ -1,6 +1,6 @@
 -- What a side comes to by servers that it gains: it knows them too, each of its servers keeps what it had, and nobody sees anything of it; and what it comes
 -- to by the lines of a burst: its room is another, and whoever is killed has no client there.
-use Rattle.std.proofs.Common.{◌≡◌, ℕ, Bool, true, false, cond, not, ◌&&◌, ◌||◌, Option, Some, None, is_some, List, [], ◌∷◌, ◌++◌, map, refl, sym, ◌∙◌, ap, append_assoc, if◌then◌else◌}
+use Rattle.std.proofs.Common.{◌≡◌, ℕ, Bool, true, false, cond, not, ◌&&◌, ◌||◌, Option, Some, None, is_some, List, [], ◌∷◌, ◌++◌, map, refl, sym, ◌∙◌, ap, if◌then◌else◌}
 use Rattle.std.specs.FinMap.{get, retain_keys}
 use Rattle.std.specs.List.{list_any, AllByRecursion}
 use Rattle.std.specs.Option.{option_map}
@@ -151,27 +151,6 @@ module _ (s : Fixed) (client : ℕ) where
   nothing_seen t (r ∷ rows) w =
       ap (λ lines. lines ++ all_seen (play s client) t (done s w (gain_of r)) (map gain_of rows)) (shown_gain t w r.uplink r.name r.info)
       ∙ nothing_seen t rows (done s w (gain_of r))
-
-  -- whoever looks on, a side comes to the same
-  pub same_done : (deeds : List Deed) (w : Part) → all_done (play s client) w deeds ≡ all_done (play s 0) w deeds
-  same_done [] w = refl
-  same_done (deed ∷ deeds) w = same_done deeds (done s w deed)
-
--- ---- deeds one after another
-
-module _ (s : Fixed) (client : ℕ) where
-  pub done_in_turn : (first later : List Deed) (w : Part)
-      → all_done (play s client) w (first ++ later) ≡ all_done (play s client) (all_done (play s client) w first) later
-  done_in_turn [] later w = refl
-  done_in_turn (deed ∷ first) later w = done_in_turn first later (done s w deed)
-
-  pub seen_in_turn : (t : Name) (first later : List Deed) (w : Part) → all_seen (play s client) t w (first ++ later)
-      ≡ all_seen (play s client) t w first ++ all_seen (play s client) t (all_done (play s client) w first) later
-  seen_in_turn t [] later w = refl
-  seen_in_turn t (deed ∷ first) later w =
-      ap (λ lines. shown_at s client t w deed ++ lines) (seen_in_turn t first later (done s w deed))
-      ∙ sym (append_assoc (shown_at s client t w deed) (all_seen (play s client) t (done s w deed) first)
-      (all_seen (play s client) t (all_done (play s client) (done s w deed) first) later))
 
 -- ---- the lines of a burst
 
