@@ -181,10 +181,7 @@ fn lose(ends: Option<Ends>, wires: &mut Wires)
 }
 
 /// What servers have put out is written on its way.
-fn write_out<H: History>(
-    network: &mut Network<H>,
-    wires: &mut Wires,
-) -> Result<(), AllocError>
+fn write_out<H: History>(network: &mut Network<H>, wires: &mut Wires) -> Result<(), AllocError>
     requires rows { length wires.old ≡ length network.old.sites }
     ensures { OnOk result (IsWrittenOut network.old wires.old network.new wires.new) }
 {

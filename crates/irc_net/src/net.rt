@@ -359,10 +359,7 @@ impl<H: History> Net<H> {
 
 /// Lets bytes of a sound network come in turn until nothing is on its way, and counts the lines that they complete. They come to an end since each of those
 /// leaves fewer.
-fn take_all<H: History>(
-    network: &mut ByteNetwork<H>,
-    desk: &mut Desk,
-) -> Result<u64, AllocError>
+fn take_all<H: History>(network: &mut ByteNetwork<H>, desk: &mut Desk) -> Result<u64, AllocError>
     requires sound { IsKeptSound network.old }
     ensures { IfOk result (λ count. HasComeToRest count network.old desk.old network.new desk.new) }
 {

@@ -56,7 +56,11 @@ fn configs(
     Ok(configs)
 }
 
-fn network(alloc: Global, count: usize, password: &[u8]) -> Option<Result<Net<Kept>, NetConfigFault>> {
+fn network(
+    alloc: Global,
+    count: usize,
+    password: &[u8],
+) -> Option<Result<Net<Kept>, NetConfigFault>> {
     match configs(alloc, count, password) {
         Ok(configs) => Some(Net::new(alloc, configs)),
         Err(_) => None,

@@ -87,14 +87,6 @@ received_one net receipts more client earlier text past kept each number within 
         ∙ sym (ap (λ o. option_map_or (has_received_at earlier text (course net receipts)) o (course net receipts)) is)
         ∙ ap (λ n. has_received n text (course net receipts)) (sym number)
 
--- nobody has this number
-pub received_nowhere : (net : Network) (receipts : List KeptReceipt) (client earlier : ℕ) (text : List ℕ) → length net.received ≡ length net.homes
-    → client ≡ suc earlier → length net.homes ≤ earlier → course net receipts ≡ has_received client text (course net receipts)
-received_nowhere net receipts client earlier text each number behind =
-    sym (ap (λ o. option_map_or (has_received_at earlier text (course net receipts)) o (course net receipts))
-    (none_here net.received earlier (omega (arith, each, behind))))
-    ∙ ap (λ n. has_received n text (course net receipts)) (sym number)
-
 -- a line is put behind those of a client, or memory ran out
 pub put_behind : {E : Type 0} (result : Result (Unit {0}) E) (past : Past) (earlier : ℕ) (text : List ℕ) (lines new : List (List ℕ))
     → slice_get past.received earlier ≡ Some lines → OnOk result (new ≡ lines ++ text ∷ []) → OnErr result (new ≡ lines)

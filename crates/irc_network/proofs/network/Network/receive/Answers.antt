@@ -1,7 +1,7 @@
-use Rattle.std.proofs.Common.{◌≡◌, ap, subst}
+use Rattle.std.proofs.Common.{◌≡◌, ap, arith, subst}
 use Rattle.irc_network.specs.Loops.Courses.{course}
 use Rattle.irc_network.specs.Network.{Network, has_received, receipt}
-use Rattle.irc_network.proofs.Places.{number_behind, received_nowhere, received_one, seen, with_past}
+use Rattle.irc_network.proofs.Places.{number_behind, received_one, seen, with_past}
 use Rattle.irc_network.proofs.network.Network.receive.Goals as goal
 
 pub returns : goal.returns
@@ -13,5 +13,6 @@ returns g c =
     (course net c.args.lines.now.items)) c.self.view_is
     (received_one old c.args.lines.now.items c.push.new.self.items c.args.client c.in-Some.earlier c.args.text.now past
     (record { client = c.args.client; text = c.copied.result }) c.self.invariant
-    (number_behind c.args.client c.in-Some.earlier c.in-Some.ensures.0 c.in-Some.ensures.1) ?
+    (number_behind c.args.client c.in-Some.earlier c.in-Some.ensures.0 c.in-Some.ensures.1)
+    (omega (arith, c.if-earlier-len.false, c.len.ensures))
     c.in_ok-add_line.ensures c.in_ok-push.ensures.items (ap (receipt c.args.client) c.copied.ensures))
