@@ -1,5 +1,5 @@
 //! What a client has received.
-ghost use Rattle.std.specs.Prelude.{◌≡◌, ◌≤◌, [], ◌∷◌, ◌++◌, length, map, OnOk};
+ghost use Rattle.std.specs.Prelude.{◌≡◌, ◌≤◌, [], ◌∷◌, ◌++◌, length, map, OnErr, OnOk};
 ghost use Rattle.irc_line.specs.Limits.{max_text};
 ghost use Rattle.irc_sites.specs.Loops.Queues.{line_bytes};
 
@@ -10,7 +10,7 @@ use std::marker::Model;
 
 /// All that a client has received, in order, each line with its CR LF.
 #[derive(Drop)]
-pub struct Inbox {
+pub(crate) struct Inbox {
     texts: Vec<Text, Global>,
 }
 
@@ -37,10 +37,11 @@ impl Inbox {
     /// A line of at most 512 bytes is received.
     ///
     /// # Errors
-    /// Where memory runs out.
+    /// Where memory runs out: the inbox is as it was.
     pub fn push(&mut self, text: &[u8]) -> Result<(), AllocError>
         requires fits { length text.now ≤ max_text }
-        ensures { OnOk result (self.new ≡ self.old ++ text.now ∷ []) }
+        ensures received { OnOk result (self.new ≡ self.old ++ text.now ∷ []) }
+        ensures want { OnErr result (self.new ≡ self.old) }
     {
         match self.texts.push(copied(text)) {
             Ok(()) => Ok(()),

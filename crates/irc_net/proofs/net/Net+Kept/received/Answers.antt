@@ -4,7 +4,7 @@ use Rattle.irc_sites.specs.Loops.Queues.{line_bytes}
 use Rattle.irc_net.specs.Calls.{NetView}
 use Rattle.irc_net.specs.OneRoom.{IsOwed}
 use Rattle.irc_net.proofs.StaysOneRoom.{owed}
-use Rattle.irc_net.proofs.net.Net.received.Goals as goal
+use Rattle.irc_net.proofs.net.Net+Kept.received.Goals as goal
 
 pub returns-clause-owed : goal.returns-clause-owed
 returns-clause-owed c =
