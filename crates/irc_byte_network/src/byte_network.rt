@@ -12,39 +12,37 @@ ghost use Rattle.irc_byte_network.specs.Whole.{IsTidy};
 
 use crate::came::Came;
 use irc_line::Line;
-use irc_network::{Desk, Ends, Item, Network};
+use irc_network::{Desk, Ends, History, Item, Network};
 use irc_wires::Wires;
 use std::alloc::{AllocError, Global};
 use std::marker::Model;
 
 /// A network of servers, and the bytes that are on their way along its links. No line waits in it between calls: what a server puts out is written at once.
 #[derive(Drop)]
-pub struct ByteNetwork {
+pub struct ByteNetwork<H: History> {
     alloc: Global,
-    network: Network,
+    network: Network<H>,
     wires: Wires,
 }
 
 /// In a clause it is the network and its wires.
-impl Model for ByteNetwork {
+impl<H: History> Model for ByteNetwork<H> {
     ghost use Rattle.irc_byte_network.specs.ByteNetwork.{ByteNetwork};
     ghost use Rattle.irc_byte_network.specs.Loops.Codes.{byte_network_code};
-    ghost use Rattle.irc_network.specs.contracts.network.Network.{the_row as network_row};
-    ghost use Rattle.irc_wires.specs.contracts.wires.Wires.{the_row as wires_row};
 
     ghost Value = { ByteNetwork };
 
-    ghost coded = { byte_network_code network_row.coded wires_row.coded };
+    ghost coded = { byte_network_code };
 
     ghost view = { λ n. record { network = n.network; wires = n.wires } };
 }
 
-impl ByteNetwork {
+impl<H: History> ByteNetwork<H> {
     /// A network of so many servers, along whose links nothing is on its way.
     ///
     /// # Errors
     /// Where memory runs out.
-    pub fn new(alloc: Global, network: Network, servers: usize) -> Result<Self, AllocError>
+    pub fn new(alloc: Global, network: Network<H>, servers: usize) -> Result<Self, AllocError>
         ensures { IfOk result (λ net. net ≡ new_byte_network network servers) }
     {
         Ok(ByteNetwork {
@@ -62,7 +60,7 @@ impl ByteNetwork {
     }
 
     /// The network, of which no line waits.
-    pub fn network(&self) -> &Network
+    pub fn network(&self) -> &Network<H>
         ensures { result.now ≡ self.now.network }
     {
         &self.network
@@ -183,7 +181,7 @@ fn lose(ends: Option<Ends>, wires: &mut Wires)
 }
 
 /// What servers have put out is written on its way.
-fn write_out(network: &mut Network, wires: &mut Wires) -> Result<(), AllocError>
+fn write_out<H: History>(network: &mut Network<H>, wires: &mut Wires) -> Result<(), AllocError>
     requires rows { length wires.old ≡ length network.old.sites }
     ensures { OnOk result (IsWrittenOut network.old wires.old network.new wires.new) }
 {
@@ -198,8 +196,8 @@ fn write_out(network: &mut Network, wires: &mut Wires) -> Result<(), AllocError>
 }
 
 /// A server is asked for lines that have come from another, in turn.
-fn hear_all(
-    network: &mut Network,
+fn hear_all<H: History>(
+    network: &mut Network<H>,
     ends: Ends,
     lines: Vec<Line, Global>,
     desk: &mut Desk,

@@ -35,13 +35,16 @@ impl BoxedFramer {
         Ok(BoxedFramer { framer })
     }
 
-    /// Takes bytes of a piece up to the end of the next line, as [`Framer::take`] does.
-    pub(crate) fn take(&mut self, piece: &[u8]) -> (usize, Option<Line>)
-        ensures takes { Takes self.old (take result.0 piece.now) (found_in result.1) self.new }
-        ensures used { result.0 ≤ length piece.now }
-        ensures some { 0 < length piece.now → 0 < result.0 }
-        ensures whole { IsNone result.1 → result.0 ≡ length piece.now }
+    /// Takes bytes of a piece up to the end of the next line, as [`Framer::take`] does: how many.
+    /// Whether that line has ended, and the line, is put into `line`.
+    pub(crate) fn take(&mut self, piece: &[u8], line: &mut Option<Line>) -> usize
+        ensures takes { Takes self.old (take result piece.now) (found_in line.new) self.new }
+        ensures used { result ≤ length piece.now }
+        ensures some { 0 < length piece.now → 0 < result }
+        ensures whole { IsNone line.new → result ≡ length piece.now }
     {
-        self.framer.take(piece)
+        let (used, found) = self.framer.take(piece);
+        *line = found;
+        used
     }
 }

@@ -1,7 +1,7 @@
 //! The connections that are there, by number: the outbox of each, and what has come of its next line.
 ghost use Rattle.std.specs.Prelude.{◌≡◌, ℕ, Some, None, is_some, length, option_copied, IfOk, OnOk};
 ghost use Rattle.std.specs.List.{slice_get};
-ghost use Rattle.irc_engine.specs.Loops.Tables.{fresh_connection, has_some_at, is_done_at, is_open_at, open_kind_at, connection_count, connection_of, CountsWithout, Sets, IsPushedTo, IsPushedAt, IsPushedIn, IsClosedAt, IsWrittenAt, IsWrittenIn, Frames, FramesAt, Within};
+ghost use Rattle.irc_engine.specs.Loops.Tables.{fresh_connection, has_some_at, is_done_at, is_open_at, open_kind_at, connection_count, connection_of, CountsWithout, Sets, IsPushedTo, IsPushedAt, IsPushedIn, IsClosedAt, IsWrittenAt, IsWrittenIn, with_line, Frames, FramesAt, FramesIn, Within};
 
 use crate::boxed_framer::BoxedFramer;
 use crate::kind::Kind;
@@ -88,16 +88,13 @@ impl Connection {
         }
     }
 
-    /// Takes bytes that have come, up to the end of the next line: how many, of which kind the connection is, and that line; nothing, where the server
-    /// has closed the connection.
-    fn take(&mut self, piece: &[u8]) -> Option<(usize, Kind, Option<Line>)>
-        ensures { Frames self.old piece.now result self.new }
+    /// Takes bytes that have come, up to the end of the next line, which is put into `line`: how
+    /// many, and of which kind the connection is; nothing, where the server has closed it.
+    fn take(&mut self, piece: &[u8], line: &mut Option<Line>) -> Option<(usize, Kind)>
+        ensures { Frames self.old piece.now (with_line result line.new) self.new }
     {
         match &mut self.framer {
-            Some(framer) => {
-                let (used, line) = framer.take(piece);
-                Some((used, self.kind, line))
-            }
+            Some(framer) => Some((framer.take(piece, line), self.kind)),
             None => None,
         }
     }
@@ -270,16 +267,22 @@ impl ConnectionTable {
         }
     }
 
-    /// Takes bytes that have come from a connection, up to the end of its next line: how many, of which kind it is, and that line; nothing, where it is
-    /// not open.
-    pub(crate) fn take(&mut self, conn: u64, piece: &[u8]) -> Option<(usize, Kind, Option<Line>)>
-        ensures at { FramesAt conn piece.now self.old result self.new }
+    /// Takes bytes that have come from a connection, up to the end of its next line, which is put
+    /// into `line`: how many, and of which kind it is; nothing, where it is not open. (A line is
+    /// half a kilobyte, and each result with a line in it would be one more copy.)
+    pub(crate) fn take(
+        &mut self,
+        conn: u64,
+        piece: &[u8],
+        line: &mut Option<Line>,
+    ) -> Option<(usize, Kind)>
+        ensures at { FramesAt conn piece.now self.old (with_line result line.new) self.new }
         ensures len { connection_count self.new ≡ connection_count self.old }
     {
         match self.dense.get_mut(conn as usize) {
-            Some(slot) => take(slot, piece),
+            Some(slot) => take(slot, piece, line),
             None => match self.sparse.get_mut(&conn) {
-                Some(connection) => connection.take(piece),
+                Some(connection) => connection.take(piece, line),
                 None => None,
             },
         }
@@ -323,11 +326,15 @@ fn close_when_written(slot: &mut Option<Connection>)
 }
 
 /// Takes bytes that have come from the connection of this place, if there is one.
-fn take(slot: &mut Option<Connection>, piece: &[u8]) -> Option<(usize, Kind, Option<Line>)>
-    ensures { Within (λ s t. Frames s piece.now result t) (result ≡ None) slot.old slot.new }
+fn take(
+    slot: &mut Option<Connection>,
+    piece: &[u8],
+    line: &mut Option<Line>,
+) -> Option<(usize, Kind)>
+    ensures { FramesIn piece.now slot.old (with_line result line.new) slot.new }
 {
     match slot {
-        Some(connection) => connection.take(piece),
+        Some(connection) => connection.take(piece, line),
         None => None,
     }
 }

@@ -2,6 +2,7 @@
 ghost use Rattle.std.specs.Prelude.{◌≡◌, ◌≤◌, true, false, Ok, [], ◌∷◌, length, IfOk, OnOk};
 ghost use Rattle.irc_outbox.specs.Calls.{Keeps};
 ghost use Rattle.irc_engine.specs.Loops.Counts.{count_of};
+ghost use Rattle.irc_engine.specs.Hearing.{end_event_of};
 ghost use Rattle.irc_engine.specs.Knowing.{HasNobody, IsArrival, IsSettled};
 ghost use Rattle.irc_engine.specs.Loops.Moments.{came, knows_at, yields_at, moment_of, passed_on, AsksFor, HearsFrom, IsAtOneIn, IsNobodyNoted, IsOpenAs, IsSettledIn, IsToHearIn, KeepsOrder, KeepsTold, Spans};
 ghost use Rattle.irc_engine.specs.Loops.Faults.{is_out_of_memory};
@@ -17,7 +18,7 @@ use crate::noting::note;
 use irc_batch::Batch;
 use irc_journal::Journal;
 use irc_line::Line;
-use irc_names::{ServerName, compare};
+use irc_names::{Host, ServerName, compare};
 use irc_outbox::{Got, IoFault, Ready, Wire};
 use irc_server::{Event, Server, ServerFault};
 use std::alloc::{AllocError, Global};
@@ -194,19 +195,42 @@ impl<W: Wire> Core<W> {
     {
         match ready {
             Ready::Idle | Ready::Writable(_) => Ok(()),
-            Ready::Client(conn, host) => {
-                self.start(
-                    conn,
-                    Kind::Client,
-                    rooms.client,
-                    &Event::Connect(conn, host),
-                )
-            }
-            Ready::Linked(conn, starts) => {
-                self.start(conn, Kind::Link, rooms.link, &Event::LinkUp(conn, starts))
-            }
+            Ready::Client(conn, host) => self.start_client(conn, host, rooms.client),
+            Ready::Linked(conn, starts) => self.start_link(conn, starts, rooms.link),
             Ready::Readable(conn) => self.read(conn),
         }
+    }
+
+    /// A client has connected, from a host. An event is half a kilobyte, which is cleared as the
+    /// function that makes it begins: so each is made in one that runs for it alone.
+    fn start_client(&mut self, conn: u64, host: Host, room: usize) -> Result<(), AllocError>
+        requires at_one { IsAtOneIn self.old }
+        requires told { AllTold (moment_of self.old) }
+        ensures at_one { OnOk result (IsAtOneIn self.new) }
+        ensures done { OnOk result (Spans (Starts W.is_after Kind.Client room conn
+            (Event.Connect conn host)) self.old self.new) }
+        ensures told { OnOk result (KeepsTold self.old self.new) }
+        ensures notes { OnOk result (KeepsNotes self.old.connections self.new.connections) }
+    {
+        self.start(conn, Kind::Client, room, &Event::Connect(conn, host))
+    }
+
+    /// A link is open: this end calls the server of this name, or is called.
+    fn start_link(
+        &mut self,
+        conn: u64,
+        starts: Option<ServerName>,
+        room: usize,
+    ) -> Result<(), AllocError>
+        requires at_one { IsAtOneIn self.old }
+        requires told { AllTold (moment_of self.old) }
+        ensures at_one { OnOk result (IsAtOneIn self.new) }
+        ensures done { OnOk result (Spans (Starts W.is_after Kind.Link room conn
+            (Event.LinkUp conn starts)) self.old self.new) }
+        ensures told { OnOk result (KeepsTold self.old self.new) }
+        ensures notes { OnOk result (KeepsNotes self.old.connections self.new.connections) }
+    {
+        self.start(conn, Kind::Link, room, &Event::LinkUp(conn, starts))
     }
 
     /// A client has connected, or a link is open, and the server is told. A number that is in use is passed over.
@@ -257,10 +281,11 @@ impl<W: Wire> Core<W> {
     {
         let mut used = 0;
         while used < count {
-            let Some((more, kind, line)) = self
+            let mut line = None;
+            let Some((more, kind)) = self
                 .connections
                 .table
-                .take(conn, &self.buffer[used..count])
+                .take(conn, &self.buffer[used..count], &mut line)
             else {
                 return Ok(());
             };
@@ -311,9 +336,23 @@ impl<W: Wire> Core<W> {
         ensures same { self.new.buffer ≡ self.old.buffer }
     {
         while let Some((conn, kind)) = take_lowest(&mut self.connections.lost) {
-            self.handle(&kind.end_event(conn))?;
+            self.handle_end(conn, kind)?;
         }
         Ok(())
+    }
+
+    /// Tells the server that a connection of this kind is gone, and does what it puts out.
+    fn handle_end(&mut self, conn: u64, kind: Kind) -> Result<(), AllocError>
+        requires { IsToHearIn (end_event_of kind conn) self.old }
+        ensures at_one { OnOk result (IsAtOneIn self.new) }
+        ensures count { OnOk result
+            (count_of self.new.connections ≤ count_of self.old.connections) }
+        ensures asks { OnOk result
+            (Spans (AsksOnce W.is_after (end_event_of kind conn)) self.old self.new) }
+        ensures marks { OnOk result (KeepsMarks self.old.connections self.new.connections) }
+        ensures same { self.new.buffer ≡ self.old.buffer }
+    {
+        self.handle(&kind.end_event(conn))
     }
 
     /// Passes an event on to the server, which does not refuse it, and does what it puts out.

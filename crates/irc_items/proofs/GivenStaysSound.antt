@@ -2,10 +2,10 @@
 use Rattle.irc_world.specs.Stepping.{connect, cut, gone, line, link}
 use Rattle.irc_world.specs.WorldHolds.{TakenMakeWorld}
 use Rattle.irc_items.specs.Laws.{GivenStaysSound, RestIsOneRoom}
-use Rattle.irc_items.proofs.AtRest.{holds_now}
-use Rattle.irc_items.proofs.ClientItems.{connect_sound, gone_sound, line_sound, AreItemLaws}
-use Rattle.irc_items.proofs.CutItem.{cut_item_sound, AreCutItemLaws}
-use Rattle.irc_items.proofs.LinkItem.{link_item_sound, AreLinkItemLaws}
+use Rattle.irc_items.proofs.Common.AtRest.{holds_now}
+use Rattle.irc_items.proofs.Client.Items.{connect_sound, gone_sound, line_sound, AreItemLaws}
+use Rattle.irc_items.proofs.Cut.Item.{cut_item_sound, AreCutItemLaws}
+use Rattle.irc_items.proofs.Link.Item.{link_item_sound, AreLinkItemLaws}
 
 pub record AreGivenLaws : Type 0 where
   pub rest : RestIsOneRoom

@@ -9,7 +9,7 @@ use Rattle.irc_items.specs.InAnyOrder.{none_yet, one_more, ArePeopleApart, Cross
 use Rattle.irc_items.specs.Laws.{DeliveryKeepsSettings, DeliveryStaysSound, GivenKeepsSettings, GivenStaysSound, RefusalsAreTheWorlds, RestIsOneRoom}
 use Rattle.irc_items.specs.SetUp.{settings_of}
 use Rattle.irc_items.specs.Sound.{owed_now, world_now, IsSound}
-use Rattle.irc_items.proofs.ItemsMore.{owed_more}
+use Rattle.irc_items.proofs.Common.ItemsMore.{owed_more}
 use Rattle.irc_items.proofs.KeptSound.{delivered_one}
 
 pub record AreReceivingLaws : Type 0 where

@@ -10,9 +10,9 @@ use Rattle.irc_world.specs.Stepping.{Item, connect, cut, gone, line, link}
 use Rattle.irc_network.specs.Network.{Course, LinkPlaces, Network, Reply, Site, site_asked, asked_at, site_asked_if, begun, site_changed_at, line_counted, delivered, done_by, link_places, given, home_place, left, servers_parted, servers_linked, next_client, server_place, reply, site_at, taken_of, waiting, with_client, with_reply, with_site, with_way, without_way}
 use Rattle.irc_items.specs.Laws.{DeliveryKeepsSettings, GivenKeepsSettings}
 use Rattle.irc_items.specs.SetUp.{setting_now, settings_of}
-use Rattle.irc_items.proofs.Asked.{reply_alike, setting_alike}
-use Rattle.irc_items.proofs.SentOut.{all_sent}
-use Rattle.irc_items.proofs.SiteChanged.{same_server, site_set, IsAlikeSite}
+use Rattle.irc_items.proofs.Sites.Asked.{reply_alike, setting_alike}
+use Rattle.irc_items.proofs.Sites.SentOut.{all_sent}
+use Rattle.irc_items.proofs.Sites.SiteChanged.{same_server, site_set, IsAlikeSite}
 
 -- a site whose server is the same keeps its setting
 set_alike : (place : ℕ) (site after : Site) (net : Network) → site_at net place ≡ Some site → IsAlikeSite site after

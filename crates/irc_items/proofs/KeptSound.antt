@@ -10,8 +10,8 @@ use Rattle.irc_items.specs.Kept.{DeliveryKeepsSound, SettlingKeepsSound, TakenAr
 use Rattle.irc_items.specs.Laws.{DeliveryKeepsSettings, DeliveryStaysSound}
 use Rattle.irc_items.specs.SetUp.{settings_of}
 use Rattle.irc_items.specs.Sound.{most_of_last}
-use Rattle.irc_items.proofs.SentOut.{all_sent, IsSentOut}
-use Rattle.irc_items.proofs.SiteChanged.{set_there}
+use Rattle.irc_items.proofs.Sites.SentOut.{all_sent, IsSentOut}
+use Rattle.irc_items.proofs.Sites.SiteChanged.{set_there}
 
 -- ---- lines that are delivered
 

@@ -35,9 +35,9 @@ use Rattle.irc_items.specs.GoodLines.{no_answers, IsGoodLine}
 use Rattle.irc_items.specs.Relayed.{fixed_of, owed_at, owed_to, relayed, way_at}
 use Rattle.irc_items.specs.SetUp.{no_view, routes_in, settings_of, view_at, IsConfigured, IsNew, IsNewServer}
 use Rattle.irc_items.specs.Sound.{most_now, owed_now, IsSound, IsSoundFrom, IsUnderWay}
-use Rattle.irc_items.proofs.Begun.{none_at_source}
-use Rattle.irc_items.proofs.Counting.{sum_most}
-use Rattle.irc_items.proofs.FewLines.{none_pending}
+use Rattle.irc_items.proofs.Common.Begun.{none_at_source}
+use Rattle.irc_items.proofs.Common.Counting.{sum_most}
+use Rattle.irc_items.proofs.Common.FewLines.{none_pending}
 use Rattle.irc_items.specs.Lemmas.SetUpFacts.{fixed, servers_named, setting_there, there, viewed_nowhere}
 
 no_depth : (t : Name) → distance [] t t ≡ 0

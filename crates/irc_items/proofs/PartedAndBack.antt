@@ -13,7 +13,7 @@ use Rattle.irc_items.specs.Laws.{IsGivenAtRest, RefusalsAreTheWorlds}
 use Rattle.irc_items.specs.SetUp.{settings_of}
 use Rattle.irc_items.specs.Sound.{world_now, IsSound}
 use Rattle.irc_items.proofs.InAnyOrder.{item_is_received, later, AreReceivingLaws, IsLater}
-use Rattle.irc_items.proofs.ItemsMore.{world_more}
+use Rattle.irc_items.proofs.Common.ItemsMore.{world_more}
 
 -- an item that the world of a network takes, and lines that are delivered then until none is on its way
 record IsThroughIn (settings : List Setting) (world : World) (item : Item) (net new : Network) : Type 0 where

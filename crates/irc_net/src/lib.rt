@@ -12,7 +12,7 @@ mod tests;
 
 pub use answer::Answer;
 pub use fault::NetFault;
-pub use irc_network::{Item, Receipt, laws as network_laws};
+pub use irc_network::{Forgotten, History, Item, Kept, Receipt, laws as network_laws};
 pub use irc_server::{Config, Peer};
 pub use irc_sites::LinkQueue;
 pub use making::NetConfigFault;

@@ -24,38 +24,58 @@ use irc_byte_network::ByteNetwork;
 use irc_items::laws;
 use irc_line::Text;
 use irc_names::ServerName;
-use irc_network::{Desk, Ends, Item, Network, Receipt, Refusal};
+use irc_network::{Desk, Ends, History, Item, Kept, Network, Receipt, Refusal};
 use irc_server::Config;
 use std::alloc::{AllocError, Global};
 use std::marker::Model;
 
 /// A network of servers: what is given to it is done by the servers, each of which knows of the others by the bytes of lines alone, and those come in pieces
-/// and in any order that one asks for.
+/// and in any order that one asks for. What was given, and what its clients have received, is kept where its history is [`Kept`].
 #[derive(Drop)]
-pub struct Net {
+pub struct Net<H: History> {
     alloc: Global,
     failed: bool,
-    network: ByteNetwork,
+    network: ByteNetwork<H>,
 }
 
 /// In a clause it is the network, and whether memory ran out for it. Until then it is sound.
-impl Model for Net {
+impl<H: History> Model for Net<H> {
     ghost use Rattle.std.specs.Prelude.{◌≡◌, false};
     ghost use Rattle.irc_net.specs.Calls.{NetView};
     ghost use Rattle.irc_net.specs.Loops.Codes.{net_code};
     ghost use Rattle.irc_net.specs.OneRoom.{IsKeptSound};
-    ghost use Rattle.irc_byte_network.specs.contracts.byte_network.ByteNetwork.{the_row as network_row};
 
     ghost Value = { NetView };
 
-    ghost coded = { net_code network_row.coded };
+    ghost coded = { net_code };
 
     ghost view = { λ net. record { failed = net.failed; network = net.network } };
 
     ghost invariant = { λ net. net.failed ≡ false → IsKeptSound net.network };
 }
 
-impl Net {
+impl Net<Kept> {
+    /// What a client has received, whole lines; also once it is closed. Nothing for a number that was never given. They are a front of the lines that one
+    /// room machine for its joined part sends it, and at rest all of them.
+    pub fn received(&self, client: u64) -> &[Text]
+        ensures lines { map line_bytes result.now ≡ received_by self.now.network.network client }
+        ensures owed { IsOwed self.now client (map line_bytes result.now) }
+    {
+        laws::received_is_front();
+        laws::rest_is_one_room();
+        irc_byte_network::laws::rest_as_lines();
+        self.network.network().received(client)
+    }
+
+    /// What was given, in turn.
+    pub fn items(&self) -> &[Item]
+        ensures { items_of result.now ≡ self.now.network.network.items }
+    {
+        self.network.network().items()
+    }
+}
+
+impl<H: History> Net<H> {
     /// Servers that are not linked, and no client.
     ///
     /// # Errors
@@ -76,25 +96,6 @@ impl Net {
             failed: false,
             network: ByteNetwork::new(alloc, Network::new(alloc, forest, sites), count)?,
         })
-    }
-
-    /// What a client has received, whole lines; also once it is closed. Nothing for a number that was never given. They are a front of the lines that one
-    /// room machine for its joined part sends it, and at rest all of them.
-    pub fn received(&self, client: u64) -> &[Text]
-        ensures lines { map line_bytes result.now ≡ received_by self.now.network.network client }
-        ensures owed { IsOwed self.now client (map line_bytes result.now) }
-    {
-        laws::received_is_front();
-        laws::rest_is_one_room();
-        irc_byte_network::laws::rest_as_lines();
-        self.network.network().received(client)
-    }
-
-    /// What was given, in turn.
-    pub fn items(&self) -> &[Item]
-        ensures { items_of result.now ≡ self.now.network.network.items }
-    {
-        self.network.network().items()
     }
 
     /// Whether no byte is on its way between servers, and no part of a line has come to one.
@@ -358,7 +359,7 @@ impl Net {
 
 /// Lets bytes of a sound network come in turn until nothing is on its way, and counts the lines that they complete. They come to an end since each of those
 /// leaves fewer.
-fn take_all(network: &mut ByteNetwork, desk: &mut Desk) -> Result<u64, AllocError>
+fn take_all<H: History>(network: &mut ByteNetwork<H>, desk: &mut Desk) -> Result<u64, AllocError>
     requires sound { IsKeptSound network.old }
     ensures { IfOk result (λ count. HasComeToRest count network.old desk.old network.new desk.new) }
 {
@@ -386,7 +387,7 @@ fn keeps_limits(item: &Item)
 
 /// Why an item is not taken, if it is not.
 #[tactic(auto, unfolding(crate::specs::Faults::item_fault))]
-fn item_fault(network: &ByteNetwork, item: &Item) -> Option<NetFault>
+fn item_fault<H: History>(network: &ByteNetwork<H>, item: &Item) -> Option<NetFault>
     ensures { result ≡ item_fault network.now (item_of item.now) }
 {
     if !network.is_at_rest() {
@@ -397,7 +398,11 @@ fn item_fault(network: &ByteNetwork, item: &Item) -> Option<NetFault>
 
 /// Why nothing comes from one server to another, if it does not.
 #[tactic(auto, unfolding(crate::specs::Faults::deliver_fault))]
-fn deliver_fault(network: &ByteNetwork, from: &ServerName, to: &ServerName) -> Option<NetFault>
+fn deliver_fault<H: History>(
+    network: &ByteNetwork<H>,
+    from: &ServerName,
+    to: &ServerName,
+) -> Option<NetFault>
     ensures { result ≡ deliver_fault network.now from.now to.now }
 {
     fault_of(network.network().way_refusal(from, to))

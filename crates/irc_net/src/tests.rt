@@ -1,5 +1,5 @@
 //! Networks that are made, linked and settled.
-use crate::{Item, Net, NetConfigFault, NetFault};
+use crate::{Item, Kept, Net, NetConfigFault, NetFault};
 use irc_line::Line;
 use irc_names::{Host, ServerName};
 use irc_routes::Own;
@@ -56,7 +56,11 @@ fn configs(
     Ok(configs)
 }
 
-fn network(alloc: Global, count: usize, password: &[u8]) -> Option<Result<Net, NetConfigFault>> {
+fn network(
+    alloc: Global,
+    count: usize,
+    password: &[u8],
+) -> Option<Result<Net<Kept>, NetConfigFault>> {
     match configs(alloc, count, password) {
         Ok(configs) => Some(Net::new(alloc, configs)),
         Err(_) => None,
@@ -70,7 +74,7 @@ fn is_fault(alloc: Global, count: usize, fault: NetConfigFault) -> bool {
     }
 }
 
-fn links(net: &mut Net) -> Option<(u64, bool)> {
+fn links(net: &mut Net<Kept>) -> Option<(u64, bool)> {
     let item = Item::Link(name(1)?, name(0)?);
     net.item(item).ok()?;
     let (count, _) = net.settle().ok()?;

@@ -9,7 +9,7 @@ use Rattle.irc_stage.specs.Lemmas.Numbers.{one_number, same_number}
 use Rattle.irc_network.specs.Network.{Course, Direction, Site, delivered, direction, first_among, first_way, given, is_at_rest, is_nothing, is_quiet, taken_of, waiting, waits}
 use Rattle.irc_network.specs.Laws.{GivenIsKept, RestStays}
 use Rattle.irc_sites.specs.Lemmas.Ways.{waiting_nowhere}
-use Rattle.irc_network.proofs.Kept.{same_items}
+use Rattle.irc_network.proofs.ItemsStay.{same_items}
 
 both : (a b : Bool) → (a && b) ≡ true → (a ≡ true) × (b ≡ true)
 both true true is = (refl, refl)

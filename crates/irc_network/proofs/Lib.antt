@@ -1,4 +1,4 @@
-pub mod Kept
+pub mod ItemsStay
 pub mod Places
 pub mod AtRest
 pub mod Taking

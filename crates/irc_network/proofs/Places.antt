@@ -1,33 +1,39 @@
 -- What stands at a place, and what is put there.
-use Rattle.std.proofs.Common.{◌≡◌, ◌≤◌, ◌-◌, ℕ, zero, suc, Option, Some, None, List, [], ◌∷◌, ◌++◌, refl, sym, ◌∙◌, ap, arith, length, subst}
+use Rattle.std.proofs.Common.{◌≡◌, ◌≤◌, ◌<◌, ◌-◌, ℕ, zero, suc, Option, Some, None, Result, Ok, Err, OnErr, OnOk, List, [], ◌∷◌, ◌++◌, refl, sym, ◌∙◌, ap, arith, length, subst}
 use Rattle.std.proofs.lemmas.List.{map-append}
 use Rattle.std.specs.List.{slice_get, slice_set}
 use Rattle.std.specs.Option.{option_map_or}
 use Rattle.arrayvec.specs.ArrayVec.{ArrayVec}
+use Rattle.irc_forest.specs.Forests.{Forest}
+use Rattle.irc_relay.specs.Links.{Name}
 use Rattle.irc_network.specs.declared.receipt.Receipt.{Receipt as KeptReceipt}
-use Rattle.irc_network.specs.declared.network.Network.TheInside.{Inside}
+use Rattle.irc_network.specs.Histories.{Becomes, Past, line_behind, with_line}
 use Rattle.irc_network.specs.Loops.Courses.{IsEmptyAt, IsLineTaken, course}
 use Rattle.irc_sites.specs.Loops.Sites.{IsTaken}
 use Rattle.irc_network.specs.Network.{Network, Receipt, Site, site_changed_at, has_received, has_received_at, receipt, with_site}
-use Rattle.irc_network.specs.Views.{items_of, receipt_of, receipts_of}
+use Rattle.irc_network.specs.Views.{receipt_of, receipts_of}
 
 -- a network as its code has it
-abbrev pub seen : Inside → Network
-seen n = record {
-  names = n.forest.names;
-  sites = n.sites.items;
-  links = n.forest.links;
-  homes = n.homes.items;
-  received = n.received.items;
-  items =
-      items_of n.items.items;
-  taken = n.taken;
+abbrev pub seen : Forest → List Site → List Name → Past → ℕ → Network
+seen forest sites homes past taken = record {
+  names = forest.names;
+  sites = sites;
+  links = forest.links;
+  homes = homes;
+  received = past.received;
+  items = past.items;
+  taken = taken;
 }
 
 pub none_here : {X : Type 0} (xs : List X) (i : ℕ) → length xs ≤ i → slice_get xs i ≡ None
 none_here [] i behind = refl
 none_here (y ∷ xs) zero behind = absurd (omega (arith, behind))
 none_here (y ∷ xs) (suc i) behind = none_here xs i (omega (arith, behind))
+
+not_none : {X : Type 0} (xs : List X) (i : ℕ) → slice_get xs i ≡ None → i < length xs → ⊥
+not_none [] i none within = omega (arith, within)
+not_none (y ∷ xs) zero none within = cc none
+not_none (y ∷ xs) (suc i) none within = not_none xs i none (omega (arith, within))
 
 pub number_behind : (client earlier : ℕ) → 1 ≤ client → earlier ≡ client - 1 → client ≡ suc earlier
 number_behind client earlier some is = omega (arith, some, is)
@@ -55,17 +61,42 @@ changed_nowhere net place change is = sym (ap (λ o. option_map_or (λ (s : Site
 
 -- ---- a line is received
 
-pub received_one : (net : Network) (receipts more : List KeptReceipt) (client earlier : ℕ) (text : List ℕ) (lines new : List (List ℕ))
-    (received : List (List (List ℕ)))
-    (kept : KeptReceipt) → client ≡ suc earlier → slice_get net.received earlier ≡ Some lines → received ≡ slice_set net.received earlier new
-    → new ≡ lines ++ text ∷ [] → more ≡ receipts ++ kept ∷ [] → receipt_of kept ≡ receipt client text
-    → course (record net { received = received }) more ≡ has_received client text (course net receipts)
-received_one net receipts more client earlier text lines new received kept number is set put behind kept_is =
-    ap (λ rs. course (record net { received = rs }) more) (set ∙ ap (slice_set net.received earlier) put)
-    ∙ ap (λ (rs : List Receipt). record { net = record net { received = slice_set net.received earlier (lines ++ text ∷ []) }; receipts = rs })
-    (ap receipts_of behind ∙ map-append receipt_of receipts (kept ∷ []) ∙ ap (λ r. receipts_of receipts ++ r ∷ []) (kept_is ∙ ap (λ n. receipt n text) number))
-    ∙ sym (ap (λ o. option_map_or (has_received_at earlier text (course net receipts)) o (course net receipts)) is)
-    ∙ ap (λ n. has_received n text (course net receipts)) (sym number)
+abbrev pub with_past : Past → Network → Network
+with_past past net = record net { received = past.received; items = past.items }
+
+abbrev pub past_of : Network → Past
+past_of net = record { items = net.items; received = net.received }
+
+-- as many clients as homes, so one that has a home has its lines
+pub received_one : (net : Network) (receipts more : List KeptReceipt) (client earlier : ℕ) (text : List ℕ) (past : Past) (kept : KeptReceipt)
+    → length net.received ≡ length net.homes → client ≡ suc earlier → earlier < length net.homes → past ≡ with_line earlier text (past_of net)
+    → more ≡ receipts ++ kept ∷ [] → receipt_of kept ≡ receipt client text
+    → course (with_past past net) more ≡ has_received client text (course net receipts)
+received_one net receipts more client earlier text past kept each number within put behind kept_is = by (slice_get net.received earlier) refl
+  where
+    told : receipts_of more ≡ receipts_of receipts ++ receipt (suc earlier) text ∷ []
+    told =
+        ap receipts_of behind ∙ map-append receipt_of receipts (kept ∷ [])
+        ∙ ap (λ r. receipts_of receipts ++ r ∷ []) (kept_is ∙ ap (λ n. receipt n text) number)
+
+    by : (o : Option (List (List ℕ))) → slice_get net.received earlier ≡ o → course (with_past past net) more ≡ has_received client text (course net receipts)
+    by None none = absurd (not_none net.received earlier none (omega (arith, each, within)))
+    by (Some lines) is =
+        ap (λ (p : Past). course (with_past p net) more) (put ∙ ap (λ o. option_map_or (line_behind earlier text (past_of net)) o (past_of net)) is)
+        ∙ ap (λ (rs : List Receipt). record { net = with_past (line_behind earlier text (past_of net) lines) net; receipts = rs }) told
+        ∙ sym (ap (λ o. option_map_or (has_received_at earlier text (course net receipts)) o (course net receipts)) is)
+        ∙ ap (λ n. has_received n text (course net receipts)) (sym number)
+
+-- a line is put behind those of a client, or memory ran out
+pub put_behind : {E : Type 0} (result : Result (Unit {0}) E) (past : Past) (earlier : ℕ) (text : List ℕ) (lines new : List (List ℕ))
+    → slice_get past.received earlier ≡ Some lines → OnOk result (new ≡ lines ++ text ∷ []) → OnErr result (new ≡ lines)
+    → Becomes result (with_line earlier text) past (record past { received = slice_set past.received earlier new })
+put_behind (Ok _) past earlier text lines new is put want =
+    ap (λ (ls : List (List ℕ)). record past { received = slice_set past.received earlier ls }) put
+    ∙ sym (ap (λ o. option_map_or (line_behind earlier text past) o past) is)
+put_behind (Err _) past earlier text lines new is put want =
+    ap (λ (inboxes : List (List (List ℕ))). record past { received = inboxes })
+    (ap (slice_set past.received earlier) want ∙ set_again past.received earlier lines is)
 
 -- ---- a line is taken
 

@@ -1,3 +1,4 @@
+pub mod Histories
 pub mod Network
 pub mod Refusing
 pub mod Views

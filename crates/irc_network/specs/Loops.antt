@@ -1,5 +1,7 @@
 -- Words of this crate's code alone. No rule stands here.
 pub mod Codes
 pub mod Courses
+pub mod Keeping
+pub mod News
 pub mod Parties
 pub mod Waiting

@@ -8,6 +8,7 @@ ghost use Rattle.irc_network.specs.Loops.Waiting.{lines_waiting};
 ghost use Rattle.irc_network.specs.Network.{first_direction, line_queued, site_changed_at};
 
 use crate::desk::Desk;
+use crate::history::History;
 use crate::network::Network;
 use crate::put_out::PutOut;
 use crate::receipt::Receipt;
@@ -17,7 +18,7 @@ use irc_names::copied;
 use irc_server::Event;
 use std::alloc::{AllocError, Global};
 
-impl Network {
+impl<H: History> Network<H> {
     /// A server is asked for an event, and what it puts out goes its way.
     ///
     /// # Errors
@@ -73,10 +74,10 @@ impl Network {
         let Some(earlier) = client.checked_sub(1) else {
             return Ok(());
         };
-        let Some(inbox) = self.received.get_mut(earlier as usize) else {
+        if earlier as usize >= self.homes.len() {
             return Ok(());
-        };
-        inbox.push(text)?;
+        }
+        self.history.add_line(earlier as usize, text)?;
         lines.push(Receipt {
             client,
             text: copied(text),

@@ -7,15 +7,15 @@ ghost use Rattle.irc_network.specs.Views.{item_of};
 ghost use Rattle.irc_world.specs.Stepping.{connect, cut, line as line_by, link};
 
 use crate::desk::Desk;
+use crate::history::History;
 use crate::item::Item;
 use crate::network::Network;
 use irc_line::Line;
 use irc_names::{Host, ServerName, copied};
 use irc_server::Event;
-use irc_sites::Inbox;
 use std::alloc::AllocError;
 
-impl Network {
+impl<H: History> Network<H> {
     /// An item that is not refused is taken, and kept. What clients receive by it is on the desk, on which nothing is before.
     ///
     /// # Errors
@@ -24,9 +24,8 @@ impl Network {
         requires begins { desk.old.lines.items ≡ [] }
         ensures { OnOk result (course_at self.new desk.new ≡ given (item_of item) self.old) }
     {
-        self.items.reserve(1)?;
         self.do_item(&item, desk)?;
-        self.items.push(item)?;
+        self.history.add_item(item)?;
         self.taken = 0;
         Ok(())
     }
@@ -65,9 +64,9 @@ impl Network {
         ensures { OnOk result (IsDone (connect server.now host.now) self.old self.new desk.new) }
     {
         let client = self.next_client();
-        self.received.reserve(1)?;
+        self.homes.reserve(1)?;
+        self.history.add_client()?;
         self.homes.push(server.copy())?;
-        self.received.push(Inbox::new(self.alloc))?;
         match self.forest.place_of(server) {
             Some(place) => self.ask(place, &Event::Connect(client, host.copy()), desk),
             None => Ok(()),

@@ -3,8 +3,12 @@
 
 mod desk;
 mod doing;
+mod forgotten;
 mod giving;
+mod history;
+mod inbox;
 mod item;
+mod kept;
 pub mod laws;
 mod network;
 mod put_out;
@@ -13,7 +17,10 @@ mod refusal;
 mod refusing;
 
 pub use desk::Desk;
+pub use forgotten::Forgotten;
+pub use history::History;
 pub use item::Item;
+pub use kept::Kept;
 pub use network::{Ends, Network};
 pub use put_out::PutOut;
 pub use receipt::Receipt;

@@ -8,11 +8,14 @@ ghost use Rattle.irc_network.specs.Network.{home_place, link_places, new_network
 ghost use Rattle.irc_network.specs.Views.{item_of, items_of};
 ghost use Rattle.irc_world.specs.World.{home_in};
 
+use crate::history::History;
+use crate::inbox::Inbox;
 use crate::item::Item;
+use crate::kept::Kept;
 use irc_forest::Forest;
 use irc_line::Text;
 use irc_names::ServerName;
-use irc_sites::{Inbox, Site};
+use irc_sites::Site;
 use std::alloc::Global;
 use std::marker::Model;
 
@@ -25,63 +28,42 @@ pub struct Ends {
     pub far: usize,
 }
 
-/// A network of servers, the lines on their way between them, and what each client has received.
+/// A network of servers, the lines on their way between them, and its history: what was given to
+/// it, and what each client has received.
 #[derive(Drop)]
-pub struct Network {
+pub struct Network<H: History> {
     pub(crate) alloc: Global,
     pub(crate) forest: Forest,
     /// In the order of their names.
     pub(crate) sites: Vec<Site, Global>,
     /// The home of each client, in the order of their numbers.
     pub(crate) homes: Vec<ServerName, Global>,
-    pub(crate) received: Vec<Inbox, Global>,
-    pub(crate) items: Vec<Item, Global>,
+    pub(crate) history: H,
     /// How many lines were taken since the last item.
     pub(crate) taken: u64,
 }
 
-/// In a clause it is its names, servers, links, clients and items.
-impl Model for Network {
+/// In a clause it is its names, servers, links, clients, items and what clients have received.
+impl<H: History> Model for Network<H> {
+    ghost use Rattle.std.specs.Prelude.{◌≡◌, length};
     ghost use Rattle.irc_network.specs.Network.{Network};
     ghost use Rattle.irc_network.specs.Loops.Codes.{network_code};
-    ghost use Rattle.irc_network.specs.Views.{items_of};
-    ghost use Rattle.irc_sites.specs.contracts.site.Site.{the_row as site_row};
 
     ghost Value = { Network };
 
-    ghost coded = { network_code site_row.coded };
+    ghost coded = { network_code };
 
-    ghost view = { λ n. record { names = n.forest.names; sites = n.sites.items; links = n.forest.links; homes = n.homes.items; received = n.received.items; items = items_of n.items.items; taken = n.taken } };
+    ghost view = { λ n. record { names = n.forest.names; sites = n.sites.items; links = n.forest.links; homes = n.homes.items; received = (H.past n.history).received; items = (H.past n.history).items; taken = n.taken } };
+
+    ghost invariant = { λ n. length (H.past n.history).received ≡ length n.homes.items };
 }
 
-impl Network {
-    /// Servers that are not linked, and no client. The sites are in turn those of the forest's names, in the order of the names.
-    pub fn new(alloc: Global, forest: Forest, sites: Vec<Site, Global>) -> Self
-        ensures { result ≡ new_network forest sites.items }
-    {
-        Network {
-            alloc,
-            forest,
-            sites,
-            homes: Vec::new(alloc),
-            received: Vec::new(alloc),
-            items: Vec::new(alloc),
-            taken: 0,
-        }
-    }
-
+impl Network<Kept> {
     /// What was given, in turn.
     pub fn items(&self) -> &[Item]
         ensures { items_of result.now ≡ self.now.items }
     {
-        self.items.as_slice()
-    }
-
-    /// How many lines were taken since the last item, at most 2^64 - 1.
-    pub fn lines_taken(&self) -> u64
-        ensures { result ≡ self.now.taken }
-    {
-        self.taken
+        self.history.items.as_slice()
     }
 
     /// What a client has received, whole lines, the oldest first; also once it is closed. Nothing for a number that was never given.
@@ -98,7 +80,30 @@ impl Network {
         ensures { option_copied result ≡ inbox_of self.now client }
     {
         let earlier = client.checked_sub(1)?;
-        self.received.get(earlier as usize)
+        self.history.received.get(earlier as usize)
+    }
+}
+
+impl<H: History> Network<H> {
+    /// Servers that are not linked, and no client. The sites are in turn those of the forest's names, in the order of the names.
+    pub fn new(alloc: Global, forest: Forest, sites: Vec<Site, Global>) -> Self
+        ensures { result ≡ new_network forest sites.items }
+    {
+        Network {
+            alloc,
+            forest,
+            sites,
+            homes: Vec::new(alloc),
+            history: H::new(alloc),
+            taken: 0,
+        }
+    }
+
+    /// How many lines were taken since the last item, at most 2^64 - 1.
+    pub fn lines_taken(&self) -> u64
+        ensures { result ≡ self.now.taken }
+    {
+        self.taken
     }
 
     /// The number for the next client.

@@ -6,6 +6,7 @@ ghost use Rattle.irc_network.specs.Loops.Parties.{home_site, linking_fault, part
 ghost use Rattle.irc_network.specs.Network.{site_view};
 ghost use Rattle.irc_network.specs.Views.{item_of, refusal_of};
 
+use crate::history::History;
 use crate::item::Item;
 use crate::network::Network;
 use crate::refusal::Refusal;
@@ -23,7 +24,7 @@ struct Party<'a> {
     room: &'a Room,
 }
 
-impl Network {
+impl<H: History> Network<H> {
     /// Why an item is not taken where no line is on its way, if it is not: the first cause that there is.
     pub fn refusal(&self, item: &Item) -> Option<Refusal>
         ensures { option_map refusal_of result ≡ fault_at_rest self.now (item_of item.now) }

@@ -4,6 +4,7 @@ ghost use Rattle.irc_outbox.specs.Ample.{ArePlanned, HasMemoryFor, HasMemoryOut,
 ghost use Rattle.irc_outbox.specs.Memory.{ended_at, far_at, fresh_told, same_told, told_by_far, told_at, told_or_none, with_close, with_taken, with_written, AllFresh, Changes, IsFarAdded, KeepsMemory};
 ghost use Rattle.irc_outbox.specs.Steps.{step_bytes, step_conn, failed_once, fails, fails_at, giver_of, is_reported, is_reported_at, meets, step_report};
 
+use crate::outbox::append;
 use crate::wire::{Got, IoFault, Ready, Unreached, Wire};
 use circular_buffer::HeapCircularBuffer;
 use irc_names::{Host, ServerName, first_bytes};
@@ -123,17 +124,6 @@ impl WireStep {
 enum Way {
     In,
     Out,
-}
-
-/// Appends bytes for which there is memory.
-fn append(to: &mut Vec<u8, Global>, bytes: &[u8])
-    requires { length to.old.items + length bytes.now ≤ vec_capacity to.old }
-    ensures items { to.new.items ≡ to.old.items ++ bytes.now }
-    ensures memory { vec_capacity to.old ≤ vec_capacity to.new }
-{
-    let Ok(()) = to.extend_from_slice(bytes) else {
-        unreachable!();
-    };
 }
 
 /// The sum of two lengths. For one that is no length there is no memory.

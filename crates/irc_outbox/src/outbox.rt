@@ -1,9 +1,8 @@
 //! Bytes that wait for a connection to take them.
-ghost use Rattle.std.specs.Prelude.{◌≡◌, [], length, drop, IfOk};
-ghost use Rattle.irc_outbox.specs.Outboxes.{holding, IsFront, IsPushed, WritesSome};
+ghost use Rattle.std.specs.Prelude.{◌≡◌, ◌+◌, ◌≤◌, ◌++◌, [], length, drop, vec_capacity, IfOk};
+ghost use Rattle.irc_outbox.specs.Outboxes.{holding, IsPushed, WritesSome};
 
 use crate::wire::{IoFault, Wire};
-use circular_buffer::HeapCircularBuffer;
 use std::alloc::{AllocError, Global};
 use std::marker::Model;
 use thiserror::Error;
@@ -17,18 +16,31 @@ pub enum Overflow {
 }
 
 /// Bytes that wait for a connection to take them, in order. There is room for a fixed number of them.
+///
+/// They lie in one piece, so one write offers all of them, and in front of them lie at most as
+/// many that were written. So the next ones begin at the front of the memory where none wait, and
+/// of the memory no more is ever touched than twice the most that waited at one time.
 #[derive(Drop)]
 pub struct Outbox {
-    bytes: HeapCircularBuffer<u8, Global>,
+    /// Bytes that were written, and behind them those that wait.
+    bytes: Vec<u8, Global>,
+    /// How many of them were written.
+    written: usize,
+    /// How many there may be.
+    room: usize,
 }
 
 /// In a clause it is the bytes that it holds, and its room.
 impl Model for Outbox {
+    ghost use Rattle.std.specs.Prelude.{◌+◌, ◌≤◌, length, drop, vec_capacity};
     ghost use Rattle.irc_outbox.specs.Outboxes.{Held, holding};
 
     ghost Value = { Held };
 
-    ghost view = { λ o. holding o.bytes.items o.bytes.capacity };
+    ghost view = { λ o. holding (drop o.written o.bytes.items) o.room };
+
+    ghost invariant = { λ o. (o.written + o.written ≤ length o.bytes.items)
+        × (length o.bytes.items ≤ o.room) × (o.room ≤ vec_capacity o.bytes) };
 }
 
 impl Outbox {
@@ -39,15 +51,19 @@ impl Outbox {
     pub fn with_capacity(alloc: Global, room: usize) -> Result<Self, AllocError>
         ensures { IfOk result (λ outbox. outbox ≡ holding [] room) }
     {
-        let bytes = HeapCircularBuffer::with_capacity(alloc, room)?;
-        Ok(Outbox { bytes })
+        let bytes = Vec::with_capacity(alloc, room)?;
+        Ok(Outbox {
+            bytes,
+            written: 0,
+            room,
+        })
     }
 
     /// How many bytes it holds.
     pub fn len(&self) -> usize
         ensures { result ≡ length self.now.bytes }
     {
-        self.bytes.len()
+        self.bytes.len() - self.written
     }
 
     /// Appends bytes, all of them or none.
@@ -57,10 +73,16 @@ impl Outbox {
     pub fn push(&mut self, bytes: &[u8]) -> Result<(), Overflow>
         ensures { IsPushed self.old bytes.now result self.new }
     {
-        if bytes.len() > self.bytes.capacity() - self.bytes.len() {
+        if bytes.len() > self.room - self.len() {
             return Err(Overflow::TooLong);
         }
-        self.bytes.fill_from_slice(bytes);
+        // Between two such moves as many bytes are pushed as were free at the first: they are dear
+        // only where an outbox stays all but full.
+        if bytes.len() > self.room - self.bytes.len() {
+            close_up(&mut self.bytes, self.written);
+            self.written = 0;
+        }
+        append(&mut self.bytes, bytes);
         Ok(())
     }
 
@@ -71,31 +93,51 @@ impl Outbox {
     pub fn write_some<W: Wire>(&mut self, wire: &mut W, conn: u64) -> Result<usize, IoFault>
         ensures { WritesSome W.is_after conn self.old wire.old result self.new wire.new }
     {
-        let front = self.front();
-        let behind = self.bytes.len().saturating_sub(front.len());
-        let taken = wire.write(conn, front, behind)?;
+        let taken = wire.write(conn, self.waiting(), 0)?;
         self.take_off(taken);
         Ok(taken)
     }
 
-    /// Bytes at the front that lie in one piece.
-    fn front(&self) -> &[u8]
-        ensures { IsFront self.now.bytes result.now }
+    /// The bytes that it holds.
+    fn waiting(&self) -> &[u8]
+        ensures { result.now ≡ self.now.bytes }
     {
-        let (first, second) = self.bytes.as_slices();
-        if first.is_empty() { second } else { first }
+        &self.bytes[self.written..]
     }
 
-    /// So many of the first bytes are written. Where these are all, the next ones lie in the same memory again, since `clear` leaves the place at
-    /// which the buffer starts: a connection that keeps up uses the same little memory.
+    /// So many of the first bytes are written. What is left moves to the front once it is no more
+    /// than was written since it last did: so at most one byte moves for each that is written.
     fn take_off(&mut self, count: usize)
         ensures { self.new ≡ holding (drop count self.old.bytes) self.old.room }
     {
-        let len = self.bytes.len();
-        if count >= len {
-            self.bytes.clear();
+        let written = self.written + count.min(self.len());
+        if written >= self.bytes.len() - written {
+            close_up(&mut self.bytes, written);
+            self.written = 0;
         } else {
-            self.bytes.truncate_front(len - count);
+            self.written = written;
         }
     }
+}
+
+/// Moves all but so many of the first bytes to the front.
+fn close_up(bytes: &mut Vec<u8, Global>, written: usize)
+    requires { written ≤ length bytes.old.items }
+    ensures items { bytes.new.items ≡ drop written bytes.old.items }
+    ensures capacity { vec_capacity bytes.new ≡ vec_capacity bytes.old }
+{
+    let left = bytes.len() - written;
+    bytes.copy_within(written.., 0);
+    bytes.truncate(left);
+}
+
+/// Appends bytes for which there is memory.
+pub(crate) fn append(to: &mut Vec<u8, Global>, bytes: &[u8])
+    requires { length to.old.items + length bytes.now ≤ vec_capacity to.old }
+    ensures items { to.new.items ≡ to.old.items ++ bytes.now }
+    ensures memory { vec_capacity to.old ≤ vec_capacity to.new }
+{
+    let Ok(()) = to.extend_from_slice(bytes) else {
+        unreachable!()
+    };
 }

@@ -129,21 +129,20 @@ fn named_count(context: &Context<'_>, channel: &Channel) -> usize
 fn named_among(room: &Room, all: bool, members: &[Row<Flags>]) -> usize
     ensures { result ≡ length (filter (λ row. is_named_row room.now.room all row) members.now) }
 {
-    let mut near = 0;
     let mut count = 0;
     for member in members {
-        if is_named(room, &mut near, all, member) {
+        if is_named(room, all, member) {
             count += 1;
         }
     }
     count
 }
 
-/// Whether a member is named, which is looked for near a place first.
-fn is_named(room: &Room, near: &mut usize, all: bool, member: &Row<Flags>) -> bool
+/// Whether a member is named.
+fn is_named(room: &Room, all: bool, member: &Row<Flags>) -> bool
     ensures { result ≡ is_named_row room.now.room all member.now }
 {
-    match room.is_visible_near(near, member.name.as_slice()) {
+    match room.is_visible(member.name.as_slice()) {
         Some(visible) => all || visible,
         None => false,
     }

@@ -101,12 +101,11 @@ impl Room {
         self.tables.users.spelling(name)
     }
 
-    /// Whether the user that [`Room::user`] finds for these bytes is without mode i. It is looked for near a place first, as
-    /// [`irc_users::Users::is_visible_near`] has it, so a walk over nicknames in folded order finds neighbours at once.
-    pub fn is_visible_near(&self, near: &mut usize, name: &[u8]) -> Option<bool>
+    /// Whether the user that [`Room::user`] finds for these bytes is without mode i.
+    pub fn is_visible(&self, name: &[u8]) -> Option<bool>
         ensures { result ≡ is_visible_at self.now.room (key name.now) }
     {
-        self.tables.users.is_visible_near(near, name)
+        self.tables.users.is_visible(name)
     }
 
     /// The channel whose name is the same as these bytes under the fold, which may be no channel's name themselves.

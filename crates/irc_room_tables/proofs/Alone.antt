@@ -1,5 +1,5 @@
 -- Whether nobody but a user is a member, found by the other members.
-use Rattle.std.proofs.Common.{◌≡◌, ℕ, Bool, true, false, cond, not, ◌||◌, Option, Some, None, List, [], ◌∷◌, refl, sym, ◌∙◌, ap, is_some, map}
+use Rattle.std.proofs.Common.{◌≡◌, ℕ, Bool, true, false, cond, not, ◌||◌, None, List, [], ◌∷◌, refl, sym, ◌∙◌, ap, is_some, map}
 use Rattle.std.specs.List.{list_any}
 use Rattle.std.specs.FinMap.{keys, entries}
 use Rattle.irc_names.specs.Fold.{key, same}

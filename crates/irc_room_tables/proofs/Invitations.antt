@@ -2,19 +2,18 @@
 use Rattle.std.proofs.Common.{◌≡◌, ℕ, Bool, true, false, cond, not, ◌&&◌, ◌||◌, if◌then◌else◌, Option, Some, None, List, [], ◌∷◌, ◌++◌, refl, sym, subst, ◌∙◌, ap, is_some, option_map, unwrap_or, map, take, get_or, length, ◌+◌, ◌<◌}
 use Rattle.std.proofs.lemmas.List.{map-append, take_more}
 use Rattle.std.proofs.lemmas.List.Folds.{list_any-append}
-use Rattle.std.specs.List.{list_any}
-use Rattle.std.specs.Option.{option_and_then, option_map_or}
-use Rattle.std.specs.FinMap.{keys, entries, empty, get-empty}
+use Rattle.std.specs.Option.{option_and_then}
+use Rattle.std.specs.FinMap.{keys, entries, get-empty}
 use Rattle.irc_names.specs.Fold.{key}
 use Rattle.irc_names.specs.Tables.{Table, fold_cmp, row, alter, each, moved}
-use Rattle.irc_names.specs.TableLaws.{same_fold, same_fold-refl, one_fold, row-alter, row-each, row-keys, row-moved, row-moved_none, row-alter_same, same_table}
+use Rattle.irc_names.specs.TableLaws.{same_fold, same_fold-refl, one_fold, row-alter, row-keys, row-moved, row-moved_none, row-alter_same, same_table}
 use Rattle.irc_tables.specs.declared.table.Row.{Row}
 use Rattle.irc_tables.specs.RowViews.{row_entry}
 use Rattle.irc_channels.specs.declared.channel.Channel.{Channel}
 use Rattle.irc_modes.specs.declared.modes.ModeChange.{ModeChange}
 use Rattle.irc_modes.specs.Modes.{is_nil}
 use Rattle.irc_channels.specs.Channels.{has_member, is_invited, new_channel, joined, left, without_user, while_members, renamed, invited_too, changed, all_changed}
-use Rattle.irc_effects.specs.Lemmas.Rows.{not_true, if_true, if_not, some_key, alter_same}
+use Rattle.irc_effects.specs.Lemmas.Rows.{not_true, if_true, if_not, alter_same}
 use Rattle.irc_effects.specs.Lemmas.ModesKept.{letter_folk}
 use Rattle.irc_room_tables.specs.Indexes.{Index, stands, names_in, folds_of, holds, is_alone, is_ended_with, is_named, is_uninvited, invited_beside, AreIndexed, AreInhabited, Tells, Drops, DropsWhere, TellsOfOthers}
 use Rattle.irc_room_tables.specs.Loops.InTurn.{in_turn}

@@ -17,7 +17,7 @@ use Rattle.irc_effects.specs.declared.effect.Effect.{Effect}
 use Rattle.irc_effects.specs.declared.effect.Effect.TheVariants.{Rename}
 use Rattle.irc_effects.specs.Effects.{brings_free}
 use Rattle.irc_effects.specs.Room.{IsSoundRow, IsWellFormed}
-use Rattle.irc_room_tables.specs.Indexes.{Names, Index, is_among, stands, holds, AreInhabited, Tells, Adds, Drops, DropsWhere, IsFreeOf}
+use Rattle.irc_room_tables.specs.Indexes.{Names, Index, is_among, stands, holds, AreIndexed, AreInhabited, IsAlike, Tells, Adds, Drops, DropsWhere, IsFreeOf}
 use Rattle.irc_effects.specs.Lemmas.Rows.{some_key, if_true, alter_same}
 use Rattle.irc_room_tables.proofs.IndexChanges.{forgotten, stands-moved}
 use Rattle.irc_effects.specs.Lemmas.ModesKept.{letter_folk}
@@ -324,3 +324,11 @@ free_in_room users channels effect nick new well is free = record {
 
 pub inhabited_room : (users : Table User) (channels : Table Channel) → IsWellFormed (record { users = users; channels = channels }) → AreInhabited channels
 inhabited_room users channels well = record { at = λ name channel there. (well.channels_sound name channel there).some_member }
+
+-- where the indexes tell the same
+pub still_indexed : (channels : Table Channel) (joined invited joined_after invited_after : Index) → AreIndexed channels joined invited
+    → IsAlike joined joined_after → IsAlike invited invited_after → AreIndexed channels joined_after invited_after
+still_indexed channels joined invited joined_after invited_after indexed one other = record {
+  joined = record { at = λ n c. one.at n c ∙ indexed.joined.at n c };
+  invited = record { at = λ n c. other.at n c ∙ indexed.invited.at n c };
+}

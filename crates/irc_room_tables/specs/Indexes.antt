@@ -99,6 +99,14 @@ pub record IsOpened (before after : Index) (nick : List ℕ) : Type 0 where
   pub there : is_some (row after nick) ≡ true
   pub alike : IsAlike before after
 
+-- where nothing stands by a nickname it has no row
+pub record IsUsed (index : Index) (nick : List ℕ) : Type 0 where
+  pub at : is_nil (names_in (row index nick)) ≡ true → row index nick ≡ None
+
+-- where one nickname has a row, another has one too, in place of which its row can be put
+pub record HasWay (index : Index) (nick new : List ℕ) : Type 0 where
+  pub there : is_some (row index nick) ≡ true → is_some (row index new) ≡ true
+
 -- one name more by one nickname
 pub record Adds (before after : Index) (nick name : List ℕ) : Type 0 where
   pub at : (n c : List ℕ) → stands after n c ≡ ((same_fold n nick && same_fold c name) || stands before n c)

@@ -1,8 +1,7 @@
 //! The tables of a room after an effect, or once a channel was respelled.
 ghost use Rattle.std.specs.Prelude.{◌≡◌, Some, None, OnOk, OnErr};
 ghost use Rattle.irc_names.specs.Fold.{key};
-ghost use Rattle.irc_names.specs.Tables.{row, alter, moved};
-ghost use Rattle.irc_users.specs.UserTable.{rename_fault, with_nick};
+ghost use Rattle.irc_names.specs.Tables.{row, alter};
 ghost use Rattle.irc_effects.specs.After.{after, titled_by};
 ghost use Rattle.irc_effects.specs.Effects.{IsPossible};
 ghost use Rattle.irc_room_tables.specs.Codes.{room_of};
@@ -54,11 +53,7 @@ fn change(
 {
     match effect {
         Effect::AddUser(user) => add(users, user),
-        Effect::Rename { nick, new } => {
-            rename(users, nick, new);
-            channels.rename_member(nick, new);
-            Ok(())
-        }
+        Effect::Rename { nick, new } => channels.rename_user(users, nick, new),
         Effect::Quit { nick, .. } => {
             users.remove(nick);
             channels.remove_user(nick);
@@ -97,15 +92,5 @@ fn add(users: &mut Users, user: &User) -> Result<(), AllocError>
         Ok(()) => Ok(()),
         Err(UsersFault::Taken) => unreachable!(),
         Err(UsersFault::Memory) => Err(AllocError),
-    }
-}
-
-/// Gives a user that is there another nickname, which no other user has.
-fn rename(users: &mut Users, nick: &Nick, new: &Nick)
-    requires { rename_fault users.old.users nick.now new.now ≡ None }
-    ensures { users.new.users ≡ moved (key nick.now) (key new.now) (with_nick new.now) users.old.users }
-{
-    if users.rename(nick, new).is_err() {
-        unreachable!();
     }
 }

@@ -1,10 +1,11 @@
 //! The channels of a room, and in which of them each user is, and to which it is invited.
-ghost use Rattle.std.specs.Prelude.{◌≡◌, Some, OnOk, OnErr, is_some, map};
+ghost use Rattle.std.specs.Prelude.{◌≡◌, None, Some, OnOk, OnErr, is_some, map};
 ghost use Rattle.std.specs.Option.{option_copied, option_map, option_and_then};
 ghost use Rattle.std.specs.FinMap.{empty, entries};
 ghost use Rattle.irc_names.specs.Fold.{key};
 ghost use Rattle.irc_names.specs.Tables.{row, alter, each};
 ghost use Rattle.irc_tables.specs.RowViews.{row_entry};
+ghost use Rattle.irc_users.specs.UserTable.{moved_to, rename_fault};
 ghost use Rattle.irc_channels.specs.ChannelTable.{members_in};
 ghost use Rattle.irc_channels.specs.Channels.{has_member, left, without_user, renamed, invited_too, with_topic, respelled, all_changed};
 ghost use Rattle.irc_room_tables.specs.Indexes.{entry_at, holds, is_uninvited, own_names, row_joined, with_row, AreInhabited, IsFreeOf};
@@ -15,6 +16,7 @@ use irc_channels::{Channel, Channels, ChannelsFault, Flags, Words};
 use irc_effects::ModeChanges;
 use irc_names::{ChannelName, Nick};
 use irc_tables::Row;
+use irc_users::{RenameFault, Users};
 use std::alloc::{AllocError, Global};
 use std::marker::Model;
 
@@ -96,13 +98,6 @@ impl IndexedChannels {
         ensures { map row_entry result.now ≡ own_names (key nick.now) self.now }
     {
         self.joined.names(nick)
-    }
-
-    /// The same names, looked for near a place first: about where the user stands among all users, since most are members of some channel.
-    pub fn names_near(&self, near: &mut usize, nick: &[u8]) -> &[Row<()>]
-        ensures { map row_entry result.now ≡ own_names (key nick.now) self.now }
-    {
-        self.joined.names_near(near, nick)
     }
 
     /// A user joins a channel, which is made where it is not there.
@@ -192,12 +187,26 @@ impl IndexedChannels {
         }
     }
 
-    /// A user has another nickname, which nobody else has who is in a channel or invited to one, and its memberships and invitations with
-    /// it. No other channel is looked at. It takes no memory.
-    pub fn rename_member(&mut self, nick: &Nick, new: &Nick)
-        requires { IsFreeOf self.old (key nick.now) (key new.now) }
-        ensures { self.new ≡ each (λ c. Some (renamed (key nick.now) (key new.now) c)) self.old }
+    /// A user has another nickname, which nobody else has who is in a channel or invited to one, among all users and in its memberships
+    /// and invitations. No other channel is looked at.
+    ///
+    /// # Errors
+    /// Where memory runs out; nothing has changed then.
+    pub fn rename_user(
+        &mut self,
+        users: &mut Users,
+        nick: &Nick,
+        new: &Nick,
+    ) -> Result<(), AllocError>
+        requires user { rename_fault users.old.users nick.now new.now ≡ None }
+        requires free { IsFreeOf self.old (key nick.now) (key new.now) }
+        ensures users { OnOk result (users.new.users ≡ moved_to nick.now new.now users.old.users) }
+        ensures channels { OnOk result (self.new ≡ each (λ c. Some (renamed (key nick.now) (key new.now) c)) self.old) }
+        ensures refused { OnErr result ((users.new ≡ users.old) × (self.new ≡ self.old)) }
     {
+        self.joined.make_way(nick, new)?;
+        self.invited.make_way(nick, new)?;
+        rename(users, nick, new)?;
         rename_in_each(
             &mut self.rows,
             nick,
@@ -212,6 +221,7 @@ impl IndexedChannels {
         );
         self.joined.rename(nick, new);
         self.invited.rename(nick, new);
+        Ok(())
     }
 
     /// A user is gone from all channels, and its invitations with it; each channel that it was the last member of ends. No other channel is
@@ -296,5 +306,19 @@ fn invite(channels: &mut Channels, nick: &Nick, channel: &ChannelName) -> Result
         Err(ChannelsFault::NoSuchChannel) => Ok(()),
         Err(ChannelsFault::NotMember) => Ok(()),
         Err(ChannelsFault::Memory) => Err(AllocError),
+    }
+}
+
+/// Gives a user that is there another nickname, which no other user has. Where there is no memory nothing has changed.
+fn rename(users: &mut Users, nick: &Nick, new: &Nick) -> Result<(), AllocError>
+    requires { rename_fault users.old.users nick.now new.now ≡ None }
+    ensures ok { OnOk result (users.new.users ≡ moved_to nick.now new.now users.old.users) }
+    ensures refused { OnErr result (users.new ≡ users.old) }
+{
+    match users.rename(nick, new) {
+        Ok(()) => Ok(()),
+        Err(RenameFault::Taken) => unreachable!(),
+        Err(RenameFault::NoSuchUser) => unreachable!(),
+        Err(RenameFault::Memory) => Err(AllocError),
     }
 }

@@ -1,20 +1,22 @@
 //! Names by names: of channels by nickname, or nicknames by channel.
-ghost use Rattle.std.specs.Prelude.{◌≡◌, ◌≤◌, Some, None, OnOk, OnErr, is_some, length, map};
+ghost use Rattle.std.specs.Prelude.{◌≡◌, ◌≤◌, Some, None, OnOk, OnErr, is_some, length, map, true};
 ghost use Rattle.std.specs.FinMap.{empty};
+ghost use Rattle.irc_modes.specs.Modes.{is_nil};
 ghost use Rattle.irc_names.specs.Fold.{key};
 ghost use Rattle.irc_names.specs.Tables.{row, alter, moved};
 ghost use Rattle.irc_tables.specs.RowViews.{row_entry};
-ghost use Rattle.irc_room_tables.specs.Indexes.{names_in, IsAlike, IsOpened, Adds, Drops};
+ghost use Rattle.irc_tables.specs.TableChanges.{with_value};
+ghost use Rattle.irc_room_tables.specs.Indexes.{names_in, HasWay, IsAlike, IsOpened, IsUsed, Adds, Drops};
 
 use irc_names::{ChannelName, MAX_CHANNEL, Nick};
-use irc_tables::{NameTable, Row, RowAttempt, RowChange};
+use irc_tables::{NameMap, NameTable, Row, RowAttempt};
 use std::alloc::{AllocError, Global};
 
 /// Names of channels by nickname, or nicknames by the name of a channel: what is said of the one below holds of the other.
 #[derive(Drop)]
 pub struct NameIndex {
     /// The names by each nickname.
-    pub rows: NameTable<NameTable<()>>,
+    pub rows: NameMap<NameTable<()>>,
     alloc: Global,
 }
 
@@ -24,7 +26,7 @@ impl NameIndex {
         ensures { result.rows ≡ empty }
     {
         NameIndex {
-            rows: NameTable::new(alloc),
+            rows: NameMap::new(alloc),
             alloc,
         }
     }
@@ -34,16 +36,6 @@ impl NameIndex {
         ensures { map row_entry result.now ≡ names_in (row self.now.rows (key nick.now)) }
     {
         match self.rows.get(nick) {
-            Some(names) => names.as_slice(),
-            None => &[],
-        }
-    }
-
-    /// The names by a nickname, in folded order. They are looked for near a place first, as [`NameTable::get_near`] has it.
-    pub fn names_near(&self, near: &mut usize, nick: &[u8]) -> &[Row<()>]
-        ensures { map row_entry result.now ≡ names_in (row self.now.rows (key nick.now)) }
-    {
-        match self.rows.get_near(near, nick) {
             Some(names) => names.as_slice(),
             None => &[],
         }
@@ -73,11 +65,14 @@ impl NameIndex {
         self.rows.try_at(channel, &AddingNick { nick })
     }
 
-    /// Takes a name by a nickname out; where it does not stand there nothing changes. It takes no memory.
+    /// Takes a name by a nickname out; where it does not stand there nothing changes. A row in which
+    /// nothing is left goes, so that ever new names leave nothing behind. It takes no memory.
     pub fn remove(&mut self, nick: &[u8], name: &[u8])
-        ensures { Drops self.old.rows self.new.rows (key nick.now) (key name.now) }
+        ensures dropped { Drops self.old.rows self.new.rows (key nick.now) (key name.now) }
+        ensures used { IsUsed self.new.rows (key nick.now) }
     {
-        self.rows.change_at(nick, &Removing { name });
+        take_name(&mut self.rows, nick, name);
+        close(&mut self.rows, nick);
     }
 
     /// Takes all names by a nickname out, and gives them. It takes no memory.
@@ -88,16 +83,51 @@ impl NameIndex {
         self.rows.remove(nick)
     }
 
-    /// Puts the names by a nickname by another. It takes no memory.
+    /// Gives a nickname a row where another has one, so that [`NameIndex::rename`] takes no memory.
+    ///
+    /// # Errors
+    /// Where memory runs out; the names are the same then.
+    pub fn make_way(&mut self, nick: &Nick, new: &Nick) -> Result<(), AllocError>
+        ensures way { OnOk result (HasWay self.new.rows (key nick.now) (key new.now)) }
+        ensures alike { IsAlike self.old.rows self.new.rows }
+    {
+        if !has_row(&self.rows, nick.as_bytes()) {
+            return Ok(());
+        }
+        if has_row(&self.rows, new.as_bytes()) {
+            return Ok(());
+        }
+        self.rows.insert(new.as_bytes(), NameTable::new(self.alloc))
+    }
+
+    /// Puts the names by a nickname by another, for which there is a way. It takes no memory.
     pub fn rename(&mut self, nick: &Nick, new: &Nick)
+        requires { HasWay self.old.rows (key nick.now) (key new.now) }
         ensures { self.new.rows ≡ moved (key nick.now) (key new.now) (λ names. names) self.old.rows }
     {
-        self.rows.rename(nick.as_bytes(), new.as_bytes());
+        if nick == new {
+            return;
+        }
+        let Some(names) = self.rows.remove(nick.as_bytes()) else {
+            return;
+        };
+        put_in(&mut self.rows, new.as_bytes(), names);
+    }
+}
+
+/// Puts names by a nickname that has a row. It takes no memory.
+fn put_in(rows: &mut NameMap<NameTable<()>>, nick: &[u8], names: NameTable<()>)
+    requires fits { length nick.now ≤ MAX_CHANNEL }
+    requires there { is_some (row rows.old (key nick.now)) ≡ true }
+    ensures { rows.new ≡ with_value nick.now names rows.old }
+{
+    if rows.insert(nick, names).is_err() {
+        unreachable!();
     }
 }
 
 /// Gives a nickname a row, where it has none.
-fn open(rows: &mut NameTable<NameTable<()>>, alloc: Global, nick: &[u8]) -> Result<(), AllocError>
+fn open(rows: &mut NameMap<NameTable<()>>, alloc: Global, nick: &[u8]) -> Result<(), AllocError>
     requires { length nick.now ≤ MAX_CHANNEL }
     ensures ok { OnOk result (IsOpened rows.old rows.new (key nick.now)) }
     ensures refused { OnErr result (rows.new ≡ rows.old) }
@@ -110,10 +140,39 @@ fn open(rows: &mut NameTable<NameTable<()>>, alloc: Global, nick: &[u8]) -> Resu
 }
 
 /// Whether a nickname has a row.
-fn has_row(rows: &NameTable<NameTable<()>>, nick: &[u8]) -> bool
+fn has_row(rows: &NameMap<NameTable<()>>, nick: &[u8]) -> bool
     ensures { result ≡ is_some (row rows.now (key nick.now)) }
 {
     rows.get(nick).is_some()
+}
+
+/// Takes a name by a nickname out. It takes no memory.
+fn take_name(rows: &mut NameMap<NameTable<()>>, nick: &[u8], name: &[u8])
+    ensures { Drops rows.old rows.new (key nick.now) (key name.now) }
+{
+    if rows.try_at(nick, &Removing { name }).is_err() {
+        unreachable!();
+    }
+}
+
+/// Takes out the row of a nickname in which nothing stands. It takes no memory.
+fn close(rows: &mut NameMap<NameTable<()>>, nick: &[u8])
+    ensures alike { IsAlike rows.old rows.new }
+    ensures used { IsUsed rows.new (key nick.now) }
+{
+    if has_none(rows, nick) {
+        rows.remove(nick);
+    }
+}
+
+/// Whether nothing stands by a nickname.
+fn has_none(rows: &NameMap<NameTable<()>>, nick: &[u8]) -> bool
+    ensures { result ≡ is_nil (names_in (row rows.now (key nick.now))) }
+{
+    match rows.get(nick) {
+        Some(names) => names.as_slice().is_empty(),
+        None => true,
+    }
 }
 
 /// A name is put in.
@@ -154,11 +213,13 @@ struct Removing<'a> {
     name: &'a [u8],
 }
 
-impl<'a> RowChange<NameTable<()>> for Removing<'a> {
-    ghost changed = { λ removing names. Some (alter (key removing.name.now) (λ _. None) names) };
+impl<'a> RowAttempt<NameTable<()>> for Removing<'a> {
+    ghost tried = { λ removing names. alter (key removing.name.now) (λ _. None) names };
 
-    fn change(&self, names: &mut NameTable<()>) -> bool {
+    ghost surely = { λ removing names. true };
+
+    fn attempt(&self, names: &mut NameTable<()>) -> Result<(), AllocError> {
         names.remove(self.name);
-        true
+        Ok(())
     }
 }

@@ -11,8 +11,7 @@ use irc_tables::Row;
 use std::alloc::{AllocError, Global};
 
 impl Tables {
-    /// The channels that the user of a nickname is a member of, in folded order of their names. Those names are looked for near where the
-    /// user stands among all users.
+    /// The channels that the user of a nickname is a member of, in folded order of their names.
     ///
     /// # Errors
     /// Where memory runs out.
@@ -23,10 +22,7 @@ impl Tables {
     ) -> Result<Vec<&Row<Channel>, Global>, AllocError>
         ensures { IfOk result (λ found. rows_now found.items ≡ channels_of self.now nick.now) }
     {
-        let mut near = 0;
-        let _ = self.users.find_near(&mut near, nick);
-        let names = self.channels.names_near(&mut near, nick);
-        with_names(&self.channels, alloc, names)
+        with_names(&self.channels, alloc, self.channels.names_of(nick))
     }
 }
 

@@ -14,7 +14,7 @@ use crate::lines::lines_said;
 use crate::printing::{print_fault, print_receipts, print_taken, written};
 use crate::sink::Waiting;
 use irc_names::ServerName;
-use irc_net::{Item, Net};
+use irc_net::{Forgotten, Item, Net};
 use std::alloc::Global;
 use std::io::Write;
 
@@ -22,7 +22,7 @@ use std::io::Write;
 #[derive(Drop)]
 pub struct ScriptRun {
     alloc: Global,
-    pub(crate) net: Net,
+    pub(crate) net: Net<Forgotten>,
 }
 
 impl ScriptRun {

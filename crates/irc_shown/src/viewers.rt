@@ -64,7 +64,7 @@ fn only<'a>(
     ensures { IfOk result (λ found. Finds tables.now (λ room. same nick.now) found.items) }
 {
     let mut found = Vec::new(alloc);
-    add_named(&tables.users, &mut 0, nick.as_bytes(), &mut found)?;
+    add_named(&tables.users, nick.as_bytes(), &mut found)?;
     Ok(found)
 }
 
@@ -167,23 +167,21 @@ pub(crate) fn users_of<'a>(
     ensures { IfOk result (λ found. users_now found.items ≡ users_under users.now.users (map row_entry rows.now)) }
 {
     let mut found = Vec::new(alloc);
-    let mut place = 0;
     for row in rows {
-        add_named(users, &mut place, row.name.as_slice(), &mut found)?;
+        add_named(users, row.name.as_slice(), &mut found)?;
     }
     Ok(found)
 }
 
-/// Appends the user of a nickname, if it is there, which is looked for near a place first.
+/// Appends the user of a nickname, if it is there.
 fn add_named<'a>(
     users: &'a Users,
-    place: &mut usize,
     name: &[u8],
     found: &mut Vec<&'a User, Global>,
 ) -> Result<(), AllocError>
     ensures { OnOk result (users_now found.new.items ≡ users_now found.old.items ++ user_named users.now.users name.now) }
 {
-    if let Some(user) = users.find_near(place, name) {
+    if let Some(user) = users.find_named(name) {
         found.push(user)?;
     }
     Ok(())

@@ -4,7 +4,7 @@ use Rattle.std.specs.FinMap.{empty, get, insert, remove, get-empty}
 use Rattle.std.specs.Ordering.{nat_cmp}
 use Rattle.irc_names.specs.Fold.{key, same}
 use Rattle.irc_names.specs.Tables.{Table, row, alter, moved, put_row, fold_cmp}
-use Rattle.irc_names.specs.TableLaws.{same_fold, same_fold-refl, one_fold, row-alter, row-moved}
+use Rattle.irc_names.specs.TableLaws.{same_fold, same_fold-refl, one_fold, row-alter, row-moved, row-moved_none, same_table}
 use Rattle.irc_room.specs.Lemmas.Rows.{same_some}
 use Rattle.irc_stage.specs.declared.clients.Client.{Client}
 use Rattle.irc_stage.specs.declared.clients.Client.TheVariants.{Registering, Registered}
@@ -222,10 +222,15 @@ left_indexed clients by_nick index conn (Some (Registered nick)) is now table no
     (subst (λ cs. IsIndex cs (alter (key nick) (λ _. None) by_nick)) (sym now_is) (user_left clients by_nick index conn nick is))
 
 -- taken out at one fold and put at another is moved
-as_moved : (old new : List ℕ) (conn : ℕ) (table : Table ℕ) → row table old ≡ Some conn
+pub as_moved : (old new : List ℕ) (conn : ℕ) (table : Table ℕ) → row table old ≡ Some conn
     → alter new (λ _. Some conn) (alter old (λ _. None) table) ≡ moved old new (λ value. value) table
 unfolding moved
 as_moved old new conn table at = sym (ap (λ o. put_row o new (λ value. value) (alter old (λ _. None) table)) at)
+
+-- where there is nothing at the first, nothing is
+pub not_moved : (old new : List ℕ) (table : Table ℕ) → row table old ≡ None → table ≡ moved old new (λ value. value) table
+not_moved old new table none =
+    sym (same_table (moved old new (λ value. value) table) table (row-moved_none old new (λ value. value) table none))
 
 pub rename_indexed : (clients : Clients) (by_nick : Table ℕ) → IsIndex clients by_nick → (old new : List ℕ) (conn : ℕ) → row by_nick (key old) ≡ Some conn → IsFreeFor old new clients
     → (name : List ℕ) (now : Clients) (table : Table ℕ) → name ≡ new → now ≡ insert clients conn (Registered name)

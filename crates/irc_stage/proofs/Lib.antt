@@ -2,6 +2,10 @@ pub mod Index
 pub mod Showings
 pub mod HomeRoom
 pub mod PassedOver
+pub mod Memberships
+pub mod ListsKept
+pub mod ListsHeard
+pub mod Followed
 pub mod Listening
 pub mod Telling
 pub mod Peers

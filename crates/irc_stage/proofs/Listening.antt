@@ -2,8 +2,7 @@
 use Rattle.std.proofs.Common.{◌≡◌, ℕ, Bool, true, false, cond, not, ◌&&◌, Option, Some, None, List, [], ◌∷◌, ◌++◌, refl, sym, ◌∙◌, ap, map, filter, filter_map, option_map, option_to_list, if◌then◌else◌}
 use Rattle.std.proofs.lemmas.Bool.{eq-eqb, eqb-true}
 use Rattle.std.specs.List.{AllByRecursion, cons_option, flat_map}
-use Rattle.std.specs.Option.{option_map_or}
-use Rattle.std.specs.FinMap.{get, entries, entries_sorted, values, get-entries}
+use Rattle.std.specs.FinMap.{get, entries, entries_sorted, get-entries}
 use Rattle.arrayvec.specs.ArrayVec.{ArrayVec}
 use Rattle.irc_names.specs.Fold.{key, same}
 use Rattle.irc_names.specs.Tables.{Table, row}
@@ -15,18 +14,17 @@ use Rattle.irc_room.specs.After.{after}
 use Rattle.irc_room.specs.Room.{Room, IsWellFormed}
 use Rattle.irc_room.specs.Effects.{is_member}
 use Rattle.irc_room.specs.Seen.{Showing, seen, shown_line, shown_to}
-use Rattle.irc_channels.specs.Channels.{has_member}
 use Rattle.irc_batch.specs.Batches.{Batch, Sent, is_number, line_to, to_others}
 use Rattle.irc_stage.specs.declared.clients.Client.TheVariants.{Registered}
-use Rattle.irc_stage.specs.declared.listeners.Listeners.{Listeners}
 use Rattle.irc_stage.specs.declared.origin.Origin.{Origin}
 use Rattle.irc_stage.specs.RoomMachine.{Clients, RoomMachine}
 use Rattle.irc_stage.specs.Handle.{to_viewer, with_effect}
 use Rattle.irc_stage.specs.Lemmas.Matching.{key_by_same, named_is, same_by_key}
-use Rattle.irc_stage.specs.Loops.Listening.{conns_of, heard_by, is_at, is_for, AreSo, IsSaidIn}
+use Rattle.irc_stage.specs.Loops.Listening.{Lists, conns_at, conns_of, heard_by, AreSo, IsSaidIn}
 use Rattle.irc_stage.specs.Loops.Speaking.{conn_of, IsSpoken}
 use Rattle.irc_stage.specs.Loops.Stage.{IsFit, IsIndex}
 use Rattle.irc_stage.proofs.HomeRoom.{each_entry}
+use Rattle.irc_stage.proofs.ListsHeard.{kept_heard}
 use Rattle.irc_stage.proofs.PassedOver.{is_its_conn}
 use Rattle.irc_stage.proofs.Showings.{indexed, not_indexed}
 
@@ -180,19 +178,14 @@ passed_on machine by_nick index origin (SetTopic doer place text) channel is_sai
 passed_on machine by_nick index origin (Invite doer nick place) channel is_said spoken fit well line shows out = absurd is_said
 passed_on machine by_nick index origin (UserMode nick invisible) channel is_said spoken fit well line shows out = absurd is_said
 
--- what is kept of a channel is that of each name of it
-pub known : (listeners : Listeners) (room : Room) (by_nick : Table ℕ) (channel : List ℕ) → AreSo listeners room by_nick → is_for listeners channel ≡ true
-    → listeners.conns.items ≡ heard_by room by_nick channel
-known listeners room by_nick channel so is = by listeners.channel refl is
-  where
-    under : List ℕ → List ℕ
-    under fold =
-        conns_of by_nick (map (λ (user : Person). user.nick)
-        (filter (λ (user : Person). option_map_or (has_member (key user.nick)) (row room.channels fold) false) (values room.users)))
-
-    by : (o : Option (List ℕ)) → listeners.channel ≡ o → is_at o channel ≡ true → listeners.conns.items ≡ heard_by room by_nick channel
-    by None at is = cc is
-    by (Some name) at is = so name at ∙ ap under (key_by_same name channel is)
+-- what is kept of a channel
+pub known : (lists : Lists) (room : Room) (by_nick : Table ℕ) (channel : List ℕ) → IsWellFormed room → AreSo lists room by_nick
+    → conns_at lists (key channel) ≡ heard_by room by_nick channel
+known lists room by_nick channel well so =
+    kept_heard room by_nick channel lists well
+    (each_entry (λ q (user : Person). key user.nick ≡ q) (entries room.users) (entries_sorted room.users)
+    (λ q user is. well.users_named q user (get-entries room.users q ∙ is)))
+    so
 
 -- the line at hand, to others
 pub put_to_others : (out held after : Batch) (line line' : List ℕ) (own own' : Option ℕ) (conns conns' : List ℕ) → held ≡ record out { held = line } → line ≡ line'

@@ -1,6 +1,6 @@
 -- A server whose channel is spelled in the greater of two ways.
 use Rattle.std.specs.Prelude.{OnOk, OnErr}
-use Rattle.std.proofs.Common.{◌≡◌, ℕ, Bool, false, Option, Some, None, Result, Ok, Err, List, refl, sym, ◌∙◌, ap, subst, is_some, option_map, if◌then◌else◌}
+use Rattle.std.proofs.Common.{◌≡◌, ℕ, false, Option, Some, None, Result, Ok, Err, List, refl, sym, ◌∙◌, ap, subst, is_some, option_map, if◌then◌else◌}
 use Rattle.std.specs.Result.{result_err}
 use Rattle.irc_names.specs.Fold.{key}
 use Rattle.irc_names.specs.Tables.{Table, row}
@@ -15,9 +15,9 @@ use Rattle.irc_room.specs.Lemmas.RespelledRooms.{respelled_is_well_formed}
 use Rattle.irc_room.specs.Lemmas.Rows.{alter_same, not_none}
 use Rattle.irc_links.specs.Loops.Branching.{KnowsNothing}
 use Rattle.irc_links.specs.declared.ways.Ways.{Ways}
-use Rattle.irc_stage.specs.declared.listeners.Listeners.{Listeners}
 use Rattle.irc_stage.specs.declared.stage.Stage.{Stage}
 use Rattle.irc_stage.specs.Loops.Stage.{IsServing}
+use Rattle.irc_stage.proofs.ListsKept.{titled_so}
 
 -- a channel that is not there has no other spelling
 none_respelled : (name : List ℕ) (found : Option Channel) (fault : RoomFault)
@@ -37,12 +37,12 @@ room_respelled (Err why) kept now name serves fault ok refused =
     (none_respelled name (row kept.room.channels (key name)) why
     (sym (fault ∙ ap (λ b. if b then Some Failed else (if has_channel kept.room name then None else Some NoSuchChannel)) serves)))))
 
--- a server that serves goes on to: nobody is known to listen, and no way is known
-pub serves_respelled : (stage : Stage) → IsServing stage → (name : List ℕ) (now : Kept) (listeners : Listeners) (ways : Ways)
-    → now ≡ record stage.room { room = titled_by name stage.room.room } → listeners.channel ≡ None → KnowsNothing ways
-    → IsServing (record stage { room = now; listeners = listeners; ways = ways })
-serves_respelled stage serving name now listeners ways is heard known =
-    subst (λ (kept : Kept). IsServing (record stage { room = kept; listeners = listeners; ways = ways })) (sym is)
+-- a server that serves goes on to: the same clients listen, and no way is known
+pub serves_respelled : (stage : Stage) → IsServing stage → (name : List ℕ) (now : Kept) (ways : Ways)
+    → now ≡ record stage.room { room = titled_by name stage.room.room } → KnowsNothing ways
+    → IsServing (record stage { room = now; ways = ways })
+serves_respelled stage serving name now ways is known =
+    subst (λ (kept : Kept). IsServing (record stage { room = kept; ways = ways })) (sym is)
     (record {
       ready = record {
         own_is = serving.ready.own_is;
@@ -51,7 +51,7 @@ serves_respelled stage serving name now listeners ways is heard known =
           well_formed = respelled_is_well_formed name stage.room.room serving.ready.sound.well_formed;
         };
         indexed = serving.ready.indexed;
-        heard = λ channel one. cc (sym heard ∙ one);
+        heard = titled_so stage.listeners.lists stage.room.room stage.clients.by_nick name serving.ready.heard;
         branches = λ channel one. cc (sym known ∙ one);
         met = serving.ready.met;
       };

@@ -3,7 +3,7 @@ ghost use Rattle.std.specs.Prelude.{◌≡◌, ℕ, List, ◌++◌, Option, Some
 ghost use Rattle.std.specs.FinMap.{empty, get, insert, remove};
 ghost use Rattle.std.specs.Option.{option_copied};
 ghost use Rattle.irc_names.specs.Fold.{key};
-ghost use Rattle.irc_names.specs.Tables.{row};
+ghost use Rattle.irc_names.specs.Tables.{row, moved};
 ghost use Rattle.irc_stage.specs.Loops.Stage.{all_renamed, clients_of, departed, entered, held_shown_to, lines_shown, numbered, IsFreeFor, IsFreeOf, IsIndexed, IsNoUser};
 ghost use Rattle.irc_batch.specs.Growing.{Grew};
 
@@ -108,6 +108,7 @@ pub(crate) fn seat(clients: &mut ClientTable, conn: u64, client: Client) -> Resu
     requires free { IsFreeOf client (clients_of clients.old) }
     ensures ok { OnOk result (clients_of clients.new ≡ insert (clients_of clients.old) conn client) }
     ensures indexed { OnOk result (IsIndexed clients.new) }
+    ensures by_nick { OnOk result (clients.new.by_nick ≡ entered conn client clients.old.by_nick) }
 {
     enter(&mut clients.by_nick, conn, &client)?;
     put(&mut clients.by_number, conn, client)
@@ -118,6 +119,8 @@ pub(crate) fn take_out(clients: &mut ClientTable, conn: u64)
     requires indexed { IsIndexed clients.old }
     ensures out { clients_of clients.new ≡ remove (clients_of clients.old) conn }
     ensures indexed { IsIndexed clients.new }
+    ensures by_nick { clients.new.by_nick
+        ≡ departed (get (clients_of clients.old) conn) clients.old.by_nick }
 {
     let removed = clients.by_number.remove(&conn);
     depart(&mut clients.by_nick, &removed);
@@ -148,6 +151,8 @@ pub(crate) fn rename(clients: &mut ClientTable, old: &Nick, new: &Nick) -> Resul
     requires free { IsFreeFor old.now new.now (clients_of clients.old) }
     ensures ok { OnOk result (clients_of clients.new ≡ all_renamed old.now new.now (clients_of clients.old)) }
     ensures indexed { OnOk result (IsIndexed clients.new) }
+    ensures by_nick { OnOk result (clients.new.by_nick
+        ≡ moved (key old.now) (key new.now) (λ conn. conn) clients.old.by_nick) }
 {
     let Some(conn) = number_of(clients, old) else {
         return Ok(());

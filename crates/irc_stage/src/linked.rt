@@ -144,15 +144,15 @@ impl Stage {
         self.routes.remove(name.as_bytes());
     }
 
-    /// A channel that another side has too takes that side's spelling, where it is the greater by bytes. Nobody is shown it, and who listens there is to
-    /// be found anew. A channel that is not there stays so: its first member makes it.
+    /// A channel that another side has too takes that side's spelling, where it is the greater by
+    /// bytes. Nobody is shown it, and behind which links somebody listens is to be found anew. A
+    /// channel that is not there stays so: its first member makes it.
     pub fn respell(&mut self, channel: &ChannelName)
         requires serving { IsServing self.old }
         ensures ok { view_of self.new ≡ with_title channel.now (view_of self.old) }
         ensures serving { IsServing self.new }
         ensures keeps { Keeps self.old self.new }
     {
-        self.listeners.clear();
         self.ways.forget();
         let _ = self.room.respell(channel);
     }

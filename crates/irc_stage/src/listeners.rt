@@ -1,100 +1,331 @@
-//! Who listens in a channel, kept for as long as nothing changes.
-ghost use Rattle.std.specs.Prelude.{◌≡◌, None, OnOk};
-ghost use Rattle.irc_stage.specs.Loops.Listening.{is_for, AddsConn, AddsConns, AreOf, AreSo};
+//! Which clients listen in which channels.
+ghost use Rattle.std.specs.Prelude.{◌≡◌, ◌≤◌, Some, None, [], ◌∷◌, OnErr, OnOk, is_some, length, map};
+ghost use Rattle.std.specs.FinMap.{empty};
+ghost use Rattle.std.specs.Option.{option_copied};
+ghost use Rattle.irc_batch.specs.Batches.{put_out_all, to_others};
+ghost use Rattle.irc_batch.specs.Growing.{Grew};
+ghost use Rattle.irc_names.specs.Fold.{key};
+ghost use Rattle.irc_names.specs.Tables.{row, alter, moved};
+ghost use Rattle.irc_tables.specs.RowViews.{row_entry};
+ghost use Rattle.irc_room.specs.After.{after};
+ghost use Rattle.irc_room.specs.Effects.{IsPossible};
+ghost use Rattle.irc_room.specs.Readers.{rows_now};
+ghost use Rattle.irc_room.specs.effect.Effect.TheVariants.{Rename};
+ghost use Rattle.irc_stage.specs.Loops.Listening.{conns_at, conns_in, folds_of, index_after, is_in, is_named, without_conn, AreSo, BringsNone, Forgets, IsListenerGone, IsListenerSeated, IsNobodys, IsNoMove, Leaves, Sets, SetsAt, SetsIf};
 
-use crate::clients::{ClientTable, number_of};
-use irc_names::{ChannelName, Nick};
-use irc_room::Room;
+use crate::clients::{Client, ClientTable, number_of};
+use irc_batch::Batch;
+use irc_channels::Channel;
+use irc_names::{ChannelName, MAX_CHANNEL, Nick};
+use irc_room::{Effect, Room};
+use irc_tables::{NameTable, Row, RowAttempt, RowChange};
 use std::alloc::{AllocError, Global};
 
-/// The clients that listen in the channel that something was said in last: looking each member up by its nickname costs more than
-/// all else that a line to many does.
+/// The clients that listen in each channel: they are kept, changed by one row as one comes or
+/// goes, since looking each member up by its nickname costs more than all else that a line does.
 #[derive(Drop)]
 pub(crate) struct Listeners {
-    /// The channel; none once a user, a channel or a client has changed.
-    pub channel: Option<ChannelName>,
-    /// The connections of its members that are clients, in folded order of their nicknames.
-    pub conns: Vec<u64, Global>,
+    /// By the name of each channel that has such members, the connections of those that are
+    /// clients, each under its nickname.
+    pub lists: NameTable<NameTable<u64>>,
+    alloc: Global,
 }
 
 impl Listeners {
-    /// Those of no channel.
+    /// Nobody listens anywhere.
     pub(crate) fn new(alloc: Global) -> Self
-        ensures { result.channel ≡ None }
+        ensures { result.lists ≡ empty }
     {
         Listeners {
-            channel: None,
-            conns: Vec::new(alloc),
+            lists: NameTable::new(alloc),
+            alloc,
         }
     }
 
-    /// Something has changed: they are to be found anew.
-    pub(crate) fn clear(&mut self)
-        ensures { self.new.channel ≡ None }
+    /// The connections of those that listen in a channel, in folded order of their nicknames.
+    pub(crate) fn of(&self, channel: &ChannelName) -> &[Row<u64>]
+        ensures { map row_entry result.now ≡ conns_in (row self.now.lists (key channel.now)) }
     {
-        self.channel = None;
-    }
-
-    /// Whether they are those of this channel.
-    fn are_of(&self, channel: &ChannelName) -> bool
-        ensures { result ≡ is_for self.now channel.now }
-    {
-        match &self.channel {
-            Some(name) => *name == *channel,
-            None => false,
+        match self.lists.get(channel.as_bytes()) {
+            Some(conns) => conns.as_slice(),
+            None => &[],
         }
     }
 
-    /// Those of this channel, which are found anew unless they are known.
+    /// Puts out the line at hand to those that listen in a channel, but for one.
+    ///
+    /// # Errors
+    /// Where memory runs out; it has been put out to some of them then.
+    pub(crate) fn tell(
+        &self,
+        channel: &ChannelName,
+        one: Option<u64>,
+        out: &mut Batch,
+    ) -> Result<(), AllocError>
+        ensures ok { OnOk result (out.new
+            ≡ put_out_all (to_others out.old.held one (conns_at self.now.lists (key channel.now)))
+            out.old) }
+        ensures grew { Grew out.old.outs out.new.outs }
+    {
+        send_to_others(self.of(channel), one, out)
+    }
+
+    /// Follows an effect, which this room and these clients are still to be changed by.
     ///
     /// # Errors
     /// Where memory runs out.
-    pub(crate) fn refresh(
+    pub(crate) fn follow(
         &mut self,
         room: &Room,
         clients: &ClientTable,
+        effect: &Effect,
+    ) -> Result<(), AllocError>
+        requires so { AreSo self.old.lists room.now.room clients.now.by_nick }
+        requires possible { IsPossible room.now.room effect.now }
+        requires apart { BringsNone effect.now clients.now.by_nick }
+        ensures { OnOk result (AreSo self.new.lists (after room.now.room effect.now)
+            (index_after effect.now clients.now.by_nick)) }
+    {
+        match effect {
+            Effect::Join { nick, channel, .. } => self.join(clients, nick, channel),
+            Effect::Part { nick, channel, .. } => {
+                self.leave(nick, channel);
+                Ok(())
+            }
+            Effect::Kick { nick, channel, .. } => {
+                self.leave(nick, channel);
+                Ok(())
+            }
+            Effect::Quit { nick, .. } => {
+                self.quit(room, clients, nick);
+                Ok(())
+            }
+            Effect::Rename { nick, new } => self.rename(room, clients, nick, new),
+            _ => {
+                know_unmoved(self, room, clients, effect);
+                Ok(())
+            }
+        }
+    }
+
+    /// A user joins a channel.
+    fn join(
+        &mut self,
+        clients: &ClientTable,
+        nick: &Nick,
         channel: &ChannelName,
     ) -> Result<(), AllocError>
-        requires { AreSo self.old room.now.room clients.now.by_nick }
-        ensures found { OnOk result (AreOf channel.now self.new room.now.room clients.now.by_nick) }
-        ensures so { OnOk result (AreSo self.new room.now.room clients.now.by_nick) }
+        ensures { OnOk result (SetsIf (row clients.now.by_nick (key nick.now))
+            (key channel.now) (key nick.now)
+            self.old.lists self.new.lists) }
     {
-        if self.are_of(channel) {
-            return Ok(());
+        match number_of(clients, nick) {
+            Some(conn) => self.put(channel.as_bytes(), nick, conn),
+            None => Ok(()),
         }
-        self.clear();
-        self.conns.clear();
-        let nicks = room.member_nicks(channel)?;
-        add_conns(clients, nicks.as_slice(), &mut self.conns)?;
-        self.channel = Some(channel.copy());
+    }
+
+    /// A member leaves a channel. It takes no memory.
+    fn leave(&mut self, nick: &Nick, channel: &ChannelName)
+        ensures { SetsAt (key channel.now) (key nick.now) None self.old.lists self.new.lists }
+    {
+        self.remove(channel.as_bytes(), nick);
+    }
+
+    /// A user is gone. It takes no memory.
+    fn quit(&mut self, room: &Room, clients: &ClientTable, nick: &Nick)
+        requires { AreSo self.old.lists room.now.room clients.now.by_nick }
+        ensures { Forgets (key nick.now) self.old.lists self.new.lists }
+    {
+        if number_of(clients, nick).is_some() {
+            self.leave_all(room, nick);
+        }
+    }
+
+    /// A user has another nickname.
+    fn rename(
+        &mut self,
+        room: &Room,
+        clients: &ClientTable,
+        old: &Nick,
+        new: &Nick,
+    ) -> Result<(), AllocError>
+        requires so { AreSo self.old.lists room.now.room clients.now.by_nick }
+        requires possible { IsPossible room.now.room (Rename old.now new.now) }
+        requires apart { IsNobodys old.now new.now clients.now.by_nick }
+        ensures { OnOk result (AreSo self.new.lists (after room.now.room (Rename old.now new.now))
+            (moved (key old.now) (key new.now) (λ conn. conn) clients.now.by_nick)) }
+    {
+        room.own();
+        let Some(conn) = number_of(clients, old) else {
+            return Ok(());
+        };
+        self.leave_all(room, old);
+        self.enter_all(room, old, new, conn)
+    }
+
+    /// A client comes: where it is a user, it listens in all channels that the room has that user
+    /// in.
+    ///
+    /// # Errors
+    /// Where memory runs out.
+    pub(crate) fn seat(&mut self, room: &Room, conn: u64, client: &Client) -> Result<(), AllocError>
+        ensures { OnOk result (IsListenerSeated room.now.room conn client.now
+            self.old.lists self.new.lists) }
+    {
+        match client {
+            Client::Registered(nick) => self.enter_all(room, nick, nick, conn),
+            Client::Registering(_) => Ok(()),
+        }
+    }
+
+    /// A client, if there is one, listens nowhere any more.
+    pub(crate) fn take_out(&mut self, room: &Room, client: Option<&Client>)
+        ensures { IsListenerGone room.now.room (option_copied client.entry)
+            self.old.lists self.new.lists }
+    {
+        if let Some(Client::Registered(nick)) = client {
+            self.leave_all(room, nick);
+        }
+    }
+
+    /// A user is in no channel any more, or no client. It needs no memory: where there is none for
+    /// the list of the user's channels, the lists of all are gone through.
+    fn leave_all(&mut self, room: &Room, nick: &Nick)
+        ensures { Leaves room.now.room (key nick.now) self.old.lists self.new.lists }
+    {
+        match room.channels_of(nick.as_bytes()) {
+            Ok(rows) => self.remove_each(rows.as_slice(), nick),
+            Err(_) => self.lists.change_each(&Removing { nick }),
+        }
+    }
+
+    /// A client is in all channels of a user, by this nickname.
+    fn enter_all(
+        &mut self,
+        room: &Room,
+        nick: &Nick,
+        name: &Nick,
+        conn: u64,
+    ) -> Result<(), AllocError>
+        ensures { OnOk result (Sets (is_in room.now.room (key nick.now)) (key name.now) (Some conn)
+            self.old.lists self.new.lists) }
+    {
+        let rows = room.channels_of(nick.as_bytes())?;
+        self.put_each(rows.as_slice(), name, conn)
+    }
+
+    /// A client is in each of these channels.
+    fn put_each(&mut self, rows: &[&Row<Channel>], nick: &Nick, conn: u64) -> Result<(), AllocError>
+        ensures { OnOk result (Sets (is_named (folds_of (rows_now rows.now)))
+            (key nick.now) (Some conn)
+            self.old.lists self.new.lists) }
+    {
+        for row in rows {
+            self.put(row.name.as_slice(), nick, conn)?;
+        }
         Ok(())
     }
+
+    /// A client is in none of these channels. It takes no memory.
+    fn remove_each(&mut self, rows: &[&Row<Channel>], nick: &Nick)
+        ensures { Sets (is_named (folds_of (rows_now rows.now))) (key nick.now) None
+            self.old.lists self.new.lists }
+    {
+        for row in rows {
+            self.remove(row.name.as_slice(), nick);
+        }
+    }
+
+    /// Whether anybody listens in a channel.
+    fn has_list(&self, channel: &[u8]) -> bool
+        ensures { result ≡ is_some (row self.now.lists (key channel.now)) }
+    {
+        self.lists.get(channel).is_some()
+    }
+
+    /// A client is in a channel from now on.
+    fn put(&mut self, channel: &[u8], nick: &Nick, conn: u64) -> Result<(), AllocError>
+        requires { length channel.now ≤ MAX_CHANNEL }
+        ensures { OnOk result (SetsAt (key channel.now) (key nick.now) (Some conn)
+            self.old.lists self.new.lists) }
+    {
+        if self.has_list(channel) {
+            return self.lists.try_at(channel, &Putting { nick, conn });
+        }
+        let mut conns = NameTable::with_room(self.alloc, 1)?;
+        conns.insert(nick.as_bytes(), conn)?;
+        self.lists.insert(channel, conns)
+    }
+
+    /// A client is in a channel no more; a list in which nothing is left goes. It takes no memory.
+    fn remove(&mut self, channel: &[u8], nick: &Nick)
+        ensures { SetsAt (key channel.now) (key nick.now) None self.old.lists self.new.lists }
+    {
+        self.lists.change_at(channel, &Removing { nick });
+    }
 }
 
-/// Adds the connection of each of these users that is a client.
-fn add_conns(
-    clients: &ClientTable,
-    nicks: &[Nick],
-    conns: &mut Vec<u64, Global>,
-) -> Result<(), AllocError>
-    ensures { OnOk result (AddsConns clients.now.by_nick nicks.now conns.old.items conns.new.items) }
+/// Puts out the line at hand to each of these connections in turn, but for one.
+fn send_to_others(rows: &[Row<u64>], one: Option<u64>, out: &mut Batch) -> Result<(), AllocError>
+    ensures ok { OnOk result (out.new
+        ≡ put_out_all (to_others out.old.held one (map (λ row. row.value) rows.now)) out.old) }
+    ensures grew { Grew out.old.outs out.new.outs }
 {
-    for nick in nicks {
-        add_conn(clients, nick, conns)?;
+    for row in rows {
+        send_unless(row.value, one, out)?;
     }
     Ok(())
 }
 
-/// Adds the connection of a user, if it is a client.
-fn add_conn(
-    clients: &ClientTable,
-    nick: &Nick,
-    conns: &mut Vec<u64, Global>,
-) -> Result<(), AllocError>
-    ensures { OnOk result (AddsConn clients.now.by_nick nick.now conns.old.items conns.new.items) }
+/// Puts out the line at hand to a connection, unless it is this one.
+fn send_unless(conn: u64, one: Option<u64>, out: &mut Batch) -> Result<(), AllocError>
+    ensures ok { OnOk result (out.new
+        ≡ put_out_all (to_others out.old.held one (conn ∷ [])) out.old) }
+    ensures refused { OnErr result (out.new ≡ out.old) }
 {
-    if let Some(conn) = number_of(clients, nick) {
-        conns.push(conn)?;
+    match one {
+        Some(number) if number == conn => Ok(()),
+        _ => out.send(conn),
     }
-    Ok(())
+}
+
+/// That they stay who they are by an effect by which nobody joins, leaves or has another nickname.
+fn know_unmoved(listeners: &Listeners, room: &Room, clients: &ClientTable, effect: &Effect)
+    requires unmoved { IsNoMove effect.now }
+    requires so { AreSo listeners.now.lists room.now.room clients.now.by_nick }
+    ensures { AreSo listeners.now.lists (after room.now.room effect.now)
+        (index_after effect.now clients.now.by_nick) }
+{}
+
+/// A connection is put in.
+#[derive(Drop)]
+struct Putting<'a> {
+    nick: &'a Nick,
+    conn: u64,
+}
+
+impl<'a> RowAttempt<NameTable<u64>> for Putting<'a> {
+    ghost tried = { λ putting conns. alter (key putting.nick.now) (λ _. Some putting.conn) conns };
+
+    ghost surely = { λ putting conns. is_some (row conns (key putting.nick.now)) };
+
+    fn attempt(&self, conns: &mut NameTable<u64>) -> Result<(), AllocError> {
+        conns.insert(self.nick.as_bytes(), self.conn)
+    }
+}
+
+/// A connection is taken out, and with the last one its list.
+#[derive(Drop)]
+struct Removing<'a> {
+    nick: &'a Nick,
+}
+
+impl<'a> RowChange<NameTable<u64>> for Removing<'a> {
+    ghost changed = { λ removing conns. without_conn (key removing.nick.now) conns };
+
+    fn change(&self, conns: &mut NameTable<u64>) -> bool {
+        conns.remove(self.nick.as_bytes());
+        conns.len() != 0
+    }
 }

@@ -15,7 +15,7 @@ ghost use Rattle.irc_stage.specs.Handle.{clients_after};
 ghost use Rattle.irc_stage.specs.RoomMachine.{client_of, with_client, without_client};
 ghost use Rattle.irc_stage.specs.View.{is_peer_named, new_view, password_for};
 ghost use Rattle.irc_stage.specs.Loops.Asking.{user_under, AnswersSpeaker};
-ghost use Rattle.irc_stage.specs.Loops.Listening.{IsSaidIn, IsSaidTo};
+ghost use Rattle.irc_stage.specs.Loops.Listening.{index_after, IsSaidIn, IsSaidTo};
 ghost use Rattle.irc_stage.specs.Loops.Speaking.{arrival_of, AreSpokenAt, IsSpoken};
 ghost use Rattle.irc_stage.specs.Loops.Stage.{clients_of, lines_on, machine_at, view_of, Applies, AreFitAt, CarriesOut, Changes, IsFit, IsFreeOf, IsIndexed, IsNoUser, IsReady, IsSound, Keeps, LeavesApart, Shows, Takes, TakesAll};
 
@@ -53,7 +53,7 @@ pub struct Stage {
     pub(crate) clients: ClientTable,
     /// Its room.
     pub(crate) room: Room,
-    /// Who hears what is said in the channel that something was said in last.
+    /// Which of its clients hear what is said in which channel.
     pub(crate) listeners: Listeners,
     /// The links on which the line at hand goes.
     pub(crate) ways: Ways,
@@ -63,10 +63,10 @@ pub struct Stage {
     pub(crate) alloc: Global,
 }
 
-/// Applies an effect to a room in which it is possible; `shown` is what it shows. Who listens there, and behind which links, is to be found anew.
+/// Applies an effect to a room in which it is possible; `shown` is what it shows. Behind which
+/// links somebody listens is to be found anew.
 fn happen(
     room: &mut Room,
-    stale: &mut Listeners,
     ways: &mut Ways,
     effect: &Effect,
     shown: &mut ShownLine,
@@ -76,11 +76,9 @@ fn happen(
     ensures after { OnOk result (room.new ≡ record room.old { room = after room.old.room effect.now }) }
     ensures shown { OnOk result (pairs_of shown.new ≡ shown_here room.old effect.now) }
     ensures sound { OnOk result (IsSound room.new) }
-    ensures forgotten { OnOk result (stale.new.channel ≡ None) }
     ensures nothing { OnOk result (KnowsNothing ways.new) }
     ensures at_hand { OnOk result (ways.new.links ≡ ways.old.links) }
 {
-    stale.clear();
     ways.forget();
     laws::after_is_well_formed();
     match room.apply(effect, shown) {
@@ -96,6 +94,7 @@ fn follow(clients: &mut ClientTable, effect: &Effect) -> Result<(), AllocError>
     requires apart { LeavesApart effect.now (clients_of clients.old) }
     ensures ok { OnOk result (clients_of clients.new ≡ clients_after effect.now (clients_of clients.old)) }
     ensures indexed { OnOk result (IsIndexed clients.new) }
+    ensures by_nick { OnOk result (clients.new.by_nick ≡ index_after effect.now clients.old.by_nick) }
 {
     match effect {
         Effect::Rename { nick, new } => clients::rename(clients, nick, new),
@@ -181,7 +180,7 @@ impl Stage {
         ensures ready { OnOk result (IsReady self.new) }
         ensures keeps { Keeps self.old self.new }
     {
-        self.listeners.clear();
+        self.listeners.seat(&self.room, conn, &client)?;
         clients::seat(&mut self.clients, conn, client)
     }
 
@@ -192,12 +191,15 @@ impl Stage {
         ensures ready { IsReady self.new }
         ensures keeps { Keeps self.old self.new }
     {
-        self.listeners.clear();
+        let client = clients::client_of(&self.clients, conn);
+        self.listeners.take_out(&self.room, client);
         clients::take_out(&mut self.clients, conn);
     }
 
-    /// An effect changes the room, is shown to its viewers, and is told on links: the one door for effects on a server's room, by which what is said in
-    /// it goes out. On links it is told as it is written in the room before. Where no link is open, none is looked for.
+    /// An effect changes the room, is shown to its viewers, and is told on links: the one door for
+    /// effects on a server's room, by which what is said in it goes out. On links it is told as it
+    /// is written in the room before. Where no link is open, none is looked for, and what goes on
+    /// none, as at a server with one link all that comes by it, is not written for links.
     ///
     /// # Errors
     /// Where memory runs out.
@@ -224,6 +226,9 @@ impl Stage {
             ends: &self.ends,
         };
         self.ways.find(around, origin.arrival(), effect)?;
+        if self.ways.links.is_empty() {
+            return self.change(origin, effect, out);
+        }
         let line = write_effect(effect, &self.room, &self.routes, EVERY_LINK);
         self.change(origin, effect, out)?;
         send_on_all(&line, self.ways.links.as_slice(), out)
@@ -311,11 +316,9 @@ impl Stage {
         ensures ways { OnOk result (self.new.ways.links ≡ self.old.ways.links) }
         ensures grew { Grew out.old.outs out.new.outs }
     {
-        self.listeners.refresh(&self.room, &self.clients, channel)?;
         if self.room.write_line(effect, &mut self.shown.line) {
             out.hold(&self.shown.line)?;
-            let own = origin.conn();
-            return out.send_to_others(self.listeners.conns.as_slice(), own);
+            return self.listeners.tell(channel, origin.conn(), out);
         }
         Ok(())
     }
@@ -350,13 +353,8 @@ impl Stage {
         ensures ways { OnOk result (self.new.ways.links ≡ self.old.ways.links) }
         ensures grew { Grew out.old.outs out.new.outs }
     {
-        happen(
-            &mut self.room,
-            &mut self.listeners,
-            &mut self.ways,
-            effect,
-            &mut self.shown,
-        )?;
+        self.listeners.follow(&self.room, &self.clients, effect)?;
+        happen(&mut self.room, &mut self.ways, effect, &mut self.shown)?;
         show_all(&self.clients, &self.shown, out)?;
         follow(&mut self.clients, effect)
     }

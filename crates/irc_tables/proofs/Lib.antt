@@ -1,1 +1,3 @@
-pub mod NickRows
+pub mod NameRows
+pub mod ShortRows
+pub mod TriedRows

@@ -4,12 +4,12 @@ ghost use Rattle.std.specs.Option.{option_copied, option_map};
 ghost use Rattle.std.specs.FinMap.{empty, entries, keys};
 ghost use Rattle.irc_names.specs.Fold.{key};
 ghost use Rattle.irc_names.specs.Tables.{row, alter, each, moved};
-ghost use Rattle.irc_tables.specs.FoldedRows.{table_of, IsInFoldedOrder, IsPlaceOf, StandsAt};
+ghost use Rattle.irc_tables.specs.FoldedRows.{table_of, IsInFoldedOrder, IsPlaceOf};
 ghost use Rattle.irc_tables.specs.RowViews.{row_entry, as_table};
 ghost use Rattle.irc_tables.specs.TableChanges.{changed_at, entry_at, passes_at, tried_at, with_value, without};
 
 use arrayvec::ArrayVec;
-use irc_names::{MAX_CHANNEL, compare, copied, same};
+use irc_names::{MAX_CHANNEL, compare, copied};
 use std::alloc::{AllocError, Global};
 use std::marker::Model;
 
@@ -104,24 +104,6 @@ impl<V: Drop> NameTable<V> {
         match place_of(&self.rows, name) {
             Ok(place) => Some(&self.rows[place].value),
             Err(_) => None,
-        }
-    }
-
-    /// What stands under a name, if anything does, as [`NameTable::get`] tells it. It is looked for at the place
-    /// `near` and at the one after it before the table is searched, and `near` becomes the place where it stands, or would stand. Any number
-    /// will do. It serves walks over names in folded order: where no other row stands between two of them, the second is found at once.
-    pub fn get_near(&self, near: &mut usize, name: &[u8]) -> Option<&V>
-        ensures { option_copied result ≡ row self.now (key name.now) }
-    {
-        match place_near(&self.rows, *near, name) {
-            Ok(place) => {
-                *near = place;
-                Some(&self.rows[place].value)
-            }
-            Err(place) => {
-                *near = place;
-                None
-            }
         }
     }
 
@@ -225,31 +207,6 @@ fn place_of<V>(rows: &[Row<V>], name: &[u8]) -> Result<usize, usize>
     ensures known { is_ok result ≡ is_some (row (table_of row_entry rows.now) (key name.now)) }
 {
     rows.binary_search_by(|row| compare(&row.name, name))
-}
-
-/// Where the row of a name stands, or where it would stand: looked for first at a place and the one after it.
-fn place_near<V>(rows: &[Row<V>], near: usize, name: &[u8]) -> Result<usize, usize>
-    requires { IsInFoldedOrder row_entry rows.now }
-    ensures { IsPlaceOf row_entry rows.now (key name.now) result }
-{
-    let next = near.saturating_add(1);
-    if is_named(rows, near, name) {
-        Ok(near)
-    } else if is_named(rows, next, name) {
-        Ok(next)
-    } else {
-        place_of(rows, name)
-    }
-}
-
-/// Whether the row of a name stands at a place.
-fn is_named<V>(rows: &[Row<V>], place: usize, name: &[u8]) -> bool
-    ensures { IsTrue result → StandsAt row_entry rows.now (key name.now) place }
-{
-    match rows.get(place) {
-        Some(row) => same(&row.name, name),
-        None => false,
-    }
 }
 
 /// Puts a row in where it belongs. Where there is no memory nothing has changed.

@@ -1,20 +1,18 @@
 -- What the two tables of users answer, by their heads and by who sits where.
-use Rattle.std.proofs.Common.{◌≡◌, ◌≢◌, ℕ, ◌<◌, true, List, map, length, get_or, refl, sym, ◌∙◌, ap, subst, Option, Some, None, is_some, option_map}
-use Rattle.std.proofs.lemmas.List.{length-map, get_or_default}
-use Rattle.std.specs.FinMap.{entries, keys, values}
+use Rattle.std.proofs.Common.{◌≡◌, ◌≢◌, ℕ, List, map, length, refl, sym, ◌∙◌, ap, subst, Option, Some, None, is_some, option_map}
+use Rattle.std.proofs.lemmas.List.{length-map}
+use Rattle.std.specs.FinMap.{keys, values}
 use Rattle.std.specs.Option.{option_and_then, option_map_or}
 use Rattle.std.specs.Global.{Box}
-use Rattle.slab.specs.Slab.{Slab, get}
+use Rattle.slab.specs.Slab.{Slab}
 use Rattle.irc_names.specs.Fold.{key}
 use Rattle.irc_names.specs.Tables.{Table, row, each}
 use Rattle.irc_names.specs.TableLaws.{row-each, each-alike, values-each}
-use Rattle.irc_tables.specs.FoldedRows.{IsInFoldedOrder, StandsAt}
-use Rattle.irc_tables.specs.Lemmas.RowsAsTable.{row-stands}
 use Rattle.irc_users.specs.declared.user.User.{User}
 use Rattle.irc_users.specs.declared.users.Head.{Head}
 use Rattle.irc_users.specs.UserTable.{NumberedUsers, IsNumbered, HasNumber}
-use Rattle.irc_users.specs.Rosters.{boxed, head, head_entry, heads_in, users_by, numbers_by, users_in, numbered, nobody, sitting, sitter, IsSeating, IsRoster}
-use Rattle.irc_users.proofs.Heads.{values-heads}
+use Rattle.irc_users.specs.Rosters.{head, users_by, numbers_by, users_in, numbered, nobody, sitting, sitter, IsSeating, IsRoster}
+use Rattle.irc_users.proofs.Heads.{counted}
 use Rattle.irc_users.proofs.Seatings.{sitter_there, folds_one}
 
 module _ (sits : ℕ → Option User) (heads : Table Head) where
@@ -80,48 +78,35 @@ module _ (sits : ℕ → Option User) (heads : Table Head) (seating : IsSeating 
 
 -- ---- in folded order
 
-module _ (seats : Slab (Box User)) (heads : List Head) (roster : IsRoster seats heads) where
-  pub head_row : (place : ℕ) (h : Head) → place < length heads → h ≡ get_or heads place h → row (heads_in heads) (key h.nick) ≡ Some h
-  head_row place h within is =
-      row-stands head_entry heads (key h.nick) place h roster.ordered
-      (record { within = within; named = λ d. ap (λ (k : Head). key k.nick) (get_or_default heads place d h within ∙ sym is) }) is
-
-  sits_so : (fold : List ℕ) (h : Head) → row (heads_in heads) fold ≡ Some h → sitting seats h.number ≡ Some (sitter seats h)
-  sits_so fold h there = let s = sitter_there (sitting seats) (heads_in heads) roster.seating fold h there in
+module _ (seats : Slab (Box User)) (heads : Table Head) (roster : IsRoster seats heads) where
+  sits_so : (fold : List ℕ) (h : Head) → row heads fold ≡ Some h → sitting seats h.number ≡ Some (sitter seats h)
+  sits_so fold h there = let s = sitter_there (sitting seats) heads roster fold h there in
       s.1 ∙ ap (λ o. Some (option_map_or (λ (user : User). user) o nobody)) (sym s.1)
 
-  total : users_in seats heads ≡ each (λ h. Some (sitter seats h)) (heads_in heads)
-  total = each-alike (λ (h : Head). sitting seats h.number) (λ h. Some (sitter seats h)) (heads_in heads) sits_so
+  total : users_in seats heads ≡ each (λ h. Some (sitter seats h)) heads
+  total = each-alike (λ (h : Head). sitting seats h.number) (λ h. Some (sitter seats h)) heads sits_so
 
-  pub values-users : values (users_in seats heads) ≡ map (sitter seats) heads
-  values-users = ap values total ∙ values-each (sitter seats) (heads_in heads) ∙ ap (map (sitter seats)) (values-heads heads roster.ordered)
+  pub values-users : values (users_in seats heads) ≡ map (sitter seats) (values heads)
+  values-users = ap values total ∙ values-each (sitter seats) heads
 
-  pub length-users : length heads ≡ length (keys (users_in seats heads))
+  pub length-users : length (keys heads) ≡ length (keys (users_in seats heads))
   length-users =
-      sym (length-map heads (sitter seats)) ∙ ap length (sym values-users)
-      ∙ length-map (entries (users_in seats heads)) (λ e. e.1) ∙ sym (length-map (entries (users_in seats heads)) (λ e. e.0))
+      counted heads ∙ sym (length-map (values heads) (sitter seats)) ∙ ap length (sym values-users) ∙ sym (counted (users_in seats heads))
 
-  is_full : (o : Option (Box User)) (h : Head) → option_map (head h.number) (option_map boxed o) ≡ Some h → is_some o ≡ true
-  is_full None h e = cc
-  is_full (Some box) h e = refl
+-- ---- as the view of the code's fields has it
 
-  -- there is somebody in the seat of each head
-  pub seat_full : (place : ℕ) (h : Head) → place < length heads → h ≡ get_or heads place h → is_some (get seats h.number) ≡ true
-  seat_full place h within is = is_full (get seats h.number) h (roster.seating.seated (key h.nick) h (head_row place h within is))
+module _ (seats : Slab (Box User)) (heads : Table Head) (users : NumberedUsers) (view : numbered seats heads ≡ users) (roster : IsRoster seats heads) where
+  pub held_by : (n : ℕ) (found : Option User) → sitting seats n ≡ found → HasNumber users n found
+  held_by n found sits = subst (λ o. HasNumber users n o) sits (subst (λ t. HasNumber t n (sitting seats n)) view (who_sits (sitting seats) heads roster n))
 
--- ---- at a place
+  pub no_one : (fold : List ℕ) → row heads fold ≡ None → row users.users fold ≡ None
+  no_one fold none = ap (λ (n : NumberedUsers). row n.users fold) (sym view) ∙ no_user (sitting seats) heads fold none
 
-pub number_stands : (heads : List Head) (fold : List ℕ) (place : ℕ) (h : Head) → IsInFoldedOrder head_entry heads → StandsAt head_entry heads fold place → h ≡ get_or heads place h
-    → row (numbers_by (heads_in heads)) fold ≡ Some h.number
-number_stands heads fold place h ordered at is = number_row (heads_in heads) fold h (row-stands head_entry heads fold place h ordered at is)
+  pub his_number : (fold : List ℕ) (h : Head) → row heads fold ≡ Some h → row users.numbers fold ≡ Some h.number
+  his_number fold h there = ap (λ (n : NumberedUsers). row n.numbers fold) (sym view) ∙ number_row heads fold h there
 
-pub held_by : (seats : Slab (Box User)) (heads : List Head) (users : NumberedUsers) (n : ℕ) (found : Option User) → numbered seats heads ≡ users
-    → IsSeating (sitting seats) (heads_in heads) → sitting seats n ≡ found → HasNumber users n found
-held_by seats heads users n found view seating sits =
-    subst (λ o. HasNumber users n o) sits (subst (λ t. HasNumber t n (sitting seats n)) view (who_sits (sitting seats) (heads_in heads) seating n))
+  pub no_number_there : (fold : List ℕ) → row heads fold ≡ None → row users.numbers fold ≡ None
+  no_number_there fold none = ap (λ (n : NumberedUsers). row n.numbers fold) (sym view) ∙ no_number heads fold none
 
--- the same of what stands in a slice of the heads
-pub seat_taken : (seats : Slab (Box User)) (heads slice : List Head) (place : ℕ) (h : Head) → IsRoster seats heads → slice ≡ heads → place < length slice → h ≡ get_or slice place h
-    → is_some (get seats h.number) ≡ true
-seat_taken seats heads slice place h roster same within is =
-    seat_full seats heads roster place h (subst (λ hs. place < length hs) same within) (is ∙ ap (λ hs. get_or hs place h) same)
+  pub user_by_head : (fold : List ℕ) → is_some (row users.users fold) ≡ is_some (row heads fold)
+  user_by_head fold = ap (λ (n : NumberedUsers). is_some (row n.users fold)) (sym view) ∙ known (sitting seats) heads roster fold

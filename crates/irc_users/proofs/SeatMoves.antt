@@ -1,21 +1,20 @@
 -- What each change of a seat and of the heads makes of the two tables.
-use Rattle.std.proofs.Common.{◌≡◌, ℕ, Bool, true, false, not, ◌&&◌, cond, List, get_or, set, refl, sym, ◌∙◌, ap, subst, Option, Some, None, is_some, is_none, option_map}
+use Rattle.std.proofs.Common.{◌≡◌, ℕ, Bool, true, false, not, ◌&&◌, cond, List, set, refl, sym, ◌∙◌, ap, subst, Option, Some, None, is_some, is_none, option_map, Result, Ok, Err, OnErr}
 use Rattle.std.specs.Global.{Box}
-use Rattle.std.specs.List.{remove}
 use Rattle.slab.specs.Slab.{Slab, get, Updates, with_value as seat_with}
 use Rattle.slab.proofs.SlabLemmas.{Updates-with_value, Updates-set, ContainsKey-within}
 use Rattle.irc_names.specs.Fold.{key, same}
 use Rattle.irc_names.specs.FoldLaws.{same-tells}
 use Rattle.irc_names.specs.Tables.{Table, row, alter, moved, put_row}
 use Rattle.irc_names.specs.TableLaws.{same_fold, one_fold, same_table, row-alter, row-alter_same}
-use Rattle.irc_tables.specs.FoldedRows.{IsInFoldedOrder, StandsAt, BelongsAt}
-use Rattle.irc_tables.specs.Lemmas.RowsAsTable.{row-absent, row-stands, stands-present, removed-table, removed-sorted, replaced-table, replaced-sorted, alter_alike, alter-absent}
+use Rattle.irc_tables.specs.Lemmas.RowsAsTable.{alter_alike, alter-absent}
 use Rattle.irc_users.specs.declared.user.User.{User}
 use Rattle.irc_users.specs.declared.users.Head.{Head}
-use Rattle.irc_users.specs.UserTable.{NumberedUsers, OthersKeep, with_nick, with_invisible, has_nick, is_taken, rename_fault}
+use Rattle.irc_users.specs.UserTable.{OthersKeep, with_nick, with_invisible, has_nick, is_taken, rename_fault}
 use Rattle.irc_users.specs.declared.fault.RenameFault.TheVariants.{Taken, NoSuchUser}
-use Rattle.irc_users.specs.Rosters.{boxed, head, head_entry, heads_in, users_by, numbers_by, users_in, numbers_in, numbered, sitting, IsSeating, IsRoster, TellsTaken}
-use Rattle.irc_users.proofs.NumberedRows.{user_row, no_user, number_row, known, seat_full}
+use Rattle.irc_users.specs.Rosters.{boxed, head, users_by, numbers_by, users_in, numbers_in, sitting, IsSeating, IsRoster}
+use Rattle.irc_users.proofs.NumberedRows.{user_row, number_row, known}
+use Rattle.irc_users.proofs.Heads.{seat_full}
 use Rattle.irc_users.proofs.Seatings.{SeatChanges, GoTogether, users_changed, numbers_changed, seating_changed, free_together, his_together}
 
 -- ---- changes of a table
@@ -74,6 +73,52 @@ free_then {X} table nick new free = by_name (same nick new) refl
         ∙ either (same_fold (key new) (key nick)) (row table (key new))
         (none_is (row table (key new)) (ap (λ b. not b && is_some (row table (key new))) (sym two) ∙ free))
 
+-- what holds anyway holds of an error
+pub on_err : {A B X : Type 0} (result : Result A B) → X → OnErr result X
+on_err (Ok a) fact = tt
+on_err (Err b) fact = fact
+
+-- ---- a row that is put under another name before the old one is taken out
+
+pub apart_so : (b : Bool) → not b ≡ true → b ≡ false
+apart_so false apart = refl
+apart_so true apart = cc
+
+pub one_so : (b : Bool) → not b ≡ false → b ≡ true
+one_so true one = refl
+one_so false one = cc
+
+module _ {X : Type 0} (table : Table X) (nick new : List ℕ) (x : X) where
+  after_both : (q : List ℕ) → row (alter (key new) (λ _. Some x) (alter (key nick) (λ _. None) table)) q
+      ≡ cond (same_fold q (key new)) (Some x) (cond (same_fold q (key nick)) None (row table q))
+  after_both q =
+      row-alter (key new) (λ _. Some x) (alter (key nick) (λ _. None) table) q
+      ∙ ap (cond (same_fold q (key new)) (Some x)) (row-alter (key nick) (λ _. None) table q)
+
+  pub put_first : same nick new ≡ false
+      → alter (key nick) (λ _. None) (alter (key new) (λ _. Some x) table) ≡ alter (key new) (λ _. Some x) (alter (key nick) (λ _. None) table)
+  put_first apart = same_table _ _ (λ q.
+      row-alter (key nick) (λ _. None) (alter (key new) (λ _. Some x) table) q
+      ∙ ap (cond (same_fold q (key nick)) None) (row-alter (key new) (λ _. Some x) table q)
+      ∙ by q (same_fold q (key nick)) (same_fold q (key new)) refl refl ∙ sym (after_both q))
+    where
+      by : (q : List ℕ) (a b : Bool) → same_fold q (key nick) ≡ a → same_fold q (key new) ≡ b
+          → cond a None (cond b (Some x) (row table q)) ≡ cond b (Some x) (cond a None (row table q))
+      by q true true one other =
+          absurd (let e : true ≡ false = sym ((same-tells nick new).1 (sym (one_fold q (key nick) one) ∙ one_fold q (key new) other)) ∙ apart in cc)
+      by q true false one other = refl
+      by q false true one other = refl
+      by q false false one other = refl
+
+  pub put_over : same nick new ≡ true → alter (key new) (λ _. Some x) table ≡ alter (key new) (λ _. Some x) (alter (key nick) (λ _. None) table)
+  put_over one = same_table _ _ (λ q.
+      row-alter (key new) (λ _. Some x) table q ∙ by q (same_fold q (key new)) (same_fold q (key nick)) (ap (same_fold q) ((same-tells nick new).0 one)) ∙ sym (after_both q))
+    where
+      by : (q : List ℕ) (a b : Bool) → b ≡ a → cond a (Some x) (row table q) ≡ cond a (Some x) (cond b None (row table q))
+      by q true b same = refl
+      by q false true same = cc same
+      by q false false same = refl
+
 -- ---- one seat, and the head with it
 
 pub seat_changes : (seats after : Slab (Box User)) (n : ℕ) (slot : Option (Box User)) → Updates seats after n slot
@@ -96,88 +141,63 @@ module _ (before after : ℕ → Option User) (heads later : Table Head) (n : �
 
 -- ---- somebody comes
 
-module _ (seats after : Slab (Box User)) (heads later : List Head) (n : ℕ) (box : Box User) (roster : IsRoster seats heads) (vacant : get seats n ≡ None)
-    (free : row (heads_in heads) (key box.value.nick) ≡ None) (updates : Updates seats after n (Some box))
-    (put : heads_in later ≡ alter (key box.value.nick) (λ _. Some (head n box.value)) (heads_in heads)) where
-  come : GoTogether (sitting seats) (heads_in heads) n (key box.value.nick) (Some box.value)
-  come = free_together (sitting seats) (heads_in heads) roster.seating n (key box.value.nick) box.value (ap (option_map boxed) vacant) free refl
+module _ (seats after : Slab (Box User)) (heads later : Table Head) (n : ℕ) (box : Box User) (roster : IsRoster seats heads) (vacant : get seats n ≡ None)
+    (free : row heads (key box.value.nick) ≡ None) (updates : Updates seats after n (Some box))
+    (put : later ≡ alter (key box.value.nick) (λ _. Some (head n box.value)) heads) where
+  come : GoTogether (sitting seats) heads n (key box.value.nick) (Some box.value)
+  come = free_together (sitting seats) heads roster n (key box.value.nick) box.value (ap (option_map boxed) vacant) free refl
 
   pub users_come : users_in after later ≡ alter (key box.value.nick) (λ _. Some box.value) (users_in seats heads)
   users_come =
-      users_put (sitting seats) (sitting after) (heads_in heads) (heads_in later) n (key box.value.nick) (Some box.value) roster.seating
-      (seat_changes seats after n (Some box) updates) come put
+      users_put (sitting seats) (sitting after) heads later n (key box.value.nick) (Some box.value) roster (seat_changes seats after n (Some box) updates) come put
 
   numbers_so : numbers_in later ≡ alter (key box.value.nick) (λ _. Some n) (numbers_in heads)
   numbers_so =
-      numbers_put (sitting seats) (sitting after) (heads_in heads) (heads_in later) n (key box.value.nick) (Some box.value) roster.seating
-      (seat_changes seats after n (Some box) updates) come put
+      numbers_put (sitting seats) (sitting after) heads later n (key box.value.nick) (Some box.value) roster (seat_changes seats after n (Some box) updates) come put
 
   pub numbers_come : OthersKeep box.value.nick (numbers_in heads) (numbers_in later)
   numbers_come = others_keep box.value.nick (Some n) (numbers_in heads) (numbers_in later) numbers_so
 
-  pub roster_come : IsInFoldedOrder head_entry later → IsRoster after later
-  roster_come ordered = record {
-    ordered = ordered;
-    seating =
-        seating_put (sitting seats) (sitting after) (heads_in heads) (heads_in later) n (key box.value.nick) (Some box.value) roster.seating
-        (seat_changes seats after n (Some box) updates) come put;
-  }
+  pub roster_come : IsRoster after later
+  roster_come =
+      seating_put (sitting seats) (sitting after) heads later n (key box.value.nick) (Some box.value) roster (seat_changes seats after n (Some box) updates) come put
 
--- ---- somebody whose head stands at a place
+-- ---- somebody who is there
 
 no_one : (fold : List ℕ) (user : User) → ◌≡◌ {A = Option User} None (Some user) → key user.nick ≡ fold
 no_one fold user e = absurd (cc)
 
-module _ (seats : Slab (Box User)) (heads : List Head) (fold : List ℕ) (place : ℕ) (h : Head) (roster : IsRoster seats heads)
-    (at : StandsAt head_entry heads fold place) (is : h ≡ get_or heads place h) where
-  pub there : row (heads_in heads) fold ≡ Some h
-  there = row-stands head_entry heads fold place h roster.ordered at is
-
+module _ (seats : Slab (Box User)) (heads : Table Head) (fold : List ℕ) (h : Head) (roster : IsRoster seats heads) (there : row heads fold ≡ Some h) where
   pub named_so : key h.nick ≡ fold
-  named_so = roster.seating.named fold h there
+  named_so = roster.named fold h there
 
   pub seat_of : is_some (get seats h.number) ≡ true
-  seat_of = seat_full seats heads roster place h at.within is
+  seat_of = seat_full seats heads roster fold h there
 
   -- he is there
   pub there_so : is_some (row (users_in seats heads) fold) ≡ true
-  there_so = known (sitting seats) (heads_in heads) roster.seating fold ∙ ap is_some there
+  there_so = known (sitting seats) heads roster fold ∙ ap is_some there
 
-  pub out : heads_in (remove heads place) ≡ alter fold (λ _. None) (heads_in heads)
-  out = removed-table head_entry heads fold place h h roster.ordered at.within is (ap (λ k. (k, h)) named_so)
-
-  pub out_sorted : IsInFoldedOrder head_entry (remove heads place)
-  out_sorted = removed-sorted head_entry heads fold place h h roster.ordered at.within is (ap (λ k. (k, h)) named_so)
-
-  pub gone : GoTogether (sitting seats) (heads_in heads) h.number fold None
-  gone = his_together (sitting seats) (heads_in heads) roster.seating fold h None there (no_one fold)
+  gone : GoTogether (sitting seats) heads h.number fold None
+  gone = his_together (sitting seats) heads roster fold h None there (no_one fold)
 
   -- he goes
-  module _ (after : Slab (Box User)) (updates : Updates seats after h.number None) where
-    pub users_gone : users_in after (remove heads place) ≡ alter fold (λ _. None) (users_in seats heads)
-    users_gone =
-        users_put (sitting seats) (sitting after) (heads_in heads) (heads_in (remove heads place)) h.number fold None roster.seating
-        (seat_changes seats after h.number None updates) gone out
+  module _ (after : Slab (Box User)) (later : Table Head) (updates : Updates seats after h.number None) (out : later ≡ alter fold (λ _. None) heads) where
+    pub users_gone : users_in after later ≡ alter fold (λ _. None) (users_in seats heads)
+    users_gone = users_put (sitting seats) (sitting after) heads later h.number fold None roster (seat_changes seats after h.number None updates) gone out
 
-    pub numbers_gone : numbers_in (remove heads place) ≡ alter fold (λ _. None) (numbers_in heads)
-    numbers_gone =
-        numbers_put (sitting seats) (sitting after) (heads_in heads) (heads_in (remove heads place)) h.number fold None roster.seating
-        (seat_changes seats after h.number None updates) gone out
+    pub numbers_gone : numbers_in later ≡ alter fold (λ _. None) (numbers_in heads)
+    numbers_gone = numbers_put (sitting seats) (sitting after) heads later h.number fold None roster (seat_changes seats after h.number None updates) gone out
 
-    pub roster_gone : IsRoster after (remove heads place)
-    roster_gone = record {
-      ordered = out_sorted;
-      seating =
-          seating_put (sitting seats) (sitting after) (heads_in heads) (heads_in (remove heads place)) h.number fold None roster.seating
-          (seat_changes seats after h.number None updates) gone out;
-    }
+    pub roster_gone : IsRoster after later
+    roster_gone = seating_put (sitting seats) (sitting after) heads later h.number fold None roster (seat_changes seats after h.number None updates) gone out
 
   -- he stays, changed
   module _ (box now : Box User) (sits : get seats h.number ≡ Some box) where
     pub head_is : head h.number box.value ≡ h
     head_is =
         let e : Some (head h.number box.value) ≡ Some h =
-        ap (λ o. option_map (head h.number) (option_map boxed o)) (sym sits) ∙ roster.seating.seated fold h there in cc
+        ap (λ o. option_map (head h.number) (option_map boxed o)) (sym sits) ∙ roster.seated fold h there in cc
 
     abbrev seats_now : Slab (Box User)
     seats_now = seat_with seats h.number now
@@ -186,14 +206,12 @@ module _ (seats : Slab (Box User)) (heads : List Head) (fold : List ℕ) (place 
     changed_seat = Updates-with_value seats h.number now seat_of
 
     his_row : row (users_in seats heads) fold ≡ Some box.value
-    his_row = user_row (sitting seats) (heads_in heads) fold h there ∙ ap (option_map boxed) sits
+    his_row = user_row (sitting seats) heads fold h there ∙ ap (option_map boxed) sits
 
     -- with mode i, or without it
-    module _ (b : Bool) (done : now.value ≡ with_invisible b box.value) where
-      abbrev head_now : Head
-      head_now = record { nick = h.nick; number = h.number; invisible = b }
-
-      head_now_is : head_now ≡ head h.number now.value
+    module _ (b : Bool) (later : Table Head) (done : now.value ≡ with_invisible b box.value)
+        (put : later ≡ alter (key h.nick) (λ _. Some (record { nick = h.nick; number = h.number; invisible = b })) heads) where
+      head_now_is : record { nick = h.nick; number = h.number; invisible = b } ≡ head h.number now.value
       head_now_is =
           ap (λ (k : Head). record { nick = k.nick; number = k.number; invisible = b }) (sym head_is) ∙ ap (head h.number) (sym done)
 
@@ -202,42 +220,39 @@ module _ (seats : Slab (Box User)) (heads : List Head) (fold : List ℕ) (place 
           let one : user ≡ now.value = cc in
           ap (λ (u : User). key u.nick) (one ∙ done) ∙ ap (λ (k : Head). key k.nick) head_is ∙ named_so
 
-      stays : GoTogether (sitting seats) (heads_in heads) h.number fold (Some now.value)
-      stays = his_together (sitting seats) (heads_in heads) roster.seating fold h (Some now.value) there fits_so
+      stays : GoTogether (sitting seats) heads h.number fold (Some now.value)
+      stays = his_together (sitting seats) heads roster fold h (Some now.value) there fits_so
 
-      mode_put : heads_in (set heads place head_now) ≡ alter fold (λ _. Some (head h.number now.value)) (heads_in heads)
-      mode_put =
-          replaced-table head_entry heads fold place h h roster.ordered at.within is (ap (λ k. (k, h)) named_so) head_now head_now (ap (λ k. (k, head_now)) named_so)
-          ∙ ap (λ k. alter fold (λ _. Some k) (heads_in heads)) head_now_is
+      mode_put : later ≡ alter fold (λ _. Some (head h.number now.value)) heads
+      mode_put = put ∙ ap (λ at. alter at (λ _. Some (record { nick = h.nick; number = h.number; invisible = b })) heads) named_so
+          ∙ ap (λ k. alter fold (λ _. Some k) heads) head_now_is
 
-      pub mode_users : users_in seats_now (set heads place head_now) ≡ alter fold (option_map (with_invisible b)) (users_in seats heads)
+      pub mode_users : users_in seats_now later ≡ alter fold (option_map (with_invisible b)) (users_in seats heads)
       mode_users =
-          users_put (sitting seats) (sitting seats_now) (heads_in heads) (heads_in (set heads place head_now)) h.number fold (Some now.value) roster.seating
+          users_put (sitting seats) (sitting seats_now) heads later h.number fold (Some now.value) roster
           (seat_changes seats seats_now h.number (Some now) changed_seat) stays mode_put
           ∙ alter_alike (users_in seats heads) fold (λ _. Some now.value) (option_map (with_invisible b)) (ap Some done ∙ ap (option_map (with_invisible b)) (sym his_row))
 
-      pub mode_numbers : numbers_in (set heads place head_now) ≡ numbers_in heads
+      pub mode_numbers : numbers_in later ≡ numbers_in heads
       mode_numbers =
-          numbers_put (sitting seats) (sitting seats_now) (heads_in heads) (heads_in (set heads place head_now)) h.number fold (Some now.value) roster.seating
+          numbers_put (sitting seats) (sitting seats_now) heads later h.number fold (Some now.value) roster
           (seat_changes seats seats_now h.number (Some now) changed_seat) stays mode_put
-          ∙ alter-idle (numbers_in heads) fold (Some h.number) (number_row (heads_in heads) fold h there)
+          ∙ alter-idle (numbers_in heads) fold (Some h.number) (number_row heads fold h there)
 
-      pub mode_roster : IsRoster seats_now (set heads place head_now)
-      mode_roster = record {
-        ordered =
-            replaced-sorted head_entry heads fold place h h roster.ordered at.within is (ap (λ k. (k, h)) named_so) head_now head_now
-            (ap (λ k. (k, head_now)) named_so);
-        seating =
-            seating_put (sitting seats) (sitting seats_now) (heads_in heads) (heads_in (set heads place head_now)) h.number fold (Some now.value) roster.seating
-            (seat_changes seats seats_now h.number (Some now) changed_seat) stays mode_put;
-      }
+      pub mode_roster : IsRoster seats_now later
+      mode_roster =
+          seating_put (sitting seats) (sitting seats_now) heads later h.number fold (Some now.value) roster
+          (seat_changes seats seats_now h.number (Some now) changed_seat) stays mode_put
 
     -- under another nickname: as if he went, and came back into the same seat
-    module _ (new : List ℕ) (later : List Head) (k : Head) (done : now.value ≡ with_nick new box.value)
-        (spelled : k ≡ record { nick = new; number = h.number; invisible = h.invisible }) (free : row (heads_in (remove heads place)) (key new) ≡ None)
-        (put : heads_in later ≡ alter (key k.nick) (λ _. Some k) (heads_in (remove heads place))) where
+    module _ (new : List ℕ) (later : Table Head) (k : Head) (done : now.value ≡ with_nick new box.value)
+        (spelled : k ≡ record { nick = new; number = h.number; invisible = h.invisible }) (free : row (alter fold (λ _. None) heads) (key new) ≡ None)
+        (put : later ≡ alter (key k.nick) (λ _. Some k) (alter fold (λ _. None) heads)) where
       abbrev seats_without : Slab (Box User)
       seats_without = record seats { slots = set seats.slots h.number None }
+
+      abbrev heads_without : Table Head
+      heads_without = alter fold (λ _. None) heads
 
       went : Updates seats seats_without h.number None
       went = Updates-set seats seats_without h.number None (ContainsKey-within seats h.number seat_of) refl
@@ -245,8 +260,8 @@ module _ (seats : Slab (Box User)) (heads : List Head) (fold : List ℕ) (place 
       came : Updates seats_without seats_now h.number (Some now)
       came = record { changed = changed_seat.changed; others = λ m other. changed_seat.others m other ∙ sym (went.others m other) }
 
-      roster_without : IsRoster seats_without (remove heads place)
-      roster_without = roster_gone seats_without went
+      roster_without : IsRoster seats_without heads_without
+      roster_without = roster_gone seats_without heads_without went refl
 
       nick_now : now.value.nick ≡ new
       nick_now = ap (λ (u : User). u.nick) done
@@ -255,56 +270,41 @@ module _ (seats : Slab (Box User)) (heads : List Head) (fold : List ℕ) (place 
       head_then =
           spelled ∙ ap (λ (x : Head). record { nick = new; number = h.number; invisible = x.invisible }) (sym head_is) ∙ ap (head h.number) (sym done)
 
-      put_so : heads_in later ≡ alter (key now.value.nick) (λ _. Some (head h.number now.value)) (heads_in (remove heads place))
-      put_so = put ∙ ap (λ (x : Head). alter (key x.nick) (λ _. Some x) (heads_in (remove heads place))) head_then
+      put_so : later ≡ alter (key now.value.nick) (λ _. Some (head h.number now.value)) heads_without
+      put_so = put ∙ ap (λ (x : Head). alter (key x.nick) (λ _. Some x) heads_without) head_then
 
-      free_so : row (heads_in (remove heads place)) (key now.value.nick) ≡ None
-      free_so = ap (λ nick. row (heads_in (remove heads place)) (key nick)) nick_now ∙ free
+      free_so : row heads_without (key now.value.nick) ≡ None
+      free_so = ap (λ nick. row heads_without (key nick)) nick_now ∙ free
 
       pub nick_users : users_in seats_now later ≡ moved fold (key new) (with_nick new) (users_in seats heads)
       nick_users =
-          moved_in_steps (users_in seats heads) (users_in seats_without (remove heads place)) (users_in seats_now later) fold (key new) (with_nick new) box.value his_row
-          (users_gone seats_without went)
-          (users_come seats_without seats_now (remove heads place) later h.number now roster_without went.changed free_so came put_so
-          ∙ ap (λ (u : User). alter (key u.nick) (λ _. Some u) (users_in seats_without (remove heads place))) done)
+          moved_in_steps (users_in seats heads) (users_in seats_without heads_without) (users_in seats_now later) fold (key new) (with_nick new) box.value his_row
+          (users_gone seats_without heads_without went refl)
+          (users_come seats_without seats_now heads_without later h.number now roster_without went.changed free_so came put_so
+          ∙ ap (λ (u : User). alter (key u.nick) (λ _. Some u) (users_in seats_without heads_without)) done)
 
       pub nick_numbers : numbers_in later ≡ moved fold (key new) (λ n. n) (numbers_in heads)
       nick_numbers =
-          moved_in_steps (numbers_in heads) (numbers_in (remove heads place)) (numbers_in later) fold (key new) (λ n. n) h.number
-          (number_row (heads_in heads) fold h there)
-          (numbers_gone seats_without went)
-          (numbers_so seats_without seats_now (remove heads place) later h.number now roster_without went.changed free_so came put_so
-          ∙ ap (λ nick. alter (key nick) (λ _. Some h.number) (numbers_in (remove heads place))) nick_now)
+          moved_in_steps (numbers_in heads) (numbers_in heads_without) (numbers_in later) fold (key new) (λ n. n) h.number
+          (number_row heads fold h there)
+          (numbers_gone seats_without heads_without went refl)
+          (numbers_so seats_without seats_now heads_without later h.number now roster_without went.changed free_so came put_so
+          ∙ ap (λ nick. alter (key nick) (λ _. Some h.number) (numbers_in heads_without)) nick_now)
 
-      pub nick_roster : IsInFoldedOrder head_entry later → IsRoster seats_now later
-      nick_roster = roster_come seats_without seats_now (remove heads place) later h.number now roster_without went.changed free_so came put_so
+      pub nick_roster : IsRoster seats_now later
+      nick_roster = roster_come seats_without seats_now heads_without later h.number now roster_without went.changed free_so came put_so
 
 -- where no other user has the new nickname, it is free once the head is out
-pub free_out : (seats : Slab (Box User)) (heads : List Head) (nick new : List ℕ) (place : ℕ) (h : Head) → IsRoster seats heads
-    → StandsAt head_entry heads (key nick) place → h ≡ get_or heads place h → is_taken (users_in seats heads) nick new ≡ false
-    → row (heads_in (remove heads place)) (key new) ≡ None
-free_out seats heads nick new place h roster at is free =
-    ap (λ t. row t (key new)) (out seats heads (key nick) place h roster at is)
-    ∙ free_then (heads_in heads) nick new (ap (λ b. not (same nick new) && b) (sym (known (sitting seats) (heads_in heads) roster.seating (key new))) ∙ free)
+pub free_out : (seats : Slab (Box User)) (heads : Table Head) (nick new : List ℕ) → IsRoster seats heads → is_taken (users_in seats heads) nick new ≡ false
+    → row (alter (key nick) (λ _. None) heads) (key new) ≡ None
+free_out seats heads nick new roster free =
+    free_then heads nick new (ap (λ b. not (same nick new) && b) (sym (known (sitting seats) heads roster (key new))) ∙ free)
 
 -- ---- whether a nickname is taken
 
-module _ (seats : Slab (Box User)) (heads : List Head) (users : NumberedUsers) (view : numbered seats heads ≡ users) (roster : IsRoster seats heads) where
-  pub has_there : (nick : List ℕ) (place : ℕ) → StandsAt head_entry heads (key nick) place → is_some (row users.users (key nick)) ≡ true
-  has_there nick place at =
-      ap (λ (n : NumberedUsers). is_some (row n.users (key nick))) (sym view) ∙ known (sitting seats) (heads_in heads) roster.seating (key nick)
-      ∙ stands-present head_entry heads (key nick) place roster.ordered at
-
-  pub has_not : (nick : List ℕ) (place : ℕ) → BelongsAt head_entry heads (key nick) place → row users.users (key nick) ≡ None
-  has_not nick place gap =
-      ap (λ (n : NumberedUsers). row n.users (key nick)) (sym view)
-      ∙ no_user (sitting seats) (heads_in heads) (key nick) (row-absent head_entry heads (key nick) place gap)
-
-  pub taken_so : (nick new : List ℕ) (slice : List Head) (taken : Bool) → slice ≡ heads → TellsTaken slice nick new taken → taken ≡ is_taken (users_in seats heads) nick new
-  taken_so nick new slice taken one tells =
-      tells (subst (λ hs. IsInFoldedOrder head_entry hs) (sym one) roster.ordered)
-      ∙ ap (λ hs. not (same nick new) && is_some (row (heads_in hs) (key new))) one
-      ∙ ap (λ b. not (same nick new) && b) (sym (known (sitting seats) (heads_in heads) roster.seating (key new)))
+pub taken_so : (seats : Slab (Box User)) (heads : Table Head) → IsRoster seats heads → (nick new : List ℕ) (taken : Bool)
+    → taken ≡ (not (same nick new) && is_some (row heads (key new))) → taken ≡ is_taken (users_in seats heads) nick new
+taken_so seats heads roster nick new taken is = is ∙ ap (λ b. not (same nick new) && b) (sym (known (sitting seats) heads roster (key new)))
 
 none_by : {X : Type 0} (o : Option X) (b : Bool) → b ≡ is_some o → is_none o ≡ not b
 none_by None b is = ap not (sym is)

@@ -1,5 +1,5 @@
 -- The users of a room by nickname: a finite map whose keys are the folds of the nicknames (RFC 2812 sections 1.2.1 and 2.2). Beside it their numbers.
-use Rattle.std.specs.Prelude.{ℕ, Bool, not, ◌&&◌, ◌||◌, List, nat_eq, is_some, is_none, if◌then◌else◌, refl, Option, Some, None, Result, IfOk, ◌≡◌, ◌≢◌, map}
+use Rattle.std.specs.Prelude.{ℕ, Bool, not, ◌&&◌, ◌||◌, List, nat_eq, is_some, is_none, if◌then◌else◌, refl, Option, Some, None, Result, Ok, Err, IfOk, ◌≡◌, ◌≢◌, map}
 use Rattle.std.specs.Borrow.{Bor}
 use Rattle.std.specs.Global.{Vec}
 use Rattle.std.specs.Option.{option_map}
@@ -12,7 +12,7 @@ use Rattle.irc_names.specs.Tables.{Table, row, moved}
 use Rattle.irc_tables.specs.FoldedRows.{coded_name}
 use Rattle.irc_tables.specs.TableChanges.{with_value}
 use Rattle.irc_users.specs.declared.fault.RenameFault.{RenameFault}
-use Rattle.irc_users.specs.declared.fault.RenameFault.TheVariants.{Taken, NoSuchUser}
+use Rattle.irc_users.specs.declared.fault.RenameFault.TheVariants.{Taken, NoSuchUser, Memory}
 use Rattle.irc_users.specs.declared.user.User.{User}
 
 -- a user is stored as its fields
@@ -90,6 +90,13 @@ is_taken table nick new = not (same nick new) && has_nick table new
 abbrev pub rename_fault : Table User → List ℕ → List ℕ → Option RenameFault
 rename_fault table nick new =
     if is_taken table nick new then Some Taken else (if is_none (row table (key nick)) then Some NoSuchUser else None)
+
+-- a user is renamed unless there is a reason against it, or no memory
+abbrev pub RenamesUnless : {U : Type 0} → Option RenameFault → Result U RenameFault → Type 0
+RenamesUnless fault (Ok done) = fault ≡ None
+RenamesUnless fault (Err Memory) = fault ≡ None
+RenamesUnless fault (Err Taken) = fault ≡ Some Taken
+RenamesUnless fault (Err NoSuchUser) = fault ≡ Some NoSuchUser
 
 -- whether a user is connected to this server
 abbrev pub is_home : List ℕ → User → Bool

@@ -21,4 +21,7 @@ pub enum RenameFault {
     /// No user has the old nickname, by its fold.
     #[error("no such user")]
     NoSuchUser,
+    /// Memory ran out.
+    #[error("out of memory")]
+    Memory,
 }

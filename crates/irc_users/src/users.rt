@@ -1,21 +1,19 @@
 //! The users of a room, by nickname and by number.
-ghost use Rattle.std.specs.Prelude.{◌≡◌, ◌↔◌, ◌<◌, None, not, IsTrue, OnOk, OnErr, IsErrOf, false, filter, map, length, vec_len, vec_capacity};
-ghost use Rattle.std.specs.Bool.{OnFalse};
+ghost use Rattle.std.specs.Prelude.{◌≡◌, ◌↔◌, ◌&&◌, None, false, not, IfOk, IsOk, IsTrue, OnOk, OnErr, IsErrOf, filter, is_some, map, length, true};
 ghost use Rattle.std.specs.Option.{option_copied, option_map};
-ghost use Rattle.std.specs.Result.{result_err};
 ghost use Rattle.std.specs.FinMap.{empty, keys, values};
 ghost use Rattle.slab.specs.Slab.{ContainsKey};
-ghost use Rattle.irc_names.specs.Fold.{key};
+ghost use Rattle.irc_names.specs.Fold.{key, same};
 ghost use Rattle.irc_names.specs.Tables.{row, alter};
-ghost use Rattle.irc_tables.specs.FoldedRows.{BelongsAt, IsInFoldedOrder, StandsAt};
 ghost use Rattle.irc_tables.specs.TableChanges.{tried_at, with_value, without};
-ghost use Rattle.irc_users.specs.UserTable.{HasNumber, IsNumbered, OthersKeep, FindsUsers, has_nick, is_home, is_found_by, is_taken, moved_to, number_moved, rename_fault, spelling_of, with_invisible, with_user};
+ghost use Rattle.irc_users.specs.UserTable.{HasNumber, IsNumbered, OthersKeep, FindsUsers, RenamesUnless, has_nick, is_home, is_found_by, is_taken, moved_to, number_moved, rename_fault, spelling_of, with_invisible, with_user};
 ghost use Rattle.irc_users.specs.declared.user.User.{User};
-ghost use Rattle.irc_users.specs.Rosters.{AreKept, HasRoom, IsPlaceAmong, IsRoster, TellsTaken, boxed, head, head_entry, heads_in, numbers_in, sitter, users_in};
+ghost use Rattle.irc_users.specs.Rosters.{AreKept, IsRoster, boxed, head, numbers_in, sitter, users_in};
 
 use crate::fault::{RenameFault, UsersFault};
 use crate::user::User;
-use irc_names::{Nick, ServerName, compare, same};
+use irc_names::{Nick, ServerName};
+use irc_tables::NameMap;
 use slab::Slab;
 use std::alloc::{AllocError, Global};
 use std::marker::Model;
@@ -45,12 +43,13 @@ impl Head {
 }
 
 /// Users, no two of which have one nickname by the fold. Each has a number, which it keeps from [`Users::add`] to [`Users::remove`]: that of its
-/// seat, where it lies in memory of its own, so that a user who comes or goes moves no other. What they are found by lies together in folded order,
-/// so that a search reads little memory.
+/// seat, where it lies in memory of its own, so that a user who comes or goes moves no other. What they are found by stands under their
+/// nicknames, where a search reads little memory.
 #[derive(Drop)]
 pub struct Users {
     seats: Slab<Box<User, Global>>,
-    heads: Vec<Head, Global>,
+    heads: NameMap<Head>,
+    alloc: Global,
 }
 
 /// In a clause it is the table of its users, each under the fold of its nickname, and the table of their numbers.
@@ -62,9 +61,9 @@ impl Model for Users {
 
     ghost coded = { numbered_code };
 
-    ghost view = { λ users. numbered users.seats users.heads.items };
+    ghost view = { λ users. numbered users.seats users.heads };
 
-    ghost invariant = { λ users. IsRoster users.seats users.heads.items };
+    ghost invariant = { λ users. IsRoster users.seats users.heads };
 }
 
 impl Users {
@@ -75,7 +74,8 @@ impl Users {
     {
         Users {
             seats: Slab::new(alloc),
-            heads: Vec::new(alloc),
+            heads: NameMap::new(alloc),
+            alloc,
         }
     }
 
@@ -97,26 +97,26 @@ impl Users {
         ensures numbers { OnOk result (OthersKeep user.nick self.old.numbers self.new.numbers) }
         ensures refused { OnErr result (self.new ≡ self.old) }
     {
-        let Err(place) = place_of(&self.heads, &user.nick) else {
+        if has_head(&self.heads, &user.nick) {
             return Err(UsersFault::Taken);
-        };
-        let Ok(user) = Box::new(*self.heads.allocator(), user) else {
+        }
+        let Ok(user) = Box::new(self.alloc, user) else {
             return Err(UsersFault::Memory);
         };
-        if make_room(&mut self.seats, &mut self.heads).is_err() {
+        if take_seat(&mut self.seats, &mut self.heads, user).is_err() {
             return Err(UsersFault::Memory);
         }
-        take_seat(&mut self.seats, &mut self.heads, place, user);
         Ok(())
     }
 
-    /// Gives the user with a nickname another, as spelled. It keeps its number, as all others do. It takes no memory.
+    /// Gives the user with a nickname another, as spelled. It keeps its number, as all others do.
     ///
     /// # Errors
     /// [`RenameFault::Taken`] where another user has the new nickname, then
-    /// [`RenameFault::NoSuchUser`] where nobody has the old one. Nothing has changed then.
+    /// [`RenameFault::NoSuchUser`] where nobody has the old one, then [`RenameFault::Memory`] where
+    /// memory runs out. Nothing has changed then.
     pub fn rename(&mut self, nick: &Nick, new: &Nick) -> Result<(), RenameFault>
-        ensures fault { result_err result ≡ rename_fault self.old.users nick.now new.now }
+        ensures fault { RenamesUnless (rename_fault self.old.users nick.now new.now) result }
         ensures ok { OnOk result (self.new.users ≡ moved_to nick.now new.now self.old.users) }
         ensures numbers { OnOk result (self.new.numbers ≡ number_moved nick.now new.now self.old.numbers) }
         ensures refused { OnErr result (self.new ≡ self.old) }
@@ -124,11 +124,13 @@ impl Users {
         if is_taken(&self.heads, nick, new) {
             return Err(RenameFault::Taken);
         }
-        if respell(&mut self.seats, &mut self.heads, nick, new) {
-            Ok(())
-        } else {
-            Err(RenameFault::NoSuchUser)
+        let Ok(there) = respell(&mut self.seats, &mut self.heads, nick, new) else {
+            return Err(RenameFault::Memory);
+        };
+        if !there {
+            return Err(RenameFault::NoSuchUser);
         }
+        Ok(())
     }
 
     /// Sets whether the user with a nickname has mode i; where there is no such user, nothing changes (RFC 2812 section 3.1.5).
@@ -157,9 +159,9 @@ impl Users {
         ensures value { result ≡ row self.now.numbers (key nick.now) }
         ensures numbered { IsNumbered self.now }
     {
-        match place_of(&self.heads, nick) {
-            Ok(place) => Some(self.heads[place].number),
-            Err(_) => None,
+        match self.heads.get(nick.as_bytes()) {
+            Some(head) => Some(head.number),
+            None => None,
         }
     }
 
@@ -184,43 +186,20 @@ impl Users {
     pub fn find_named(&self, name: &[u8]) -> Option<&User>
         ensures { option_copied result ≡ row self.now.users (key name.now) }
     {
-        match place_named(&self.heads, name) {
-            Ok(place) => self.at(self.heads[place].number),
-            Err(_) => None,
+        match self.heads.get(name) {
+            Some(head) => self.at(head.number),
+            None => None,
         }
     }
 
-    /// The user that [`Users::find_named`] finds for these bytes. It is looked for at the place
-    /// `near` and at the one after it before all users are searched, and `near` becomes the place where it stands, or would stand. Any number
-    /// will do. It serves walks over names in folded order: where no other user stands between two of them, the second is found at once.
-    pub fn find_near(&self, near: &mut usize, name: &[u8]) -> Option<&User>
-        ensures { option_copied result ≡ row self.now.users (key name.now) }
-    {
-        match place_near(&self.heads, *near, name) {
-            Ok(place) => {
-                *near = place;
-                self.at(self.heads[place].number)
-            }
-            Err(place) => {
-                *near = place;
-                None
-            }
-        }
-    }
-
-    /// Whether the user that [`Users::find_named`] finds for these bytes is without mode i, looked for as [`Users::find_near`] does.
-    pub fn is_visible_near(&self, near: &mut usize, name: &[u8]) -> Option<bool>
+    /// Whether the user that [`Users::find_named`] finds for these bytes is without mode i. Nothing
+    /// else of the user is looked at.
+    pub fn is_visible(&self, name: &[u8]) -> Option<bool>
         ensures { result ≡ option_map (λ user. not user.invisible) (row self.now.users (key name.now)) }
     {
-        match place_near(&self.heads, *near, name) {
-            Ok(place) => {
-                *near = place;
-                Some(!self.heads[place].invisible)
-            }
-            Err(place) => {
-                *near = place;
-                None
-            }
+        match self.heads.get(name) {
+            Some(head) => Some(!head.invisible),
+            None => None,
         }
     }
 
@@ -228,9 +207,9 @@ impl Users {
     pub fn spelling(&self, name: &[u8]) -> Option<&Nick>
         ensures { option_copied result ≡ spelling_of self.now.users name.now }
     {
-        match place_named(&self.heads, name) {
-            Ok(place) => Some(&self.heads[place].nick),
-            Err(_) => None,
+        match self.heads.get(name) {
+            Some(head) => Some(&head.nick),
+            None => None,
         }
     }
 
@@ -241,7 +220,7 @@ impl Users {
     pub fn in_order(&self) -> Result<Vec<&User, Global>, AllocError>
         ensures { FindsUsers result (values self.now.users) }
     {
-        all_of(&self.seats, &self.heads)
+        all_of(&self.seats, &self.heads, self.alloc)
     }
 
     /// The users that are connected to a server, in folded order of their nicknames.
@@ -251,7 +230,7 @@ impl Users {
     pub fn by_home(&self, home: &ServerName) -> Result<Vec<&User, Global>, AllocError>
         ensures { FindsUsers result (filter (is_home home.now) (values self.now.users)) }
     {
-        homed_at(&self.seats, &self.heads, home)
+        homed_at(&self.seats, &self.heads, home, self.alloc)
     }
 
     /// How many users are connected to a server. It takes no memory.
@@ -269,7 +248,7 @@ impl Users {
     pub fn matching(&self, mask: &[u8]) -> Result<Vec<&User, Global>, AllocError>
         ensures { FindsUsers result (filter (is_found_by mask.now) (values self.now.users)) }
     {
-        matched_by(&self.seats, &self.heads, mask)
+        matched_by(&self.seats, &self.heads, mask, self.alloc)
     }
 }
 
@@ -284,13 +263,14 @@ fn sitter<'a>(seats: &'a Slab<Box<User, Global>>, head: &Head) -> &'a User
 /// The users that heads in folded order are of.
 fn all_of<'a>(
     seats: &'a Slab<Box<User, Global>>,
-    heads: &Vec<Head, Global>,
+    heads: &NameMap<Head>,
+    alloc: Global,
 ) -> Result<Vec<&'a User, Global>, AllocError>
-    requires { IsRoster seats.now heads.now.items }
-    ensures { FindsUsers result (map (sitter seats.now) heads.now.items) }
+    requires { IsRoster seats.now heads.now }
+    ensures { FindsUsers result (map (sitter seats.now) (values heads.now)) }
 {
-    let mut found = Vec::new(*heads.allocator());
-    for head in heads {
+    let mut found = Vec::new(alloc);
+    for head in heads.values() {
         found.push(sitter(seats, head))?;
     }
     Ok(found)
@@ -299,14 +279,15 @@ fn all_of<'a>(
 /// Those of them that are connected to a server.
 fn homed_at<'a>(
     seats: &'a Slab<Box<User, Global>>,
-    heads: &Vec<Head, Global>,
+    heads: &NameMap<Head>,
     home: &ServerName,
+    alloc: Global,
 ) -> Result<Vec<&'a User, Global>, AllocError>
-    requires { IsRoster seats.now heads.now.items }
-    ensures { FindsUsers result (filter (is_home home.now) (map (sitter seats.now) heads.now.items)) }
+    requires { IsRoster seats.now heads.now }
+    ensures { FindsUsers result (filter (is_home home.now) (map (sitter seats.now) (values heads.now))) }
 {
-    let mut found = Vec::new(*heads.allocator());
-    for head in heads {
+    let mut found = Vec::new(alloc);
+    for head in heads.values() {
         let user = sitter(seats, head);
         if user.is_home(home) {
             found.push(user)?;
@@ -316,16 +297,13 @@ fn homed_at<'a>(
 }
 
 /// How many of them are connected to a server.
-fn homed_count(
-    seats: &Slab<Box<User, Global>>,
-    heads: &Vec<Head, Global>,
-    home: &ServerName,
-) -> usize
-    requires { IsRoster seats.now heads.now.items }
-    ensures { result ≡ length (filter (is_home home.now) (map (sitter seats.now) heads.now.items)) }
+fn homed_count(seats: &Slab<Box<User, Global>>, heads: &NameMap<Head>, home: &ServerName) -> usize
+    requires { IsRoster seats.now heads.now }
+    ensures { result ≡ length (filter (is_home home.now) (map (sitter seats.now) (values heads.now))) }
 {
+    heads.len();
     let mut count = 0;
-    for head in heads {
+    for head in heads.values() {
         if sitter(seats, head).is_home(home) {
             count += 1;
         }
@@ -336,14 +314,15 @@ fn homed_count(
 /// Those of them of which a mask matches the nickname, the host, the server or the real name.
 fn matched_by<'a>(
     seats: &'a Slab<Box<User, Global>>,
-    heads: &Vec<Head, Global>,
+    heads: &NameMap<Head>,
     mask: &[u8],
+    alloc: Global,
 ) -> Result<Vec<&'a User, Global>, AllocError>
-    requires { IsRoster seats.now heads.now.items }
-    ensures { FindsUsers result (filter (is_found_by mask.now) (map (sitter seats.now) heads.now.items)) }
+    requires { IsRoster seats.now heads.now }
+    ensures { FindsUsers result (filter (is_found_by mask.now) (map (sitter seats.now) (values heads.now))) }
 {
-    let mut found = Vec::new(*heads.allocator());
-    for head in heads {
+    let mut found = Vec::new(alloc);
+    for head in heads.values() {
         let user = sitter(seats, head);
         if user.is_found_by(mask) {
             found.push(user)?;
@@ -352,172 +331,135 @@ fn matched_by<'a>(
     Ok(found)
 }
 
-/// Makes room for one user more. Nobody comes or goes by it.
-fn make_room(
-    seats: &mut Slab<Box<User, Global>>,
-    heads: &mut Vec<Head, Global>,
-) -> Result<(), AllocError>
-    ensures kept { AreKept seats.old seats.new heads.old heads.new }
-    ensures room { OnOk result (HasRoom seats.new heads.new) }
-{
-    heads.reserve(1)?;
-    seats.reserve(1)
-}
-
-/// Puts in a user whose nickname is free, in the seat that is free, and its head at the place where it belongs.
+/// Puts in a user whose nickname is free, in the seat that is free.
 fn take_seat(
     seats: &mut Slab<Box<User, Global>>,
-    heads: &mut Vec<Head, Global>,
-    place: usize,
+    heads: &mut NameMap<Head>,
     user: Box<User, Global>,
-)
-    requires roster { IsRoster seats.old heads.old.items }
-    requires gap { BelongsAt head_entry heads.old.items (key user.value.nick) place }
-    requires room { HasRoom seats.old heads.old }
-    ensures users { users_in seats.new heads.new.items ≡ with_user user.value (users_in seats.old heads.old.items) }
-    ensures numbers { OthersKeep user.value.nick (numbers_in heads.old.items) (numbers_in heads.new.items) }
-    ensures roster { IsRoster seats.new heads.new.items }
+) -> Result<(), AllocError>
+    requires roster { IsRoster seats.old heads.old }
+    requires free { row heads.old (key user.value.nick) ≡ None }
+    ensures users { OnOk result (users_in seats.new heads.new ≡ with_user user.value (users_in seats.old heads.old)) }
+    ensures numbers { OnOk result (OthersKeep user.value.nick (numbers_in heads.old) (numbers_in heads.new)) }
+    ensures refused { OnErr result (AreKept seats.old seats.new heads.old heads.new) }
+    ensures roster { IsRoster seats.new heads.new }
 {
+    seats.reserve(1)?;
     let number = seats.vacant_key();
-    let head = Head::of(&user, number);
+    put_head(heads, Head::of(&user, number))?;
     seats.insert_reserved(user);
-    insert_head(heads, place, head);
+    Ok(())
 }
 
 /// Takes out the user with a nickname, if there is one.
 fn leave_seat(
     seats: &mut Slab<Box<User, Global>>,
-    heads: &mut Vec<Head, Global>,
+    heads: &mut NameMap<Head>,
     nick: &Nick,
 ) -> Option<Box<User, Global>>
-    requires { IsRoster seats.old heads.old.items }
-    ensures value { option_map boxed result ≡ row (users_in seats.old heads.old.items) (key nick.now) }
-    ensures users { users_in seats.new heads.new.items ≡ without nick.now (users_in seats.old heads.old.items) }
-    ensures numbers { numbers_in heads.new.items ≡ without nick.now (numbers_in heads.old.items) }
-    ensures roster { IsRoster seats.new heads.new.items }
+    requires { IsRoster seats.old heads.old }
+    ensures value { option_map boxed result ≡ row (users_in seats.old heads.old) (key nick.now) }
+    ensures users { users_in seats.new heads.new ≡ without nick.now (users_in seats.old heads.old) }
+    ensures numbers { numbers_in heads.new ≡ without nick.now (numbers_in heads.old) }
+    ensures roster { IsRoster seats.new heads.new }
 {
-    match place_of(heads, nick) {
-        Ok(place) => {
-            let head = heads.remove(place);
-            seats.try_remove(head.number)
-        }
-        Err(_) => None,
+    match heads.remove(nick.as_bytes()) {
+        Some(head) => seats.try_remove(head.number),
+        None => None,
     }
 }
 
 /// Gives the user with a nickname another, which no other user has, and says whether there is one. It stays in its seat; its head moves.
 fn respell(
     seats: &mut Slab<Box<User, Global>>,
-    heads: &mut Vec<Head, Global>,
+    heads: &mut NameMap<Head>,
     nick: &Nick,
     new: &Nick,
-) -> bool
-    requires roster { IsRoster seats.old heads.old.items }
-    requires free { is_taken (users_in seats.old heads.old.items) nick.now new.now ≡ false }
-    ensures there { result ≡ has_nick (users_in seats.old heads.old.items) nick.now }
-    ensures users { users_in seats.new heads.new.items ≡ moved_to nick.now new.now (users_in seats.old heads.old.items) }
-    ensures numbers { numbers_in heads.new.items ≡ number_moved nick.now new.now (numbers_in heads.old.items) }
-    ensures roster { IsRoster seats.new heads.new.items }
-    ensures same { OnFalse result (AreKept seats.old seats.new heads.old heads.new) }
+) -> Result<bool, AllocError>
+    requires roster { IsRoster seats.old heads.old }
+    requires free { is_taken (users_in seats.old heads.old) nick.now new.now ≡ false }
+    ensures there { IfOk result (λ there. there ≡ has_nick (users_in seats.old heads.old) nick.now) }
+    ensures users { OnOk result (users_in seats.new heads.new ≡ moved_to nick.now new.now (users_in seats.old heads.old)) }
+    ensures numbers { OnOk result (numbers_in heads.new ≡ number_moved nick.now new.now (numbers_in heads.old)) }
+    ensures roster { IsRoster seats.new heads.new }
+    ensures found { OnErr result (has_nick (users_in seats.old heads.old) nick.now ≡ true) }
+    ensures refused { OnErr result (AreKept seats.old seats.new heads.old heads.new) }
+    ensures same { IfOk result (λ there. there ≡ false → AreKept seats.old seats.new heads.old heads.new) }
 {
-    let Ok(place) = place_of(heads, nick) else {
-        return false;
+    let Some(head) = heads.get(nick.as_bytes()) else {
+        return Ok(false);
     };
-    let mut head = heads.remove(place);
-    seats[head.number].nick = new.copy();
-    head.nick = new.copy();
-    put_head(heads, head);
-    true
+    let number = head.number;
+    let moved = Head {
+        nick: new.copy(),
+        number,
+        invisible: head.invisible,
+    };
+    move_head(heads, nick, moved)?;
+    seats[number].nick = new.copy();
+    Ok(true)
 }
 
 /// Sets whether the user with a nickname has mode i, if there is one.
 fn set_mode(
     seats: &mut Slab<Box<User, Global>>,
-    heads: &mut Vec<Head, Global>,
+    heads: &mut NameMap<Head>,
     nick: &Nick,
     invisible: bool,
 )
-    requires { IsRoster seats.old heads.old.items }
-    ensures users { users_in seats.new heads.new.items ≡ tried_at nick.now (with_invisible invisible) (users_in seats.old heads.old.items) }
-    ensures numbers { numbers_in heads.new.items ≡ numbers_in heads.old.items }
-    ensures roster { IsRoster seats.new heads.new.items }
+    requires { IsRoster seats.old heads.old }
+    ensures users { users_in seats.new heads.new ≡ tried_at nick.now (with_invisible invisible) (users_in seats.old heads.old) }
+    ensures numbers { numbers_in heads.new ≡ numbers_in heads.old }
+    ensures roster { IsRoster seats.new heads.new }
 {
-    match place_of(heads, nick) {
-        Ok(place) => {
-            let head = &mut heads[place];
-            seats[head.number].invisible = invisible;
-            head.invisible = invisible;
-        }
-        Err(_) => {}
-    }
+    let Some(head) = heads.get(nick.as_bytes()) else {
+        return;
+    };
+    let number = head.number;
+    let set = Head {
+        nick: head.nick.copy(),
+        number,
+        invisible,
+    };
+    let Ok(_) = put_head(heads, set) else {
+        unreachable!();
+    };
+    seats[number].invisible = invisible;
 }
 
-/// Puts in a head at the place where it belongs.
-fn insert_head(heads: &mut Vec<Head, Global>, place: usize, head: Head)
-    requires ordered { IsInFoldedOrder head_entry heads.old.items }
-    requires gap { BelongsAt head_entry heads.old.items (key head.nick) place }
-    requires room { vec_len heads.old < vec_capacity heads.old }
-    ensures after { heads_in heads.new.items ≡ with_value head.nick head (heads_in heads.old.items) }
-    ensures ordered { IsInFoldedOrder head_entry heads.new.items }
+/// Puts in a head, in place of that of its nickname. Where there is one, it takes no memory.
+fn put_head(heads: &mut NameMap<Head>, head: Head) -> Result<(), AllocError>
+    ensures ok { OnOk result (heads.new ≡ with_value head.nick head heads.old) }
+    ensures refused { OnErr result (heads.new ≡ heads.old) }
+    ensures there { IsTrue (is_some (row heads.old (key head.nick))) → IsOk result }
 {
-    heads.insert(place, head).unwrap()
+    let nick = head.nick.copy();
+    heads.insert(nick.as_bytes(), head)
 }
 
-/// Puts in a head whose nickname is free, where there is room for it.
-fn put_head(heads: &mut Vec<Head, Global>, head: Head)
-    requires ordered { IsInFoldedOrder head_entry heads.old.items }
-    requires free { row (heads_in heads.old.items) (key head.nick) ≡ None }
-    requires room { vec_len heads.old < vec_capacity heads.old }
-    ensures after { heads_in heads.new.items ≡ with_value head.nick head (heads_in heads.old.items) }
-    ensures ordered { IsInFoldedOrder head_entry heads.new.items }
+/// Puts in a head in place of that of another nickname.
+fn move_head(heads: &mut NameMap<Head>, nick: &Nick, head: Head) -> Result<(), AllocError>
+    ensures ok { OnOk result (heads.new ≡ with_value head.nick head (without nick.now heads.old)) }
+    ensures refused { OnErr result (heads.new ≡ heads.old) }
 {
-    match place_of(heads, &head.nick) {
-        Ok(_) => unreachable!(),
-        Err(place) => insert_head(heads, place, head),
+    let new = head.nick.copy();
+    heads.insert(new.as_bytes(), head)?;
+    if *nick != new {
+        heads.remove(nick.as_bytes());
     }
+    Ok(())
 }
 
 /// Whether another user than the one with the first nickname has the second.
-fn is_taken(heads: &[Head], nick: &Nick, new: &Nick) -> bool
-    ensures { TellsTaken heads.now nick.now new.now result }
+fn is_taken(heads: &NameMap<Head>, nick: &Nick, new: &Nick) -> bool
+    ensures { result ≡ (not (same nick.now new.now) && is_some (row heads.now (key new.now))) }
 {
-    nick != new && place_of(heads, new).is_ok()
+    nick != new && has_head(heads, new)
 }
 
-/// Where the user with a nickname stands, or where it would stand.
-fn place_of(heads: &[Head], nick: &Nick) -> Result<usize, usize>
-    ensures { IsPlaceAmong heads.now nick.now result }
+/// Whether a user has a nickname.
+fn has_head(heads: &NameMap<Head>, nick: &Nick) -> bool
+    ensures { result ≡ is_some (row heads.now (key nick.now)) }
 {
-    place_named(heads, nick.as_bytes())
-}
-
-/// Where the user with these bytes for a nickname stands, by the fold, or where it would stand.
-fn place_named(heads: &[Head], name: &[u8]) -> Result<usize, usize>
-    ensures { IsPlaceAmong heads.now name.now result }
-{
-    heads.binary_search_by(|head| compare(head.nick.as_bytes(), name))
-}
-
-/// Where the user with these bytes for a nickname stands, or where it would stand: looked for first at a place and the one after it.
-fn place_near(heads: &[Head], near: usize, name: &[u8]) -> Result<usize, usize>
-    ensures { IsPlaceAmong heads.now name.now result }
-{
-    let next = near.saturating_add(1);
-    if is_named(heads, near, name) {
-        Ok(near)
-    } else if is_named(heads, next, name) {
-        Ok(next)
-    } else {
-        place_named(heads, name)
-    }
-}
-
-/// Whether the user with these bytes for a nickname stands at a place.
-fn is_named(heads: &[Head], place: usize, name: &[u8]) -> bool
-    ensures { IsTrue result → StandsAt head_entry heads.now (key name.now) place }
-{
-    match heads.get(place) {
-        Some(head) => same(head.nick.as_bytes(), name),
-        None => false,
-    }
+    heads.get(nick.as_bytes()).is_some()
 }

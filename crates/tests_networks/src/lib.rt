@@ -15,14 +15,14 @@ mod tests;
 
 use irc_line::Text;
 use irc_names::ServerName;
-use irc_net::{Answer, Config, Item, Net, NetConfigFault, NetFault};
+use irc_net::{Answer, Config, Item, Kept, Net, NetConfigFault, NetFault};
 use std::alloc::Global;
 
 /// A network of these configurations, to which nothing was given.
 ///
 /// # Errors
 /// As of [`Net::new`].
-pub fn begun(alloc: Global, configs: Vec<Config, Global>) -> Result<Net, NetConfigFault>
+pub fn begun(alloc: Global, configs: Vec<Config, Global>) -> Result<Net<Kept>, NetConfigFault>
     ensures { Begins configs.items result }
 {
     Net::new(alloc, configs)
@@ -32,7 +32,7 @@ pub fn begun(alloc: Global, configs: Vec<Config, Global>) -> Result<Net, NetConf
 ///
 /// # Errors
 /// As of [`Net::item`].
-pub fn give(net: &mut Net, item: Item) -> Result<Answer, NetFault>
+pub fn give(net: &mut Net<Kept>, item: Item) -> Result<Answer, NetFault>
     requires line { IsGivable (item_of item) }
     ensures answered { AnswersAsOwed net.old (item_of item) result }
     ensures played { PlaysOn net.old (item_of item) result net.new }
@@ -46,7 +46,7 @@ pub fn give(net: &mut Net, item: Item) -> Result<Answer, NetFault>
 /// # Errors
 /// Here and below: where memory runs out.
 pub fn let_come(
-    net: &mut Net,
+    net: &mut Net<Kept>,
     from: &ServerName,
     to: &ServerName,
     count: usize,
@@ -71,7 +71,7 @@ fn unless_refused(fault: NetFault) -> Result<(), NetFault>
 }
 
 /// Lets all come that is on its way.
-pub fn settle(net: &mut Net) -> Result<(), NetFault>
+pub fn settle(net: &mut Net<Kept>) -> Result<(), NetFault>
     ensures goes { OnOk result (GoesOn net.old net.new) }
     ensures rest { OnOk result (is_byte_rest net.new.network ≡ true) }
 {
@@ -81,7 +81,7 @@ pub fn settle(net: &mut Net) -> Result<(), NetFault>
 
 /// What a client has received: a front of what it is owed by all that was given, and at rest all
 /// of it.
-pub fn lines(net: &Net, client: u64) -> &[Text]
+pub fn lines(net: &Net<Kept>, client: u64) -> &[Text]
     ensures { ReadsOwed net.now client (map line_bytes result.now) }
 {
     irc_net::laws::every_network_is_one_room();
@@ -89,7 +89,7 @@ pub fn lines(net: &Net, client: u64) -> &[Text]
 }
 
 /// How many lines were taken since the last item: no more than servers need.
-pub fn lines_taken(net: &Net) -> u64
+pub fn lines_taken(net: &Net<Kept>) -> u64
     ensures { TookFew net.now result }
 {
     irc_net::laws::every_network_is_one_room();
@@ -105,7 +105,7 @@ pub fn runs_are_owed()
 
 /// Each client of a network at rest has received what it is owed, each server has what is in its
 /// part, and none closes a link.
-pub fn rooms(net: &Net)
+pub fn rooms(net: &Net<Kept>)
     ensures { IsWhole net.now }
 {
     irc_net::laws::every_network_is_one_room();

@@ -1,7 +1,7 @@
 //! A network of two servers, of which one calls the other.
 use crate::{begun, give, let_come, lines, lines_taken, rooms, settle};
 use irc_names::{Host, ServerName};
-use irc_net::{Config, Item, Net, NetFault, Peer};
+use irc_net::{Config, Item, Kept, Net, NetFault, Peer};
 use irc_routes::Own;
 use std::alloc::{AllocError, Global};
 
@@ -34,7 +34,7 @@ fn two(alloc: Global) -> Result<Vec<Config, Global>, AllocError> {
 /// They are linked, byte by byte at first; nothing is given while a byte is on its way, and
 /// somebody can connect then.
 fn meet(
-    net: &mut Net,
+    net: &mut Net<Kept>,
     one: &ServerName,
     other: &ServerName,
     host: &Host,

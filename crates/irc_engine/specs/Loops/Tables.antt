@@ -93,8 +93,18 @@ abbrev pub Frames : Connection → List ℕ → Option (ℕ × Kind × Option (A
 Frames old piece (Some taken) new = FramesSome old piece taken.0 taken.1 taken.2 new
 Frames old piece None new = (old.framer ≡ None) × (new ≡ old)
 
+-- what was taken, with the line that was put aside
+abbrev pub with_line : Option (ℕ × Kind) → Option (ArrayVec ℕ)
+    → Option (ℕ × Kind × Option (ArrayVec ℕ))
+with_line (Some taken) line = Some (taken.0, taken.1, line)
+with_line None line = None
+
 abbrev pub FramesAt : ℕ → List ℕ → ConnectionTable → Option (ℕ × Kind × Option (ArrayVec ℕ)) → ConnectionTable → Type 0
 FramesAt conn piece old result new = Through conn (λ s t. Frames s piece result t) (result ≡ None) old new
+
+abbrev pub FramesIn : List ℕ → Option Connection → Option (ℕ × Kind × Option (ArrayVec ℕ))
+    → Option Connection → Type 0
+FramesIn piece old result new = Within (λ s t. Frames s piece result t) (result ≡ None) old new
 
 -- a write from the front of its outbox
 pub record IsWritten {W : Type 0} (is_after : W → List Call → Type 0) (conn : ℕ) (old : Connection) (wire : W) (result : Result ℕ IoFault) (new : Connection) (wire_after : W)

@@ -4,7 +4,9 @@ use Rattle.std.proofs.Common.{inl, inr}
 use Rattle.std.specs.Coded.{Coded, code_by, coded×, coded⊎, coded_ℕ, coded_list}
 use Rattle.irc_relay.specs.Links.{Name, Link}
 use Rattle.irc_sites.specs.Loops.Codes.{text_code}
+use Rattle.irc_sites.specs.contracts.site.Site.{the_row as site_row}
 use Rattle.irc_world.specs.Stepping.{Item, connect, line, gone, link, cut}
+use Rattle.irc_network.specs.Histories.{Past}
 use Rattle.irc_network.specs.Network.{Network, Site}
 
 abbrev pub link_code : Coded Link
@@ -43,10 +45,15 @@ item_code =
     code_by ItemParts (coded⊎ names_code (coded⊎ (coded× coded_ℕ text_code) (coded⊎ coded_ℕ (coded⊎ names_code names_code)))) item_parts item_made
     made_of_parts
 
-abbrev pub network_code : Coded Site → Coded Network
-network_code site =
+abbrev pub past_code : Coded Past
+past_code =
+    code_by (List Item × List (List (List ℕ))) (coded× (coded_list item_code) (coded_list (coded_list text_code)))
+    (λ p. (p.items, p.received)) (λ p. record { items = p.0; received = p.1 }) (λ _. refl)
+
+abbrev pub network_code : Coded Network
+network_code =
     code_by (List Name × (List Site × (List Link × (List Name × (List (List (List ℕ)) × (List Item × ℕ))))))
-    (coded× (coded_list text_code) (coded× (coded_list site) (coded× (coded_list link_code) (coded× (coded_list text_code)
+    (coded× (coded_list text_code) (coded× (coded_list site_row.coded) (coded× (coded_list link_code) (coded× (coded_list text_code)
     (coded× (coded_list (coded_list text_code)) (coded× (coded_list item_code) coded_ℕ))))))
     (λ n. (n.names, (n.sites, (n.links, (n.homes, (n.received, (n.items, n.taken)))))))
     (λ p. record {

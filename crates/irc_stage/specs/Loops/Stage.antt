@@ -161,13 +161,14 @@ pub record IsSound (kept : Kept) : Type 0 where
   pub serves : kept.failed ≡ false
   pub well_formed : IsWellFormed kept.room
 
--- the room is the server's own, and serves; who hears what is said, and behind which links, is so where it is kept; each known server is behind a link
--- that counts
+-- The room is the server's own, and serves; it is known who of its clients hears what is said in
+-- which channel; behind which links somebody does is so where it is kept; each known server is
+-- behind a link that counts.
 pub record IsReady (stage : Stage) : Type 0 where
   pub own_is : stage.room.own ≡ stage.routes.name
   pub sound : IsSound stage.room
   pub indexed : IsIndexed stage.clients
-  pub heard : AreSo stage.listeners stage.room.room stage.clients.by_nick
+  pub heard : AreSo stage.listeners.lists stage.room.room stage.clients.by_nick
   pub branches : IsRightIn stage.ways stage.room.room stage.routes
   pub met : AreEnds (numbered stage.ends) stage.routes
 

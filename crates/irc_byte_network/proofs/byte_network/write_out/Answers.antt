@@ -6,7 +6,7 @@ use Rattle.irc_byte_network.proofs.WritingOut.{last_written, one_written}
 use Rattle.irc_byte_network.proofs.byte_network.write_out.Goals as goal
 
 pub loop-put-preserved : goal.loop-put-preserved
-loop-put-preserved c =
+loop-put-preserved g c =
     one_written c.args.network.now c.loop-put.network c.take_put_out.new.self c.args.wires.now c.loop-put.wires c.write.new.self c.in-Some.put.from
     c.in-Some.put.to c.in-Some.put.line.items c.loop-put.invariant c.in-Some.ensures.taken
     (c.in_ok-write.ensures
@@ -14,7 +14,7 @@ loop-put-preserved c =
     c.as_slice.ensures.value)
 
 pub returns : goal.returns
-returns c =
+returns g c =
     let old = c.args.network.now in
     let before = c.args.wires.now in
     same_written c.same_wires.ensures old before (record { network = c.take_put_out.new.self; wires = c.loop-put.wires }) (queues_written old before)

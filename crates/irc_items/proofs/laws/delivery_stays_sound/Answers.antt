@@ -1,5 +1,5 @@
-use Rattle.irc_items.proofs.Greetings.{greeting_is_met}
-use Rattle.irc_items.proofs.Delivering.{delivery_stays_sound}
+use Rattle.irc_items.proofs.Handshake.Greetings.{greeting_is_met}
+use Rattle.irc_items.proofs.Delivery.Delivering.{delivery_stays_sound}
 use Rattle.irc_items.proofs.laws.delivery_stays_sound.Goals as goal
 
 pub returns : goal.returns

@@ -1,9 +1,10 @@
-use Rattle.irc_items.proofs.ClientItems.{AreItemLaws}
-use Rattle.irc_items.proofs.CutItem.{AreCutItemLaws}
+use Rattle.irc_items.proofs.Client.Items.{AreItemLaws}
+use Rattle.irc_items.proofs.Common.Step.{AreStepLaws}
+use Rattle.irc_items.proofs.Cut.Item.{AreCutItemLaws}
 use Rattle.irc_items.proofs.GivenStaysSound.{given_stays_sound}
-use Rattle.irc_items.proofs.HomeEvents.{AreDecisionLaws}
-use Rattle.irc_items.proofs.HomeTells.{tells_from_home, AreTellingLaws}
-use Rattle.irc_items.proofs.LinkItem.{AreLinkItemLaws}
+use Rattle.irc_items.proofs.Home.Events.{AreDecisionLaws}
+use Rattle.irc_items.proofs.Home.Tells.{tells_from_home, AreTellingLaws}
+use Rattle.irc_items.proofs.Link.Item.{AreLinkItemLaws}
 use Rattle.irc_follow.specs.Lemmas.SidesFollowed.{IsKnownOfLine}
 use Rattle.irc_items.proofs.laws.given_stays_sound.Goals as goal
 
@@ -18,6 +19,9 @@ returns c = given_stays_sound (record { rest = c.rest_is_one_room.ensures; world
       aside = c.aside_stays.ensures;
       passed = c.passed_by_stays.ensures;
     }
+
+    steps : AreStepLaws
+    steps = record { step_keeps = c.step_keeps_world.ensures; refusals = c.refusals_are_the_worlds.ensures }
 
     decisions : AreDecisionLaws
     decisions = record {
@@ -70,8 +74,7 @@ returns c = given_stays_sound (record { rest = c.rest_is_one_room.ensures; world
           tells_from_home telling s world after routes h view happening same_links fixed forest streams is_world of_world right fits place due;
       place = c.place_is_worlds.ensures;
       kept = c.keeps_its_setting.ensures;
-      step_keeps = c.step_keeps_world.ensures;
-      refusals = c.refusals_are_the_worlds.ensures;
+      steps = steps;
     }
 
     cut : AreCutItemLaws
@@ -86,8 +89,7 @@ returns c = given_stays_sound (record { rest = c.rest_is_one_room.ensures; world
       lines = record { written = c.written_is_read.ensures; alone = c.every_line_is_read.ensures.alone; as_line = c.written_is_line.ensures; names = c.names_are_line_words.ensures };
       done = c.done_stays_sound.ensures;
       kept = c.keeps_its_setting.ensures;
-      step_keeps = c.step_keeps_world.ensures;
-      refusals = c.refusals_are_the_worlds.ensures;
+      steps = steps;
     }
 
     link : AreLinkItemLaws
@@ -114,6 +116,5 @@ returns c = given_stays_sound (record { rest = c.rest_is_one_room.ensures; world
         told = c.within_limits_is_told.ensures;
       };
       kept = c.keeps_its_setting.ensures;
-      step_keeps = c.step_keeps_world.ensures;
-      refusals = c.refusals_are_the_worlds.ensures;
+      steps = steps;
     }

@@ -1,4 +1,4 @@
-use Rattle.irc_items.proofs.AtRest.{received_is_front}
+use Rattle.irc_items.proofs.Common.AtRest.{received_is_front}
 use Rattle.irc_items.proofs.laws.received_is_front.Goals as goal
 
 pub returns : goal.returns

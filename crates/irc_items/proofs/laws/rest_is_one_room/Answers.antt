@@ -1,4 +1,4 @@
-use Rattle.irc_items.proofs.AtRest.{rest_is_one_room}
+use Rattle.irc_items.proofs.Common.AtRest.{rest_is_one_room}
 use Rattle.irc_items.proofs.laws.rest_is_one_room.Goals as goal
 use Rattle.irc_relay.specs.Lemmas.Deliveries.{comes_in_turn}
 use Rattle.irc_relay.specs.Lemmas.StreamsFlow.{covers_flows}

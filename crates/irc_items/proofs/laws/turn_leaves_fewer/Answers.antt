@@ -1,4 +1,4 @@
-use Rattle.irc_items.proofs.TurnsAreFew.{turn_leaves_fewer}
+use Rattle.irc_items.proofs.Delivery.TurnsAreFew.{turn_leaves_fewer}
 use Rattle.irc_items.proofs.laws.turn_leaves_fewer.Goals as goal
 
 pub returns : goal.returns

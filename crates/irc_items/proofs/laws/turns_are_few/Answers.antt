@@ -1,5 +1,5 @@
-use Rattle.irc_items.proofs.Greetings.{greeting_is_met}
-use Rattle.irc_items.proofs.TurnsAreFew.{turns_are_few}
+use Rattle.irc_items.proofs.Handshake.Greetings.{greeting_is_met}
+use Rattle.irc_items.proofs.Delivery.TurnsAreFew.{turns_are_few}
 use Rattle.irc_items.proofs.laws.turns_are_few.Goals as goal
 
 pub returns : goal.returns

@@ -1,4 +1,4 @@
-use Rattle.irc_items.proofs.FirstOnWay.{waiting_are_lines}
+use Rattle.irc_items.proofs.Delivery.FirstOnWay.{waiting_are_lines}
 use Rattle.irc_items.proofs.laws.waiting_are_lines.Goals as goal
 
 pub returns : goal.returns

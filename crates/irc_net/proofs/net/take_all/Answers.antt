@@ -5,10 +5,10 @@ use Rattle.irc_net.proofs.Settling.{counted_fewer, counted_kept, lines_counted, 
 use Rattle.irc_net.proofs.net.take_all.Goals as goal
 
 pub loop-lines-init : goal.loop-lines-init
-loop-lines-init c = none_counted _
+loop-lines-init g c = none_counted _
 
 pub come_to_line-requires : goal.come_to_line-requires
-come_to_line-requires c =
+come_to_line-requires g c =
     record {
       tidy = (counted_kept (record {
         delivered = c.delivery_keeps_sound.ensures;
@@ -18,13 +18,13 @@ come_to_line-requires c =
     }
 
 pub loop-lines-preserved : goal.loop-lines-preserved
-loop-lines-preserved c =
+loop-lines-preserved g c =
     lines_counted (byte_course c.loop-lines.network c.loop-lines.desk.lines.items) (byte_course c.come_to_line.new.self c.come_to_line.new.desk.lines.items)
     c.loop-lines.count c.in-Some.lines c.saturating_add-count.result c.loop-lines.invariant (subst (λ lines. ComesToLine lines (byte_course c.loop-lines.network c.loop-lines.desk.lines.items) (byte_course c.come_to_line.new.self c.come_to_line.new.desk.lines.items))
     c.in-Some.is c.in_ok-lines.ensures) c.saturating_add-count.ensures
 
 pub loop-lines-smaller : goal.loop-lines-smaller
-loop-lines-smaller c =
+loop-lines-smaller g c =
     counted_fewer (record {
       delivered = c.delivery_keeps_sound.ensures;
       waiting = c.waiting_are_lines.ensures;
@@ -35,7 +35,7 @@ loop-lines-smaller c =
     c.in-Some.is c.in_ok-lines.ensures)
 
 pub returns : goal.returns
-returns c =
+returns g c =
     settles_at (record {
       delivered = c.delivery_keeps_sound.ensures;
       waiting = c.waiting_are_lines.ensures;

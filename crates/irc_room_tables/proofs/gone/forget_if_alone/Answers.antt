@@ -1,6 +1,5 @@
-use Rattle.std.proofs.Common.{◌∙◌, ap, sym}
+use Rattle.std.proofs.Common.{◌∙◌, sym}
 use Rattle.irc_names.specs.Fold.{key}
-use Rattle.irc_channels.specs.declared.channel.Channel.{Channel}
 use Rattle.irc_room_tables.proofs.Invitations.{dropped_alike, ended_rows}
 use Rattle.irc_room_tables.proofs.gone.forget_if_alone.Goals as goal
 

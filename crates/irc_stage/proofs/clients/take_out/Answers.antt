@@ -1,5 +1,5 @@
-use Rattle.std.proofs.Common.{sym, ◌∙◌}
-use Rattle.irc_stage.specs.Loops.Stage.{clients_of, numbered}
+use Rattle.std.proofs.Common.{sym, ◌∙◌, ap}
+use Rattle.irc_stage.specs.Loops.Stage.{clients_of, departed, numbered}
 use Rattle.irc_stage.specs.Lemmas.Numbers.{get-numbered, taken-numbered}
 use Rattle.irc_stage.proofs.Index.{left_indexed}
 use Rattle.irc_stage.proofs.clients.take_out.Goals as goal
@@ -13,3 +13,9 @@ returns-clause-indexed c =
     (get-numbered c.args.clients.now.by_number c.args.conn ∙ sym c.remove-removed.ensures.value)
     (numbered c.remove-removed.new.self) c.depart.new.by_nick (taken-numbered c.args.clients.now.by_number c.remove-removed.new.self c.args.conn c.remove-removed.ensures.updates)
     c.depart.ensures
+
+pub returns-clause-by_nick : goal.returns-clause-by_nick
+returns-clause-by_nick c =
+    c.depart.ensures
+    ∙ ap (λ client. departed client c.args.clients.now.by_nick)
+    (c.remove-removed.ensures.value ∙ sym (get-numbered c.args.clients.now.by_number c.args.conn))

@@ -1,6 +1,19 @@
-use Rattle.std.proofs.Common.{arith}
-use Rattle.irc_users.proofs.NumberedRows.{seat_taken}
+use Rattle.std.proofs.Common.{◌≡◌, ◌∙◌, ◌++◌, List, ap, map, sym, subst, true}
+use Rattle.std.specs.Borrow.{Bor}
+use Rattle.std.specs.List.{list_all}
+use Rattle.irc_users.specs.declared.user.User.{User}
+use Rattle.irc_users.specs.Rosters.{sitter}
+use Rattle.irc_users.proofs.Heads.{is_sat, seats_full}
 use Rattle.irc_users.proofs.users.all_of.Goals as goal
 
-pub sitter-requires : goal.sitter-requires
-sitter-requires c = seat_taken _ _ c.deref-head-items.result.now c.loop-head.head-index c.head-item.result c.requires c.deref-head-items.ensures.value (omega arith) c.head-item.is
+pub loop-head-init : goal.loop-head-init
+loop-head-init c =
+    let all = c.into_iter-head-iterator.ensures.into_iter_gives ∙ c.values-head-items.ensures in
+    record {
+      found =
+          ap (λ (users : List (Bor User)). map (λ user. user.now) users ++ map (sitter c.args.seats.now) c.into_iter-head-iterator.result) c.new-found.ensures.items
+          ∙ ap (λ hs. map (sitter c.args.seats.now) hs) all;
+      sat = subst (λ hs. list_all (is_sat c.args.seats.now) hs ≡ true) (sym all) (seats_full c.args.seats.now c.args.heads.now c.requires);
+      more = tt;
+      ends = tt;
+    }

@@ -1,38 +1,47 @@
-use Rattle.std.proofs.Common.{ap}
+use Rattle.std.proofs.Common.{◌∙◌, ap, Some, None}
 use Rattle.std.specs.Box.{with_value as box_with}
 use Rattle.irc_names.specs.Fold.{key}
-use Rattle.irc_tables.specs.Lemmas.RowsAsTable.{row-absent}
+use Rattle.irc_names.specs.Tables.{alter}
 use Rattle.irc_users.specs.UserTable.{with_invisible}
-use Rattle.irc_users.specs.Rosters.{head_entry}
-use Rattle.irc_users.proofs.Heads.{stands_among, belongs_among}
+use Rattle.irc_users.specs.Rosters.{sitting}
+use Rattle.irc_users.proofs.Heads.{at_nick}
 use Rattle.irc_users.proofs.NumberedRows.{no_user}
 use Rattle.irc_users.proofs.SeatMoves.{seat_of, mode_users, mode_numbers, mode_roster, mode_absent}
 use Rattle.irc_users.proofs.users.set_mode.Goals as goal
 
+pub returns-in_default-clause-users : goal.returns-in_default-clause-users
+returns-in_default-clause-users c =
+    mode_absent _ (key c.args.nick.now) c.args.invisible (no_user (sitting c.args.seats.now) c.args.heads.now (key c.args.nick.now)
+    (at_nick c.args.heads.now _ c.args.nick.now None c.as_bytes.ensures.value c.in_default.ensures))
+
 pub index_mut-requires : goal.index_mut-requires
 index_mut-requires c =
-    let at = stands_among _ _ (key c.args.nick.now) c.in-Ok.place c.requires.ordered c.deref.ensures.value c.in-Ok.ensures in
-    seat_of _ _ (key c.args.nick.now) c.in-Ok.place c.index_mut-head.result.now c.requires at c.index_mut-head.ensures.value
+    seat_of c.args.seats.now c.args.heads.now (key c.args.nick.now) c.in-Some.head.now c.requires
+    (at_nick c.args.heads.now _ c.args.nick.now (Some c.in-Some.head.now) c.as_bytes.ensures.value c.in-Some.ensures)
 
-pub returns-in-Ok-clause-users : goal.returns-in-Ok-clause-users
-returns-in-Ok-clause-users c =
-    let at = stands_among _ _ (key c.args.nick.now) c.in-Ok.place c.requires.ordered c.deref.ensures.value c.in-Ok.ensures in
-    mode_users _ _ (key c.args.nick.now) c.in-Ok.place c.index_mut-head.result.now c.requires at c.index_mut-head.ensures.value c.index_mut.result.now
-    (box_with c.index_mut.result.now (with_invisible c.args.invisible c.deref_mut.result.now)) c.index_mut.ensures.value c.args.invisible (ap (with_invisible c.args.invisible) c.deref_mut.ensures.value)
+pub returns-clause-users : goal.returns-clause-users
+returns-clause-users c =
+    mode_users c.args.seats.now c.args.heads.now (key c.args.nick.now) c.in-Some.head.now c.requires
+    (at_nick c.args.heads.now _ c.args.nick.now (Some c.in-Some.head.now) c.as_bytes.ensures.value c.in-Some.ensures)
+    c.index_mut.result.now (box_with c.index_mut.result.now (with_invisible c.args.invisible c.deref_mut.result.now)) c.index_mut.ensures.value c.args.invisible
+    c.put_head.new.heads (ap (with_invisible c.args.invisible) c.deref_mut.ensures.value)
+    (c.in-Ok.ensures.ok
+    ∙ ap (λ n. alter (key n) (λ _. Some (record { nick = n; number = c.in-Some.head.now.number; invisible = c.args.invisible })) c.args.heads.now) c.copy.ensures)
 
-pub returns-in-Ok-clause-numbers : goal.returns-in-Ok-clause-numbers
-returns-in-Ok-clause-numbers c =
-    let at = stands_among _ _ (key c.args.nick.now) c.in-Ok.place c.requires.ordered c.deref.ensures.value c.in-Ok.ensures in
-    mode_numbers _ _ (key c.args.nick.now) c.in-Ok.place c.index_mut-head.result.now c.requires at c.index_mut-head.ensures.value c.index_mut.result.now
-    (box_with c.index_mut.result.now (with_invisible c.args.invisible c.deref_mut.result.now)) c.index_mut.ensures.value c.args.invisible (ap (with_invisible c.args.invisible) c.deref_mut.ensures.value)
+pub returns-clause-numbers : goal.returns-clause-numbers
+returns-clause-numbers c =
+    mode_numbers c.args.seats.now c.args.heads.now (key c.args.nick.now) c.in-Some.head.now c.requires
+    (at_nick c.args.heads.now _ c.args.nick.now (Some c.in-Some.head.now) c.as_bytes.ensures.value c.in-Some.ensures)
+    c.index_mut.result.now (box_with c.index_mut.result.now (with_invisible c.args.invisible c.deref_mut.result.now)) c.index_mut.ensures.value c.args.invisible
+    c.put_head.new.heads (ap (with_invisible c.args.invisible) c.deref_mut.ensures.value)
+    (c.in-Ok.ensures.ok
+    ∙ ap (λ n. alter (key n) (λ _. Some (record { nick = n; number = c.in-Some.head.now.number; invisible = c.args.invisible })) c.args.heads.now) c.copy.ensures)
 
-pub returns-in-Ok-clause-roster : goal.returns-in-Ok-clause-roster
-returns-in-Ok-clause-roster c =
-    let at = stands_among _ _ (key c.args.nick.now) c.in-Ok.place c.requires.ordered c.deref.ensures.value c.in-Ok.ensures in
-    mode_roster _ _ (key c.args.nick.now) c.in-Ok.place c.index_mut-head.result.now c.requires at c.index_mut-head.ensures.value c.index_mut.result.now
-    (box_with c.index_mut.result.now (with_invisible c.args.invisible c.deref_mut.result.now)) c.index_mut.ensures.value c.args.invisible (ap (with_invisible c.args.invisible) c.deref_mut.ensures.value)
-
-pub returns-in-Err-clause-users : goal.returns-in-Err-clause-users
-returns-in-Err-clause-users c =
-    let gap = belongs_among _ _ (key c.args.nick.now) c.in-Err.field-0 c.requires.ordered c.deref.ensures.value c.in-Err.ensures in
-    mode_absent _ (key c.args.nick.now) c.args.invisible (no_user _ _ (key c.args.nick.now) (row-absent head_entry _ _ _ gap))
+pub returns-clause-roster : goal.returns-clause-roster
+returns-clause-roster c =
+    mode_roster c.args.seats.now c.args.heads.now (key c.args.nick.now) c.in-Some.head.now c.requires
+    (at_nick c.args.heads.now _ c.args.nick.now (Some c.in-Some.head.now) c.as_bytes.ensures.value c.in-Some.ensures)
+    c.index_mut.result.now (box_with c.index_mut.result.now (with_invisible c.args.invisible c.deref_mut.result.now)) c.index_mut.ensures.value c.args.invisible
+    c.put_head.new.heads (ap (with_invisible c.args.invisible) c.deref_mut.ensures.value)
+    (c.in-Ok.ensures.ok
+    ∙ ap (λ n. alter (key n) (λ _. Some (record { nick = n; number = c.in-Some.head.now.number; invisible = c.args.invisible })) c.args.heads.now) c.copy.ensures)

@@ -10,7 +10,7 @@ use Rattle.irc_byte_network.specs.Lemmas.Rows.{rows_after_lines}
 use Rattle.irc_byte_network.proofs.byte_network.ByteNetwork.come.Goals as goal
 
 pub write_out-requires : goal.write_out-requires
-write_out-requires c =
+write_out-requires g c =
     let old : ByteNetwork = record { network = c.self.inside.network; wires = c.self.inside.wires } in
     record {
       rows = rows_after_lines old c.args.ends.near c.args.ends.far c.args.count (bytes_of c.take.new.lines.items) (receipts_of c.args.desk.now.lines.items)
@@ -19,7 +19,7 @@ write_out-requires c =
     }
 
 pub returns-clause-come : goal.returns-clause-come
-returns-clause-come c =
+returns-clause-come g c =
     let near = c.args.ends.near in
     let far = c.args.ends.far in
     let start = course c.self.inside.network c.args.desk.now.lines.items in

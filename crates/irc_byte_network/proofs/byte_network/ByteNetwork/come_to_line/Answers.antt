@@ -5,13 +5,13 @@ use Rattle.irc_byte_network.proofs.Going.{fewer_on, none_come, some_come, tidily
 use Rattle.irc_byte_network.proofs.byte_network.ByteNetwork.come_to_line.Goals as goal
 
 pub loop-lines-init : goal.loop-lines-init
-loop-lines-init c = record { goes = none_yet; tidy = c.requires.tidy }
+loop-lines-init g c = record { goes = none_yet; tidy = c.requires.tidy }
 
 pub come_in_turn-requires : goal.come_in_turn-requires
-come_in_turn-requires c = record { rows = c.loop-lines.invariant.tidy.rows }
+come_in_turn-requires g c = record { rows = c.loop-lines.invariant.tidy.rows }
 
 pub returns-then-lines-gt0 : goal.returns-then-lines-gt0
-returns-then-lines-gt0 c =
+returns-then-lines-gt0 g c =
     let old = byte_course c.args.self.now c.args.desk.now.lines.items in
     let now = byte_course c.loop-lines.self c.loop-lines.desk.lines.items in
     let new = byte_course c.come_in_turn.new.self c.come_in_turn.new.desk.lines.items in
@@ -19,7 +19,7 @@ returns-then-lines-gt0 c =
     c.if-lines-gt0.true
 
 pub loop-lines-smaller : goal.loop-lines-smaller
-loop-lines-smaller c =
+loop-lines-smaller g c =
     let old = byte_course c.args.self.now c.args.desk.now.lines.items in
     let now = byte_course c.loop-lines.self c.loop-lines.desk.lines.items in
     let new = byte_course c.come_in_turn.new.self c.come_in_turn.new.desk.lines.items in
@@ -27,7 +27,7 @@ loop-lines-smaller c =
     c.if-lines-gt0.false
 
 pub loop-lines-preserved : goal.loop-lines-preserved
-loop-lines-preserved c =
+loop-lines-preserved g c =
     let old = byte_course c.args.self.now c.args.desk.now.lines.items in
     let now = byte_course c.loop-lines.self c.loop-lines.desk.lines.items in
     let new = byte_course c.come_in_turn.new.self c.come_in_turn.new.desk.lines.items in
@@ -35,7 +35,7 @@ loop-lines-preserved c =
     c.if-lines-gt0.false
 
 pub returns : goal.returns
-returns c =
+returns g c =
     let old = byte_course c.args.self.now c.args.desk.now.lines.items in
     let now = byte_course c.loop-lines.self c.loop-lines.desk.lines.items in
     let new = byte_course c.come_in_turn.new.self c.come_in_turn.new.desk.lines.items in

@@ -9,7 +9,7 @@ use Rattle.irc_byte_network.specs.Lemmas.Rows.{rows_after_item}
 use Rattle.irc_byte_network.proofs.byte_network.ByteNetwork.give.Goals as goal
 
 pub write_out-requires : goal.write_out-requires
-write_out-requires c =
+write_out-requires g c =
     let old : ByteNetwork = record { network = c.self.inside.network; wires = c.self.inside.wires } in
     record {
       rows = rows_after_item old (item_of c.args.item) c.give.new.self c.lose.new.wires (subst HasRows (sym c.self.view_is) c.requires.rows)
@@ -20,7 +20,7 @@ write_out-requires c =
     }
 
 pub returns : goal.returns
-returns c =
+returns g c =
     let new : ByteNetwork = record { network = c.write_out.new.network; wires = c.write_out.new.wires } in
     on_ok c.write_out.result c.write_out.ensures (λ written.
     subst (λ (old : ByteNetwork). byte_course new c.give.new.desk.lines.items ≡ item_given (item_of c.args.item) old) c.self.view_is

@@ -11,29 +11,28 @@ use Rattle.irc_engine.proofs.TableLaws.{set_at}
 use Rattle.irc_engine.specs.Knowing.{IsAtOne}
 use Rattle.irc_engine.specs.Loops.Tables.{connection_of}
 use Rattle.irc_engine.proofs.KnowingLaws.{hears_end}
-use Rattle.irc_engine.proofs.RunLaws.{asks_as, ran_none, ran_on, ran_gone}
+use Rattle.irc_engine.proofs.RunLaws.{ran_none, ran_on, ran_gone}
 use Rattle.irc_engine.proofs.engine.Core.tell_losses.Goals as goal
 
 pub loop-conn-init : goal.loop-conn-init
 loop-conn-init g c = record { ran = ran_none _ _; at_one = c.requires; in_order = none_so_far; marks = λ q pending is. is; same = refl }
 
-pub handle-requires : goal.handle-requires
-handle-requires g c =
-    hears_end _ _ _ c.loop-conn.invariant.at_one _ _ _ _ c.end_event.ensures c.in-Some.ensures.member
+pub handle_end-requires : goal.handle_end-requires
+handle_end-requires g c =
+    hears_end _ _ _ c.loop-conn.invariant.at_one _ _ _ _ refl c.in-Some.ensures.member
     (λ q. c.in-Some.ensures.updates.0 q ∙ set_at (lost_at c.loop-conn.self.connections.lost) None _ q)
 
 pub loop-conn-preserved : goal.loop-conn-preserved
 loop-conn-preserved g c =
-    let asks = asks_as _ _ _ _ _ c.end_event.ensures c.in_ok-handle.ensures.asks in
     record {
       ran = ran_on _ _ _ _ c.loop-conn.invariant.ran
           (ran_gone _ _ _ _ _ _ c.loop-conn.self.connections (record c.loop-conn.self.connections { lost = c.take_lowest.new.lost }) _ refl refl c.in-Some.ensures.member
-          (λ q. c.in-Some.ensures.updates.0 q ∙ set_at (lost_at c.loop-conn.self.connections.lost) None _ q) asks.0);
-      at_one = c.in_ok-handle.ensures.at_one;
+          (λ q. c.in-Some.ensures.updates.0 q ∙ set_at (lost_at c.loop-conn.self.connections.lost) None _ q) c.in_ok-handle_end.ensures.asks.0);
+      at_one = c.in_ok-handle_end.ensures.at_one;
       in_order = tells_lowest _ _ _ _ _ c.loop-conn.invariant.in_order (record { is_lost = c.in-Some.ensures.member; is_lowest = λ q there. le_from_not_gt _ q (c.in-Some.ensures.least q there) }) refl
-          (λ q. c.in-Some.ensures.updates.0 q ∙ set_at (lost_at c.loop-conn.self.connections.lost) None _ q) asks;
-      marks = λ q pending is. c.in_ok-handle.ensures.marks q pending (c.loop-conn.invariant.marks q pending is);
-      same = c.handle.ensures.same ∙ c.loop-conn.invariant.same;
+          (λ q. c.in-Some.ensures.updates.0 q ∙ set_at (lost_at c.loop-conn.self.connections.lost) None _ q) c.in_ok-handle_end.ensures.asks;
+      marks = λ q pending is. c.in_ok-handle_end.ensures.marks q pending (c.loop-conn.invariant.marks q pending is);
+      same = c.handle_end.ensures.same ∙ c.loop-conn.invariant.same;
     }
 
 pub returns-clause-ran : goal.returns-clause-ran

@@ -9,19 +9,19 @@ use Rattle.irc_net.proofs.NewNet.{made_is_new, network_made, new_made}
 use Rattle.irc_net.proofs.net.Net.new.Goals as goal
 
 pub forest_of-requires-clause-named : goal.forest_of-requires-clause-named
-forest_of-requires-clause-named c =
+forest_of-requires-clause-named g c =
     let none : configs_fault c.args.configs.items ≡ None = sym (c.configs_fault.ensures ∙ ap configs_fault c.deref.ensures.value) ∙ c.in_default.is in
     subst (AllByRecursion IsServerConfig) (sym c.deref-2.ensures.value)
     (ordered_named c.args.configs.items c.in_order-ordered.result.items none c.in_order-ordered.ensures.ones)
 
 pub forest_of-requires-clause-few : goal.forest_of-requires-clause-few
-forest_of-requires-clause-few c =
+forest_of-requires-clause-few g c =
     let none : configs_fault c.args.configs.items ≡ None = sym (c.configs_fault.ensures ∙ ap configs_fault c.deref.ensures.value) ∙ c.in_default.is in
     subst (λ configs. length configs ≤ 256) (sym c.deref-2.ensures.value)
     (ordered_few c.args.configs.items c.in_order-ordered.result.items none c.in_order-ordered.ensures.ones)
 
 pub invariant_of-result : goal.invariant_of-result
-invariant_of-result c =
+invariant_of-result g c =
     let none : configs_fault c.args.configs.items ≡ None = sym (c.configs_fault.ensures ∙ ap configs_fault c.deref.ensures.value) ∙ c.in_default.is in
     let ordered = c.in_order-ordered.result.items in
     let counted : vec_len c.in_ok-sites.sites ≡ length c.in_ok-sites.sites.items = omega arith in

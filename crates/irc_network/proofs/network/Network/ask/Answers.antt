@@ -9,16 +9,19 @@ use Rattle.irc_network.proofs.Taking.{asked_nowhere, asked_there}
 use Rattle.irc_network.proofs.network.Network.ask.Goals as goal
 
 pub returns-in_default : goal.returns-in_default
-returns-in_default c =
+returns-in_default g c =
     let lines = c.args.desk.now.lines.items in
-    subst (λ (net : Network). course (seen c.self.inside) lines ≡ site_asked c.args.place (occurrence_of c.args.event.now) (course net lines)) c.self.view_is
-    (asked_nowhere c.args.place (occurrence_of c.args.event.now) (course (seen c.self.inside) lines)
-    (none_here (seen c.self.inside).sites c.args.place c.in_default.ensures.item.3))
+    let i = c.self.inside in
+    let old = seen i.forest i.sites.items i.homes.items (g.H.History.past i.history) i.taken in
+    subst (λ (net : Network). course old lines ≡ site_asked c.args.place (occurrence_of c.args.event.now) (course net lines)) c.self.view_is
+    (asked_nowhere c.args.place (occurrence_of c.args.event.now) (course old lines)
+    (none_here old.sites c.args.place c.in_default.ensures.item.3))
 
 pub returns : goal.returns
-returns c =
+returns g c =
     let lines = c.args.desk.now.lines.items in
-    let old = seen c.self.inside in
+    let i = c.self.inside in
+    let old = seen i.forest i.sites.items i.homes.items (g.H.History.past i.history) i.taken in
     on_ok c.send_out.result c.send_out.ensures (λ sent.
     sent
     ∙ asked_there c.args.place (occurrence_of c.args.event.now) (course old lines) c.in-Some.site.now c.serve.new.self c.serve.new.out.outs

@@ -6,7 +6,7 @@ use Rattle.irc_network.proofs.Taking.{one_more_sent}
 use Rattle.irc_network.proofs.network.Network.send_out.Goals as goal
 
 pub loop-at-preserved : goal.loop-at-preserved
-loop-at-preserved c =
+loop-at-preserved g c =
     let outs = c.args.desk.now.out.outs in
     let so_far = course c.loop-at.self c.loop-at.desk.lines.items in (
       c.in_ok-send.ensures.sent

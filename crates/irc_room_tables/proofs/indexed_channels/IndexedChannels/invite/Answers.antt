@@ -40,5 +40,5 @@ invariant_of-self-in-Err c =
           tells_at is_invited _ _ _ c.in-Err.ensures.refused
           (tells_restored (holds is_invited rows) c.self.inside.invited.rows c.add.new.self.rows _ nick name c.self.invariant.invited
           (uninvited_out nick (row rows name) (sym c.can_be_invited.ensures ∙ c.if-not-can_be_invited.false)) c.in_ok-add.ensures.ok
-          (drops_of _ _ _ c.args.nick.now _ c.args.channel.now c.as_bytes.ensures.value c.as_bytes-in-Err.ensures.value c.remove.ensures));
+          (drops_of _ _ _ c.args.nick.now _ c.args.channel.now c.as_bytes.ensures.value c.as_bytes-in-Err.ensures.value c.remove.ensures.dropped));
     }

@@ -27,7 +27,7 @@ invariant_of-self-in-Ok c =
       invited =
           tells_at is_invited _ _ _ c.in-Ok.ensures.ok
           (tells_dropped is_invited c.self.inside.invited.rows name change rows c.self.invariant.invited _ (λ n. same_fold n nick)
-          (drops_of _ _ _ c.args.nick.now _ c.args.channel.now c.as_bytes.ensures.value c.as_bytes-in-Ok.ensures.value c.remove.ensures)
+          (drops_of _ _ _ c.args.nick.now _ c.args.channel.now c.as_bytes.ensures.value c.as_bytes-in-Ok.ensures.value c.remove.ensures.dropped)
           (λ n. joined_asked nick c.args.channel.now c.args.op (row rows name) (sym c.is_in.ensures ∙ c.if-is_in.false) n));
     }
 
@@ -39,6 +39,6 @@ invariant_of-self-in-Err c =
           tells_at has_member _ _ _ c.in-Err.ensures.refused
           (tells_restored (holds has_member c.self.inside.rows) c.self.inside.joined.rows c.add.new.self.rows _ nick name c.self.invariant.joined
           (sym c.is_in.ensures ∙ c.if-is_in.false) c.in_ok-add.ensures.ok
-          (drops_of _ _ _ c.args.nick.now _ c.args.channel.now c.as_bytes-in-Err.ensures.value c.as_bytes-in-Err-2.ensures.value c.remove-in-Err.ensures));
+          (drops_of _ _ _ c.args.nick.now _ c.args.channel.now c.as_bytes-in-Err.ensures.value c.as_bytes-in-Err-2.ensures.value c.remove-in-Err.ensures.dropped));
       invited = tells_at is_invited _ _ _ c.in-Err.ensures.refused c.self.invariant.invited;
     }

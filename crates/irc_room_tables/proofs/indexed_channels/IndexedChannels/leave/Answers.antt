@@ -26,7 +26,7 @@ invariant_of-self c =
       joined =
           tells_at has_member _ _ _ c.leave.ensures
           (tells_dropped has_member c.self.inside.joined.rows name change rows c.self.invariant.joined _ (λ n. same_fold n nick)
-          (drops_of _ _ _ c.args.nick.now _ c.args.channel.now c.as_bytes-2.ensures.value c.as_bytes-3.ensures.value c.remove.ensures)
+          (drops_of _ _ _ c.args.nick.now _ c.args.channel.now c.as_bytes-2.ensures.value c.as_bytes-3.ensures.value c.remove.ensures.dropped)
           (λ n. left_said nick (row rows name) n));
       invited =
           tells_at is_invited _ _ _ c.leave.ensures

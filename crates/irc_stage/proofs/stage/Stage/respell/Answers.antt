@@ -12,7 +12,7 @@ returns-clause-ok c =
 
 pub returns-clause-serving : goal.returns-clause-serving
 returns-clause-serving c =
-    serves_respelled c.args.self.now c.requires.serving c.args.channel.now c.respell.new.self c.clear.new.self c.forget.new.self
+    serves_respelled c.args.self.now c.requires.serving c.args.channel.now c.respell.new.self c.forget.new.self
     (room_respelled c.respell.result c.args.self.now.room c.respell.new.self c.args.channel.now c.requires.serving.ready.sound.serves
     c.respell.ensures.fault c.respell.ensures.ok c.respell.ensures.refused)
-    c.clear.ensures c.forget.ensures.forgotten
+    c.forget.ensures.forgotten

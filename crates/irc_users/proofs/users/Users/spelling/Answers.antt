@@ -1,25 +1,20 @@
-use Rattle.std.proofs.Common.{◌∙◌, ap, sym, refl}
-use Rattle.std.specs.Option.{option_map}
+use Rattle.std.proofs.Common.{◌∙◌, ap, refl, sym, option_map}
 use Rattle.irc_names.specs.Fold.{key}
 use Rattle.irc_names.specs.Tables.{row}
-use Rattle.irc_tables.specs.Lemmas.RowsAsTable.{row-absent, row-stands}
 use Rattle.irc_users.specs.declared.user.User.{User}
 use Rattle.irc_users.specs.declared.users.Head.{Head}
+use Rattle.irc_users.specs.Rosters.{sitting}
 use Rattle.irc_users.specs.UserTable.{NumberedUsers}
-use Rattle.irc_users.specs.Rosters.{head_entry, sitting}
-use Rattle.irc_users.proofs.Heads.{stands_among, belongs_among}
-use Rattle.irc_users.proofs.NumberedRows.{no_user, told_by}
+use Rattle.irc_users.proofs.NumberedRows.{no_one, told_by}
 use Rattle.irc_users.proofs.users.Users.spelling.Goals as goal
 
-pub returns-in-Ok : goal.returns-in-Ok
-returns-in-Ok c =
-    let at = stands_among _ _ (key c.args.name.now) c.in-Ok.place c.self.invariant.ordered c.deref.ensures.value c.in-Ok.ensures in
-    told_by (sitting c.self.inside.seats) _ c.self.invariant.seating (λ (h : Head). h.nick) (λ (user : User). user.nick) (λ _ _. refl) (key c.args.name.now) _
-    (row-stands head_entry _ (key c.args.name.now) c.in-Ok.place _ c.self.invariant.ordered at c.index.ensures)
+pub returns-in-Some : goal.returns-in-Some
+returns-in-Some c =
+    told_by (sitting c.self.inside.seats) c.self.inside.heads c.self.invariant (λ (h : Head). h.nick) (λ (user : User). user.nick) (λ _ _. refl) (key c.args.name.now)
+    c.in-Some.head.now (sym c.in-Some.ensures)
     ∙ ap (λ (n : NumberedUsers). option_map (λ (user : User). user.nick) (row n.users (key c.args.name.now))) c.self.view_is
 
-pub returns-in-Err : goal.returns-in-Err
-returns-in-Err c =
-    let gap = belongs_among _ _ (key c.args.name.now) c.in-Err.field-0 c.self.invariant.ordered c.deref.ensures.value c.in-Err.ensures in
-    sym (ap (λ (n : NumberedUsers). option_map (λ (user : User). user.nick) (row n.users (key c.args.name.now))) (sym c.self.view_is)
-    ∙ ap (option_map (λ (user : User). user.nick)) (no_user _ _ (key c.args.name.now) (row-absent head_entry _ _ _ gap)))
+pub returns-in-None : goal.returns-in-None
+returns-in-None c =
+    sym (ap (option_map (λ (user : User). user.nick))
+    (no_one c.self.inside.seats c.self.inside.heads _ c.self.view_is c.self.invariant (key c.args.name.now) (sym c.in-None.ensures)))
