@@ -1,3 +1,2 @@
 pub mod CountedUsers
-pub mod OwnKept
 pub mod Refusals
