@@ -85,7 +85,9 @@ fn is_in_one(channels: &[&Row<Stored>], user: &User) -> bool
 fn is_in_row(channels: &[&Row<Stored>], nick: &Nick) -> bool
     ensures { result ≡ list_any (λ row. has_member (key nick.now) row.now.value) channels.now }
 {
-    channels.iter().any(|row| row.value.channel().has_member(nick))
+    channels
+        .iter()
+        .any(|row| row.value.channel().has_member(nick))
 }
 
 /// Whether a ban of a channel matches a user.

@@ -64,8 +64,8 @@ returns-then-not-stays g c =
     let shows = c.self.view_is in
     let updates = (c.get_mut.follows.holds w).3 (ap is_some (sym found)) in
     elim c.match-remove.branch [
-      in-Some-1 b ↦ b.self-is |
-      in-None-1 b ↦ b.self-is
+      | in-Some-1 b ↦ b.self-is
+      | in-None-1 b ↦ b.self-is
     ]
     ∙ taken_out (c.get_mut.follows.lender w) c.remove.new.self _ c.in-Some.folded fold
     (put_in c.self.inside.rows (c.get_mut.follows.lender w) table c.in-Some.folded fold w shows
