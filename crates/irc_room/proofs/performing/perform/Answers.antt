@@ -7,5 +7,5 @@ pub returns-then-is_idle-clause-changed : goal.returns-then-is_idle-clause-chang
 returns-then-is_idle-clause-changed c =
     sym (idle_changes_nothing c.args.tables.now c.args.effect.now (sym c.is_idle.ensures ∙ c.if-is_idle.true))
 
-pub returns-clause-idle : goal.returns-clause-idle
-returns-clause-idle c = λ idle. not_true (sym c.if-is_idle.false ∙ c.is_idle.ensures ∙ idle)
+pub returns-else-is_idle-clause-idle : goal.returns-else-is_idle-clause-idle
+returns-else-is_idle-clause-idle c = λ idle. not_true (sym c.if-is_idle.false ∙ c.is_idle.ensures ∙ idle)
