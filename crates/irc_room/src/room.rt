@@ -22,7 +22,7 @@ ghost use Rattle.irc_shown.specs.Seen.{changes_text, stored_channel, stored_nick
 use crate::home_count::{staying, with_newcomer};
 use crate::performing::perform;
 use crate::refusing::{missing, refusal};
-use irc_channels::{Channel, Flags};
+use irc_channels::{Channel, Flags, Stored};
 use irc_line::Text;
 use irc_modes::ModeChange;
 use irc_names::{ChannelName, Nick, ServerName};
@@ -174,7 +174,7 @@ impl Room {
     }
 
     /// All channels, in folded order of their names.
-    pub fn channels(&self) -> &[Row<Channel>]
+    pub fn channels(&self) -> &[Row<Stored>]
         ensures { map row_entry result.now ≡ entries self.now.room.channels }
     {
         self.tables.channels.as_slice()
@@ -184,7 +184,7 @@ impl Room {
     ///
     /// # Errors
     /// Where memory runs out.
-    pub fn channels_of(&self, nick: &[u8]) -> Result<Vec<&Row<Channel>, Global>, AllocError>
+    pub fn channels_of(&self, nick: &[u8]) -> Result<Vec<&Row<Stored>, Global>, AllocError>
         ensures { IfOk result (λ found. rows_now found.items ≡ channels_of self.now.room nick.now) }
     {
         self.tables.channels_of(self.alloc, nick)
