@@ -1,2 +1,3 @@
 pub mod CountedUsers
+pub mod NamesRead
 pub mod Refusals
