@@ -12,10 +12,10 @@ ghost use Rattle.irc_names.specs.Tables.{row};
 ghost use Rattle.irc_tables.specs.RowViews.{row_entry};
 ghost use Rattle.irc_channels.specs.ChannelTable.{members_in};
 ghost use Rattle.irc_shown.specs.After.{titled_by};
-ghost use Rattle.irc_shown.specs.Applying.{Kept, Applied, IdleStays, ShowsHere, does, respelling_fault};
+ghost use Rattle.irc_shown.specs.Applying.{Kept, Applied, Changed, IdleKeeps, IdleStays, ShowsHere, does, respelling_fault};
 ghost use Rattle.irc_shown.specs.Effects.{brings_free};
 ghost use Rattle.irc_shown.specs.Laws.{no_room};
-ghost use Rattle.irc_shown.specs.Readers.{user_at, channel_at, channels_of, flags_at, is_invited_at, is_visible_at, nicks_in, rows_now, spelling_at, users_now, users_of, viewers_of};
+ghost use Rattle.irc_shown.specs.Readers.{user_at, channel_at, channels_of, flags_at, is_invited_at, is_visible_at, names_of, nicks_in, rows_now, spelling_at, users_now, users_of, viewers_of};
 ghost use Rattle.irc_shown.specs.Room.{IsWellFormed};
 ghost use Rattle.irc_shown.specs.Seen.{changes_text, stored_channel, stored_nick, target_name};
 
@@ -190,6 +190,14 @@ impl Room {
         self.tables.channels_of(self.alloc, nick)
     }
 
+    /// The names of the channels that the user of a nickname is a member of, in folded order. No
+    /// channel is looked at, so a name may be spelled otherwise than its channel.
+    pub fn names_of(&self, nick: &[u8]) -> &[Row<()>]
+        ensures { map (λ row. key row.name.items) result.now ≡ names_of self.now.room nick.now }
+    {
+        self.tables.channels.names_of(nick)
+    }
+
     /// How many channels the user of a nickname is a member of. No channel is looked at.
     pub fn channel_count(&self, nick: &[u8]) -> usize
         ensures { result ≡ length (channels_of self.now.room nick.now) }
@@ -304,6 +312,16 @@ impl Room {
                 Err(RoomFault::Memory)
             }
         }
+    }
+
+    /// Makes the change of an effect, and shows it to nobody: for a caller who knows who sees it.
+    pub fn change(&mut self, effect: &Effect) -> Result<(), RoomFault>
+        requires { brings_free self.old.room effect.now ≡ true }
+        ensures changed { Changed self.old effect.now result self.new }
+        ensures idle { IdleKeeps self.old effect.now result self.new }
+    {
+        let mut shown = ShownLine::new(self.alloc);
+        self.apply(effect, &mut shown)
     }
 
     /// A channel's name is spelled as given, where that is greater by bytes than the stored
