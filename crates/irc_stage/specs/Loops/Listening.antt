@@ -13,7 +13,6 @@ use Rattle.irc_room.specs.effect.Effect.{Effect}
 use Rattle.irc_room.specs.effect.Effect.TheVariants.{Rename, Quit, Join, Part, Kick, Say}
 use Rattle.irc_room.specs.effect.Target.TheVariants.{Channel, User}
 use Rattle.irc_room.specs.Room.{Room}
-use Rattle.irc_room.specs.Readers.{nicks_in}
 use Rattle.irc_stage.specs.declared.clients.Client.{Client}
 use Rattle.irc_stage.specs.declared.clients.Client.TheVariants.{Registered}
 
@@ -26,10 +25,6 @@ conn_as by_nick nick = option_to_list (row by_nick (key nick))
 -- the connections of these users, as far as they are clients
 abbrev pub conns_of : Table ℕ → List (List ℕ) → List ℕ
 conns_of by_nick nicks = flat_map (conn_as by_nick) nicks
-
--- those of the members of a channel
-abbrev pub heard_by : Room → Table ℕ → List ℕ → List ℕ
-heard_by room by_nick channel = conns_of by_nick (nicks_in room channel)
 
 -- somebody says something in this channel
 abbrev pub IsSaidIn : List ℕ → Effect → Type 0
@@ -110,10 +105,9 @@ abbrev pub SetsIf : Option ℕ → List ℕ → List ℕ → Lists → Lists →
 SetsIf None channel nick old new = new ≡ old
 SetsIf (Some conn) channel nick old new = SetsAt channel nick (Some conn) old new
 
--- of what is right for a room nothing is left by a nickname
+-- nothing by a nickname is left in the lists of the channels that its user is in
 abbrev pub Leaves : Room → List ℕ → Lists → Lists → Type 0
-Leaves room nick old new =
-    (by_nick : Table ℕ) → AreSo old room by_nick → Forgets nick old new
+Leaves room nick old new = Sets (is_in room nick) nick None old new
 
 -- a client that is a user listens wherever its user is, or nowhere any more
 abbrev pub IsListenerSeated : Room → ℕ → Client → Lists → Lists → Type 0
