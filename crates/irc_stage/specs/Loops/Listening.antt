@@ -11,6 +11,7 @@ use Rattle.irc_channels.specs.Channels.{has_member}
 use Rattle.irc_modes.specs.Modes.{is_nil}
 use Rattle.irc_room.specs.effect.Effect.{Effect}
 use Rattle.irc_room.specs.effect.Effect.TheVariants.{Rename, Quit, Join, Part, Kick, Say}
+use Rattle.irc_room.specs.effect.Target.{Target}
 use Rattle.irc_room.specs.effect.Target.TheVariants.{Channel, User}
 use Rattle.irc_room.specs.Room.{Room}
 use Rattle.irc_stage.specs.declared.clients.Client.{Client}
@@ -26,15 +27,17 @@ conn_as by_nick nick = option_to_list (row by_nick (key nick))
 abbrev pub conns_of : Table ℕ → List (List ℕ) → List ℕ
 conns_of by_nick nicks = flat_map (conn_as by_nick) nicks
 
--- somebody says something in this channel
-abbrev pub IsSaidIn : List ℕ → Effect → Type 0
-IsSaidIn channel (Say who notice (Channel where_to) words) = where_to ≡ channel
-IsSaidIn channel effect = ⊥
+-- somebody says something, to whom or in what this tells
+abbrev pub IsSaid : (Target → Type 0) → Effect → Type 0
+IsSaid IsFor (Say who notice target words) = IsFor target
+IsSaid IsFor effect = ⊥
 
--- somebody says something to this user
+-- in this channel, or to this user
+abbrev pub IsSaidIn : List ℕ → Effect → Type 0
+IsSaidIn channel effect = IsSaid (λ target. target ≡ Channel channel) effect
+
 abbrev pub IsSaidTo : List ℕ → Effect → Type 0
-IsSaidTo nick (Say who notice (User to_whom) words) = to_whom ≡ nick
-IsSaidTo nick effect = ⊥
+IsSaidTo nick effect = IsSaid (λ target. target ≡ User nick) effect
 
 -- ---- what is kept
 
