@@ -1,7 +1,7 @@
 -- Connections that answer by a test of folds are those of the users of whose folds it holds.
 use Rattle.std.proofs.Common.{◌≡◌, ℕ, Bool, true, false, cond, not, ◌&&◌, T, if◌then◌else◌, Option, Some, None, List, [], ◌∷◌, ◌++◌, refl, sym, ◌∙◌, ap, is_some, map, filter, option_to_list}
 use Rattle.std.proofs.lemmas.Bool.{eq-eqb, eqb-true}
-use Rattle.std.specs.List.{AllByRecursion, flat_map}
+use Rattle.std.specs.List.{AllByRecursion}
 use Rattle.std.specs.Option.{option_and_then, option_map_or}
 use Rattle.std.specs.Ordering.{is_lt}
 use Rattle.std.specs.Cmp.Lexicographic.{bytes_decides, nat_list_cmp_total}
@@ -21,7 +21,7 @@ use Rattle.irc_room.specs.Laws.{no_room}
 use Rattle.irc_room.specs.Lemmas.ViewerLaws.{both_true}
 use Rattle.irc_stage.specs.declared.clients.Client.TheVariants.{Registered}
 use Rattle.irc_stage.specs.RoomMachine.{Clients}
-use Rattle.irc_stage.specs.Lemmas.Matching.{key_by_same, named_is, same_by_key}
+use Rattle.irc_stage.specs.Lemmas.Matching.{named_is}
 use Rattle.irc_stage.specs.Loops.Hearing.{conns_who, is_nick_of}
 use Rattle.irc_stage.specs.Loops.Listening.{Conns, Lists, conn_in, conns_in, conns_of, kept_at, AreSo}
 use Rattle.irc_stage.specs.Loops.Stage.{IsIndex}

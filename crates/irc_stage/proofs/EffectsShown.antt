@@ -1,5 +1,5 @@
 -- An effect at a server: its line goes to those that hear it, and the room machine is the one after it.
-use Rattle.std.proofs.Common.{◌≡◌, ℕ, Bool, true, false, not, ◌&&◌, Option, Some, None, List, [], ◌∷◌, ◌++◌, refl, sym, ◌∙◌, ap, subst, append-nil, filter, if◌then◌else◌}
+use Rattle.std.proofs.Common.{◌≡◌, ℕ, Bool, true, not, Option, Some, List, [], ◌∷◌, ◌++◌, refl, sym, ◌∙◌, ap, subst, filter}
 use Rattle.std.specs.List.{flat_map, list_all}
 use Rattle.arrayvec.specs.ArrayVec.{ArrayVec}
 use Rattle.irc_names.specs.Fold.{key}
@@ -10,11 +10,11 @@ use Rattle.irc_room.specs.effect.Effect.TheVariants.{AddUser, Rename, Quit, Join
 use Rattle.irc_room.specs.effect.Target.{Target}
 use Rattle.irc_room.specs.effect.Target.TheVariants.{User, Channel}
 use Rattle.irc_room.specs.After.{after}
-use Rattle.irc_room.specs.Applying.{Kept, ShowsHere}
+use Rattle.irc_room.specs.Applying.{Kept}
 use Rattle.irc_room.specs.Effects.{has_user, needs_users, IsPossible}
 use Rattle.irc_room.specs.Room.{Room, IsWellFormed}
 use Rattle.irc_room.specs.Seen.{seen, shown_line}
-use Rattle.irc_batch.specs.Batches.{Batch, Sent, batch_of, is_number, line_to, put_out_all, to_others}
+use Rattle.irc_batch.specs.Batches.{Batch, Sent, batch_of, is_number, line_to}
 use Rattle.irc_links.specs.Loops.Branching.{KnowsNothing}
 use Rattle.irc_links.specs.declared.ways.Ways.{Ways}
 use Rattle.irc_stage.specs.declared.clients.ClientTable.{ClientTable}
@@ -22,10 +22,10 @@ use Rattle.irc_stage.specs.declared.origin.Origin.{Origin}
 use Rattle.irc_stage.specs.declared.stage.Stage.{Stage}
 use Rattle.irc_stage.specs.RoomMachine.{Clients, RoomMachine}
 use Rattle.irc_stage.specs.Handle.{clients_after, machine_after, to_viewer, with_effect}
-use Rattle.irc_stage.specs.Loops.Hearing.{conns_who, hearers, is_nick_of, line_of, sees_fold, to_each, IsLineOf, SendsTo}
+use Rattle.irc_stage.specs.Loops.Hearing.{hearers, line_of, sees_fold, to_each, IsLineOf, SendsTo}
 use Rattle.irc_stage.specs.Loops.Listening.{Lists, conn_as, conns_at, index_after, is_in, AreSo, IsSaid, IsSaidIn, IsSaidTo}
 use Rattle.irc_stage.specs.Loops.Speaking.{conn_of, IsSpoken}
-use Rattle.irc_stage.specs.Loops.Stage.{clients_of, machine_at, so_far, IsFit, IsIndex, IsIndexed, IsReady, IsSound, ShowsTo}
+use Rattle.irc_stage.specs.Loops.Stage.{clients_of, machine_at, so_far, IsFit, IsIndex, IsIndexed, IsReady, IsSound}
 use Rattle.irc_stage.proofs.Conns.{but_one, nick_is}
 use Rattle.irc_stage.proofs.Followed.{so_in}
 use Rattle.irc_stage.proofs.HeardLines.{heard_out, sent}

@@ -1,9 +1,9 @@
 -- Whom the lists of those that listen give: the connections of the users that see an effect.
-use Rattle.std.proofs.Common.{◌≡◌, ℕ, Bool, true, false, cond, not, ◌&&◌, ◌||◌, if◌then◌else◌, Option, Some, None, List, [], ◌∷◌, ◌++◌, refl, sym, ◌∙◌, ap, is_some, map, filter, option_to_list, append-nil, arith, ◌==◌, ◌≤◌, ◌<◌, length, slice_index_or}
+use Rattle.std.proofs.Common.{◌≡◌, ℕ, Bool, true, false, cond, not, ◌&&◌, ◌||◌, if◌then◌else◌, Option, Some, None, List, [], ◌∷◌, refl, sym, ◌∙◌, ap, is_some, map, filter, option_to_list, append-nil, arith, ◌==◌, ◌≤◌, ◌<◌, length, slice_index_or}
 use Rattle.std.proofs.lemmas.Bool.Decides.{nat_tests}
 use Rattle.std.specs.List.{AllByRecursion, list_any}
 use Rattle.std.specs.Option.{option_map_or}
-use Rattle.std.specs.FinMap.{empty, entries, entries_sorted, find, get-empty, get-entries, values}
+use Rattle.std.specs.FinMap.{empty, entries, entries_sorted, get-empty, get-entries, values}
 use Rattle.irc_names.specs.Fold.{key}
 use Rattle.irc_names.specs.Tables.{Table, fold_cmp, row, alter}
 use Rattle.irc_names.specs.TableLaws.{same_fold, same_fold-refl, one_fold, row-alter, row-keys}
@@ -15,14 +15,14 @@ use Rattle.irc_channels.specs.Channels.{has_member}
 use Rattle.irc_room.specs.effect.Effect.{Effect}
 use Rattle.irc_room.specs.effect.Effect.TheVariants.{AddUser, Rename, Quit, Join, Part, Kick, ChangeModes, SetTopic, Say, Invite, UserMode}
 use Rattle.irc_room.specs.After.{after}
-use Rattle.irc_room.specs.Effects.{has_user, IsPossible}
+use Rattle.irc_room.specs.Effects.{has_user}
 use Rattle.irc_room.specs.Readers.{names_of}
 use Rattle.irc_room.specs.Room.{Room, IsWellFormed}
 use Rattle.irc_stage.specs.RoomMachine.{Clients}
 use Rattle.irc_stage.specs.Loops.Hearing.{conns_who, hearers, is_beside, is_nick_of, with_conns, with_lists, IsUnseen, SendsTo}
-use Rattle.irc_stage.specs.Loops.Listening.{Conns, Lists, conn_as, conn_in, conns_at, conns_in, conns_of, folds_of, is_in, is_named, kept_at, AreSo}
+use Rattle.irc_stage.specs.Loops.Listening.{Conns, Lists, conn_as, conn_in, conns_at, conns_in, conns_of, folds_of, is_in, is_named, AreSo}
 use Rattle.irc_stage.specs.Loops.Stage.{IsIndex}
-use Rattle.irc_stage.proofs.Conns.{but_one, conns_alike, each_entry, heard_if, in_list, in_order, in_table, is_nick, nick_as_fold, nick_is, OnlyUsers}
+use Rattle.irc_stage.proofs.Conns.{but_one, conns_alike, each_entry, in_list, in_order, in_table, nick_as_fold, nick_is, OnlyUsers}
 use Rattle.irc_stage.proofs.ListsKept.{named_in}
 use Rattle.irc_stage.proofs.Memberships.{joins}
 

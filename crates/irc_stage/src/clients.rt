@@ -1,5 +1,5 @@
 //! The clients of a server, each under the number of its connection.
-ghost use Rattle.std.specs.Prelude.{◌≡◌, ℕ, List, Option, Some, Result, IfOk, OnOk};
+ghost use Rattle.std.specs.Prelude.{◌≡◌, Option, Some, Result, IfOk, OnOk};
 ghost use Rattle.std.specs.FinMap.{empty, get, insert, remove};
 ghost use Rattle.std.specs.Option.{option_copied};
 ghost use Rattle.irc_names.specs.Fold.{key};

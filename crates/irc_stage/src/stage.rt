@@ -1,9 +1,8 @@
 //! One server while an event is handled: what each step of a decision does to it, and what it puts out.
-ghost use Rattle.std.specs.Prelude.{◌≡◌, None, [], ◌∷◌, ◌++◌, find, OnOk, IfOk};
+ghost use Rattle.std.specs.Prelude.{◌≡◌, None, [], ◌∷◌, ◌++◌, find, OnOk};
 ghost use Rattle.std.specs.Option.{option_copied};
 ghost use Rattle.irc_room.specs.After.{after};
 ghost use Rattle.irc_room.specs.Effects.{IsPossible};
-ghost use Rattle.irc_room.specs.Laws.{no_room};
 ghost use Rattle.irc_routes.specs.Known.{others};
 ghost use Rattle.irc_batch.specs.Growing.{Grew};
 ghost use Rattle.irc_line.specs.MessageViews.{optional_now};

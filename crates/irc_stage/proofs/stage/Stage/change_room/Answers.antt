@@ -1,4 +1,3 @@
-use Rattle.std.proofs.Common.{refl}
 use Rattle.irc_stage.specs.Loops.Stage.{clients_of}
 use Rattle.irc_stage.specs.Lemmas.Outcomes.{both_ok, on_ok}
 use Rattle.irc_stage.proofs.EffectsShown.{effect_applied, ready_after}

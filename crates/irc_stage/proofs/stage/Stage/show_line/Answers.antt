@@ -1,6 +1,6 @@
 use Rattle.std.proofs.Common.{Some, None, ◌++◌, ◌∙◌, ap, append-nil, sym, if◌then◌else◌}
 use Rattle.irc_stage.specs.Loops.Hearing.{hearers}
-use Rattle.irc_stage.specs.Loops.Stage.{clients_of, machine_at}
+use Rattle.irc_stage.specs.Loops.Stage.{clients_of}
 use Rattle.irc_stage.specs.Lemmas.Outcomes.{on_ok}
 use Rattle.irc_stage.proofs.EffectsShown.{put_to_each, shown_to_hearers}
 use Rattle.irc_stage.proofs.Followed.{brings_none}
