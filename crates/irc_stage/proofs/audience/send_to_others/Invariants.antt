@@ -1,7 +1,7 @@
 use Rattle.std.proofs.Common.{◌≡◌, ◌++◌, drop, map}
 use Rattle.irc_batch.specs.Batches.{to_others}
 use Rattle.irc_batch.specs.Growing.{Grew}
-use Rattle.irc_stage.proofs.listeners.send_to_others.Given as goal
+use Rattle.irc_stage.proofs.audience.send_to_others.Given as goal
 
 -- what was put out so far, with the lines to those behind, is all
 abbrev pub invariant-loop-row : goal.invariant-loop-row
