@@ -87,3 +87,7 @@ module _ (seats : Slab (Box User)) (heads : Table Head) (roster : IsRoster seats
 
   pub seats_full : list_all (is_sat seats) (values heads) ≡ true
   seats_full = all_sat seats (entries heads) (is_so (is_sorted fold_cmp (entries heads)) (entries_sorted heads)) (λ q h is. seat_full q h (get-entries heads q ∙ is))
+
+  -- so there is in those that a walk over all heads begins with
+  pub rest_full : (rest : List Head) → rest ≡ values heads → list_all (is_sat seats) rest ≡ true
+  rest_full rest all = ap (list_all (is_sat seats)) all ∙ seats_full

@@ -301,6 +301,7 @@ fn homed_count(seats: &Slab<Box<User, Global>>, heads: &NameMap<Head>, home: &Se
     requires { IsRoster seats.now heads.now }
     ensures { result ≡ length (filter (is_home home.now) (map (sitter seats.now) (values heads.now))) }
 {
+    // what a table has is no more than a number holds, which its length tells the proof
     heads.len();
     let mut count = 0;
     for head in heads.values() {

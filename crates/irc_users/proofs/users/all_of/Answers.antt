@@ -1,9 +1,8 @@
-use Rattle.std.proofs.Common.{◌≡◌, ◌∙◌, ◌++◌, List, ap, map, sym, subst, true}
+use Rattle.std.proofs.Common.{◌∙◌, ◌++◌, List, ap, map}
 use Rattle.std.specs.Borrow.{Bor}
-use Rattle.std.specs.List.{list_all}
 use Rattle.irc_users.specs.declared.user.User.{User}
 use Rattle.irc_users.specs.Rosters.{sitter}
-use Rattle.irc_users.proofs.Heads.{is_sat, seats_full}
+use Rattle.irc_users.proofs.Heads.{rest_full}
 use Rattle.irc_users.proofs.users.all_of.Goals as goal
 
 pub loop-head-init : goal.loop-head-init
@@ -13,7 +12,7 @@ loop-head-init c =
       found =
           ap (λ (users : List (Bor User)). map (λ user. user.now) users ++ map (sitter c.args.seats.now) c.into_iter-head-iterator.result) c.new-found.ensures.items
           ∙ ap (λ hs. map (sitter c.args.seats.now) hs) all;
-      sat = subst (λ hs. list_all (is_sat c.args.seats.now) hs ≡ true) (sym all) (seats_full c.args.seats.now c.args.heads.now c.requires);
+      sat = rest_full c.args.seats.now c.args.heads.now c.requires c.into_iter-head-iterator.result all;
       more = tt;
       ends = tt;
     }

@@ -1,15 +1,13 @@
-use Rattle.std.proofs.Common.{◌≡◌, ◌++◌, filter, map, true}
-use Rattle.std.specs.FinMap.{values}
+use Rattle.std.proofs.Common.{◌≡◌, true}
 use Rattle.std.specs.List.{list_all}
-use Rattle.irc_users.specs.Rosters.{sitter}
 use Rattle.irc_users.specs.UserTable.{is_home}
+use Rattle.irc_users.proofs.Finding.{AreFoundSoFar}
 use Rattle.irc_users.proofs.Heads.{is_sat}
 use Rattle.irc_users.proofs.users.homed_at.Given as goal
 
 abbrev pub invariant-loop-head : goal.invariant-loop-head
 invariant-loop-head l = record {
-  found : map (λ user. user.now) l.found.items ++ filter (is_home l.home) (map (sitter l.seats) l.head-iterator)
-      ≡ filter (is_home l.home) (map (sitter l.seats) (values l.heads));
+  found : AreFoundSoFar (is_home l.home) l.seats l.heads l.found.items l.head-iterator;
   sat : list_all (is_sat l.seats) l.head-iterator ≡ true;
   more : (goal.iterator-loop-head).can_next l.head-iterator;
   ends : (goal.iterator-loop-head).is_finite l.head-iterator;

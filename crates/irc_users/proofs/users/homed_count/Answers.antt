@@ -1,9 +1,8 @@
-use Rattle.std.proofs.Common.{◌≡◌, ◌∙◌, List, ap, arith, filter, length, map, sym, subst, true}
-use Rattle.std.specs.List.{list_all}
+use Rattle.std.proofs.Common.{◌∙◌, List, ap, arith, filter, length, map}
 use Rattle.irc_users.specs.declared.users.Head.{Head}
 use Rattle.irc_users.specs.Rosters.{sitter}
 use Rattle.irc_users.specs.UserTable.{is_home}
-use Rattle.irc_users.proofs.Heads.{is_sat, seats_full, counted}
+use Rattle.irc_users.proofs.Heads.{rest_full, counted}
 use Rattle.irc_users.proofs.users.homed_count.Goals as goal
 
 pub loop-head-init : goal.loop-head-init
@@ -12,7 +11,7 @@ loop-head-init c =
     record {
       counted = omega (arith, ap (λ hs. length (filter (is_home c.args.home.now) (map (sitter c.args.seats.now) hs))) all);
       fits = omega (arith, ap length all);
-      sat = subst (λ hs. list_all (is_sat c.args.seats.now) hs ≡ true) (sym all) (seats_full c.args.seats.now c.args.heads.now c.requires);
+      sat = rest_full c.args.seats.now c.args.heads.now c.requires c.into_iter-head-iterator.result all;
       more = tt;
       ends = tt;
     }
