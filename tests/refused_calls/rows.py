@@ -16,7 +16,10 @@ def of_tables():
 
     add("table_insert n{at} {at}", "table_insert new 7")
     add("map_insert n{letter} {at}", "map_insert nz 7", most=24)
-    add("user_add n{at}", "user_add new")
+    add("user_add n{letter}", "user_add new", most=24)
+    # a user moves in the tree of nicknames, which wants memory where its new place is in a leaf that is full
+    for size in range(1, 25):
+        rows.append(("same", "tables", [f"user_add n{letter}" for letter in LETTERS[:size]], "user_rename na new"))
     for call in ("in_order", "by_home a.net", "matching n*"):
         add("user_add n{at}", call)
     for setup in ("channels_join n{at} #c", "channels_join al #c{at}"):
@@ -75,7 +78,7 @@ IDLE = ["join al #c op", "part ee #c :x", "kick al #c ee :x"]
 def of_rooms():
     rows = [("room", "hall", HALL, f"apply {effect}") for effect in EFFECTS]
     rows += [("none", "hall", HALL, f"apply {effect}") for effect in IDLE]
-    for size in range(10):
+    for size in range(25):
         many = [f"apply user n{at} a.net" for at in range(size)]
         rows.append(("room", "hall", many, "apply user new a.net"))
         in_channel = many + [f"apply join n{at} #c" for at in range(size)]

@@ -1,4 +1,5 @@
--- The entries of a list are served one after another: each by the room as the entries before it have left it.
+-- The entries of a list are served one after another: each by the room as the entries before it
+-- have left it.
 use Rattle.std.specs.Prelude.{◌≡◌, ℕ, Option, List, [], ◌∷◌, ◌++◌}
 use Rattle.std.specs.Borrow.{Bor}
 use Rattle.std.specs.Option.{option_copied, option_map}
@@ -20,8 +21,11 @@ channel_ahead room acts name = row (ahead room acts).channels (key name)
 
 -- a channel is found where another is there, and has the name of that one
 abbrev pub IsNamedAs : Option (Bor Channel) → Option Channel → Type 0
-IsNamedAs found other = option_map (λ (c : Channel). c.name) (option_copied found) ≡ option_map (λ (c : Channel). c.name) other
+IsNamedAs found other =
+    option_map (λ (c : Channel). c.name) (option_copied found)
+    ≡ option_map (λ (c : Channel). c.name) other
 
 abbrev pub in_turn : {E : Type 0} → (Room → E → List Act) → Room → List E → List Act
 in_turn serve room [] = []
-in_turn serve room (entry ∷ entries) = serve room entry ++ in_turn serve (ahead room (serve room entry)) entries
+in_turn serve room (entry ∷ entries) =
+    serve room entry ++ in_turn serve (ahead room (serve room entry)) entries

@@ -17,14 +17,17 @@ use Rattle.irc_acts.specs.Words.{reason_given}
 -- ---- bytes of names
 
 -- a byte that a rule takes is none of those that it refuses
-is_other : (allows : ℕ → Bool) (refused : ℕ) → allows refused ≡ false → (b : ℕ) → allows b ≡ true → nat_eq b refused ≡ false
+is_other : (allows : ℕ → Bool) (refused : ℕ) → allows refused ≡ false → (b : ℕ) → allows b ≡ true
+    → nat_eq b refused ≡ false
 is_other allows refused not_so b so = by (nat_eq b refused) refl
   where
     by : (test : Bool) → nat_eq b refused ≡ test → test ≡ false
-    by true is = let clash : true ≡ false = sym so ∙ ap allows (eqb-true b refused is) ∙ not_so in cc
+    by true is =
+        let clash : true ≡ false = sym so ∙ ap allows (eqb-true b refused is) ∙ not_so in cc
     by false is = refl
 
-module _ (allows : ℕ → Bool) (no_nul : allows 0 ≡ false) (no_return : allows 13 ≡ false) (no_feed : allows 10 ≡ false) where
+module _ (allows : ℕ → Bool) (no_nul : allows 0 ≡ false) (no_return : allows 13 ≡ false)
+    (no_feed : allows 10 ≡ false) where
   one_carried : (b : ℕ) → allows b ≡ true → is_carried_byte b ≡ true
   one_carried b so =
       ap (λ t. not (t || is_line_end b)) (is_other allows 0 no_nul b so)
@@ -34,7 +37,8 @@ module _ (allows : ℕ → Bool) (no_nul : allows 0 ≡ false) (no_return : allo
   pub all_carried : (bytes : List ℕ) → list_all allows bytes ≡ true → IsCarried bytes
   all_carried [] all = refl
   all_carried (b ∷ bytes) all =
-      ap (λ t. t && is_carried bytes) (one_carried b (first_so (allows b) (list_all allows bytes) all))
+      ap (λ t. t && is_carried bytes)
+      (one_carried b (first_so (allows b) (list_all allows bytes) all))
       ∙ all_carried bytes (second_so (allows b) (list_all allows bytes) all)
 
 pub nick_carried : (bytes : List ℕ) → is_nick bytes ≡ true → IsCarried bytes
@@ -42,15 +46,21 @@ unfolding is_nick
 nick_carried [] is = refl
 nick_carried (first ∷ rest) is =
     let start = λ (b : ℕ). is_ascii_alphabetic b || is_special b in
-    let front = first_so (start first && list_all is_nick_byte rest) (fits max_nick (first ∷ rest)) is in
-    ap (λ t. t && is_carried rest) (one_carried start refl refl refl first (first_so (start first) (list_all is_nick_byte rest) front))
-    ∙ all_carried is_nick_byte refl refl refl rest (second_so (start first) (list_all is_nick_byte rest) front)
+    let front =
+    first_so (start first && list_all is_nick_byte rest) (fits max_nick (first ∷ rest)) is in
+    ap (λ t. t && is_carried rest)
+    (one_carried start refl refl refl first
+    (first_so (start first) (list_all is_nick_byte rest) front))
+    ∙ all_carried is_nick_byte refl refl refl rest
+    (second_so (start first) (list_all is_nick_byte rest) front)
 
 pub key_carried : (bytes : List ℕ) → is_key bytes ≡ true → IsCarried bytes
 unfolding is_key
 key_carried bytes is =
     all_carried is_key_byte refl refl refl bytes
-    (second_so (starts_without_colon bytes) (list_all is_key_byte bytes) (first_so (starts_without_colon bytes && list_all is_key_byte bytes) (fits max_key bytes) is))
+    (second_so (starts_without_colon bytes) (list_all is_key_byte bytes)
+    (first_so (starts_without_colon bytes && list_all is_key_byte bytes) (fits max_key bytes)
+    is))
 
 pub digits_carried : (bytes : List ℕ) → list_all is_ascii_digit bytes ≡ true → IsCarried bytes
 digits_carried = all_carried is_ascii_digit refl refl refl
@@ -69,9 +79,11 @@ front_fits n bytes = let long = length-take n bytes in omega (arith, long)
 
 pub cut_carried : (text : List ℕ) → IsCarried text → IsCarriedText (cut_words text)
 unfolding cut_words
-cut_carried text carried = record { fits = front_fits max_words text; carried = front_carried max_words text carried }
+cut_carried text carried =
+    record { fits = front_fits max_words text; carried = front_carried max_words text carried }
 
-pub reason_carried : (more : List (List ℕ)) (other : List ℕ) → AllByRecursion IsCarried more → IsCarried other → IsCarriedText (reason_given more other)
+pub reason_carried : (more : List (List ℕ)) (other : List ℕ) → AllByRecursion IsCarried more
+    → IsCarried other → IsCarriedText (reason_given more other)
 reason_carried [] other all carried = cut_carried other carried
 reason_carried ([] ∷ more) other all carried = cut_carried other carried
 reason_carried ((b ∷ bytes) ∷ more) other all carried = cut_carried (b ∷ bytes) all.0

@@ -30,4 +30,5 @@ entries list = filter (λ entry. not (is_nil entry)) (pieces list)
 -- the first entry of a list and the list behind it, which is shorter; none where there is no entry
 abbrev pub IsNextEntry : List ℕ → Option (Bor (List ℕ) × Bor (List ℕ)) → Type 0
 IsNextEntry list next =
-    MatchOption next (entries list ≡ []) (λ e. (entries list ≡ e.0.now ∷ entries e.1.now) × (length e.1.now < length list))
+    MatchOption next (entries list ≡ [])
+    (λ e. (entries list ≡ e.0.now ∷ entries e.1.now) × (length e.1.now < length list))

@@ -21,7 +21,8 @@ own_channels room me = filter (has_member (key me.nick)) (values room.channels)
 
 -- how many members the channel with a fold has; one that is not there has none
 abbrev pub members_at : Room → List ℕ → ℕ
-members_at room fold = option_map_or (λ (channel : Channel). length (keys channel.members)) (row room.channels fold) 0
+members_at room fold =
+    option_map_or (λ (channel : Channel). length (keys channel.members)) (row room.channels fold) 0
 
 -- who joins is no member yet, and who leaves or is kicked is one
 abbrev pub IsMove : Room → Effect → Type 0

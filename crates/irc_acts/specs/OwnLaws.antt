@@ -29,7 +29,8 @@ abbrev pub IsSaid : User → Room → Act → Type 0
 IsSaid me room (Do effect) = LeavesRoom me room effect
 IsSaid me room act = ⊤
 
-pub said_own : (me : User) (room : Room) (acts : List Act) → AllByRecursion (IsSaid me room) acts → AreOwn me room acts
+pub said_own : (me : User) (room : Room) (acts : List Act) → AllByRecursion (IsSaid me room) acts
+    → AreOwn me room acts
 said_own me room [] all = tt
 said_own me room (Answer reply ∷ acts) all = said_own me room acts all.1
 said_own me room (Raw line ∷ acts) all = said_own me room acts all.1
@@ -41,21 +42,30 @@ said_own me room (Do effect ∷ acts) all = record {
 -- Such steps can be done by a user that is there.
 
 -- a user, or a channel, that is found is there under its own name
-pub stored_there : (room : Room) → IsWellFormed room → (fold : List ℕ) (found : User) → row room.users fold ≡ Some found → has_user room found.nick ≡ true
-stored_there room well fold found is = ap is_some (ap (row room.users) (well.users_named fold found is) ∙ is)
+pub stored_there : (room : Room) → IsWellFormed room → (fold : List ℕ) (found : User)
+    → row room.users fold ≡ Some found → has_user room found.nick ≡ true
+stored_there room well fold found is =
+    ap is_some (ap (row room.users) (well.users_named fold found is) ∙ is)
 
-channel_there : (room : Room) → IsWellFormed room → (fold : List ℕ) (found : Channel) → row room.channels fold ≡ Some found → has_channel room found.name ≡ true
-channel_there room well fold found is = ap is_some (ap (row room.channels) ((well.channels_sound fold found is).named) ∙ is)
+channel_there : (room : Room) → IsWellFormed room → (fold : List ℕ) (found : Channel)
+    → row room.channels fold ≡ Some found → has_channel room found.name ≡ true
+channel_there room well fold found is =
+    ap is_some (ap (row room.channels) ((well.channels_sound fold found is).named) ∙ is)
 
-pub one_there : (room : Room) (nick : List ℕ) → has_user room nick ≡ true → list_all (has_user room) (nick ∷ []) ≡ true
+pub one_there : (room : Room) (nick : List ℕ) → has_user room nick ≡ true
+    → list_all (has_user room) (nick ∷ []) ≡ true
 one_there room nick there = ap (λ b. b && true) there
 
-two_there : (room : Room) (nick other : List ℕ) → has_user room nick ≡ true → has_user room other ≡ true → list_all (has_user room) (nick ∷ other ∷ []) ≡ true
-two_there room nick other there other_there = ap (λ b. b && (has_user room other && true)) there ∙ one_there room other other_there
+two_there : (room : Room) (nick other : List ℕ) → has_user room nick ≡ true
+    → has_user room other ≡ true → list_all (has_user room) (nick ∷ other ∷ []) ≡ true
+two_there room nick other there other_there =
+    ap (λ b. b && (has_user room other && true)) there ∙ one_there room other other_there
 
-pub own_possible : (me : User) (room : Room) (effect : Effect) → IsWellFormed room → has_user room me.nick ≡ true → IsOwn me room effect → IsPossible room effect
+pub own_possible : (me : User) (room : Room) (effect : Effect) → IsWellFormed room
+    → has_user room me.nick ≡ true → IsOwn me room effect → IsPossible room effect
 own_possible me room effect well there (to_user name other notice words is) = record {
-  users_there = two_there room me.nick other.nick there (stored_there room well (key name) other is);
+  users_there =
+      two_there room me.nick other.nick there (stored_there room well (key name) other is);
   channel_there = refl;
   nick_free = refl;
 }
@@ -64,7 +74,8 @@ own_possible me room effect well there (to_channel name channel notice words is)
   channel_there = channel_there room well (key name) channel is;
   nick_free = refl;
 }
-own_possible me room effect well there (makes name named none) = record { users_there = one_there room me.nick there; channel_there = refl; nick_free = refl }
+own_possible me room effect well there (makes name named none) =
+    record { users_there = one_there room me.nick there; channel_there = refl; nick_free = refl }
 own_possible me room effect well there (enters name channel is outside) =
     record { users_there = one_there room me.nick there; channel_there = refl; nick_free = refl }
 own_possible me room effect well there (parts name text channel is member) = record {
@@ -77,13 +88,16 @@ own_possible me room effect well there (sets_topic name text channel is) = recor
   channel_there = channel_there room well (key name) channel is;
   nick_free = refl;
 }
-own_possible me room effect well there (kicks name nick text channel other is member known) = record {
-  users_there = two_there room me.nick other.nick there (stored_there room well (key nick) other known);
-  channel_there = channel_there room well (key name) channel is;
-  nick_free = refl;
-}
+own_possible me room effect well there (kicks name nick text channel other is member known) =
+    record {
+      users_there =
+          two_there room me.nick other.nick there (stored_there room well (key nick) other known);
+      channel_there = channel_there room well (key name) channel is;
+      nick_free = refl;
+    }
 own_possible me room effect well there (invites nick name other is named) = record {
-  users_there = two_there room me.nick other.nick there (stored_there room well (key nick) other is);
+  users_there =
+      two_there room me.nick other.nick there (stored_there room well (key nick) other is);
   channel_there = refl;
   nick_free = refl;
 }
@@ -92,7 +106,8 @@ own_possible me room effect well there (changes_modes name changes channel is) =
   channel_there = channel_there room well (key name) channel is;
   nick_free = refl;
 }
-own_possible me room effect well there (sets_user_mode invisible) = record { users_there = one_there room me.nick there; channel_there = refl; nick_free = refl }
+own_possible me room effect well there (sets_user_mode invisible) =
+    record { users_there = one_there room me.nick there; channel_there = refl; nick_free = refl }
 
 -- who is a user stays one, and nobody else becomes one
 own_stays : (me : User) (room : Room) (effect : Effect) → IsOwn me room effect → (fold : List ℕ)
@@ -107,12 +122,16 @@ own_stays me room effect (sets_topic name text channel is) fold = refl
 own_stays me room effect (kicks name nick text channel other is member known) fold = refl
 own_stays me room effect (invites nick name other is named) fold = refl
 own_stays me room effect (changes_modes name changes channel is) fold = refl
-own_stays me room effect (sets_user_mode invisible) fold = same_rows (key me.nick) (with_invisible invisible) room.users fold
+own_stays me room effect (sets_user_mode invisible) fold =
+    same_rows (key me.nick) (with_invisible invisible) room.users fold
 
--- What own effects are in any well-formed room in which the user is there, each of some is in its turn.
+-- What own effects are in any well-formed room in which the user is there, each of some is in its
+-- turn.
 pub own_in_turn : (me : User) (Q : Room → Effect → Type 0)
-    → ((room : Room) (effect : Effect) → IsWellFormed room → has_user room me.nick ≡ true → IsOwn me room effect → Q room effect)
-    → (room : Room) (effects : List Effect) → IsWellFormed room → has_user room me.nick ≡ true → EachInTurn (IsOwn me) room effects → EachInTurn Q room effects
+    → ((room : Room) (effect : Effect) → IsWellFormed room → has_user room me.nick ≡ true
+    → IsOwn me room effect → Q room effect)
+    → (room : Room) (effects : List Effect) → IsWellFormed room → has_user room me.nick ≡ true
+    → EachInTurn (IsOwn me) room effects → EachInTurn Q room effects
 own_in_turn me Q so room [] well there own = tt
 own_in_turn me Q so room (effect ∷ effects) well there own = record {
   now = so room effect well there own.now;
@@ -121,6 +140,8 @@ own_in_turn me Q so room (effect ∷ effects) well there own = record {
       (own_stays me room effect own.now (key me.nick) ∙ there) own.later;
 }
 
-pub own_are_possible : (me : User) (room : Room) (acts : List Act) → IsWellFormed room → has_user room me.nick ≡ true → AreOwn me room acts
+pub own_are_possible : (me : User) (room : Room) (acts : List Act) → IsWellFormed room
+    → has_user room me.nick ≡ true → AreOwn me room acts
     → ArePossible room acts
-own_are_possible me room acts = own_in_turn me IsPossible (own_possible me) room (effects_among acts)
+own_are_possible me room acts =
+    own_in_turn me IsPossible (own_possible me) room (effects_among acts)

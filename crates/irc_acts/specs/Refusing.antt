@@ -1,4 +1,5 @@
--- A command that has several refusals: a table of conditions, each with its reply. The first that holds is answered, and nothing is done.
+-- A command that has several refusals: a table of conditions, each with its reply. The first that
+-- holds is answered, and nothing is done.
 use Rattle.std.specs.Prelude.{Bool, Option, Some, None, List, [], ◌∷◌, if◌then◌else◌}
 use Rattle.irc_numerics.specs.declared.replies.Reply.{Reply}
 use Rattle.irc_acts.specs.declared.act.Act.{Act}

@@ -1,4 +1,5 @@
--- What is decided can be sent: each server that reads the line that tells of an effect gets just this effect (RFC 2813 section 4).
+-- What is decided can be sent: each server that reads the line that tells of an effect gets just
+-- this effect (RFC 2813 section 4).
 use Rattle.std.specs.Prelude.{ℕ, ◌≤◌, ⊤, Bool, List, length}
 use Rattle.std.specs.List.{AllByRecursion}
 use Rattle.std.specs.Option.{IfSome}
@@ -26,9 +27,11 @@ AreSendable room acts = EachInTurn IsSendable room (effects_among acts)
 -- ---- what such an effect carries beside the names of who is there
 
 -- a text that is so short that its line is cut nowhere
-pub record IsShortText (room : Room) (by : List ℕ) (notice : Bool) (to : Target) (text : List ℕ) : Type 0 where
+pub record IsShortText (room : Room) (by : List ℕ) (notice : Bool) (to : Target)
+    (text : List ℕ) : Type 0 where
   pub text_carried : IsCarried text
-  pub line_fits : IfSome (row room.users (key by)) (λ user. length (joined_text (said_parts user notice to text)) ≤ max_line)
+  pub line_fits : IfSome (row room.users (key by))
+      (λ user. length (joined_text (said_parts user notice to text)) ≤ max_line)
 
 -- changes that are read again as they are written
 pub record AreSentWhole (room : Room) (changes : List ModeChange) : Type 0 where

@@ -1,4 +1,5 @@
--- How a user stands to a channel: what it is there, whether it is banned, and what it may know of it.
+-- How a user stands to a channel: what it is there, whether it is banned, and what it may know of
+-- it.
 use Rattle.std.specs.Prelude.{ℕ, Bool, true, false, not, ◌||◌, Option, Some, None, List, map, if◌then◌else◌}
 use Rattle.std.specs.Borrow.{Bor}
 use Rattle.std.specs.List.{list_any}
@@ -34,7 +35,8 @@ is_operator (Some flags) = flags.op
 
 -- what a member is shown as: an operator, else a member with voice, else a member
 abbrev pub mark_of : Flags → Mark
-mark_of flags = if flags.op then mark.Operator else (if flags.voice then mark.Voiced else mark.Plain)
+mark_of flags =
+    if flags.op then mark.Operator else (if flags.voice then mark.Voiced else mark.Plain)
 
 -- who may know of a channel (RFC 2811 section 4.2.6)
 abbrev pub visibility_of : Privacy → Visibility
@@ -52,7 +54,8 @@ abbrev pub is_secret : Privacy → Bool
 is_secret privacy.Secret = true
 is_secret other = false
 
--- A channel is listed for its members, and for others where it is neither private nor secret (our own choice, after RFC 2811 section 4.2.6).
+-- A channel is listed for its members, and for others where it is neither private nor secret (our
+-- own choice, after RFC 2811 section 4.2.6).
 abbrev pub is_listed : User → Channel → Bool
 is_listed user channel = has_member (key user.nick) channel || is_public channel.modes.privacy
 
@@ -64,10 +67,13 @@ is_known user channel = has_member (key user.nick) channel || not (is_secret cha
 abbrev pub channels_now : List (Bor (Row Channel)) → List Channel
 channels_now rows = map (λ row. row.now.value) rows
 
--- whether one who is in these channels sees a user: itself, a user without mode i, and who is in one of them
+-- whether one who is in these channels sees a user: itself, a user without mode i, and who is in
+-- one of them
 abbrev pub is_seen_from : List Channel → User → User → Bool
-is_seen_from own me user = same me.nick user.nick || (not user.invisible || list_any (has_member (key user.nick)) own)
+is_seen_from own me user =
+    same me.nick user.nick || (not user.invisible || list_any (has_member (key user.nick)) own)
 
--- A user sees itself, users without mode i, and those that share a channel with it (RFC 2812 section 3.6.1; that it sees itself is our own choice).
+-- A user sees itself, users without mode i, and those that share a channel with it (RFC 2812
+-- section 3.6.1; that it sees itself is our own choice).
 abbrev pub is_seen : Room → User → User → Bool
 is_seen room me user = is_seen_from (own_channels room me) me user

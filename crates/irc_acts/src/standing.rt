@@ -6,7 +6,7 @@ ghost use Rattle.irc_channels.specs.Channels.{has_member};
 ghost use Rattle.irc_acts.specs.Standing.{channels_now, is_banned, is_known, is_listed, is_operator, is_seen_from, mark_of, mask_of, visibility_of};
 
 use arrayvec::ArrayVec;
-use irc_channels::{Channel, Flags};
+use irc_channels::{Channel, Flags, Stored};
 use irc_modes::Privacy;
 use irc_names::{MAX_HOST, MAX_NICK, MAX_USER_NAME, Nick};
 use irc_numerics::{Mark, Visibility};
@@ -69,23 +69,25 @@ pub fn is_known(user: &User, channel: &Channel) -> bool
 
 /// Whether a user is seen by another, whose own channels are given: itself, a user without mode i, and one that is in one of these channels
 /// (RFC 2812 section 3.6.1).
-pub fn is_seen(me: &User, own: &[&Row<Channel>], user: &User) -> bool
+pub fn is_seen(me: &User, own: &[&Row<Stored>], user: &User) -> bool
     ensures { result ≡ is_seen_from (channels_now own.now) me.now user.now }
 {
     me.nick == user.nick || !user.invisible || is_in_one(own, user)
 }
 
 /// Whether a user is in one of some channels.
-fn is_in_one(channels: &[&Row<Channel>], user: &User) -> bool
+fn is_in_one(channels: &[&Row<Stored>], user: &User) -> bool
     ensures { result ≡ list_any (has_member (key user.now.nick)) (channels_now channels.now) }
 {
     is_in_row(channels, &user.nick)
 }
 
-fn is_in_row(channels: &[&Row<Channel>], nick: &Nick) -> bool
+fn is_in_row(channels: &[&Row<Stored>], nick: &Nick) -> bool
     ensures { result ≡ list_any (λ row. has_member (key nick.now) row.now.value) channels.now }
 {
-    channels.iter().any(|row| row.value.has_member(nick))
+    channels
+        .iter()
+        .any(|row| row.value.channel().has_member(nick))
 }
 
 /// Whether a ban of a channel matches a user.

@@ -7,7 +7,7 @@ ghost use Rattle.irc_merge.specs.Agreeing.{agree};
 ghost use Rattle.irc_agreement.specs.Loops.AsTheyAre.{agrees_on, alike_if_left, is_left, survives};
 
 use crate::alike::are_alike;
-use irc_channels::{Channel, Flags};
+use irc_channels::{Channel, Flags, Stored};
 use irc_room::Room;
 use irc_tables::Row;
 
@@ -30,7 +30,7 @@ fn know_well_formed(room: &Room)
 }
 
 /// Whether they agree on each of these channels of the first.
-fn agree_on_all(one: &Room, other: &Room, channels: &[Row<Channel>]) -> bool
+fn agree_on_all(one: &Room, other: &Room, channels: &[Row<Stored>]) -> bool
     ensures { result
         ≡ list_all (λ row. agrees_on one.now.room other.now.room (row_entry row)) channels.now }
 {
@@ -43,11 +43,11 @@ fn agree_on_all(one: &Room, other: &Room, channels: &[Row<Channel>]) -> bool
 }
 
 /// Whether they agree on a channel of the first.
-fn agrees_on(one: &Room, other: &Room, row: &Row<Channel>) -> bool
+fn agrees_on(one: &Room, other: &Room, row: &Row<Stored>) -> bool
     ensures { result ≡ agrees_on one.now.room other.now.room (row_entry row.now) }
 {
     match other.channel(row.name.as_slice()) {
-        Some(there) => alike_if_left(one, other, &row.value, there),
+        Some(there) => alike_if_left(one, other, row.value.channel(), there),
         None => true,
     }
 }

@@ -98,7 +98,7 @@ fn put_listed(steps: &mut Vec<Act, Global>, context: &Context<'_>) -> Result<(),
     ensures { AddsTo result steps.old steps.new (by_room context.now names_steps []) }
 {
     for row in context.room.channels() {
-        put_if_listed(steps, context, &row.value)?;
+        put_if_listed(steps, context, row.value.channel())?;
     }
     put(steps, end_of_names(b"*"))
 }

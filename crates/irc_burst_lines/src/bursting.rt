@@ -12,7 +12,7 @@ ghost use Rattle.irc_burst_lines.specs.Loops.Telling.{AreLines, Gains, Tells, ch
 use crate::njoin_line::Member;
 use crate::server_lines::server_text;
 use crate::telling::{put, tell_channel};
-use irc_channels::{Channel, Flags};
+use irc_channels::{Channel, Flags, Stored};
 use irc_line::Text;
 use irc_link_writer::write_effect;
 use irc_names::ServerName;
@@ -124,12 +124,12 @@ fn tell_each_channel(
     room: &Room,
     routes: &Routes,
     link: u64,
-    channels: &[Row<Channel>],
+    channels: &[Row<Stored>],
 ) -> Result<(), AllocError>
     ensures { OnOk result (Tells (rows_told routes.now link room.now.room channels.now) lines.old lines.new) }
 {
     for row in channels {
-        tell_one_channel(lines, room, routes, link, &row.value)?;
+        tell_one_channel(lines, room, routes, link, row.value.channel())?;
     }
     Ok(())
 }

@@ -16,6 +16,7 @@ use crate::row_changes::{
     Changing, Forgetting, Inviting, Joining, Leaving, Renaming, Respelling, TopicSetting,
     Uninviting,
 };
+use crate::stored::Stored;
 use crate::words::Words;
 use irc_modes::ModeChange;
 use irc_names::{ChannelName, Nick};
@@ -27,7 +28,7 @@ use std::marker::Model;
 #[derive(Drop)]
 pub struct Channels {
     alloc: Global,
-    rows: NameTable<Channel>,
+    rows: NameTable<Stored>,
 }
 
 /// In a clause it is the table of its channels, each under the fold of its name.
@@ -60,11 +61,14 @@ impl Channels {
     pub fn find(&self, name: &[u8]) -> Option<&Channel>
         ensures { option_copied result ≡ row self.now (key name.now) }
     {
-        self.rows.get(name)
+        match self.rows.get(name) {
+            Some(stored) => Some(stored.channel()),
+            None => None,
+        }
     }
 
     /// The row of a channel's name, if there is such a channel.
-    pub fn find_row(&self, name: &[u8]) -> Option<&Row<Channel>>
+    pub fn find_row(&self, name: &[u8]) -> Option<&Row<Stored>>
         ensures { option_map row_entry (option_copied result) ≡ entry_at self.now name.now }
     {
         self.rows.get_row(name)
@@ -78,7 +82,7 @@ impl Channels {
     }
 
     /// All channels, in folded order of their names.
-    pub fn as_slice(&self) -> &[Row<Channel>]
+    pub fn as_slice(&self) -> &[Row<Stored>]
         ensures { map row_entry result.now ≡ entries self.now }
     {
         self.rows.as_slice()
@@ -116,7 +120,8 @@ impl Channels {
         }
         let mut made = Channel::new(self.alloc, channel);
         made.join(nick, op)?;
-        self.rows.insert(channel.as_bytes(), made)?;
+        let stored = Stored::new(self.alloc, made)?;
+        self.rows.insert(channel.as_bytes(), stored)?;
         Ok(())
     }
 

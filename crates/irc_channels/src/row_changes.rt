@@ -3,7 +3,7 @@ ghost use Rattle.std.specs.Prelude.{Some};
 ghost use Rattle.irc_names.specs.Fold.{key};
 ghost use Rattle.irc_channels.specs.Channels.{adds_none, has_member, is_invited, joined, left, without_user, renamed, invited_too, uninvited, with_topic, respelled, all_changed};
 
-use crate::channel::Channel;
+use crate::stored::Stored;
 use crate::words::Words;
 use irc_modes::ModeChange;
 use irc_names::{ChannelName, Nick};
@@ -17,13 +17,13 @@ pub(crate) struct Joining<'a> {
     pub op: bool,
 }
 
-impl<'a> RowAttempt<Channel> for Joining<'a> {
+impl<'a> RowAttempt<Stored> for Joining<'a> {
     ghost tried = { λ joining channel. joined (key joining.nick.now) joining.op channel };
 
     ghost surely = { λ joining channel. has_member (key joining.nick.now) channel };
 
-    fn attempt(&self, channel: &mut Channel) -> Result<(), AllocError> {
-        channel.join(self.nick, self.op)
+    fn attempt(&self, stored: &mut Stored) -> Result<(), AllocError> {
+        stored.channel.join(self.nick, self.op)
     }
 }
 
@@ -33,11 +33,11 @@ pub(crate) struct Leaving<'a> {
     pub nick: &'a Nick,
 }
 
-impl<'a> RowChange<Channel> for Leaving<'a> {
+impl<'a> RowChange<Stored> for Leaving<'a> {
     ghost changed = { λ leaving channel. left (key leaving.nick.now) channel };
 
-    fn change(&self, channel: &mut Channel) -> bool {
-        channel.leave(self.nick)
+    fn change(&self, stored: &mut Stored) -> bool {
+        stored.channel.leave(self.nick)
     }
 }
 
@@ -47,11 +47,11 @@ pub(crate) struct Forgetting<'a> {
     pub nick: &'a Nick,
 }
 
-impl<'a> RowChange<Channel> for Forgetting<'a> {
+impl<'a> RowChange<Stored> for Forgetting<'a> {
     ghost changed = { λ forgetting channel. without_user (key forgetting.nick.now) channel };
 
-    fn change(&self, channel: &mut Channel) -> bool {
-        channel.forget(self.nick)
+    fn change(&self, stored: &mut Stored) -> bool {
+        stored.channel.forget(self.nick)
     }
 }
 
@@ -62,11 +62,11 @@ pub(crate) struct Renaming<'a> {
     pub new: &'a Nick,
 }
 
-impl<'a> RowChange<Channel> for Renaming<'a> {
+impl<'a> RowChange<Stored> for Renaming<'a> {
     ghost changed = { λ renaming channel. Some (renamed (key renaming.nick.now) (key renaming.new.now) channel) };
 
-    fn change(&self, channel: &mut Channel) -> bool {
-        channel.rename(self.nick, self.new);
+    fn change(&self, stored: &mut Stored) -> bool {
+        stored.channel.rename(self.nick, self.new);
         true
     }
 }
@@ -77,13 +77,13 @@ pub(crate) struct Inviting<'a> {
     pub nick: &'a Nick,
 }
 
-impl<'a> RowAttempt<Channel> for Inviting<'a> {
+impl<'a> RowAttempt<Stored> for Inviting<'a> {
     ghost tried = { λ inviting channel. invited_too (key inviting.nick.now) channel };
 
     ghost surely = { λ inviting channel. is_invited (key inviting.nick.now) channel };
 
-    fn attempt(&self, channel: &mut Channel) -> Result<(), AllocError> {
-        channel.invite(self.nick)
+    fn attempt(&self, stored: &mut Stored) -> Result<(), AllocError> {
+        stored.channel.invite(self.nick)
     }
 }
 
@@ -93,11 +93,11 @@ pub(crate) struct Uninviting<'a> {
     pub nick: &'a Nick,
 }
 
-impl<'a> RowChange<Channel> for Uninviting<'a> {
+impl<'a> RowChange<Stored> for Uninviting<'a> {
     ghost changed = { λ uninviting channel. Some (uninvited (key uninviting.nick.now) channel) };
 
-    fn change(&self, channel: &mut Channel) -> bool {
-        channel.uninvite(self.nick);
+    fn change(&self, stored: &mut Stored) -> bool {
+        stored.channel.uninvite(self.nick);
         true
     }
 }
@@ -108,11 +108,11 @@ pub(crate) struct TopicSetting<'a> {
     pub topic: &'a Words,
 }
 
-impl<'a> RowChange<Channel> for TopicSetting<'a> {
+impl<'a> RowChange<Stored> for TopicSetting<'a> {
     ghost changed = { λ setting channel. Some (with_topic setting.topic.now channel) };
 
-    fn change(&self, channel: &mut Channel) -> bool {
-        channel.set_topic(self.topic);
+    fn change(&self, stored: &mut Stored) -> bool {
+        stored.channel.set_topic(self.topic);
         true
     }
 }
@@ -123,11 +123,11 @@ pub(crate) struct Respelling<'a> {
     pub name: &'a ChannelName,
 }
 
-impl<'a> RowChange<Channel> for Respelling<'a> {
+impl<'a> RowChange<Stored> for Respelling<'a> {
     ghost changed = { λ respelling channel. Some (respelled respelling.name.now channel) };
 
-    fn change(&self, channel: &mut Channel) -> bool {
-        channel.respell(self.name);
+    fn change(&self, stored: &mut Stored) -> bool {
+        stored.channel.respell(self.name);
         true
     }
 }
@@ -138,12 +138,12 @@ pub(crate) struct Changing<'a> {
     pub changes: &'a [ModeChange],
 }
 
-impl<'a> RowAttempt<Channel> for Changing<'a> {
+impl<'a> RowAttempt<Stored> for Changing<'a> {
     ghost tried = { λ changing channel. all_changed changing.changes.now channel };
 
     ghost surely = { λ changing channel. adds_none changing.changes.now channel };
 
-    fn attempt(&self, channel: &mut Channel) -> Result<(), AllocError> {
-        channel.change(self.changes)
+    fn attempt(&self, stored: &mut Stored) -> Result<(), AllocError> {
+        stored.channel.change(self.changes)
     }
 }

@@ -1,16 +1,17 @@
 -- What no effect is that is its user's own.
-use Rattle.std.proofs.Common.{◌≡◌, ℕ, Bool, false, ◌||◌, List, [], ◌∷◌, map, refl, ◌∙◌, ap}
+use Rattle.std.proofs.Common.{◌≡◌, ℕ, Bool, true, false, ◌||◌, List, [], ◌∷◌, map, refl, ◌∙◌, ap}
 use Rattle.std.specs.List.{list_any}
 use Rattle.irc_users.specs.declared.user.User.{User}
 use Rattle.irc_channels.specs.declared.channel.Channel.{Channel}
 use Rattle.irc_numerics.specs.declared.replies.Reply.{Reply}
 use Rattle.arrayvec.specs.ArrayVec.{ArrayVec}
 use Rattle.irc_room.specs.effect.Effect.{Effect}
+use Rattle.irc_room.specs.effect.Effect.TheVariants.{AddUser, Quit, Rename}
 use Rattle.irc_room.specs.Room.{Room}
 use Rattle.irc_room.specs.After.{after}
 use Rattle.irc_acts.specs.declared.act.Act.{Act}
 use Rattle.irc_acts.specs.declared.act.Act.TheVariants.{Answer, Raw, Do}
-use Rattle.irc_acts.specs.Own.{IsOwn, to_user, to_channel, makes, enters, parts, sets_topic, kicks, invites, changes_modes, sets_user_mode, AreOwn}
+use Rattle.irc_acts.specs.Own.{IsOwn, to_user, AreOwn}
 use Rattle.irc_membership.specs.Join.{leaves}
 use Rattle.irc_commands.specs.Comings.{adds_user, adds_or_ends, renames_other}
 
@@ -29,50 +30,49 @@ never_own me test never room (Raw line ∷ acts) own =
 never_own me test never room (Do effect ∷ acts) own =
     ap (λ b. b || list_any test acts) (never.of_own room effect own.now) ∙ never_own me test never (after room effect) acts own.later
 
+-- ---- who is a user, and by which nickname
+
+-- whether a step makes somebody a user, gives another nickname, or makes a user nobody
+abbrev is_coming : Act → Bool
+is_coming (Do (AddUser user)) = true
+is_coming (Do (Rename nick new)) = true
+is_coming (Do (Quit nick text)) = true
+is_coming act = false
+
+own_is_none : (me : User) (room : Room) (effect : Effect) → IsOwn me room effect
+    → is_coming (Do effect) ≡ false
+own_is_none me room effect (to_user name other notice words is) = refl
+own_is_none me room effect own = refl
+
+never_coming : (me : User) (test : Act → Bool)
+    → ((act : Act) → is_coming act ≡ false → test act ≡ false) → IsNeverOwn me test
+never_coming me test fails = record {
+  of_answers = λ reply. fails (Answer reply) refl;
+  of_lines = λ line. fails (Raw line) refl;
+  of_own = λ room effect own. fails (Do effect) (own_is_none me room effect own);
+}
+
 pub own_adds_nobody : (me : User) → IsNeverOwn me adds_user
-own_adds_nobody me = record { of_answers = λ reply. refl; of_lines = λ line. refl; of_own = by_effect }
+own_adds_nobody me = never_coming me adds_user by_act
   where
-    by_effect : (room : Room) (effect : Effect) → IsOwn me room effect → adds_user (Do effect) ≡ false
-    by_effect room effect (to_user name other notice words is) = refl
-    by_effect room effect (to_channel name channel notice words is) = refl
-    by_effect room effect (makes name named none) = refl
-    by_effect room effect (enters name channel is outside) = refl
-    by_effect room effect (parts name text channel is member) = refl
-    by_effect room effect (sets_topic name text channel is) = refl
-    by_effect room effect (kicks name nick text channel other is member known) = refl
-    by_effect room effect (invites nick name other is named) = refl
-    by_effect room effect (changes_modes name changes channel is) = refl
-    by_effect room effect (sets_user_mode invisible) = refl
+    by_act : (act : Act) → is_coming act ≡ false → adds_user act ≡ false
+    by_act (Do (AddUser user)) none = none
+    by_act act none = refl
 
 pub own_ends_nobody : (me : User) → IsNeverOwn me adds_or_ends
-own_ends_nobody me = record { of_answers = λ reply. refl; of_lines = λ line. refl; of_own = by_effect }
+own_ends_nobody me = never_coming me adds_or_ends by_act
   where
-    by_effect : (room : Room) (effect : Effect) → IsOwn me room effect → adds_or_ends (Do effect) ≡ false
-    by_effect room effect (to_user name other notice words is) = refl
-    by_effect room effect (to_channel name channel notice words is) = refl
-    by_effect room effect (makes name named none) = refl
-    by_effect room effect (enters name channel is outside) = refl
-    by_effect room effect (parts name text channel is member) = refl
-    by_effect room effect (sets_topic name text channel is) = refl
-    by_effect room effect (kicks name nick text channel other is member known) = refl
-    by_effect room effect (invites nick name other is named) = refl
-    by_effect room effect (changes_modes name changes channel is) = refl
-    by_effect room effect (sets_user_mode invisible) = refl
+    by_act : (act : Act) → is_coming act ≡ false → adds_or_ends act ≡ false
+    by_act (Do (AddUser user)) none = none
+    by_act (Do (Quit nick text)) none = none
+    by_act act none = refl
 
 pub own_renames_nobody : (me : User) (who : List ℕ) → IsNeverOwn me (renames_other who)
-own_renames_nobody me who = record { of_answers = λ reply. refl; of_lines = λ line. refl; of_own = by_effect }
+own_renames_nobody me who = never_coming me (renames_other who) by_act
   where
-    by_effect : (room : Room) (effect : Effect) → IsOwn me room effect → renames_other who (Do effect) ≡ false
-    by_effect room effect (to_user name other notice words is) = refl
-    by_effect room effect (to_channel name channel notice words is) = refl
-    by_effect room effect (makes name named none) = refl
-    by_effect room effect (enters name channel is outside) = refl
-    by_effect room effect (parts name text channel is member) = refl
-    by_effect room effect (sets_topic name text channel is) = refl
-    by_effect room effect (kicks name nick text channel other is member known) = refl
-    by_effect room effect (invites nick name other is named) = refl
-    by_effect room effect (changes_modes name changes channel is) = refl
-    by_effect room effect (sets_user_mode invisible) = refl
+    by_act : (act : Act) → is_coming act ≡ false → renames_other who act ≡ false
+    by_act (Do (Rename nick new)) none = absurd (cc none)
+    by_act act none = refl
 
 -- a test that fails for each channel that is left
 pub none_leaving : (me : User) (test : Act → Bool) (channels : List Channel) → ((channel : Channel) → test (leaves me channel) ≡ false)

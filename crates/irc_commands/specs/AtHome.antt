@@ -12,10 +12,14 @@ use Rattle.irc_registering.specs.Register.{register}
 
 -- a room, and what a server has of it, are alike for who is connected to that server
 abbrev pub HomeIsAlikeForItsOwn : Type 0
-HomeIsAlikeForItsOwn = (home : List ℕ) (room : Room) (who : List ℕ) → is_at home room.users (key who) ≡ true → AreAlikeFor who room (of_home home room)
+HomeIsAlikeForItsOwn =
+    (home : List ℕ) (room : Room) (who : List ℕ) → is_at home room.users (key who) ≡ true
+    → AreAlikeFor who room (of_home home room)
 
 abbrev pub DecidedAtHome : Type 0
-DecidedAtHome = (home : List ℕ) (room : Room) (place : Place) (who : List ℕ) (message : Parsed) → IsWellFormed room → is_at home room.users (key who) ≡ true
+DecidedAtHome =
+    (home : List ℕ) (room : Room) (place : Place) (who : List ℕ) (message : Parsed)
+    → IsWellFormed room → is_at home room.users (key who) ≡ true
     → decide (of_home home room) place who message ≡ decide room place who message
 
 -- A connection that is not registered is not in the room. What its line does depends on nothing of it but the users.

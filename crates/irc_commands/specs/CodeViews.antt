@@ -50,12 +50,15 @@ abbrev pub IsWithoutQuery : Decided → Decision → Type 0
 IsWithoutQuery want d = (room : Room) (place : Place) (me : Option User) (params : List (List ℕ)) → IsDecidedAs room place me params want d
 
 abbrev pub GivesWithoutQuery : {E : Type 0} → Decided → Result Decision E → Type 0
-GivesWithoutQuery want result = (room : Room) (place : Place) (me : Option User) (params : List (List ℕ)) → IfOk result (IsDecidedAs room place me params want)
+GivesWithoutQuery want result =
+    (room : Room) (place : Place) (me : Option User) (params : List (List ℕ))
+    → IfOk result (IsDecidedAs room place me params want)
 
 -- It has no step, and what answers this query is all.
 abbrev pub IsAsking : Query → Decision → Type 0
 IsAsking query d =
-    (room : Room) (place : Place) (me : User) (params : List (List ℕ)) → IsDecidedAs room place (Some me) params (does (query_steps room place me params query)) d
+    (room : Room) (place : Place) (me : User) (params : List (List ℕ))
+    → IsDecidedAs room place (Some me) params (does (query_steps room place me params query)) d
 
 -- A command of the context's user, with these parameters, is decided so.
 abbrev pub IsDecidedIn : Context → List (List ℕ) → Decided → Decision → Type 0

@@ -10,7 +10,9 @@ use Rattle.irc_registering.specs.Register.{register}
 
 -- whatever a user's line is, a room does what is decided
 abbrev pub DecidedIsPossible : Type 0
-DecidedIsPossible = (room : Room) (place : Place) (who : List ℕ) (message : Parsed) → IsWellFormed room → ArePossible room (decide room place who message).steps
+DecidedIsPossible =
+    (room : Room) (place : Place) (who : List ℕ) (message : Parsed) → IsWellFormed room
+    → ArePossible room (decide room place who message).steps
 
 -- and so it is with a line of a connection that is not registered
 abbrev pub RegisteringIsPossible : Type 0

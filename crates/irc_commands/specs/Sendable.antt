@@ -15,7 +15,9 @@ use Rattle.irc_registering.specs.Register.{register}
 
 -- whatever message was read from a line, each effect of it can be sent when its turn comes
 abbrev pub DecidedIsSendable : Type 0
-DecidedIsSendable = (room : Room) (place : Place) (who line : List ℕ) (message : Parsed) → IsWellFormed room → IsWithinLimits room → AreLineWords line message
+DecidedIsSendable =
+    (room : Room) (place : Place) (who line : List ℕ) (message : Parsed) → IsWellFormed room
+    → IsWithinLimits room → AreLineWords line message
     → AreSendable room (decide room place who message).steps
 
 -- a user name that is one, and is some
@@ -33,6 +35,8 @@ pub record IsPendingWithin (pending : Pending) : Type 0 where
 
 -- then what it gives by a line does, and it is added as a user that other servers can be told of
 abbrev pub RegisteringIsSendable : Type 0
-RegisteringIsSendable = (room : Room) (place : Place) (pending : Pending) (line : List ℕ) (message : Parsed) → IsPendingWithin pending → IsServer place.name
+RegisteringIsSendable =
+    (room : Room) (place : Place) (pending : Pending) (line : List ℕ) (message : Parsed)
+    → IsPendingWithin pending → IsServer place.name
     → AreLineWords line message
     → IsPendingWithin (register room place pending message).pending × AreSendable room (register room place pending message).steps

@@ -77,3 +77,18 @@ Applied old effect (Err fault) new shown = (room_fault old effect ≡ Some fault
 abbrev pub IdleStays : Kept → Effect → Result (Unit {0}) RoomFault → Kept → ShownLine → Type 0
 IdleStays old effect result new shown =
     is_idle old.room effect ≡ true → room_fault old effect ≡ None → (result ≡ Ok tt) × (new ≡ old) × (pairs_of shown ≡ [])
+
+-- An effect is made, and shown to nobody: the room is the one after it. Where it is refused nothing
+-- changes, save that a room for which memory ran out answers Failed from then on.
+abbrev pub Changed : Kept → Effect → Result (Unit {0}) RoomFault → Kept → Type 0
+Changed old effect (Ok done) new =
+    (room_fault old effect ≡ None) × (new ≡ record old { room = after old.room effect })
+Changed old effect (Err Memory) new =
+    (room_fault old effect ≡ None) × (new ≡ record old { failed = true })
+Changed old effect (Err fault) new = (room_fault old effect ≡ Some fault) × (new ≡ old)
+
+-- An effect that does nothing is refused for the same causes. Where there is none it is done: it
+-- takes no memory and changes nothing.
+abbrev pub IdleKeeps : Kept → Effect → Result (Unit {0}) RoomFault → Kept → Type 0
+IdleKeeps old effect result new =
+    is_idle old.room effect ≡ true → room_fault old effect ≡ None → (result ≡ Ok tt) × (new ≡ old)

@@ -87,9 +87,14 @@ KickShownToKicked =
 -- an invitation does not outlast its channel
 abbrev pub InvitationGoneWithChannel : Type 0
 InvitationGoneWithChannel =
-    let invited = comes (codes "foo") ∷ comes (codes "bar") ∷ Join (codes "foo") (codes "#c") true ∷ Invite (codes "foo") (codes "bar") (codes "#c") ∷ [] in
+    let invited =
+    comes (codes "foo") ∷ comes (codes "bar") ∷ Join (codes "foo") (codes "#c") true
+    ∷ Invite (codes "foo") (codes "bar") (codes "#c") ∷ [] in
     (invited_to (room_after invited) (codes "bar") (codes "#c") ≡ true)
-    × (invited_to (room_after (invited ++ Part (codes "foo") (codes "#c") [] ∷ Join (codes "foo") (codes "#c") true ∷ [])) (codes "bar") (codes "#c") ≡ false)
+    × (invited_to (room_after (invited ++ Part (codes "foo") (codes "#c") []
+    ∷ Join (codes "foo") (codes "#c") true ∷ []))
+    (codes "bar") (codes "#c")
+    ≡ false)
 
 -- a Quit is not shown to who quits, nor to one who shares no channel; to one who shares two channels it is shown once
 abbrev pub QuitHiddenFromDoer : Type 0
@@ -112,7 +117,10 @@ SecondMemberIsNoOperator =
 abbrev pub SecretStaysSecret : Type 0
 SecretStaysSecret =
     let privacy_after = λ (last : ModeChange).
-    of_channel (λ c. c.modes.privacy) (room_after (two_members ++ ChangeModes by.Home (codes "#rust") (set letter.Secret None ∷ last ∷ []) ∷ [])) (codes "#rust") in
+    of_channel (λ c. c.modes.privacy)
+    (room_after (two_members
+    ++ ChangeModes by.Home (codes "#rust") (set letter.Secret None ∷ last ∷ []) ∷ []))
+    (codes "#rust") in
     (privacy_after (set letter.Private None) ≡ Some Secret) × (privacy_after (clear letter.Private None) ≡ Some Secret)
 
 -- changes are written with a sign where it differs from the one before, and their parameters behind: a user's nickname as it is stored,
@@ -124,22 +132,30 @@ ChangesWritten =
     ≡ record { viewer = codes "bar"; line = codes ":Foo!u@h MODE #Rust +o-v+l bar Cy 5" ++ crlf }
     ∷ record { viewer = codes "Foo"; line = codes ":Foo!u@h MODE #Rust +o-v+l bar Cy 5" ++ crlf } ∷ [])
     × ((room : Room)
-    → changes_words room (clear letter.Secret None ∷ clear letter.Ban (Some (codes "x!*@*")) ∷ set letter.Moderated None ∷ set letter.TopicLocked None ∷ [])
+    → changes_words room
+    (clear letter.Secret None ∷ clear letter.Ban (Some (codes "x!*@*"))
+    ∷ set letter.Moderated None ∷ set letter.TopicLocked None ∷ [])
     ≡ codes "-sb+mt" ∷ codes "x!*@*" ∷ [])
 
 -- a ban that is set once more in another case of letters stands once, as it was last spelled
 abbrev pub BanStandsOnce : Type 0
 BanStandsOnce =
     of_channel (λ c. c.modes.bans)
-    (room_after (two_members ++ ChangeModes (by.User (codes "foo")) (codes "#rust") (set letter.Ban (Some (codes "a[!*@*")) ∷ set letter.Ban (Some (codes "A{!*@*")) ∷ []) ∷ []))
+    (room_after (two_members
+    ++ ChangeModes (by.User (codes "foo")) (codes "#rust")
+    (set letter.Ban (Some (codes "a[!*@*"))
+    ∷ set letter.Ban (Some (codes "A{!*@*")) ∷ []) ∷ []))
     (codes "#rust")
     ≡ Some (codes "A{!*@*" ∷ [])
 
 -- a channel that ended begins anew, as its new maker spells it: with no topic and no mode, and its maker for its operator
 abbrev pub ChannelMadeAnew : Type 0
 ChannelMadeAnew =
-    let ended = comes (codes "foo") ∷ comes (codes "bar") ∷ Join (codes "foo") (codes "#Rust") true ∷ SetTopic (by.User (codes "foo")) (codes "#rust") (codes "old")
-    ∷ ChangeModes (by.User (codes "foo")) (codes "#rust") (set letter.Secret None ∷ []) ∷ Part (codes "foo") (codes "#rust") [] ∷ [] in
+    let ended =
+    comes (codes "foo") ∷ comes (codes "bar") ∷ Join (codes "foo") (codes "#Rust") true
+    ∷ SetTopic (by.User (codes "foo")) (codes "#rust") (codes "old")
+    ∷ ChangeModes (by.User (codes "foo")) (codes "#rust") (set letter.Secret None ∷ [])
+    ∷ Part (codes "foo") (codes "#rust") [] ∷ [] in
     let anew = room_after (ended ++ Join (codes "bar") (codes "#rust") true ∷ []) in
     (has_channel (room_after ended) (codes "#rust") ≡ false)
     × (of_channel (λ c. c.name) anew (codes "#RUST") ≡ Some (codes "#rust"))

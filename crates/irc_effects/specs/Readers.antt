@@ -40,6 +40,10 @@ users_of room home = filter (is_home home) (values room.users)
 abbrev pub channels_of : Room → List ℕ → List (List ℕ × Channel)
 channels_of room nick = filter (λ e. has_member (key nick) e.1) (entries room.channels)
 
+-- the folds of their names, in that order
+abbrev pub names_of : Room → List ℕ → List (List ℕ)
+names_of room nick = map (λ e. e.0) (channels_of room nick)
+
 -- the nicknames of all who see an effect, in folded order
 abbrev pub viewers_of : Room → Effect → List (List ℕ)
 viewers_of room effect = map (λ s. s.viewer) (seen room effect)

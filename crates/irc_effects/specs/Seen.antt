@@ -102,7 +102,9 @@ shown_parts room (ChangeModes by channel changes) viewer =
 shown_parts room (SetTopic by channel topic) viewer = parts_of (codes "TOPIC") (stored_channel room channel ∷ []) (Some topic) (from_by room by viewer)
 shown_parts room (Say by notice to words) viewer =
     parts_of (if notice then codes "NOTICE" else codes "PRIVMSG") (target_name room to ∷ []) (Some (words.items)) (from_nick room by)
-shown_parts room (Invite by nick channel) viewer = parts_of (codes "INVITE") (stored_nick room nick ∷ stored_channel room channel ∷ []) None (from_nick room by)
+shown_parts room (Invite by nick channel) viewer =
+    parts_of (codes "INVITE") (stored_nick room nick ∷ stored_channel room channel ∷ []) None
+    (from_nick room by)
 shown_parts room (UserMode nick invisible) viewer =
     parts_of (codes "MODE") (stored_nick room nick ∷ (if invisible then codes "+i" else codes "-i") ∷ []) None (from_nick room nick)
 

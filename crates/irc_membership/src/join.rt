@@ -18,7 +18,7 @@ use irc_acts::comma_lists::first_piece;
 use irc_acts::refusals::no_such_channel;
 use irc_acts::{Act, Context, put};
 use irc_answers::names::{end_of_names, put_joiner_names};
-use irc_channels::{Channel, Words};
+use irc_channels::{Channel, Stored, Words};
 use irc_names::{ChannelName, copied};
 use irc_numerics::Reply;
 use irc_room::Effect;
@@ -64,11 +64,13 @@ fn leave_each(context: &Context<'_>) -> Result<Vec<Act, Global>, AllocError>
 fn leave_all(
     alloc: Global,
     me: &User,
-    rows: &[&Row<Channel>],
+    rows: &[&Row<Stored>],
 ) -> Result<Vec<Act, Global>, AllocError>
     ensures { Yields result (map (λ row. leaves me.now row.now.value) rows.now) }
 {
-    rows.iter().map(|row| leave(me, &row.value)).collect(alloc)
+    rows.iter()
+        .map(|row| leave(me, row.value.channel()))
+        .collect(alloc)
 }
 
 /// A Part of one channel.

@@ -42,7 +42,10 @@ member_line room place seen channel member = option_and_then (member_if_seen pla
 -- the members of a channel that is there and known, in folded order
 abbrev pub replies_of_members : Room → Place → (User → Bool) → User → Option Channel → List Act
 replies_of_members room place seen me None = []
-replies_of_members room place seen me (Some channel) = if is_known me channel then filter_map (member_line room place seen channel) (entries channel.members) else []
+replies_of_members room place seen me (Some channel) =
+    if is_known me channel
+    then filter_map (member_line room place seen channel) (entries channel.members)
+    else []
 
 -- all users, or those whose nickname, host, server or real name a mask matches
 abbrev pub is_asked_for : List ℕ → User → Bool
@@ -55,7 +58,9 @@ replies_of_users place seen mask users = map (user_line place None Plain) (filte
 -- what is told to one who sees these users
 abbrev pub replies_of_seen : Room → Place → (User → Bool) → User → List ℕ → List Act
 replies_of_seen room place seen me asked =
-    if names_channel asked then replies_of_members room place seen me (row room.channels (key asked)) else replies_of_users place seen asked (values room.users)
+    if names_channel asked
+    then replies_of_members room place seen me (row room.channels (key asked))
+    else replies_of_users place seen asked (values room.users)
 
 abbrev pub who_replies : Room → Place → User → List ℕ → List Act
 who_replies room place me asked = replies_of_seen room place (λ user. is_seen room me user) me asked

@@ -47,7 +47,7 @@ fn say_listed(context: &Context<'_>, conn: u64, out: &mut Batch) -> Result<(), A
     ensures grew { Grew out.old.outs out.new.outs }
 {
     for row in context.room.channels() {
-        say_if_listed(context, &row.value, conn, out)?;
+        say_if_listed(context, row.value.channel(), conn, out)?;
     }
     Ok(())
 }

@@ -16,7 +16,7 @@ use irc_acts::Context;
 use irc_acts::standing::{is_known, is_seen, mark_of};
 use irc_acts::words::{client_words, names_channel};
 use irc_batch::Batch;
-use irc_channels::{Channel, Flags};
+use irc_channels::{Channel, Flags, Stored};
 use irc_names::{ChannelName, ServerName};
 use irc_numerics::{Mark, Reply};
 use irc_routes::{Routes, laws};
@@ -105,7 +105,7 @@ fn end_of_who(given: &[u8]) -> Reply
 /// Puts out what is told of whom a word asks for, to a user that is in these channels.
 fn say_told(
     context: &Context<'_>,
-    own: &[&Row<Channel>],
+    own: &[&Row<Stored>],
     asked: &[u8],
     conn: u64,
     out: &mut Batch,
@@ -123,7 +123,7 @@ fn say_told(
 /// Puts out the members of a channel that is there and known, where they are seen.
 fn say_channel(
     context: &Context<'_>,
-    own: &[&Row<Channel>],
+    own: &[&Row<Stored>],
     asked: &[u8],
     conn: u64,
     out: &mut Batch,
@@ -142,7 +142,7 @@ fn say_channel(
 /// Puts out the members of a channel that are seen.
 fn say_members(
     context: &Context<'_>,
-    own: &[&Row<Channel>],
+    own: &[&Row<Stored>],
     channel: &Channel,
     conn: u64,
     out: &mut Batch,
@@ -160,7 +160,7 @@ fn say_members(
 /// Puts out a member of a channel, if it is seen.
 fn say_member(
     context: &Context<'_>,
-    own: &[&Row<Channel>],
+    own: &[&Row<Stored>],
     channel: &Channel,
     member: &Row<Flags>,
     conn: u64,
@@ -183,7 +183,7 @@ fn say_member(
 /// Puts out the users that a mask asks for and that are seen.
 fn say_users(
     context: &Context<'_>,
-    own: &[&Row<Channel>],
+    own: &[&Row<Stored>],
     mask: &[u8],
     conn: u64,
     out: &mut Batch,
@@ -201,7 +201,7 @@ fn say_users(
 /// Puts out a user, if a mask asks for it and it is seen.
 fn say_user(
     context: &Context<'_>,
-    own: &[&Row<Channel>],
+    own: &[&Row<Stored>],
     mask: &[u8],
     user: &User,
     conn: u64,

@@ -16,7 +16,7 @@ use irc_acts::comma_lists::next_entry;
 use irc_acts::standing::{is_listed, mark_of};
 use irc_acts::words::client_words;
 use irc_acts::{Act, Context, only, put};
-use irc_channels::Channel;
+use irc_channels::{Channel, Stored};
 use irc_names::{ServerName, copied};
 use irc_numerics::limits::MAX_WHOIS_CHANNELS;
 use irc_numerics::{Info, OnChannel, Reply};
@@ -163,13 +163,13 @@ fn add_channels(
     held: &mut Held,
     me: &User,
     user: &User,
-    rows: &[&Row<Channel>],
+    rows: &[&Row<Stored>],
 ) -> Result<(), AllocError>
     ensures { OnOk result
         (CameListed me.now user.now (channels_now rows.now) steps.old held.old steps.new held.new) }
 {
     for row in rows {
-        add_channel(steps, held, me, user, &row.value)?;
+        add_channel(steps, held, me, user, row.value.channel())?;
     }
     Ok(())
 }

@@ -1,3 +1,3 @@
 pub mod CountedUsers
-pub mod OwnKept
+pub mod NamesRead
 pub mod Refusals

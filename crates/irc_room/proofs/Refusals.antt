@@ -9,7 +9,7 @@ use Rattle.irc_shown.specs.shown_line.ShownLine.{ShownLine}
 use Rattle.irc_shown.specs.Room.{Room}
 use Rattle.irc_shown.specs.After.{after}
 use Rattle.irc_shown.specs.Effects.{has_user, has_channel, is_idle, needs_users, needs_channel}
-use Rattle.irc_shown.specs.Applying.{Kept, room_fault, pairs_of, Applied}
+use Rattle.irc_shown.specs.Applying.{Kept, room_fault, Applied, Changed, IdleKeeps, IdleStays}
 use Rattle.irc_shown.specs.Lemmas.IdleLaw.{idle_changes_nothing}
 use Rattle.irc_shown.specs.ToldLaws.{idle_tells_nothing}
 
@@ -32,6 +32,21 @@ refused old effect NoSuchUser shown is none = (sym is, refl, none)
 refused old effect NoSuchChannel shown is none = (sym is, refl, none)
 refused old effect Memory shown is none = absurd (never_memory old effect (sym is))
 refused old effect Failed shown is none = (sym is, refl, none)
+
+pub unchanged : (old : Kept) (effect : Effect) (fault : RoomFault) → Some fault ≡ room_fault old effect
+    → Changed old effect (Err fault) old
+unchanged old effect NoSuchUser is = (sym is, refl)
+unchanged old effect NoSuchChannel is = (sym is, refl)
+unchanged old effect Memory is = absurd (never_memory old effect (sym is))
+unchanged old effect Failed is = (sym is, refl)
+
+-- a change that was refused is shown to nobody
+pub shown_none : (old : Kept) (effect : Effect) (fault : RoomFault) (new : Kept) (shown : ShownLine)
+    → Changed old effect (Err fault) new → shown.viewers.items ≡ [] → Applied old effect (Err fault) new shown
+shown_none old effect NoSuchUser new shown changed none = (changed.0, changed.1, none)
+shown_none old effect NoSuchChannel new shown changed none = (changed.0, changed.1, none)
+shown_none old effect Memory new shown changed none = (changed.0, changed.1, none)
+shown_none old effect Failed new shown changed none = (changed.0, changed.1, none)
 
 -- what is so where an effect is not refused
 pub record IsServed (kept : Kept) (effect : Effect) : Type 0 where
@@ -70,13 +85,17 @@ kept_refused inside now room is same =
     ap (λ (r : Room). record { own = inside.own; failed = true; room = r }) same
     ∙ ap (λ (k : Kept). record k { failed = true }) is
 
--- an effect that does nothing leaves all as it was
-pub idle_stays : (old : Kept) (effect : Effect) (new : Kept) (shown : ShownLine) → is_idle old.room effect ≡ true
-    → Applied old effect (Ok tt) new shown → (new ≡ old) × (pairs_of shown ≡ [])
-idle_stays old effect new shown idle applied = (
-  applied.1 ∙ ap (λ (r : Room). record old { room = r }) (idle_changes_nothing old.room effect idle),
-  applied.2 ∙ idle_tells_nothing old.own old.room effect idle,
-)
-
 pub not_done : {U E A : Type 0} (e : E) (u : U) → ◌≡◌ {A = Result U E} (Err e) (Ok u) → A
 not_done e u is = cc
+
+-- an effect that does nothing leaves all as it was, and shows nothing
+pub idle_kept : (old : Kept) (effect : Effect) (new : Kept) → is_idle old.room effect ≡ true
+    → Changed old effect (Ok tt) new → new ≡ old
+idle_kept old effect new idle changed =
+    changed.1 ∙ ap (λ (r : Room). record old { room = r }) (idle_changes_nothing old.room effect idle)
+
+pub idle_stays : (old : Kept) (effect : Effect) (result : Result (Unit {0}) RoomFault) (new : Kept) (shown : ShownLine)
+    → Applied old effect result new shown → IdleKeeps old effect result new → IdleStays old effect result new shown
+idle_stays old effect (Ok tt) new shown applied keeps = λ idle none.
+    let kept = keeps idle none in (kept.0, kept.1, applied.2 ∙ idle_tells_nothing old.own old.room effect idle)
+idle_stays old effect (Err fault) new shown applied keeps = λ idle none. not_done fault tt (keeps idle none).0

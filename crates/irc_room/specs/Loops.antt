@@ -1,2 +1,1 @@
 pub mod HomeCount
-pub mod OwnKept

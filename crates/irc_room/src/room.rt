@@ -12,23 +12,23 @@ ghost use Rattle.irc_names.specs.Tables.{row};
 ghost use Rattle.irc_tables.specs.RowViews.{row_entry};
 ghost use Rattle.irc_channels.specs.ChannelTable.{members_in};
 ghost use Rattle.irc_shown.specs.After.{titled_by};
-ghost use Rattle.irc_shown.specs.Applying.{Kept, Applied, IdleStays, ShowsHere, does, respelling_fault};
+ghost use Rattle.irc_shown.specs.Applying.{Kept, Applied, Changed, IdleKeeps, IdleStays, ShowsHere, does, pairs_of, respelling_fault, room_fault, shown_here};
 ghost use Rattle.irc_shown.specs.Effects.{brings_free};
 ghost use Rattle.irc_shown.specs.Laws.{no_room};
-ghost use Rattle.irc_shown.specs.Readers.{user_at, channel_at, channels_of, flags_at, is_invited_at, is_visible_at, nicks_in, rows_now, spelling_at, users_now, users_of, viewers_of};
+ghost use Rattle.irc_shown.specs.Readers.{user_at, channel_at, channels_of, flags_at, is_invited_at, is_visible_at, names_of, nicks_in, rows_now, spelling_at, users_now, users_of, viewers_of};
 ghost use Rattle.irc_shown.specs.Room.{IsWellFormed};
 ghost use Rattle.irc_shown.specs.Seen.{changes_text, stored_channel, stored_nick, target_name};
 
 use crate::home_count::{staying, with_newcomer};
-use crate::performing::perform;
+use crate::performing::{perform, put_out};
 use crate::refusing::{missing, refusal};
-use irc_channels::{Channel, Flags};
+use irc_channels::{Channel, Flags, Stored};
 use irc_line::Text;
 use irc_modes::ModeChange;
 use irc_names::{ChannelName, Nick, ServerName};
 use irc_shown::{
-    Effect, IndexedChannels, OwnMembers, RoomFault, ShownLine, Tables, Target, audience,
-    effect_line, is_idle, member_nicks, push_changes,
+    Effect, IndexedChannels, RoomFault, ShownLine, Tables, Target, audience, effect_line, is_idle,
+    member_nicks, push_changes,
 };
 use irc_tables::Row;
 use irc_users::User;
@@ -41,7 +41,6 @@ pub struct Room {
     own: ServerName,
     failed: bool,
     tables: Tables,
-    here: OwnMembers,
     at_home: usize,
     alloc: Global,
 }
@@ -49,7 +48,7 @@ pub struct Room {
 /// In a clause it is whose room it is, whether memory ran out, and the room, which is well formed.
 impl Model for Room {
     ghost use Rattle.irc_shown.specs.Applying.{Kept};
-    ghost use Rattle.irc_room.specs.Loops.OwnKept.{IsKeptWell};
+    ghost use Rattle.irc_room.specs.Loops.HomeCount.{IsCounted};
     ghost use Rattle.irc_room.specs.KeptCodes.{kept_code};
     ghost use Rattle.irc_users.specs.UserTable.{users_code};
     ghost use Rattle.irc_channels.specs.contracts.channel.Channel.{the_row as channel_row};
@@ -60,7 +59,7 @@ impl Model for Room {
 
     ghost view = { λ r. record { own = r.own; failed = r.failed; room = r.tables } };
 
-    ghost invariant = { λ r. IsKeptWell r.own r.failed r.here.names.rows r.at_home r.tables };
+    ghost invariant = { λ r. IsCounted r.own r.at_home r.tables };
 }
 
 impl Room {
@@ -72,7 +71,6 @@ impl Room {
             own,
             failed: false,
             tables: Tables::new(alloc),
-            here: OwnMembers::new(alloc),
             at_home: 0,
             alloc,
         }
@@ -174,7 +172,7 @@ impl Room {
     }
 
     /// All channels, in folded order of their names.
-    pub fn channels(&self) -> &[Row<Channel>]
+    pub fn channels(&self) -> &[Row<Stored>]
         ensures { map row_entry result.now ≡ entries self.now.room.channels }
     {
         self.tables.channels.as_slice()
@@ -184,17 +182,25 @@ impl Room {
     ///
     /// # Errors
     /// Where memory runs out.
-    pub fn channels_of(&self, nick: &[u8]) -> Result<Vec<&Row<Channel>, Global>, AllocError>
+    pub fn channels_of(&self, nick: &[u8]) -> Result<Vec<&Row<Stored>, Global>, AllocError>
         ensures { IfOk result (λ found. rows_now found.items ≡ channels_of self.now.room nick.now) }
     {
         self.tables.channels_of(self.alloc, nick)
+    }
+
+    /// The names of the channels that the user of a nickname is a member of, in folded order. No
+    /// channel is looked at, so a name may be spelled otherwise than its channel.
+    pub fn names_of(&self, nick: &[u8]) -> &[Row<()>]
+        ensures { map (λ row. key row.name.items) result.now ≡ names_of self.now.room nick.now }
+    {
+        self.tables.channels.names_of(nick)
     }
 
     /// How many channels the user of a nickname is a member of. No channel is looked at.
     pub fn channel_count(&self, nick: &[u8]) -> usize
         ensures { result ≡ length (channels_of self.now.room nick.now) }
     {
-        self.tables.channels.names_of(nick).len()
+        self.names_of(nick).len()
     }
 
     /// The members of the channel of a name with their flags, in folded order of their nicknames; none where there is no such
@@ -288,20 +294,67 @@ impl Room {
         ensures idle { IdleStays self.old effect.now result self.new shown.new }
     {
         shown.viewers.clear();
-        if let Some(fault) = refusal(self.failed, &self.tables, effect) {
+        if let Some(fault) = self.fault_of(effect) {
+            return Err(fault);
+        }
+        match put_out(self.own.as_bytes(), &self.tables, effect, shown) {
+            Ok(()) => self.change_shown(effect, shown),
+            Err(_) => {
+                shown.viewers.clear();
+                self.failed = true;
+                Err(RoomFault::Memory)
+            }
+        }
+    }
+
+    /// Makes the change of an effect, and shows it to nobody: for a caller who knows who sees it.
+    ///
+    /// The nickname of a user that is added is free, and so is the new one of a Rename, save that it may be the renamer's own.
+    ///
+    /// # Errors
+    /// [`RoomFault::Failed`] where memory ran out before; [`RoomFault::NoSuchUser`] where a user that it names is not there;
+    /// [`RoomFault::NoSuchChannel`] where the channel that it names is not there, but for a Join, which makes it, and an Invite.
+    /// Nothing has changed then. [`RoomFault::Memory`] where memory runs out, which an effect that does nothing takes none of: the room
+    /// answers Failed from then on.
+    pub fn change(&mut self, effect: &Effect) -> Result<(), RoomFault>
+        requires { brings_free self.old.room effect.now ≡ true }
+        ensures changed { Changed self.old effect.now result self.new }
+        ensures idle { IdleKeeps self.old effect.now result self.new }
+    {
+        if let Some(fault) = self.fault_of(effect) {
             return Err(fault);
         }
         let stay = staying(&self.own, &self.tables, self.at_home, effect);
         self.failed = true;
-        match perform(&self.own, &mut self.here, &mut self.tables, effect, shown) {
+        match perform(&mut self.tables, effect) {
             Ok(()) => {
                 self.failed = false;
                 self.at_home = with_newcomer(&self.own, &self.tables, stay, effect);
                 Ok(())
             }
-            Err(_) => {
+            Err(_) => Err(RoomFault::Memory),
+        }
+    }
+
+    /// Why the room refuses an effect, if it does.
+    fn fault_of(&self, effect: &Effect) -> Option<RoomFault>
+        ensures { result ≡ room_fault self.now effect.now }
+    {
+        refusal(self.failed, &self.tables, effect)
+    }
+
+    /// Makes the change of an effect that `shown` shows; where memory runs out it is shown to nobody.
+    fn change_shown(&mut self, effect: &Effect, shown: &mut ShownLine) -> Result<(), RoomFault>
+        requires free { brings_free self.old.room effect.now ≡ true }
+        requires shown { pairs_of shown.old ≡ shown_here self.old effect.now }
+        ensures applied { Applied self.old effect.now result self.new shown.new }
+        ensures idle { IdleKeeps self.old effect.now result self.new }
+    {
+        match self.change(effect) {
+            Ok(()) => Ok(()),
+            Err(fault) => {
                 shown.viewers.clear();
-                Err(RoomFault::Memory)
+                Err(fault)
             }
         }
     }

@@ -278,7 +278,7 @@ uninvited_out nick (Some channel) there = by_test (is_invited nick channel) ther
 -- ---- what the code goes through, and what it leaves out
 
 module _ (rows : List (Row (Unit {0}))) (i : ℕ) (d : Row (Unit {0})) (within : i < length rows) where
-  pub folds_more : folds_of (map row_entry (take (i + 1) rows)) ≡ folds_of (map row_entry (take i rows)) ++ key (get_or rows i d).name.items ∷ []
+  folds_more : folds_of (map row_entry (take (i + 1) rows)) ≡ folds_of (map row_entry (take i rows)) ++ key (get_or rows i d).name.items ∷ []
   folds_more =
       ap (λ (rs : List (Row (Unit {0}))). folds_of (map row_entry rs)) (take_more rows i d within)
       ∙ ap folds_of (map-append (row_entry {V = Unit {0}}) (take i rows) (get_or rows i d ∷ []))

@@ -4,5 +4,4 @@ pub mod IndexChanges
 pub mod Invitations
 pub mod Keeping
 pub mod KeptWell
-pub mod MembersKept
 pub mod Memberships

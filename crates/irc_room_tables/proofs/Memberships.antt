@@ -222,7 +222,7 @@ tells_without before after nick channels tells is = record {
         sym (member_while (record channel { members = alter nick (λ _. None) channel.members; invited = alter nick (λ _. None) channel.invited }) n ∙ taken_out nick channel.members n)
 
 -- a row that stands under another name, where there was none
-pub moved_row : {X : Type 0} (nick new : List ℕ) (table : Table X) (n : List ℕ) → (is_some (row table new) ≡ true → new ≡ nick)
+moved_row : {X : Type 0} (nick new : List ℕ) (table : Table X) (n : List ℕ) → (is_some (row table new) ≡ true → new ≡ nick)
     → is_some (row (moved nick new (λ x. x) table) n) ≡ cond (same_fold n new) (is_some (row table nick)) (cond (same_fold n nick) false (is_some (row table n)))
 moved_row {X} nick new table n free = by_row (row table nick) refl
   where

@@ -1,5 +1,5 @@
 -- Names of channels by nickname: what the code keeps beside the table of channels, so that it need not look through all of them.
-use Rattle.std.specs.Prelude.{◌≡◌, ℕ, ⊤, Bool, true, false, not, ◌&&◌, ◌||◌, is_some, Option, Some, None, List, [], map, filter, option_to_list, unwrap_or}
+use Rattle.std.specs.Prelude.{◌≡◌, ℕ, Bool, true, false, not, ◌&&◌, ◌||◌, is_some, Option, Some, None, List, [], map, filter, option_to_list, unwrap_or}
 use Rattle.std.specs.List.{flat_map, list_any}
 use Rattle.std.specs.Option.{option_map, option_map_or}
 use Rattle.std.specs.FinMap.{entries, keys}
@@ -9,10 +9,6 @@ use Rattle.irc_names.specs.TableLaws.{same_fold}
 use Rattle.irc_channels.specs.declared.channel.Channel.{Channel}
 use Rattle.irc_channels.specs.Channels.{has_member, is_invited, joined, new_channel}
 use Rattle.irc_modes.specs.Modes.{is_nil}
-use Rattle.irc_effects.specs.declared.effect.Effect.{Effect}
-use Rattle.irc_effects.specs.declared.effect.Effect.TheVariants.{Rename, Quit, Join, Part, Kick}
-use Rattle.irc_effects.specs.Invitations.{is_at}
-use Rattle.irc_effects.specs.Room.{Room}
 
 -- some names, by their folds
 abbrev pub Names : Type 0
@@ -119,10 +115,6 @@ pub record DropsWhere (gone : List ℕ → Bool) (before after : Index) (name : 
 abbrev pub Drops : Index → Index → List ℕ → List ℕ → Type 0
 Drops before after nick name = DropsWhere (λ n. same_fold n nick) before after name
 
--- one name more by each nickname of which it is said
-pub record AddsWhere (put : List ℕ → Bool) (before after : Index) (name : List ℕ) : Type 0 where
-  pub at : (n c : List ℕ) → stands after n c ≡ ((put n && same_fold c name) || stands before n c)
-
 -- in no channel is there another user of this nickname, nor is another invited to one
 pub record IsFreeOf (channels : Table Channel) (nick new : List ℕ) : Type 0 where
   pub member : (name : List ℕ) → holds has_member channels new name ≡ true → new ≡ nick
@@ -144,22 +136,3 @@ invited_beside nick other channel = not (same_fold other nick) && is_invited oth
 -- the names by all nicknames but one are those of the channels that the user is invited to
 abbrev pub TellsOfOthers : List ℕ → Table Channel → Index → Type 0
 TellsOfOthers nick channels index = Tells index (holds (invited_beside nick) channels)
-
--- Nicknames by channel: of the members of each channel those that are users of one server.
-
--- whether a member of a channel is a user of a server
-abbrev pub is_own_member : List ℕ → Room → List ℕ → List ℕ → Bool
-is_own_member home room channel nick = holds has_member room.channels nick channel && is_at home room.users nick
-
--- the nicknames by each channel's name are those of just these
-abbrev pub TellsOwn : List ℕ → Index → Room → Type 0
-TellsOwn home index room = Tells index (is_own_member home room)
-
--- an effect by which nobody comes into a channel, leaves one, or has another nickname there
-abbrev pub IsNoMove : Effect → Type 0
-IsNoMove (Rename nick new) = ⊥
-IsNoMove (Quit nick text) = ⊥
-IsNoMove (Join nick channel op) = ⊥
-IsNoMove (Part nick channel text) = ⊥
-IsNoMove (Kick by channel nick text) = ⊥
-IsNoMove effect = ⊤

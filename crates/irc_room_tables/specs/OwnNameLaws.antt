@@ -13,7 +13,7 @@ use Rattle.irc_names.specs.Tables.{Table, fold_cmp, row}
 use Rattle.irc_tables.specs.Lemmas.OrderedEntries.{find-there, sorted-below}
 use Rattle.irc_channels.specs.declared.channel.Channel.{Channel}
 use Rattle.irc_channels.specs.Channels.{has_member}
-use Rattle.irc_room_tables.specs.Indexes.{Names, Index, folds_of, is_among, is_named, names_in, holds, own_names, entries_under, Tells}
+use Rattle.irc_room_tables.specs.Indexes.{Names, Index, is_among, names_in, holds, own_names, entries_under, Tells}
 use Rattle.irc_room_tables.specs.Indexes.{joins_both}
 
 order : IsTotalOrder fold_cmp
@@ -56,16 +56,6 @@ entries_at table front (e ∷ es) is =
       get-entries table e.0 ∙ ap (find fold_cmp e.0) (sym is) ∙ find-there order e.0 e.1 front es (sorted-below order e.0 e.1 front es sorted),
       entries_at table (front ++ e ∷ []) es (append_assoc front (e ∷ []) es ∙ is),
     )
-
--- a fold is among those of some entries just where it is found
-named_found : {X : Type 0} (es : List (List ℕ × X)) (q : List ℕ) → is_named (folds_of es) q ≡ is_some (find fold_cmp q es)
-named_found [] q = refl
-named_found (e ∷ es) q = by_test (named_found es q) (eq_by_cmp fold_cmp q e.0)
-  where
-    by_test : is_named (folds_of es) q ≡ is_some (find fold_cmp q es) → (b : Bool)
-        → (b || is_named (folds_of es) q) ≡ is_some (cond b (Some e.1) (find fold_cmp q es))
-    by_test rest true = refl
-    by_test rest false = rest
 
 module _ (nick : List ℕ) (channels : Table Channel) where
   abbrev is_own : List ℕ × Channel → Bool
@@ -156,23 +146,3 @@ module _ (nick : List ℕ) (channels : Table Channel) where
 
   pub own_shared : (other : List ℕ) → list_any (λ (n : List ℕ × Unit {0}). holds has_member channels other n.0) (own_names nick channels) ≡ list_any (joins_both nick other) (values channels)
   own_shared other = any_shared other (entries channels) all_at
-
-  -- a name is one of them just where the user is a member
-  pub own_named : (q : List ℕ) → is_named (folds_of (own_names nick channels)) q ≡ holds has_member channels nick q
-  own_named q =
-      named_found (own_names nick channels) q
-      ∙ ap (λ es. is_some (find fold_cmp q (map name_of es))) (sym (by_value (entries channels) all_at))
-      ∙ ap is_some (find_name q (where_key fold_cmp (holds has_member channels nick) (entries channels)))
-      ∙ ap (λ o. is_some (option_map unit_of o))
-      (find-where_key fold_cmp (holds has_member channels nick) q
-      (λ x tie. ap (holds has_member channels nick) (sym (slice_cmp-IsAntisymmetric nat_cmp-IsAntisymmetric q x tie))) (entries channels))
-      ∙ ap (λ o. is_some (option_map unit_of (cond (holds has_member channels nick q) o None))) (sym (get-entries channels q))
-      ∙ by_row (row channels q)
-    where
-      by_test : (channel : Channel) (b : Bool) → is_some (option_map unit_of (cond b (Some channel) None)) ≡ b
-      by_test channel true = refl
-      by_test channel false = refl
-
-      by_row : (o : Option Channel) → is_some (option_map unit_of (cond (option_map_or (has_member nick) o false) o None)) ≡ option_map_or (has_member nick) o false
-      by_row None = refl
-      by_row (Some channel) = by_test channel (has_member nick channel)

@@ -99,7 +99,7 @@ fn has_another(members: &[Row<Flags>], nick: &[u8]) -> bool
 }
 
 /// Takes a name out by each of some nicknames. It takes no memory.
-pub(crate) fn forget_each(invited: &mut NameIndex, nicks: &[Row<()>], name: &[u8])
+fn forget_each(invited: &mut NameIndex, nicks: &[Row<()>], name: &[u8])
     ensures { DropsWhere (is_named (folds_of (map row_entry nicks.now))) invited.old.rows invited.new.rows (key name.now) }
 {
     for nick in nicks {

@@ -12,7 +12,7 @@ ghost use Rattle.irc_room_tables.specs.Indexes.{entry_at, holds, is_uninvited, o
 
 use crate::gone::{forget_if_alone, remove_from_each, rename_in_each, rows_of};
 use crate::name_index::NameIndex;
-use irc_channels::{Channel, Channels, ChannelsFault, Flags, Words};
+use irc_channels::{Channel, Channels, ChannelsFault, Flags, Stored, Words};
 use irc_effects::ModeChanges;
 use irc_names::{ChannelName, Nick};
 use irc_tables::Row;
@@ -66,7 +66,7 @@ impl IndexedChannels {
     }
 
     /// The row of a channel's name, if there is such a channel.
-    pub fn find_row(&self, name: &[u8]) -> Option<&Row<Channel>>
+    pub fn find_row(&self, name: &[u8]) -> Option<&Row<Stored>>
         ensures { option_map row_entry (option_copied result) ≡ entry_at self.now (key name.now) }
     {
         self.rows.find_row(name)
@@ -80,7 +80,7 @@ impl IndexedChannels {
     }
 
     /// All channels, in folded order of their names.
-    pub fn as_slice(&self) -> &[Row<Channel>]
+    pub fn as_slice(&self) -> &[Row<Stored>]
         ensures { map row_entry result.now ≡ entries self.now }
     {
         self.rows.as_slice()

@@ -7,7 +7,6 @@ mod idle;
 mod indexed_channels;
 mod name_index;
 mod own_channels;
-mod own_members;
 mod tables;
 
 pub use idle::is_idle;
@@ -15,6 +14,4 @@ pub use indexed_channels::IndexedChannels;
 pub use irc_effects::{
     By, Effect, ModeChanges, RoomFault, ShownLine, Target, examples, invitation_laws, laws,
 };
-pub use name_index::NameIndex;
-pub use own_members::OwnMembers;
 pub use tables::Tables;

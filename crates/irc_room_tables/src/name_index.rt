@@ -1,4 +1,4 @@
-//! Names by names: of channels by nickname, or nicknames by channel.
+//! Names of channels by nickname.
 ghost use Rattle.std.specs.Prelude.{◌≡◌, ◌≤◌, Some, None, OnOk, OnErr, is_some, length, map, true};
 ghost use Rattle.std.specs.FinMap.{empty};
 ghost use Rattle.irc_modes.specs.Modes.{is_nil};
@@ -12,9 +12,9 @@ use irc_names::{ChannelName, MAX_CHANNEL, Nick};
 use irc_tables::{NameMap, NameTable, Row, RowAttempt};
 use std::alloc::{AllocError, Global};
 
-/// Names of channels by nickname, or nicknames by the name of a channel: what is said of the one below holds of the other.
+/// Names of channels by nickname.
 #[derive(Drop)]
-pub struct NameIndex {
+pub(crate) struct NameIndex {
     /// The names by each nickname.
     pub rows: NameMap<NameTable<()>>,
     alloc: Global,
@@ -51,18 +51,6 @@ impl NameIndex {
     {
         open(&mut self.rows, self.alloc, nick.as_bytes())?;
         self.rows.try_at(nick.as_bytes(), &Adding { name })
-    }
-
-    /// Puts a nickname by a channel's name; where it stands there already nothing changes.
-    ///
-    /// # Errors
-    /// Where memory runs out.
-    pub fn add_nick(&mut self, channel: &[u8], nick: &Nick) -> Result<(), AllocError>
-        requires { length channel.now ≤ MAX_CHANNEL }
-        ensures { OnOk result (Adds self.old.rows self.new.rows (key channel.now) (key nick.now)) }
-    {
-        open(&mut self.rows, self.alloc, channel)?;
-        self.rows.try_at(channel, &AddingNick { nick })
     }
 
     /// Takes a name by a nickname out; where it does not stand there nothing changes. A row in which
@@ -188,22 +176,6 @@ impl<'a> RowAttempt<NameTable<()>> for Adding<'a> {
 
     fn attempt(&self, names: &mut NameTable<()>) -> Result<(), AllocError> {
         names.insert(self.name.as_bytes(), ())
-    }
-}
-
-/// A nickname is put in.
-#[derive(Drop)]
-struct AddingNick<'a> {
-    nick: &'a Nick,
-}
-
-impl<'a> RowAttempt<NameTable<()>> for AddingNick<'a> {
-    ghost tried = { λ adding names. alter (key adding.nick.now) (λ _. Some tt) names };
-
-    ghost surely = { λ adding names. is_some (row names (key adding.nick.now)) };
-
-    fn attempt(&self, names: &mut NameTable<()>) -> Result<(), AllocError> {
-        names.insert(self.nick.as_bytes(), ())
     }
 }
 

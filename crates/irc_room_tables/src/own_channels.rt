@@ -6,7 +6,7 @@ ghost use Rattle.irc_effects.specs.Readers.{channels_of, rows_now};
 
 use crate::indexed_channels::IndexedChannels;
 use crate::tables::Tables;
-use irc_channels::Channel;
+use irc_channels::Stored;
 use irc_tables::Row;
 use std::alloc::{AllocError, Global};
 
@@ -19,7 +19,7 @@ impl Tables {
         &self,
         alloc: Global,
         nick: &[u8],
-    ) -> Result<Vec<&Row<Channel>, Global>, AllocError>
+    ) -> Result<Vec<&Row<Stored>, Global>, AllocError>
         ensures { IfOk result (λ found. rows_now found.items ≡ channels_of self.now nick.now) }
     {
         with_names(&self.channels, alloc, self.channels.names_of(nick))
@@ -31,7 +31,7 @@ fn with_names<'a>(
     channels: &'a IndexedChannels,
     alloc: Global,
     names: &[Row<()>],
-) -> Result<Vec<&'a Row<Channel>, Global>, AllocError>
+) -> Result<Vec<&'a Row<Stored>, Global>, AllocError>
     ensures { IfOk result (λ found. rows_now found.items ≡ entries_under channels.now (map row_entry names.now)) }
 {
     let mut found = Vec::new(alloc);
@@ -45,7 +45,7 @@ fn with_names<'a>(
 fn add_named<'a>(
     channels: &'a IndexedChannels,
     name: &[u8],
-    found: &mut Vec<&'a Row<Channel>, Global>,
+    found: &mut Vec<&'a Row<Stored>, Global>,
 ) -> Result<(), AllocError>
     ensures { OnOk result (rows_now found.new.items ≡ rows_now found.old.items ++ channel_named channels.now name.now) }
 {

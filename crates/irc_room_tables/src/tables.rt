@@ -1,26 +1,22 @@
 //! The two tables of a room, and what a line or a viewer asks of them.
-ghost use Rattle.std.specs.Prelude.{◌≡◌, ◌≤◌, length, map};
+ghost use Rattle.std.specs.Prelude.{◌≡◌, ◌≤◌, length};
 ghost use Rattle.std.specs.FinMap.{values};
 ghost use Rattle.std.specs.Option.{option_map};
 ghost use Rattle.irc_line.specs.PartViews.{sender};
 ghost use Rattle.irc_names.specs.Fold.{key};
 ghost use Rattle.irc_names.specs.Limits.{max_channel};
-ghost use Rattle.irc_tables.specs.RowViews.{row_entry};
 ghost use Rattle.irc_users.specs.declared.user.User.{User};
 ghost use Rattle.irc_channels.specs.Channels.{has_member};
 ghost use Rattle.irc_effects.specs.Effects.{has_channel, is_member};
-ghost use Rattle.irc_effects.specs.Invitations.{is_at};
 ghost use Rattle.irc_effects.specs.Laws.{no_room};
 ghost use Rattle.irc_effects.specs.Room.{IsWellFormed};
 ghost use Rattle.irc_effects.specs.Seen.{from_by, from_nick, full_sender, stored_channel, stored_nick, target_name};
-ghost use Rattle.irc_room_tables.specs.Indexes.{own_names};
 
 use crate::indexed_channels::IndexedChannels;
 use irc_channels::Channel;
 use irc_effects::{By, Target};
 use irc_line::Prefix;
-use irc_names::{ChannelName, Nick, ServerName};
-use irc_tables::Row;
+use irc_names::{ChannelName, Nick};
 use irc_users::{User, Users};
 use std::alloc::Global;
 use std::marker::Model;
@@ -124,23 +120,6 @@ impl Tables {
             Target::User(nick) => self.stored_nick(nick.as_bytes()),
             Target::Channel(channel) => self.stored_channel(channel),
         }
-    }
-
-    /// Whether the user of a nickname is there, and connected to a server.
-    pub fn is_at(&self, home: &ServerName, nick: &Nick) -> bool
-        ensures { result ≡ is_at home.now self.now.users (key nick.now) }
-    {
-        match self.users.find(nick) {
-            Some(user) => user.is_home(home),
-            None => false,
-        }
-    }
-
-    /// The names of the channels that the user of a nickname is a member of, in folded order. No other channel is looked at.
-    pub fn names_of(&self, nick: &Nick) -> &[Row<()>]
-        ensures { map row_entry result.now ≡ own_names (key nick.now) self.now.channels }
-    {
-        self.channels.names_of(nick.as_bytes())
     }
 
     /// Whether there is such a channel.

@@ -1,5 +1,4 @@
 pub mod AudienceLaw
 pub mod ModeLine
-pub mod OwnSight
 pub mod RowValues
 pub mod WhoSees

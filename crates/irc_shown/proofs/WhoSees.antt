@@ -72,13 +72,13 @@ names_chosen users named names rows may is tells =
     ∙ table_chooses users names (λ user. may (key user.nick)) (λ fold user at. tells fold ∙ ap may (sym (named fold user at)))
 
 -- those of the members of a channel and one nickname
-pub or_turned : (b c : Bool) → (b || c) ≡ (c || b)
+or_turned : (b c : Bool) → (b || c) ≡ (c || b)
 or_turned true true = refl
 or_turned true false = refl
 or_turned false true = refl
 or_turned false false = refl
 
-pub none_at_first : (start : Table Flags) → start ≡ empty → (q : List ℕ) → is_some (row start q) ≡ false
+none_at_first : (start : Table Flags) → start ≡ empty → (q : List ℕ) → is_some (row start q) ≡ false
 none_at_first start is q = ap (λ t. is_some (row t q)) is ∙ ap is_some (get-empty fold_cmp q)
 
 pub joiner_among : (start middle names : Table Flags) → start ≡ empty → (nick : List ℕ) (o : Option Channel) (rows : List (Row Flags)) → map row_entry rows ≡ members_in o

@@ -1,4 +1,3 @@
 pub mod LineViews
-pub mod Sight
 pub mod Telling
 pub mod Viewing

@@ -26,10 +26,10 @@ true_is true h = refl
 true_is false h = absurd h
 
 -- each user of a table is found by its own nickname
-abbrev pub IsStored : Table User → List ℕ × User → Type 0
+abbrev IsStored : Table User → List ℕ × User → Type 0
 IsStored users e = row users (key e.1.nick) ≡ Some e.1
 
-pub all_stored : (users : Table User) → AreNamed users → (front es : List (List ℕ × User)) → front ++ es ≡ entries users → AllByRecursion (IsStored users) es
+all_stored : (users : Table User) → AreNamed users → (front es : List (List ℕ × User)) → front ++ es ≡ entries users → AllByRecursion (IsStored users) es
 all_stored users named front [] is = tt
 all_stored users named front (e ∷ es) is =
     let sorted : is_sorted fold_cmp (front ++ e ∷ es) ≡ true = ap (is_sorted fold_cmp) is ∙ true_is _ (entries_sorted users) in

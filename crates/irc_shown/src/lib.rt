@@ -4,15 +4,14 @@
 mod effect_lines;
 mod lines;
 mod mode_letters;
-mod own_viewers;
 mod showing;
 mod viewer_names;
 mod viewers;
 
 pub use effect_lines::effect_line;
 pub use irc_room_tables::{
-    By, Effect, IndexedChannels, ModeChanges, OwnMembers, RoomFault, ShownLine, Tables, Target,
-    examples, invitation_laws, is_idle, laws,
+    By, Effect, IndexedChannels, ModeChanges, RoomFault, ShownLine, Tables, Target, examples,
+    invitation_laws, is_idle, laws,
 };
 pub use mode_letters::push_changes;
 pub use showing::show;

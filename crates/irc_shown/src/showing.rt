@@ -2,16 +2,14 @@
 ghost use Rattle.std.specs.Prelude.{◌≡◌, [], false, ◌++◌, OnOk};
 ghost use Rattle.irc_room_tables.specs.Applying.{pairs_of};
 ghost use Rattle.irc_room_tables.specs.Effects.{is_idle};
-ghost use Rattle.irc_room_tables.specs.Found.{AreNamed};
-ghost use Rattle.irc_room_tables.specs.Indexes.{TellsOwn};
 ghost use Rattle.irc_room_tables.specs.Readers.{users_now};
 ghost use Rattle.irc_shown.specs.Loops.Viewing.{own_nick, own_nicks, own_viewers};
 ghost use Rattle.irc_shown.specs.Loops.Telling.{shown_at};
 
 use crate::effect_lines::effect_line;
-use crate::own_viewers::own_viewers;
+use crate::viewers::viewers;
 use irc_names::Nick;
-use irc_room_tables::{Effect, OwnMembers, ShownLine, Tables};
+use irc_room_tables::{Effect, ShownLine, Tables};
 use irc_users::User;
 use std::alloc::{AllocError, Global};
 
@@ -21,19 +19,17 @@ use std::alloc::{AllocError, Global};
 /// Where memory runs out: nothing is promised of `shown` then.
 pub fn show(
     own: &[u8],
-    here: &OwnMembers,
     tables: &Tables,
     effect: &Effect,
     shown: &mut ShownLine,
 ) -> Result<(), AllocError>
     requires busy { is_idle tables.now effect.now ≡ false }
-    requires tells { TellsOwn own.now here.now.names.rows tables.now }
     requires none { shown.old.viewers.items ≡ [] }
     ensures { OnOk result (pairs_of shown.new ≡ shown_at own.now tables.now effect.now) }
 {
     tables.know_well_formed();
     if effect_line(own, tables, effect, &mut shown.line) {
-        add_viewers(own, here, tables, effect, &mut shown.viewers)?;
+        add_viewers(own, tables, effect, &mut shown.viewers)?;
     }
     Ok(())
 }
@@ -41,16 +37,13 @@ pub fn show(
 /// Adds each user of the server that sees an effect.
 fn add_viewers(
     own: &[u8],
-    here: &OwnMembers,
     tables: &Tables,
     effect: &Effect,
     nicks: &mut Vec<Nick, Global>,
 ) -> Result<(), AllocError>
-    requires tells { TellsOwn own.now here.now.names.rows tables.now }
-    requires named { AreNamed tables.now.users }
     ensures { OnOk result (nicks.new.items ≡ nicks.old.items ++ own_viewers own.now tables.now effect.now) }
 {
-    let users = own_viewers(*nicks.allocator(), here, tables, effect)?;
+    let users = viewers(*nicks.allocator(), tables, effect)?;
     add_each(own, users.as_slice(), nicks)
 }
 

@@ -159,7 +159,7 @@ fn names_sharing(
 }
 
 /// The users that stand under the names of some rows. Rows are in folded order, so a user is mostly the one behind the user before.
-pub(crate) fn users_of<'a>(
+fn users_of<'a>(
     alloc: Global,
     users: &'a Users,
     rows: &[Row<Flags>],
@@ -241,7 +241,7 @@ fn put_rows(names: &mut NameTable<Flags>, rows: &[Row<Flags>]) -> Result<(), All
 }
 
 /// Adds a name.
-pub(crate) fn put_name(names: &mut NameTable<Flags>, name: &[u8]) -> Result<(), AllocError>
+fn put_name(names: &mut NameTable<Flags>, name: &[u8]) -> Result<(), AllocError>
     requires { length name.now ≤ MAX_CHANNEL }
     ensures { OnOk result (Gains names.old names.new (λ fold. same_fold fold (key name.now))) }
 {

@@ -13,7 +13,7 @@ use Rattle.irc_stage.specs.RoomMachine.{Clients}
 use Rattle.irc_stage.specs.Lemmas.Matching.{named_is}
 use Rattle.irc_stage.specs.Loops.Listening.{Lists, AreSo, BringsNone, IsListenerGone, IsListenerSeated}
 use Rattle.irc_stage.specs.Loops.Stage.{departed, entered, IsIndex, LeavesApart}
-use Rattle.irc_stage.proofs.ListsKept.{left_so, seated_so}
+use Rattle.irc_stage.proofs.ListsKept.{left_so, own_gone, seated_so}
 
 module _ (room : Room) (by_nick : Table ℕ) (old new : Lists) (so : AreSo old room by_nick) where
   same_lists : new ≡ old → AreSo new room by_nick
@@ -26,7 +26,7 @@ module _ (room : Room) (by_nick : Table ℕ) (old new : Lists) (so : AreSo old r
   pub taken_out : (client : Option Client) → IsListenerGone room client old new → AreSo new room (departed client by_nick)
   taken_out None is = same_lists is
   taken_out (Some (Registering pending)) is = same_lists is
-  taken_out (Some (Registered nick)) leaves = left_so room by_nick nick old new so (leaves by_nick so)
+  taken_out (Some (Registered nick)) leaves = left_so room by_nick nick old new so (own_gone (key nick) old new room by_nick so leaves)
 
 -- with the index as it is then
 pub so_by : (lists : Lists) (room : Room) (index other : Table ℕ) → index ≡ other → AreSo lists room other → AreSo lists room index

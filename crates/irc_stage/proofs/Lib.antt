@@ -1,13 +1,13 @@
 pub mod Index
 pub mod Showings
-pub mod HomeRoom
 pub mod PassedOver
 pub mod Memberships
 pub mod ListsKept
-pub mod ListsHeard
+pub mod Conns
+pub mod Hearing
+pub mod HeardLines
 pub mod Followed
-pub mod Listening
-pub mod Telling
+pub mod EffectsShown
 pub mod Peers
 pub mod ToldOnLinks
 pub mod LinkEnds

@@ -7,7 +7,7 @@ use Rattle.std.specs.FinMap.Entries.{below_all}
 use Rattle.std.specs.Cmp.Lexicographic.{nat_list_cmp_total}
 use Rattle.irc_names.specs.Fold.{key}
 use Rattle.irc_names.specs.Tables.{Table, fold_cmp, row, put, alter, each, moved}
-use Rattle.irc_names.specs.TableLaws.{same_fold, same_fold-refl, one_fold, row-alter, row-each, row-moved, row-moved_none}
+use Rattle.irc_names.specs.TableLaws.{same_fold, same_fold-refl, one_fold, row-alter, row-moved, row-moved_none}
 use Rattle.irc_tables.specs.Lemmas.OrderedEntries.{above-is, find-above}
 use Rattle.irc_channels.specs.Channels.{has_member}
 use Rattle.irc_modes.specs.Modes.{is_nil}
@@ -144,16 +144,6 @@ gone_sets channel nick old new is = record {
     by_channel c n true one =
         gone_from nick (row old channel) n ∙ ap (λ q. if same_fold n nick then None else kept_at old q n) (sym (one_fold c channel one))
     by_channel c n false two = refl
-
--- from all lists
-pub all_gone : (nick : List ℕ) (old new : Lists) → new ≡ each (without_conn nick) old → Forgets nick old new
-all_gone nick old new is = record {
-  at = λ c n.
-      ap (λ lists. kept_at lists c n) is
-      ∙ ap (λ o. conn_in o n) (row-each (without_conn nick) old c)
-      ∙ gone_from nick (row old c) n;
-  used = λ used. subst AreUsed (sym is) (λ c conns at. gone_used nick (row old c) conns (sym (row-each (without_conn nick) old c) ∙ at));
-}
 
 -- ---- one list after another
 

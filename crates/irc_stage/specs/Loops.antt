@@ -1,5 +1,6 @@
 pub mod Codes
 pub mod Listening
+pub mod Hearing
 pub mod Stage
 pub mod Speaking
 pub mod Linking

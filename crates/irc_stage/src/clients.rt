@@ -1,16 +1,13 @@
 //! The clients of a server, each under the number of its connection.
-ghost use Rattle.std.specs.Prelude.{◌≡◌, ℕ, List, ◌++◌, Option, Some, Result, IfOk, OnOk};
+ghost use Rattle.std.specs.Prelude.{◌≡◌, Option, Some, Result, IfOk, OnOk};
 ghost use Rattle.std.specs.FinMap.{empty, get, insert, remove};
 ghost use Rattle.std.specs.Option.{option_copied};
 ghost use Rattle.irc_names.specs.Fold.{key};
 ghost use Rattle.irc_names.specs.Tables.{row, moved};
-ghost use Rattle.irc_stage.specs.Loops.Stage.{all_renamed, clients_of, departed, entered, held_shown_to, lines_shown, numbered, IsFreeFor, IsFreeOf, IsIndexed, IsNoUser};
-ghost use Rattle.irc_batch.specs.Growing.{Grew};
+ghost use Rattle.irc_stage.specs.Loops.Stage.{all_renamed, clients_of, departed, entered, numbered, IsFreeFor, IsFreeOf, IsIndexed, IsNoUser};
 
-use irc_batch::Batch;
 use irc_commands::Pending;
 use irc_names::Nick;
-use irc_room::ShownLine;
 use irc_tables::NickMap;
 use std::alloc::{AllocError, Global};
 use std::collections::BTreeMap;
@@ -170,33 +167,4 @@ pub(crate) fn number_of(clients: &ClientTable, nick: &Nick) -> Option<u64>
         Some(conn) => Some(*conn),
         None => None,
     }
-}
-
-/// The line at hand, to the user with a nickname, where it is a client.
-fn show(clients: &ClientTable, nick: &Nick, out: &mut Batch) -> Result<(), AllocError>
-    requires indexed { IsIndexed clients.now }
-    ensures ok { OnOk result (out.new ≡ held_shown_to nick.now (clients_of clients.now) out.old) }
-    ensures grew { Grew out.old.outs out.new.outs }
-{
-    if let Some(conn) = number_of(clients, nick) {
-        out.send(conn)?;
-    }
-    Ok(())
-}
-
-/// A line to each of its viewers that is a client.
-pub(crate) fn show_all(
-    clients: &ClientTable,
-    shown: &ShownLine,
-    out: &mut Batch,
-) -> Result<(), AllocError>
-    requires indexed { IsIndexed clients.now }
-    ensures ok { OnOk result (out.new.outs ≡ out.old.outs ++ lines_shown clients.now shown.now) }
-    ensures grew { Grew out.old.outs out.new.outs }
-{
-    out.hold(&shown.line)?;
-    for nick in &shown.viewers {
-        show(clients, nick, out)?;
-    }
-    Ok(())
 }

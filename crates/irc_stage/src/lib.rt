@@ -2,6 +2,7 @@
 //! alone seat a client, take one out and apply an effect, and they alone forget what a change makes stale.
 #![tactic(auto)]
 
+mod audience;
 mod clients;
 mod linked;
 mod listeners;

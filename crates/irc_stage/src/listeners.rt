@@ -1,24 +1,19 @@
 //! Which clients listen in which channels.
-ghost use Rattle.std.specs.Prelude.{◌≡◌, ◌≤◌, Some, None, [], ◌∷◌, OnErr, OnOk, is_some, length, map};
+ghost use Rattle.std.specs.Prelude.{◌≡◌, ◌≤◌, Some, None, OnOk, is_some, length, map};
 ghost use Rattle.std.specs.FinMap.{empty};
 ghost use Rattle.std.specs.Option.{option_copied};
-ghost use Rattle.irc_batch.specs.Batches.{put_out_all, to_others};
-ghost use Rattle.irc_batch.specs.Growing.{Grew};
 ghost use Rattle.irc_names.specs.Fold.{key};
 ghost use Rattle.irc_names.specs.Tables.{row, alter, moved};
 ghost use Rattle.irc_tables.specs.RowViews.{row_entry};
 ghost use Rattle.irc_room.specs.After.{after};
 ghost use Rattle.irc_room.specs.Effects.{IsPossible};
-ghost use Rattle.irc_room.specs.Readers.{rows_now};
 ghost use Rattle.irc_room.specs.effect.Effect.TheVariants.{Rename};
-ghost use Rattle.irc_stage.specs.Loops.Listening.{conns_at, conns_in, folds_of, index_after, is_in, is_named, without_conn, AreSo, BringsNone, Forgets, IsListenerGone, IsListenerSeated, IsNobodys, IsNoMove, Leaves, Sets, SetsAt, SetsIf};
+ghost use Rattle.irc_stage.specs.Loops.Listening.{conns_in, index_after, is_in, is_named, without_conn, AreSo, BringsNone, Forgets, IsListenerGone, IsListenerSeated, IsNobodys, IsNoMove, Leaves, Sets, SetsAt, SetsIf};
 
 use crate::clients::{Client, ClientTable, number_of};
-use irc_batch::Batch;
-use irc_channels::Channel;
 use irc_names::{ChannelName, MAX_CHANNEL, Nick};
 use irc_room::{Effect, Room};
-use irc_tables::{NameTable, Row, RowAttempt, RowChange};
+use irc_tables::{NameMap, NameTable, Row, RowAttempt, RowChange};
 use std::alloc::{AllocError, Global};
 
 /// The clients that listen in each channel: they are kept, changed by one row as one comes or
@@ -27,8 +22,9 @@ use std::alloc::{AllocError, Global};
 pub(crate) struct Listeners {
     /// By the name of each channel that has such members, the connections of those that are
     /// clients, each under its nickname.
-    pub lists: NameTable<NameTable<u64>>,
-    alloc: Global,
+    pub lists: NameMap<NameTable<u64>>,
+    /// Where they take memory from.
+    pub alloc: Global,
 }
 
 impl Listeners {
@@ -37,37 +33,20 @@ impl Listeners {
         ensures { result.lists ≡ empty }
     {
         Listeners {
-            lists: NameTable::new(alloc),
+            lists: NameMap::new(alloc),
             alloc,
         }
     }
 
-    /// The connections of those that listen in a channel, in folded order of their nicknames.
-    pub(crate) fn of(&self, channel: &ChannelName) -> &[Row<u64>]
+    /// The connections of those that listen in the channel of a name, in folded order of their
+    /// nicknames.
+    pub(crate) fn of(&self, channel: &[u8]) -> &[Row<u64>]
         ensures { map row_entry result.now ≡ conns_in (row self.now.lists (key channel.now)) }
     {
-        match self.lists.get(channel.as_bytes()) {
+        match self.lists.get(channel) {
             Some(conns) => conns.as_slice(),
             None => &[],
         }
-    }
-
-    /// Puts out the line at hand to those that listen in a channel, but for one.
-    ///
-    /// # Errors
-    /// Where memory runs out; it has been put out to some of them then.
-    pub(crate) fn tell(
-        &self,
-        channel: &ChannelName,
-        one: Option<u64>,
-        out: &mut Batch,
-    ) -> Result<(), AllocError>
-        ensures ok { OnOk result (out.new
-            ≡ put_out_all (to_others out.old.held one (conns_at self.now.lists (key channel.now)))
-            out.old) }
-        ensures grew { Grew out.old.outs out.new.outs }
-    {
-        send_to_others(self.of(channel), one, out)
     }
 
     /// Follows an effect, which this room and these clients are still to be changed by.
@@ -189,15 +168,11 @@ impl Listeners {
         }
     }
 
-    /// A user is in no channel any more, or no client. It needs no memory: where there is none for
-    /// the list of the user's channels, the lists of all are gone through.
+    /// A user is in no channel any more, or no client. It takes no memory.
     fn leave_all(&mut self, room: &Room, nick: &Nick)
         ensures { Leaves room.now.room (key nick.now) self.old.lists self.new.lists }
     {
-        match room.channels_of(nick.as_bytes()) {
-            Ok(rows) => self.remove_each(rows.as_slice(), nick),
-            Err(_) => self.lists.change_each(&Removing { nick }),
-        }
+        self.remove_each(room.names_of(nick.as_bytes()), nick);
     }
 
     /// A client is in all channels of a user, by this nickname.
@@ -211,28 +186,27 @@ impl Listeners {
         ensures { OnOk result (Sets (is_in room.now.room (key nick.now)) (key name.now) (Some conn)
             self.old.lists self.new.lists) }
     {
-        let rows = room.channels_of(nick.as_bytes())?;
-        self.put_each(rows.as_slice(), name, conn)
+        self.put_each(room.names_of(nick.as_bytes()), name, conn)
     }
 
     /// A client is in each of these channels.
-    fn put_each(&mut self, rows: &[&Row<Channel>], nick: &Nick, conn: u64) -> Result<(), AllocError>
-        ensures { OnOk result (Sets (is_named (folds_of (rows_now rows.now)))
+    fn put_each(&mut self, names: &[Row<()>], nick: &Nick, conn: u64) -> Result<(), AllocError>
+        ensures { OnOk result (Sets (is_named (map (λ row. key row.name.items) names.now))
             (key nick.now) (Some conn)
             self.old.lists self.new.lists) }
     {
-        for row in rows {
+        for row in names {
             self.put(row.name.as_slice(), nick, conn)?;
         }
         Ok(())
     }
 
     /// A client is in none of these channels. It takes no memory.
-    fn remove_each(&mut self, rows: &[&Row<Channel>], nick: &Nick)
-        ensures { Sets (is_named (folds_of (rows_now rows.now))) (key nick.now) None
+    fn remove_each(&mut self, names: &[Row<()>], nick: &Nick)
+        ensures { Sets (is_named (map (λ row. key row.name.items) names.now)) (key nick.now) None
             self.old.lists self.new.lists }
     {
-        for row in rows {
+        for row in names {
             self.remove(row.name.as_slice(), nick);
         }
     }
@@ -263,30 +237,6 @@ impl Listeners {
         ensures { SetsAt (key channel.now) (key nick.now) None self.old.lists self.new.lists }
     {
         self.lists.change_at(channel, &Removing { nick });
-    }
-}
-
-/// Puts out the line at hand to each of these connections in turn, but for one.
-fn send_to_others(rows: &[Row<u64>], one: Option<u64>, out: &mut Batch) -> Result<(), AllocError>
-    ensures ok { OnOk result (out.new
-        ≡ put_out_all (to_others out.old.held one (map (λ row. row.value) rows.now)) out.old) }
-    ensures grew { Grew out.old.outs out.new.outs }
-{
-    for row in rows {
-        send_unless(row.value, one, out)?;
-    }
-    Ok(())
-}
-
-/// Puts out the line at hand to a connection, unless it is this one.
-fn send_unless(conn: u64, one: Option<u64>, out: &mut Batch) -> Result<(), AllocError>
-    ensures ok { OnOk result (out.new
-        ≡ put_out_all (to_others out.old.held one (conn ∷ [])) out.old) }
-    ensures refused { OnErr result (out.new ≡ out.old) }
-{
-    match one {
-        Some(number) if number == conn => Ok(()),
-        _ => out.send(conn),
     }
 }
 

@@ -1,10 +1,8 @@
 //! One server while an event is handled: what each step of a decision does to it, and what it puts out.
-ghost use Rattle.std.specs.Prelude.{◌≡◌, None, [], ◌∷◌, ◌++◌, find, OnOk, IfOk};
+ghost use Rattle.std.specs.Prelude.{◌≡◌, None, [], ◌∷◌, ◌++◌, find, OnOk};
 ghost use Rattle.std.specs.Option.{option_copied};
 ghost use Rattle.irc_room.specs.After.{after};
-ghost use Rattle.irc_room.specs.Applying.{pairs_of, shown_here};
 ghost use Rattle.irc_room.specs.Effects.{IsPossible};
-ghost use Rattle.irc_room.specs.Laws.{no_room};
 ghost use Rattle.irc_routes.specs.Known.{others};
 ghost use Rattle.irc_batch.specs.Growing.{Grew};
 ghost use Rattle.irc_line.specs.MessageViews.{optional_now};
@@ -15,11 +13,13 @@ ghost use Rattle.irc_stage.specs.Handle.{clients_after};
 ghost use Rattle.irc_stage.specs.RoomMachine.{client_of, with_client, without_client};
 ghost use Rattle.irc_stage.specs.View.{is_peer_named, new_view, password_for};
 ghost use Rattle.irc_stage.specs.Loops.Asking.{user_under, AnswersSpeaker};
-ghost use Rattle.irc_stage.specs.Loops.Listening.{index_after, IsSaidIn, IsSaidTo};
+ghost use Rattle.irc_stage.specs.Loops.Hearing.{IsUnsaid};
+ghost use Rattle.irc_stage.specs.Loops.Listening.{index_after, AreSo, IsSaidIn, IsSaidTo};
 ghost use Rattle.irc_stage.specs.Loops.Speaking.{arrival_of, AreSpokenAt, IsSpoken};
-ghost use Rattle.irc_stage.specs.Loops.Stage.{clients_of, lines_on, machine_at, view_of, Applies, AreFitAt, CarriesOut, Changes, IsFit, IsFreeOf, IsIndexed, IsNoUser, IsReady, IsSound, Keeps, LeavesApart, Shows, Takes, TakesAll};
+ghost use Rattle.irc_stage.specs.Loops.Stage.{clients_of, lines_on, machine_at, view_of, Applies, AreFitAt, CarriesOut, Changes, IsFit, IsFreeOf, IsIndexed, IsNoUser, IsReady, IsSound, Keeps, LeavesApart, Shows, ShowsTo, Takes, TakesAll};
 
-use crate::clients::{self, Client, ClientTable, number_of, show_all};
+use crate::audience::write;
+use crate::clients::{self, Client, ClientTable, number_of};
 use crate::listeners::Listeners;
 use crate::origin::{Origin, Speaker};
 use crate::peer::Peer;
@@ -31,7 +31,7 @@ use irc_links::{Around, LinkEnd, Ways};
 use irc_names::{ChannelName, Nick};
 use irc_numerics::reply_line;
 use irc_queries::{Query, answer};
-use irc_room::{Effect, Room, RoomFault, ShownLine, Target, laws};
+use irc_room::{Effect, Room, RoomFault, Target, laws};
 use irc_routes::Routes;
 use irc_users::User;
 use std::alloc::{AllocError, Global};
@@ -57,31 +57,25 @@ pub struct Stage {
     pub(crate) listeners: Listeners,
     /// The links on which the line at hand goes.
     pub(crate) ways: Ways,
-    /// What the effect at hand shows.
-    pub(crate) shown: ShownLine,
+    /// The line of the effect at hand.
+    pub(crate) line: Text,
     /// Where it takes memory from.
     pub(crate) alloc: Global,
 }
 
-/// Applies an effect to a room in which it is possible; `shown` is what it shows. Behind which
-/// links somebody listens is to be found anew.
-fn happen(
-    room: &mut Room,
-    ways: &mut Ways,
-    effect: &Effect,
-    shown: &mut ShownLine,
-) -> Result<(), AllocError>
+/// Makes the change of an effect in a room in which it is possible. Behind which links somebody
+/// listens is to be found anew.
+fn happen(room: &mut Room, ways: &mut Ways, effect: &Effect) -> Result<(), AllocError>
     requires sound { IsSound room.old }
     requires possible { IsPossible room.old.room effect.now }
     ensures after { OnOk result (room.new ≡ record room.old { room = after room.old.room effect.now }) }
-    ensures shown { OnOk result (pairs_of shown.new ≡ shown_here room.old effect.now) }
     ensures sound { OnOk result (IsSound room.new) }
     ensures nothing { OnOk result (KnowsNothing ways.new) }
     ensures at_hand { OnOk result (ways.new.links ≡ ways.old.links) }
 {
     ways.forget();
     laws::after_is_well_formed();
-    match room.apply(effect, shown) {
+    match room.change(effect) {
         Ok(()) => Ok(()),
         Err(RoomFault::Memory) => Err(AllocError),
         Err(_) => unreachable!(),
@@ -118,7 +112,7 @@ impl Stage {
             room,
             listeners: Listeners::new(alloc),
             ways: Ways::new(alloc),
-            shown: ShownLine::new(alloc),
+            line: Text::new(),
             alloc,
         }
     }
@@ -316,9 +310,9 @@ impl Stage {
         ensures ways { OnOk result (self.new.ways.links ≡ self.old.ways.links) }
         ensures grew { Grew out.old.outs out.new.outs }
     {
-        if self.room.write_line(effect, &mut self.shown.line) {
-            out.hold(&self.shown.line)?;
-            return self.listeners.tell(channel, origin.conn(), out);
+        if self.room.write_line(effect, &mut self.line) {
+            out.hold(&self.line)?;
+            return self.listeners.tell(channel.as_bytes(), origin.conn(), out);
         }
         Ok(())
     }
@@ -337,25 +331,46 @@ impl Stage {
         let Some(conn) = number_of(&self.clients, nick) else {
             return Ok(());
         };
-        if self.room.write_line(effect, &mut self.shown.line) {
-            return out.put(conn, &self.shown.line);
+        if self.room.write_line(effect, &mut self.line) {
+            return out.put(conn, &self.line);
         }
         Ok(())
+    }
+
+    /// The line of an effect, where it shows one, goes to all who see it, and it is known who of the
+    /// clients listens where when it has changed the room. The room is still to be changed.
+    fn show_line(&mut self, effect: &Effect, out: &mut Batch) -> Result<(), AllocError>
+        requires ready { IsReady self.old }
+        requires fit { IsFit (machine_at self.old) effect.now }
+        requires unsaid { IsUnsaid effect.now }
+        ensures shown { OnOk result (ShowsTo effect.now self.old out.old out.new) }
+        ensures so { OnOk result
+            (AreSo self.new.listeners.lists (after self.old.room.room effect.now)
+            (index_after effect.now self.old.clients.by_nick)) }
+        ensures rest { self.new
+            ≡ record self.old { listeners = self.new.listeners; line = self.new.line } }
+        ensures grew { Grew out.old.outs out.new.outs }
+    {
+        if !write(&self.room, effect, &mut self.line) {
+            return self.listeners.follow(&self.room, &self.clients, effect);
+        }
+        out.hold(&self.line)?;
+        self.listeners.show(&self.room, &self.clients, effect, out)
     }
 
     /// An effect changes the room, and is shown to its viewers.
     fn change_room(&mut self, effect: &Effect, out: &mut Batch) -> Result<(), AllocError>
         requires ready { IsReady self.old }
         requires fit { IsFit (machine_at self.old) effect.now }
+        requires unsaid { IsUnsaid effect.now }
         ensures ok { OnOk result (Shows effect.now self.old out.old self.new out.new) }
         ensures ready { OnOk result (IsReady self.new) }
         ensures keeps { Keeps self.old self.new }
         ensures ways { OnOk result (self.new.ways.links ≡ self.old.ways.links) }
         ensures grew { Grew out.old.outs out.new.outs }
     {
-        self.listeners.follow(&self.room, &self.clients, effect)?;
-        happen(&mut self.room, &mut self.ways, effect, &mut self.shown)?;
-        show_all(&self.clients, &self.shown, out)?;
+        self.show_line(effect, out)?;
+        happen(&mut self.room, &mut self.ways, effect)?;
         follow(&mut self.clients, effect)
     }
 

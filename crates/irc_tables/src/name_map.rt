@@ -4,10 +4,10 @@ ghost use Rattle.std.specs.FinMap.{empty, keys, values};
 ghost use Rattle.std.specs.Option.{option_copied};
 ghost use Rattle.irc_names.specs.Fold.{key};
 ghost use Rattle.irc_names.specs.Tables.{row};
-ghost use Rattle.irc_tables.specs.TableChanges.{passes_at, tried_at, with_value, without};
+ghost use Rattle.irc_tables.specs.TableChanges.{changed_at, passes_at, tried_at, with_value, without};
 
 use crate::folded::Folded;
-use crate::table::RowAttempt;
+use crate::table::{RowAttempt, RowChange};
 use irc_names::MAX_CHANNEL;
 use std::alloc::{AllocError, Global};
 use std::collections::BTreeMap;
@@ -99,6 +99,23 @@ impl<V: Drop> NameMap<V> {
         }
     }
 
+    /// Changes what stands under a name, or takes it out; where nothing does, nothing changes. It
+    /// takes no memory.
+    pub fn change_at<C: RowChange<V>>(&mut self, name: &[u8], change: &C)
+        ensures { self.new ≡ changed_at name.now (C.changed change.now) self.old }
+    {
+        let Some(folded) = self.folded(name) else {
+            return;
+        };
+        let Some(value) = self.rows.get_mut(&folded) else {
+            return;
+        };
+        let stays = change.change(value);
+        if !stays {
+            self.rows.remove(&folded);
+        }
+    }
+
     /// Tries a change of what stands under a name; where nothing does, nothing changes, and no
     /// memory is wanted. A change that takes none is made.
     ///
@@ -118,6 +135,7 @@ impl<V: Drop> NameMap<V> {
         };
         change.attempt(value)
     }
+
     /// A name as it is told from others; none where it is longer than that of any channel, so that
     /// nothing stands under it.
     fn folded(&self, name: &[u8]) -> Option<Folded>

@@ -43,7 +43,8 @@ numbered_code =
 -- a fold has a number just where it has a user, and two folds that have one number are one fold
 pub record IsNumbered (numbered : NumberedUsers) : Type 0 where
   pub each : (fold : List ℕ) → is_some (row numbered.numbers fold) ≡ is_some (row numbered.users fold)
-  pub apart : (one other : List ℕ) (number : ℕ) → row numbered.numbers one ≡ Some number → row numbered.numbers other ≡ Some number → one ≡ other
+  pub apart : (one other : List ℕ) (number : ℕ) → row numbered.numbers one ≡ Some number
+      → row numbered.numbers other ≡ Some number → one ≡ other
 
 -- the user that has a number, or nothing where none has it
 pub record HasNumber (numbered : NumberedUsers) (number : ℕ) (found : Option User) : Type 0 where

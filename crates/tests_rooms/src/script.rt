@@ -282,7 +282,7 @@ pub fn show_users(users: &[&User], shown: &mut Shown) {
 /// Shows the channels of a user.
 fn show_channels_of(alloc: Global, room: &Room, nick: &str, shown: &mut Shown) {
     for row in room.channels_of(nick.as_bytes()).unwrap_or(Vec::new(alloc)) {
-        append_word(shown, b"", row.value.name.as_bytes());
+        append_word(shown, b"", row.value.channel().name.as_bytes());
     }
 }
 

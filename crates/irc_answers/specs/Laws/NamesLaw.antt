@@ -43,5 +43,6 @@ pub names_only_answers : NamesOnlyAnswers
 unfolding names_steps
 names_only_answers room me [] =
     let channels = filter (is_listed me) (values room.channels) in
-    none-both (flat_map (names_of room.users me) channels) (end_of_names _ ∷ []) (none-flat (names_of room.users me) (names_answer room.users me) channels) refl
+    none-both (flat_map (names_of room.users me) channels) (end_of_names _ ∷ [])
+    (none-flat (names_of room.users me) (names_answer room.users me) channels) refl
 names_only_answers room me (list ∷ more) = none-flat (one_names room me) (one_answer room me) (entries list)

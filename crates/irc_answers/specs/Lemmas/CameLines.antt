@@ -14,7 +14,9 @@ not_zero (suc n) some = omega arith
 module _ {X : Type 0} (size : ℕ) (line : List X → Act) where
   -- some, and then others
   pub more_came : (before middle after : List Act) (held between left items more : List X)
-      → Came size line before held items middle between → Came size line middle between more after left → Came size line before held (items ++ more) after left
+      → Came size line before held items middle between
+      → Came size line middle between more after left
+      → Came size line before held (items ++ more) after left
   more_came before middle after held between left items more first then = record {
     lines = λ later.
         ap (λ xs. before ++ lines_of size line (held ++ xs)) (append_assoc items more later)

@@ -30,13 +30,23 @@ all_seen room effect lined (user ∷ users) = by_sight (all_seen room effect lin
   where
     by_sight : map (λ (user : User). user.nick) (filter (λ user. sees room effect user.nick) users) ≡ nicks (filter_map (shown_to room effect) users)
         → (b : Bool) → sees room effect user.nick ≡ b
-        → map (λ (user : User). user.nick) (filter (λ user. sees room effect user.nick) (user ∷ users)) ≡ nicks (filter_map (shown_to room effect) (user ∷ users))
+        → map (λ (user : User). user.nick)
+        (filter (λ user. sees room effect user.nick) (user ∷ users))
+        ≡ nicks (filter_map (shown_to room effect) (user ∷ users))
     by_sight rest true seen =
-        ap (λ b. map (λ (user : User). user.nick) (cond b (user ∷ filter (λ user. sees room effect user.nick) users) (filter (λ user. sees room effect user.nick) users))) seen
+        ap (λ b.
+        map (λ (user : User). user.nick)
+        (cond b (user ∷ filter (λ user. sees room effect user.nick) users)
+        (filter (λ user. sees room effect user.nick) users)))
+        seen
         ∙ ap (λ xs. user.nick ∷ xs) rest
         ∙ sym (one_nick user (shown_line room effect user) (lined user) (filter_map (shown_to room effect) users))
         ∙ ap (λ b. nicks (cons_option (shown_if room effect user b) (filter_map (shown_to room effect) users))) (sym seen)
     by_sight rest false unseen =
-        ap (λ b. map (λ (user : User). user.nick) (cond b (user ∷ filter (λ user. sees room effect user.nick) users) (filter (λ user. sees room effect user.nick) users))) unseen
+        ap (λ b.
+        map (λ (user : User). user.nick)
+        (cond b (user ∷ filter (λ user. sees room effect user.nick) users)
+        (filter (λ user. sees room effect user.nick) users)))
+        unseen
         ∙ rest
         ∙ ap (λ b. nicks (cons_option (shown_if room effect user b) (filter_map (shown_to room effect) users))) (sym unseen)

@@ -30,7 +30,9 @@ module _ (stays : List ℕ → Bool) (room : Room) where
   now = with_invited stays room
 
   -- what does not look at who is invited in a channel
-  row_now : {X : Type 0} (asks : Option Channel → X) → ((found : Option Channel) → asks (option_and_then (keeping stays) found) ≡ asks found) → (name : List ℕ)
+  row_now : {X : Type 0} (asks : Option Channel → X)
+      → ((found : Option Channel) → asks (option_and_then (keeping stays) found) ≡ asks found)
+      → (name : List ℕ)
       → asks (row now.channels name) ≡ asks (row room.channels name)
   row_now asks blind name = ap asks (row-each (keeping stays) room.channels name) ∙ blind (row room.channels name)
 

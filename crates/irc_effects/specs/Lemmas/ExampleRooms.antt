@@ -30,13 +30,15 @@ pub channel_is : (effects : List Effect) (name : List ℕ)
     → row (room_after effects).channels (key name) ≡ option_map channel_of (find fold_cmp (key name) (list_room effects).channels)
 channel_is effects name = ap (λ (r : Room). row r.channels (key name)) (made effects) ∙ channel_listed (list_room effects) (key name)
 
-pub member_is : (effects : List Effect) (nick name : List ℕ) → is_member (room_after effects) nick name ≡ (list_asked (list_room effects)).member nick name
+pub member_is : (effects : List Effect) (nick name : List ℕ)
+    → is_member (room_after effects) nick name ≡ (list_asked (list_room effects)).member nick name
 member_is effects nick name = ap (λ r. is_member r nick name) (made effects) ∙ member_asked (list_room effects) nick name
 
 pub flags_is : (effects : List Effect) (nick name : List ℕ) → flags_of (room_after effects) nick name
     ≡ option_and_then (λ (c : ListedChannel). find fold_cmp (key nick) c.members) (find fold_cmp (key name) (list_room effects).channels)
 flags_is effects nick name =
-    ap (option_and_then (λ (c : Channel). row c.members (key nick))) (channel_is effects name) ∙ by_row (find fold_cmp (key name) (list_room effects).channels)
+    ap (option_and_then (λ (c : Channel). row c.members (key nick))) (channel_is effects name)
+    ∙ by_row (find fold_cmp (key name) (list_room effects).channels)
   where
     by_row : (o : Option ListedChannel) → option_and_then (λ (c : Channel). row c.members (key nick)) (option_map channel_of o)
         ≡ option_and_then (λ (c : ListedChannel). find fold_cmp (key nick) c.members) o
@@ -67,5 +69,6 @@ titled_part_is part effects given name =
     (ap (titled_by given) (made effects) ∙ titled_listed given (list_room effects))
     ∙ ap (option_map part) (channel_listed (list_titled given (list_room effects)) (key name))
 
-pub seen_is : (effects : List Effect) (effect : Effect) → IsInOrder (list_room effects) → seen (room_after effects) effect ≡ list_seen (list_room effects) effect
+pub seen_is : (effects : List Effect) (effect : Effect) → IsInOrder (list_room effects)
+    → seen (room_after effects) effect ≡ list_seen (list_room effects) effect
 seen_is effects effect order = ap (λ r. seen r effect) (made effects) ∙ seen_listed (list_room effects) effect order

@@ -23,7 +23,8 @@ use Rattle.irc_effects.specs.Found.{AreNamed, users_who, users_under}
 order : IsTotalOrder fold_cmp
 order = nat_list_cmp_total
 
-lt_below : {X : Type 0} (x y : List ℕ) (es : List (List ℕ × X)) → is_lt (fold_cmp x y) ≡ true → below_all fold_cmp y es ≡ true → below_all fold_cmp x es ≡ true
+lt_below : {X : Type 0} (x y : List ℕ) (es : List (List ℕ × X)) → is_lt (fold_cmp x y) ≡ true
+    → below_all fold_cmp y es ≡ true → below_all fold_cmp x es ≡ true
 lt_below x y [] lt below = refl
 lt_below x y (e ∷ es) lt below =
     let parts = and_parts _ _ below in
@@ -45,32 +46,42 @@ module _ {X : Type 0} (V : Type 0) (p : X → Bool) where
   Misses ms e = find fold_cmp e.0 ms ≡ None → p e.1 ≡ false
 
   abbrev Follows : List (List ℕ × X) → Type 0
-  Follows us = (ms : List (List ℕ × V)) → is_sorted fold_cmp ms ≡ true → AllByRecursion (Misses ms) us → filter p (found_in us ms) ≡ filter p (map (λ e. e.1) us)
+  Follows us =
+      (ms : List (List ℕ × V)) → is_sorted fold_cmp ms ≡ true → AllByRecursion (Misses ms) us
+      → filter p (found_in us ms) ≡ filter p (map (λ e. e.1) us)
 
   none_found : (ms : List (List ℕ × V)) → found_in [] ms ≡ []
   none_found [] = refl
   none_found (m ∷ ms) = none_found ms
 
   -- an entry below all of the second list is not found, and one below all of the first finds none
-  drop_first : (e : List ℕ × X) (us : List (List ℕ × X)) (ms : List (List ℕ × V)) → below_all fold_cmp e.0 ms ≡ true → found_in (e ∷ us) ms ≡ found_in us ms
+  drop_first : (e : List ℕ × X) (us : List (List ℕ × X)) (ms : List (List ℕ × V))
+      → below_all fold_cmp e.0 ms ≡ true → found_in (e ∷ us) ms ≡ found_in us ms
   drop_first e us [] below = refl
   drop_first e us (m ∷ ms) below =
       let parts = and_parts _ _ below in
       ap (λ r. option_to_list (cond (is_eq r) (Some e.1) (find fold_cmp m.0 us)) ++ found_in (e ∷ us) ms) (turned order e.0 m.0 parts.0)
       ∙ ap (λ rest. option_to_list (find fold_cmp m.0 us) ++ rest) (drop_first e us ms parts.1)
 
-  drop_second : (m : List ℕ × V) (ms : List (List ℕ × V)) (us : List (List ℕ × X)) → below_all fold_cmp m.0 us ≡ true → AllByRecursion (Misses (m ∷ ms)) us
+  drop_second : (m : List ℕ × V) (ms : List (List ℕ × V)) (us : List (List ℕ × X))
+      → below_all fold_cmp m.0 us ≡ true → AllByRecursion (Misses (m ∷ ms)) us
       → AllByRecursion (Misses ms) us
   drop_second m ms [] below misses = tt
   drop_second m ms (e ∷ us) below misses =
-      let parts = and_parts _ _ below in
-      (λ none. misses.0 (ap (λ r. cond (is_eq r) (Some m.1) (find fold_cmp e.0 ms)) (turned order m.0 e.0 parts.0) ∙ none), drop_second m ms us parts.1 misses.1)
+      let parts = and_parts _ _ below in (
+        λ none. misses.0
+            (ap (λ r. cond (is_eq r) (Some m.1) (find fold_cmp e.0 ms))
+            (turned order m.0 e.0 parts.0)
+            ∙ none),
+        drop_second m ms us parts.1 misses.1,
+      )
 
   one_more : (e : List ℕ × X) (us : List (List ℕ × X)) → below_all fold_cmp e.0 us ≡ true → Follows us → Follows (e ∷ us)
   one_more e us below follows [] sorted misses = follows [] refl misses.1 ∙ kept_out p e.1 (map (λ e. e.1) us) (misses.0 refl)
   one_more e us below follows (m ∷ ms) sorted misses = by_order (one_more e us below follows ms) (fold_cmp e.0 m.0) refl
     where
-      by_order : (is_sorted fold_cmp ms ≡ true → AllByRecursion (Misses ms) (e ∷ us) → filter p (found_in (e ∷ us) ms) ≡ filter p (map (λ e. e.1) (e ∷ us)))
+      by_order : (is_sorted fold_cmp ms ≡ true → AllByRecursion (Misses ms) (e ∷ us)
+          → filter p (found_in (e ∷ us) ms) ≡ filter p (map (λ e. e.1) (e ∷ us)))
           → (r : Ordering) → fold_cmp e.0 m.0 ≡ r → filter p (found_in (e ∷ us) (m ∷ ms)) ≡ filter p (map (λ e. e.1) (e ∷ us))
       by_order again Less is =
           let rest = and_parts _ _ sorted in
@@ -81,7 +92,11 @@ module _ {X : Type 0} (V : Type 0) (p : X → Bool) where
       by_order again Equal is =
           let rest = and_parts _ _ sorted in
           let one : e.0 ≡ m.0 = slice_cmp-IsAntisymmetric nat_cmp-IsAntisymmetric e.0 m.0 is in
-          ap (λ r. filter p (option_to_list (cond (is_eq r) (Some e.1) (find fold_cmp m.0 us)) ++ found_in (e ∷ us) ms)) (ap (fold_cmp m.0) one ∙ tied_itself order m.0)
+          ap (λ r.
+          filter p
+          (option_to_list (cond (is_eq r) (Some e.1) (find fold_cmp m.0 us))
+          ++ found_in (e ∷ us) ms))
+          (ap (fold_cmp m.0) one ∙ tied_itself order m.0)
           ∙ ap (λ xs. filter p (e.1 ∷ xs)) (drop_first e us ms (ap (λ k. below_all fold_cmp k ms) one ∙ rest.0))
           ∙ ap (λ xs. cond (p e.1) (e.1 ∷ xs) xs)
           (follows ms rest.1 (drop_second m ms us (ap (λ k. below_all fold_cmp k us) (sym one) ∙ below) misses.1))
@@ -130,23 +145,29 @@ one_kept : (p : User → Bool) (o : Option User) → ((user : User) → o ≡ So
 one_kept p None pass rest = refl
 one_kept p (Some user) pass rest = ap (λ b. cond b (user ∷ filter p rest) (filter p rest)) (pass user refl)
 
-all_kept : {V : Type 0} (users : Table User) (p : User → Bool) (names : List (List ℕ × V)) → AllPass users p names → filter p (users_under users names) ≡ users_under users names
+all_kept : {V : Type 0} (users : Table User) (p : User → Bool) (names : List (List ℕ × V))
+    → AllPass users p names → filter p (users_under users names) ≡ users_under users names
 all_kept users p [] pass = refl
 all_kept users p (e ∷ names) pass =
     one_kept p (row users e.0) pass.0 (users_under users names) ∙ ap (λ rest. option_to_list (row users e.0) ++ rest) (all_kept users p names pass.1)
 
 -- the users under the folds of entries in order are all that pass a test which only those under one of these folds pass
-pub entries_choose : {V : Type 0} (users : Table User) (names : List (List ℕ × V)) → is_sorted fold_cmp names ≡ true → (p : User → Bool) → AllPass users p names
+pub entries_choose : {V : Type 0} (users : Table User) (names : List (List ℕ × V))
+    → is_sorted fold_cmp names ≡ true → (p : User → Bool) → AllPass users p names
     → ((fold : List ℕ) (user : User) → row users fold ≡ Some user → is_some (find fold_cmp fold names) ≡ false → p user ≡ false)
     → users_under users names ≡ filter p (values users)
 entries_choose users names rise p pass fails = sym (all_kept users p names pass) ∙ covered users names rise p fails
 
 -- each entry of a table is found in it
-all_there : {V : Type 0} (names : Table V) (front es : List (List ℕ × V)) → front ++ es ≡ entries names → AllByRecursion (λ e. is_some (row names e.0) ≡ true) es
+all_there : {V : Type 0} (names : Table V) (front es : List (List ℕ × V))
+    → front ++ es ≡ entries names → AllByRecursion (λ e. is_some (row names e.0) ≡ true) es
 all_there names front [] is = tt
 all_there names front (e ∷ es) is =
     let sorted : is_sorted fold_cmp (front ++ e ∷ es) ≡ true = ap (is_sorted fold_cmp) is ∙ true_is _ (entries_sorted names) in (
-      ap is_some (get-entries names e.0 ∙ ap (find fold_cmp e.0) (sym is) ∙ find-there order e.0 e.1 front es (sorted-below order e.0 e.1 front es sorted)),
+      ap is_some
+          (get-entries names e.0
+          ∙ ap (find fold_cmp e.0) (sym is)
+          ∙ find-there order e.0 e.1 front es (sorted-below order e.0 e.1 front es sorted)),
       all_there names (front ++ e ∷ []) es (append_assoc front (e ∷ []) es ∙ is),
     )
 
@@ -161,7 +182,8 @@ pub table_chooses : {V : Type 0} (users : Table User) (names : Table V) (p : Use
     → ((fold : List ℕ) (user : User) → row users fold ≡ Some user → is_some (row names fold) ≡ p user)
     → users_under users (entries names) ≡ filter p (values users)
 table_chooses users names p tells =
-    entries_choose users (entries names) (true_is _ (entries_sorted names)) p (all_pass users names p tells (entries names) (all_there names [] (entries names) refl))
+    entries_choose users (entries names) (true_is _ (entries_sorted names)) p
+    (all_pass users names p tells (entries names) (all_there names [] (entries names) refl))
     (λ fold user at none. sym (tells fold user at) ∙ ap is_some (get-entries names fold) ∙ none)
 
 -- a fold is found under a nickname just where it is the nickname's

@@ -40,7 +40,8 @@ only_unchanged stays name nick room away =
 
 -- users are changed, and where each of those who are invited is stays as it was
 pub only_users : (before after : List ℕ → Bool) (users : Table User) (channels : Table Channel)
-    → ((fold : List ℕ) (channel : Channel) → row channels fold ≡ Some channel → (q : List ℕ) → is_some (row channel.invited q) ≡ true → after q ≡ before q)
+    → ((fold : List ℕ) (channel : Channel) → row channels fold ≡ Some channel → (q : List ℕ)
+    → is_some (row channel.invited q) ≡ true → after q ≡ before q)
     → with_invited after (of_tables users channels) ≡ of_tables users (each (keeping before) channels)
 only_users before after users channels agree =
     ap (of_tables users) (each-alike (keeping after) (keeping before) channels (λ fold channel at.
@@ -49,7 +50,8 @@ only_users before after users channels agree =
 -- a user is gone
 pub only_without : (before after : List ℕ → Bool) (users : Table User) (nick : List ℕ) (channels : Table Channel)
     → ((q : List ℕ) → same_fold q nick ≡ false → after q ≡ before q)
-    → with_invited after (of_tables users (each (without_user nick) channels)) ≡ of_tables users (each (without_user nick) (each (keeping before) channels))
+    → with_invited after (of_tables users (each (without_user nick) channels))
+    ≡ of_tables users (each (without_user nick) (each (keeping before) channels))
 only_without before after users nick channels elsewhere =
     ap (of_tables users)
     (each-turned (keeping after) (without_user nick) (without_user nick) (keeping before) channels (λ fold channel at.
@@ -110,7 +112,10 @@ own_or_free nick new false may is = not_true is
 
 home_invite : (home : List ℕ) (room : Room) (nick name : List ℕ) (b : Bool) → is_at home room.users (key nick) ≡ b
     → with_invited (is_at home room.users) (alter_channel name (option_map (invited_too (key nick))) room)
-    ≡ cond b (alter_channel name (option_map (invited_too (key nick))) (with_invited (is_at home room.users) room)) (with_invited (is_at home room.users) room)
+    ≡ cond b
+    (alter_channel name (option_map (invited_too (key nick)))
+    (with_invited (is_at home room.users) room))
+    (with_invited (is_at home room.users) room)
 home_invite home room nick name true here =
     only_altered (is_at home room.users) name (option_map (invited_too (key nick))) room (invited_only (is_at home room.users) (key nick) here)
 home_invite home room nick name false away = only_unchanged (is_at home room.users) name nick room away

@@ -21,9 +21,12 @@ is_out : (nick : List ℕ) (channel : Option Channel) → (is_some channel && no
 is_out nick None none = refl
 is_out nick (Some channel) none = if_not (has_member nick channel) _ _ none
 
-alter_channel_same : (name : List ℕ) (change : Option Channel → Option Channel) (room : Room) → change (row room.channels (key name)) ≡ row room.channels (key name)
+alter_channel_same : (name : List ℕ) (change : Option Channel → Option Channel) (room : Room)
+    → change (row room.channels (key name)) ≡ row room.channels (key name)
     → alter_channel name change room ≡ room
-alter_channel_same name change room is = ap (λ (channels : Table Channel). record room { channels = channels }) (alter_same (key name) change room.channels is)
+alter_channel_same name change room is =
+    ap (λ (channels : Table Channel). record room { channels = channels })
+    (alter_same (key name) change room.channels is)
 
 pub idle_changes_nothing : IdleChangesNothing
 unfolding after

@@ -126,7 +126,8 @@ invited_elsewhere stays nick away (Some channel) = ap (λ t. Some (inviting chan
         ∙ alter_same nick (λ o. o) (retain_keys invited stays) refl
 
 -- a user is gone
-pub without_only : (before after : List ℕ → Bool) (nick : List ℕ) (channel : Channel) → ((q : List ℕ) → same_fold q nick ≡ false → after q ≡ before q)
+pub without_only : (before after : List ℕ → Bool) (nick : List ℕ) (channel : Channel)
+    → ((q : List ℕ) → same_fold q nick ≡ false → after q ≡ before q)
     → option_and_then (keeping after) (without_user nick channel) ≡ without_user nick (inviting_only before channel)
 without_only before after nick channel elsewhere = by_test (is_nil (keys (alter nick (λ _. None) channel.members)))
   where

@@ -214,7 +214,9 @@ after_is_within_limits room (UserMode nick invisible) within keeps = record {
 -- ---- what can be sent
 
 -- a name for a channel keeps the rule, where the channel that was found does
-named : (name : List ℕ) (o : Option Channel) → ((channel : Channel) → o ≡ Some channel → IsChannelWithin channel) → IsNameFor name o → IsChannel name
+named : (name : List ℕ) (o : Option Channel)
+    → ((channel : Channel) → o ≡ Some channel → IsChannelWithin channel) → IsNameFor name o
+    → IsChannel name
 named name None within is = is
 named name (Some channel) within is = subst IsChannel is (within channel refl).name
 

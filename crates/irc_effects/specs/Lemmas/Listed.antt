@@ -14,7 +14,8 @@ use Rattle.irc_effects.specs.Lemmas.Rows.{some_key, no_row}
 abbrev pub table_of : {X Y : Type 0} → (X → Y) → List (List ℕ × X) → Table Y
 table_of f es = from_entries (map (λ e. (e.0, f e.1)) es)
 
-find_mapped : {X Y : Type 0} (f : X → Y) (q : List ℕ) (es : List (List ℕ × X)) → find fold_cmp q (map (λ e. (e.0, f e.1)) es) ≡ option_map f (find fold_cmp q es)
+find_mapped : {X Y : Type 0} (f : X → Y) (q : List ℕ) (es : List (List ℕ × X))
+    → find fold_cmp q (map (λ e. (e.0, f e.1)) es) ≡ option_map f (find fold_cmp q es)
 find_mapped f q [] = refl
 find_mapped f q (e ∷ es) = by_fold (same_fold q e.0) (find_mapped f q es)
   where
@@ -34,7 +35,8 @@ row_listed f es q = get-from_entries nat_list_cmp_total (map (λ e. (e.0, f e.1)
 abbrev without_entry : {X : Type 0} → List ℕ → List (List ℕ × X) → List (List ℕ × X)
 without_entry fold = where_key fold_cmp (λ x. not (same_fold fold x))
 
-find_without : {X : Type 0} (fold q : List ℕ) (es : List (List ℕ × X)) → find fold_cmp q (without_entry fold es) ≡ cond (same_fold q fold) None (find fold_cmp q es)
+find_without : {X : Type 0} (fold q : List ℕ) (es : List (List ℕ × X))
+    → find fold_cmp q (without_entry fold es) ≡ cond (same_fold q fold) None (find fold_cmp q es)
 find_without fold q es =
     find-where_key fold_cmp (λ x. not (same_fold fold x)) q
     (λ x tie. ap (λ y. not (same_fold fold y)) (sym (slice_cmp-IsAntisymmetric nat_cmp-IsAntisymmetric q x tie))) es
@@ -49,7 +51,8 @@ abbrev put_entry : {X : Type 0} → List ℕ → Option X → List (List ℕ × 
 put_entry fold None es = without_entry fold es
 put_entry fold (Some x) es = put fold_cmp fold x es
 
-find_put : {X : Type 0} (fold q : List ℕ) (new : Option X) (es : List (List ℕ × X)) → find fold_cmp q (put_entry fold new es) ≡ cond (same_fold q fold) new (find fold_cmp q es)
+find_put : {X : Type 0} (fold q : List ℕ) (new : Option X) (es : List (List ℕ × X))
+    → find fold_cmp q (put_entry fold new es) ≡ cond (same_fold q fold) new (find fold_cmp q es)
 find_put fold q None es = find_without fold q es
 find_put fold q (Some x) es = find-put fold_cmp nat_list_cmp_total q fold x es
 
@@ -79,7 +82,8 @@ abbrev pub each_entry : {X : Type 0} → (X → Option X) → List (List ℕ × 
 each_entry change [] = []
 each_entry change (e ∷ es) = each_put e.0 (change e.1) (each_entry change es)
 
-find_each : {X : Type 0} (change : X → Option X) (q : List ℕ) (es : List (List ℕ × X)) → find fold_cmp q (each_entry change es) ≡ option_and_then change (find fold_cmp q es)
+find_each : {X : Type 0} (change : X → Option X) (q : List ℕ) (es : List (List ℕ × X))
+    → find fold_cmp q (each_entry change es) ≡ option_and_then change (find fold_cmp q es)
 find_each change q [] = refl
 find_each change q (e ∷ es) =
     by_new (change e.1)
@@ -90,7 +94,9 @@ find_each change q (e ∷ es) =
     by_new None = find_without e.0 q (each_entry change es)
     by_new (Some x) = refl
 
-    by_fold : (b : Bool) → cond b (change e.1) (option_and_then change (find fold_cmp q es)) ≡ option_and_then change (cond b (Some e.1) (find fold_cmp q es))
+    by_fold : (b : Bool)
+        → cond b (change e.1) (option_and_then change (find fold_cmp q es))
+        ≡ option_and_then change (cond b (Some e.1) (find fold_cmp q es))
     by_fold true = refl
     by_fold false = refl
 

@@ -113,7 +113,8 @@ list_changed (change ∷ changes) c = list_changed changes (list_letter change.p
 
 -- They are what the effects make of the channels.
 
-cond_of : {X Y : Type 0} (f : X → Y) (b d : Bool) (x y : Y) (v w : X) → b ≡ d → x ≡ f v → y ≡ f w → (if b then x else y) ≡ f (if d then v else w)
+cond_of : {X Y : Type 0} (f : X → Y) (b d : Bool) (x y : Y) (v w : X) → b ≡ d → x ≡ f v → y ≡ f w
+    → (if b then x else y) ≡ f (if d then v else w)
 cond_of f b true x y v w is first second = ap (λ t. if t then x else y) is ∙ first
 cond_of f b false x y v w is first second = ap (λ t. if t then x else y) is ∙ second
 
@@ -229,13 +230,15 @@ map_map : {X Y : Type 0} (f : X → Y) (change : Y → Y) (here : X → X) → (
 map_map f change here alike None = refl
 map_map f change here alike (Some x) = ap Some (alike x)
 
-then_map : {X Y : Type 0} (f : X → Y) (change : Y → Option Y) (here : X → Option X) → ((x : X) → change (f x) ≡ option_map f (here x)) → (o : Option X)
+then_map : {X Y : Type 0} (f : X → Y) (change : Y → Option Y) (here : X → Option X)
+    → ((x : X) → change (f x) ≡ option_map f (here x)) → (o : Option X)
     → option_and_then change (option_map f o) ≡ option_map f (option_and_then here o)
 then_map f change here alike None = refl
 then_map f change here alike (Some x) = alike x
 
 join_row : (nick : List ℕ) (op : Bool) (name : List ℕ) (o : Option ListedChannel)
-    → Some (joined nick op (unwrap_or (option_map channel_of o) (new_channel name))) ≡ option_map channel_of (Some (list_joined nick op (unwrap_or o (list_new name))))
+    → Some (joined nick op (unwrap_or (option_map channel_of o) (new_channel name)))
+    ≡ option_map channel_of (Some (list_joined nick op (unwrap_or o (list_new name))))
 join_row nick op name None = ap Some (joined_listed nick op (list_new name))
 join_row nick op name (Some c) = ap Some (joined_listed nick op c)
 
@@ -248,7 +251,8 @@ leaves_listed nick name room =
 
 maps_listed : (name : List ℕ) (change : Channel → Channel) (here : ListedChannel → ListedChannel) (room : ListedRoom)
     → ((c : ListedChannel) → change (channel_of c) ≡ channel_of (here c))
-    → alter (key name) (option_map change) (table_of channel_of room.channels) ≡ table_of channel_of (alter_entry (key name) (option_map here) room.channels)
+    → alter (key name) (option_map change) (table_of channel_of room.channels)
+    ≡ table_of channel_of (alter_entry (key name) (option_map here) room.channels)
 maps_listed name change here room alike =
     alter_listed channel_of (key name) (option_map change) (option_map here) room.channels (map_map channel_of change here alike)
 
@@ -269,10 +273,15 @@ after_listed room (Join nick name op) =
     (λ c. Some (list_joined (key nick) op (unwrap_or c (list_new name)))) room.channels (join_row (key nick) op name))
 after_listed room (Part nick name text) = with_channels room _ _ (leaves_listed (key nick) name room)
 after_listed room (Kick by name nick text) = with_channels room _ _ (leaves_listed (key nick) name room)
-after_listed room (ChangeModes by name changes) = with_channels room _ _ (maps_listed name (all_changed changes) (list_changed changes) room (changed_listed changes))
+after_listed room (ChangeModes by name changes) =
+    with_channels room _ _
+    (maps_listed name (all_changed changes) (list_changed changes) room (changed_listed changes))
 after_listed room (SetTopic by name text) = with_channels room _ _ (maps_listed name (with_topic text) (list_topic text) room (λ c. refl))
 after_listed room (Say by notice target text) = refl
-after_listed room (Invite by nick name) = with_channels room _ _ (maps_listed name (invited_too (key nick)) (list_invited (key nick)) room (invited_listed (key nick)))
+after_listed room (Invite by nick name) =
+    with_channels room _ _
+    (maps_listed name (invited_too (key nick)) (list_invited (key nick)) room
+    (invited_listed (key nick)))
 after_listed room (UserMode nick invisible) =
     λ i. record (room_of room) { users = altered_plain (key nick) (option_map (with_invisible invisible)) room.users i }
 

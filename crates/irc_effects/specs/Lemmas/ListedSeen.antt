@@ -81,7 +81,9 @@ line_by asked (Rename nick new) viewer = line_from (codes "NICK") (new ∷ []) N
 line_by asked (Quit nick reason) viewer = line_from (codes "QUIT") [] (Some reason) (asked.sender nick)
 line_by asked (Join nick channel op) viewer = line_from (codes "JOIN") (asked.channel channel ∷ []) None (asked.sender nick)
 line_by asked (Part nick channel reason) viewer = line_from (codes "PART") (asked.channel channel ∷ []) (Some reason) (asked.sender nick)
-line_by asked (Kick by channel nick reason) viewer = line_from (codes "KICK") (asked.channel channel ∷ asked.nick nick ∷ []) (Some reason) (asked.sender by)
+line_by asked (Kick by channel nick reason) viewer =
+    line_from (codes "KICK") (asked.channel channel ∷ asked.nick nick ∷ []) (Some reason)
+    (asked.sender by)
 line_by asked (ChangeModes by channel changes) viewer =
     line_from (codes "MODE") (asked.channel channel ∷ letters_text changes ∷ filter_map (word_by asked) changes) None (sender_by asked by viewer)
 line_by asked (SetTopic by channel topic) viewer = line_from (codes "TOPIC") (asked.channel channel ∷ []) (Some topic) (sender_by asked by viewer)
@@ -152,7 +154,9 @@ user_listed room q = row_listed (λ u. u) room.users q ∙ map_itself (find fold
 pub channel_listed : (room : ListedRoom) (q : List ℕ) → row (room_of room).channels q ≡ option_map channel_of (find fold_cmp q room.channels)
 channel_listed room q = row_listed channel_of room.channels q
 
-member_of : (nick : List ℕ) (o : Option ListedChannel) → option_map_or (has_member nick) (option_map channel_of o) false ≡ option_map_or (lists_member nick) o false
+member_of : (nick : List ℕ) (o : Option ListedChannel)
+    → option_map_or (has_member nick) (option_map channel_of o) false
+    ≡ option_map_or (lists_member nick) o false
 member_of nick None = refl
 member_of nick (Some c) = member_listed nick c
 
@@ -178,9 +182,11 @@ pub record IsInOrder (room : ListedRoom) : Type 0 where
 
 pub member_asked : (room : ListedRoom) (nick channel : List ℕ) → is_member (room_of room) nick channel ≡ (list_asked room).member nick channel
 member_asked room nick channel =
-    ap (λ o. option_map_or (has_member (key nick)) o false) (channel_listed room (key channel)) ∙ member_of (key nick) (find fold_cmp (key channel) room.channels)
+    ap (λ o. option_map_or (has_member (key nick)) o false) (channel_listed room (key channel))
+    ∙ member_of (key nick) (find fold_cmp (key channel) room.channels)
 
-share_asked : (room : ListedRoom) → IsInOrder room → (one other : List ℕ) → share_channel (room_of room) one other ≡ (list_asked room).share one other
+share_asked : (room : ListedRoom) → IsInOrder room → (one other : List ℕ)
+    → share_channel (room_of room) one other ≡ (list_asked room).share one other
 share_asked room order one other =
     ap (λ (es : List (List ℕ × Channel)). list_any (λ c. has_member (key one) c && has_member (key other) c) (map (λ e. e.1) es))
     (entries_listed channel_of room.channels order.channels)
@@ -192,7 +198,11 @@ answers_listed room order = λ i. record {
   member = λ nick channel. member_asked room nick channel i;
   share = λ one other. share_asked room order one other i;
   nick = λ nick. option_map_or (λ (user : User). user.nick) (user_listed room (key nick) i) nick;
-  channel = λ channel. (ap (λ o. option_map_or (λ (c : Channel). c.name) o channel) (channel_listed room (key channel)) ∙ name_of (find fold_cmp (key channel) room.channels) channel) i;
+  channel = λ channel.
+      (ap (λ o. option_map_or (λ (c : Channel). c.name) o channel)
+      (channel_listed room (key channel))
+      ∙ name_of (find fold_cmp (key channel) room.channels) channel)
+      i;
   sender = λ nick. option_map full_sender (user_listed room (key nick) i);
 }
 

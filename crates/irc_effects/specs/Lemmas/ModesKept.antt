@@ -20,7 +20,8 @@ pub record HasSameFolk (before after : Channel) : Type 0 where
   pub members : (q : List ℕ) → is_some (row after.members q) ≡ is_some (row before.members q)
 
 -- a row that is changed where it is there
-pub same_rows : {X : Type 0} (fold : List ℕ) (f : X → X) (table : Table X) (q : List ℕ) → is_some (row (alter fold (option_map f) table) q) ≡ is_some (row table q)
+pub same_rows : {X : Type 0} (fold : List ℕ) (f : X → X) (table : Table X) (q : List ℕ)
+    → is_some (row (alter fold (option_map f) table) q) ≡ is_some (row table q)
 same_rows fold f table q = ap is_some (row-alter fold (option_map f) table q) ∙ by_fold (same_fold q fold) refl
   where
     by_fold : (b : Bool) → same_fold q fold ≡ b → is_some (cond b (option_map f (row table fold)) (row table q)) ≡ is_some (row table q)
@@ -33,7 +34,8 @@ folk channel = record { name = refl; invited = refl; members = λ q. refl }
 member_folk : (nick : List ℕ) (f : Flags → Flags) (channel : Channel) → HasSameFolk channel (member_changed nick f channel)
 member_folk nick f channel = record { name = refl; invited = refl; members = same_rows (key nick) f channel.members }
 
-pub letter_folk : (plus : Bool) (which : ModeLetter) (word : Option (List ℕ)) (channel : Channel) → HasSameFolk channel (letter_changed plus which word channel)
+pub letter_folk : (plus : Bool) (which : ModeLetter) (word : Option (List ℕ)) (channel : Channel)
+    → HasSameFolk channel (letter_changed plus which word channel)
 letter_folk plus letter.InviteOnly word channel = record { name = refl; invited = refl; members = λ q. refl }
 letter_folk plus letter.Moderated word channel = record { name = refl; invited = refl; members = λ q. refl }
 letter_folk plus letter.NoOutside word channel = record { name = refl; invited = refl; members = λ q. refl }
@@ -53,7 +55,8 @@ letter_folk plus letter.Operator None channel = folk channel
 letter_folk plus letter.Voice (Some word) channel = member_folk word (λ f. record f { voice = plus }) channel
 letter_folk plus letter.Voice None channel = folk channel
 
-folk_sound : (users : Table User) (fold : List ℕ) (before after : Channel) → HasSameFolk before after → IsSoundRow users fold before → IsSoundRow users fold after
+folk_sound : (users : Table User) (fold : List ℕ) (before after : Channel)
+    → HasSameFolk before after → IsSoundRow users fold before → IsSoundRow users fold after
 folk_sound users fold before after same sound = record {
   named = ap key same.name ∙ sound.named;
   members_known = λ q there. sound.members_known q (sym (same.members q) ∙ there);

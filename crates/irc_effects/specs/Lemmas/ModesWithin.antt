@@ -41,7 +41,8 @@ record AreBans (bans : List (List ℕ)) : Type 0 where
   masks : list_all is_ban_mask bans ≡ true
   carried : list_all is_carried bans ≡ true
 
-all_with : (p : List ℕ → Bool) (mask : List ℕ) (bans : List (List ℕ)) → p mask ≡ true → list_all p bans ≡ true → list_all p (with_ban mask bans) ≡ true
+all_with : (p : List ℕ → Bool) (mask : List ℕ) (bans : List (List ℕ)) → p mask ≡ true
+    → list_all p bans ≡ true → list_all p (with_ban mask bans) ≡ true
 all_with p mask bans is all =
     list_all-append p (filter (λ ban. before ban mask) bans) (mask ∷ filter (before mask) bans)
     ∙ both (list_all p (filter (λ ban. before ban mask) bans))
@@ -63,7 +64,8 @@ ban_kept false mask bans is carried all = record {
   carried = all_filter is_carried _ bans all.carried;
 }
 
-bans_kept : (plus : Bool) (word : Option (List ℕ)) (bans : List (List ℕ)) → IsBanCarried letter.Ban word → AreBans bans → AreBans (bans_by_word plus word bans)
+bans_kept : (plus : Bool) (word : Option (List ℕ)) (bans : List (List ℕ))
+    → IsBanCarried letter.Ban word → AreBans bans → AreBans (bans_by_word plus word bans)
 bans_kept plus None bans carried all = all
 bans_kept plus (Some word) bans carried all = by (is_ban_mask word) refl
   where
@@ -109,7 +111,8 @@ record AreKept (modes : Modes) : Type 0 where
   carried : list_all is_carried modes.bans ≡ true
 
 -- modes with the same key, limit and bans
-same_kept : (before after : Modes) → after.key ≡ before.key → after.limit ≡ before.limit → after.bans ≡ before.bans → AreKept before → AreKept after
+same_kept : (before after : Modes) → after.key ≡ before.key → after.limit ≡ before.limit
+    → after.bans ≡ before.bans → AreKept before → AreKept after
 same_kept before after key limit bans kept = record {
   within = record {
     key = subst (λ k. IfSome k IsKey) (sym key) kept.within.key;

@@ -44,7 +44,8 @@ nothing_shown viewer shown own (e ∷ es) named none = by_fold (nothing_shown vi
     by_fold rest true one found = not_none e.1 (sym found)
     by_fold rest false two found = one_skipped viewer shown own e es named.0 two ∙ rest found
 
-chosen : (viewer : List ℕ) (shown : User → Option Showing) → IsOwn shown → (es : List (List ℕ × User)) → AllByRecursion IsNamed es → T (is_sorted fold_cmp es)
+chosen : (viewer : List ℕ) (shown : User → Option Showing) → IsOwn shown
+    → (es : List (List ℕ × User)) → AllByRecursion IsNamed es → T (is_sorted fold_cmp es)
     → to_one viewer shown es ≡ option_to_list (option_and_then shown (find fold_cmp (key viewer) es))
 unfolding to_one
 chosen viewer shown own [] named rise = refl
@@ -64,7 +65,9 @@ chosen viewer shown own (e ∷ es) named rise =
         (same-ties viewer s.viewer ∙ ap (same_fold (key viewer)) (ap key (own.viewer e.1 s is) ∙ named.0) ∙ one)
         ∙ ap (λ rest. s ∷ rest) (nobody_later one)
 
-    by_fold : to_one viewer shown es ≡ option_to_list (option_and_then shown (find fold_cmp (key viewer) es)) → (b : Bool) → same_fold (key viewer) e.0 ≡ b
+    by_fold : to_one viewer shown es
+        ≡ option_to_list (option_and_then shown (find fold_cmp (key viewer) es))
+        → (b : Bool) → same_fold (key viewer) e.0 ≡ b
         → to_one viewer shown (e ∷ es) ≡ option_to_list (option_and_then shown (cond b (Some e.1) (find fold_cmp (key viewer) es)))
     by_fold rest true one = here one (shown e.1) refl
     by_fold rest false two = one_skipped viewer shown own e es named.0 two ∙ rest
@@ -98,7 +101,9 @@ one_viewers_lines room effect nick well =
     ∙ by_idle (is_idle room effect)
   where
     by_idle : (idle : Bool)
-        → map (λ (s : Showing). s.line) (filter (λ (s : Showing). same nick s.viewer) (cond idle [] (filter_map (shown_to room effect) (values room.users))))
+        → map (λ (s : Showing). s.line)
+        (filter (λ (s : Showing). same nick s.viewer)
+        (cond idle [] (filter_map (shown_to room effect) (values room.users))))
         ≡ option_to_list (cond idle None (option_and_then (line_for room effect) (row room.users (key nick))))
     by_idle true = refl
     by_idle false = ap (map (λ (s : Showing). s.line)) (shown_to_one room effect nick well) ∙ lines_of room effect (row room.users (key nick))

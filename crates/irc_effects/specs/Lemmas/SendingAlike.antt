@@ -47,7 +47,9 @@ module _ (room other : Room) (alike : AreAlike room other) where
       ∙ sym (named_aside (row room.channels (key name)))
       ∙ stored
 
-  named_for : (name : List ℕ) (one two : Option Channel) → option_map uninviting one ≡ option_map uninviting two → IsNameFor name one → IsNameFor name two
+  named_for : (name : List ℕ) (one two : Option Channel)
+      → option_map uninviting one ≡ option_map uninviting two → IsNameFor name one
+      → IsNameFor name two
   named_for name None None same named = named
   named_for name None (Some channel) same named = cc
   named_for name (Some channel) None same named = cc

@@ -24,7 +24,9 @@ pub alter_within : {X Y : Type 0} (fold : List ℕ) (change : Option X → Optio
 alter_within fold change small large within here =
     record { at = λ q there. by_fold q (same_fold q fold) refl (sym (ap is_some (row-alter fold change small q)) ∙ there) }
   where
-    by_fold : (q : List ℕ) (b : Bool) → same_fold q fold ≡ b → is_some (cond b (change (row small fold)) (row small q)) ≡ true → is_some (row large q) ≡ true
+    by_fold : (q : List ℕ) (b : Bool) → same_fold q fold ≡ b
+        → is_some (cond b (change (row small fold)) (row small q)) ≡ true
+        → is_some (row large q) ≡ true
     by_fold q true one there = subst (λ p. is_some (row large p) ≡ true) (sym (one_fold q fold one)) (here there)
     by_fold q false two there = within.at q there
 
@@ -32,7 +34,12 @@ alter_within fold change small large within here =
 pub both_without : {X Y : Type 0} (fold : List ℕ) (small : Table X) (large : Table Y) → IsWithin small large
     → IsWithin (alter fold (λ _. None) small) (alter fold (λ _. None) large)
 both_without fold small large within =
-    record { at = λ q there. ap is_some (row-alter fold (λ _. None) large q) ∙ by_fold q (same_fold q fold) (sym (ap is_some (row-alter fold (λ _. None) small q)) ∙ there) }
+    record {
+      at = λ q there.
+          ap is_some (row-alter fold (λ _. None) large q)
+          ∙ by_fold q (same_fold q fold)
+          (sym (ap is_some (row-alter fold (λ _. None) small q)) ∙ there);
+    }
   where
     by_fold : (q : List ℕ) (b : Bool) → is_some (cond b None (row small q)) ≡ true → is_some (cond b None (row large q)) ≡ true
     by_fold q true there = there
@@ -58,7 +65,9 @@ both_moved {X} {Y} old new f g small large within there = by_large (row large ol
     by_small : (y : Y) → row large old ≡ Some y → (o : Option X) → row small old ≡ o → IsWithin (moved old new f small) (moved old new g large)
     by_small y here (Some x) is = record {
       at = λ q there.
-          ap is_some (row-moved old new g large y here q) ∙ by_folds q x y (same_fold q new) (same_fold q old) (sym (ap is_some (row-moved old new f small x is q)) ∙ there);
+          ap is_some (row-moved old new g large y here q)
+          ∙ by_folds q x y (same_fold q new) (same_fold q old)
+          (sym (ap is_some (row-moved old new f small x is q)) ∙ there);
     }
     by_small y here None is = record {
       at = λ q there.
@@ -71,12 +80,16 @@ both_moved {X} {Y} old new f g small large within there = by_large (row large ol
     by_large (Some y) is there = by_small y is (row small old) refl
 
 -- a table that is moved keeps a key
-pub moved_some : {X : Type 0} (old new : List ℕ) (f : X → X) (table : Table X) → is_nil (keys table) ≡ false → is_nil (keys (moved old new f table)) ≡ false
+pub moved_some : {X : Type 0} (old new : List ℕ) (f : X → X) (table : Table X)
+    → is_nil (keys table) ≡ false → is_nil (keys (moved old new f table)) ≡ false
 moved_some {X} old new f table some = by_row (row table old) refl
   where
     by_row : (o : Option X) → row table old ≡ o → is_nil (keys (moved old new f table)) ≡ false
     by_row (Some x) is = some_key (moved old new f table) new
-        (ap is_some (row-moved old new f table x is new ∙ ap (λ b. cond b (Some (f x)) (cond (same_fold new old) None (row table new))) (same_fold-refl new)))
+        (ap is_some
+        (row-moved old new f table x is new
+        ∙ ap (λ b. cond b (Some (f x)) (cond (same_fold new old) None (row table new)))
+        (same_fold-refl new)))
     by_row None is =
         let found = some_row table some in
         some_key (moved old new f table) found.0 (ap is_some (row-moved_none old new f table is found.0) ∙ found.1)
@@ -104,7 +117,8 @@ sound users fold channel known some = record {
 }
 
 -- a row stays sound while users come
-pub sound_more : (users more : Table User) (fold : List ℕ) (channel : Channel) → IsWithin users more → IsSoundRow users fold channel → IsSoundRow more fold channel
+pub sound_more : (users more : Table User) (fold : List ℕ) (channel : Channel)
+    → IsWithin users more → IsSoundRow users fold channel → IsSoundRow more fold channel
 sound_more users more fold channel within sound = record {
   named = sound.named;
   members_known = λ q there. within.at q (sound.members_known q there);
@@ -136,7 +150,8 @@ left_sound users fold nick channel after row_sound = by_test (has_member nick ch
     by_test false is = subst (IsSoundRow users fold) (same_some channel after is) row_sound
 
 -- a row when a user is gone
-pub without_sound : (users : Table User) (fold nick : List ℕ) (channel after : Channel) → IsSoundRow users fold channel → without_user nick channel ≡ Some after
+pub without_sound : (users : Table User) (fold nick : List ℕ) (channel after : Channel)
+    → IsSoundRow users fold channel → without_user nick channel ≡ Some after
     → IsSoundRow (alter nick (λ _. None) users) fold after
 without_sound users fold nick channel after row_sound is =
     while_sound (alter nick (λ _. None) users) fold
@@ -163,7 +178,12 @@ pub joined_sound : (users : Table User) (fold nick : List ℕ) (op : Bool) (chan
 joined_sound users fold nick op channel names there = by_test (has_member nick channel) refl
   where
     by_test : (b : Bool) → has_member nick channel ≡ b
-        → IsSoundRow users fold (if b then channel else record channel { members = alter nick (λ _. Some (record { op = op; voice = false })) channel.members; invited = alter nick (λ _. None) channel.invited })
+        → IsSoundRow users fold
+        (if b then channel else record channel {
+          members =
+              alter nick (λ _. Some (record { op = op; voice = false })) channel.members;
+          invited = alter nick (λ _. None) channel.invited;
+        })
     by_test true is = sound users fold channel names (some_key channel.members nick is)
     by_test false is = record {
       named = names.named;
@@ -184,7 +204,8 @@ invited_sound users fold nick channel row_sound there = record {
   some_member = row_sound.some_member;
 }
 
-pub topic_sound : (users : Table User) (fold topic : List ℕ) (channel : Channel) → IsSoundRow users fold channel → IsSoundRow users fold (with_topic topic channel)
+pub topic_sound : (users : Table User) (fold topic : List ℕ) (channel : Channel)
+    → IsSoundRow users fold channel → IsSoundRow users fold (with_topic topic channel)
 topic_sound users fold topic channel row_sound = record {
   named = row_sound.named;
   members_known = row_sound.members_known;

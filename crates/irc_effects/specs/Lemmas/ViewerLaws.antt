@@ -43,19 +43,25 @@ below_none q (e ∷ es) h =
 abbrev pub IsNamed : List ℕ × User → Type 0
 IsNamed e = key e.1.nick ≡ e.0
 
-all_named : (es : List (List ℕ × User)) → T (is_sorted fold_cmp es) → ((q : List ℕ) (user : User) → find fold_cmp q es ≡ Some user → key user.nick ≡ q)
+all_named : (es : List (List ℕ × User)) → T (is_sorted fold_cmp es)
+    → ((q : List ℕ) (user : User) → find fold_cmp q es ≡ Some user → key user.nick ≡ q)
     → AllByRecursion IsNamed es
 all_named [] rise named = tt
 all_named (e ∷ es) rise named =
-    let parts = both_true _ _ rise in
-    (named e.0 e.1 (ap (λ b. cond b (Some e.1) (find fold_cmp e.0 es)) (same_fold-refl e.0)), all_named es parts.1 (λ q user is. named q user (later q user parts.0 is (same_fold q e.0) refl)))
+    let parts = both_true _ _ rise in (
+      named e.0 e.1 (ap (λ b. cond b (Some e.1) (find fold_cmp e.0 es)) (same_fold-refl e.0)),
+      all_named es parts.1
+          (λ q user is. named q user (later q user parts.0 is (same_fold q e.0) refl)),
+    )
   where
     later : (q : List ℕ) (user : User) → T (below_all fold_cmp e.0 es) → find fold_cmp q es ≡ Some user → (b : Bool) → same_fold q e.0 ≡ b
         → cond (same_fold q e.0) (Some e.1) (find fold_cmp q es) ≡ Some user
     later q user below is true one = let none = below_none e.0 es below in let folds = ap (λ f. find fold_cmp f es) (one_fold q e.0 one) in cc
     later q user below is false two = ap (λ b. cond b (Some e.1) (find fold_cmp q es)) two ∙ is
 
-pub table_named : (users : Table User) → ((q : List ℕ) (user : User) → row users q ≡ Some user → key user.nick ≡ q) → AllByRecursion IsNamed (entries users)
+pub table_named : (users : Table User)
+    → ((q : List ℕ) (user : User) → row users q ≡ Some user → key user.nick ≡ q)
+    → AllByRecursion IsNamed (entries users)
 table_named users named = all_named (entries users) (entries_sorted users) (λ q user is. named q user (get-entries users q ∙ is))
 
 -- what is shown to a user is shown to it by its nickname
@@ -65,7 +71,9 @@ pub record IsOwn (shown : User → Option Showing) : Type 0 where
 viewers : (User → Option Showing) → List (List ℕ × User) → List (List ℕ)
 viewers shown es = map (λ (s : Showing). s.viewer) (filter_map shown (map (λ e. e.1) es))
 
-below_shown : (shown : User → Option Showing) → IsOwn shown → (x : List ℕ) (es : List (List ℕ × User)) → AllByRecursion IsNamed es → T (below_all fold_cmp x es)
+below_shown : (shown : User → Option Showing) → IsOwn shown
+    → (x : List ℕ) (es : List (List ℕ × User)) → AllByRecursion IsNamed es
+    → T (below_all fold_cmp x es)
     → AllByRecursion (λ y. fold_cmp x (key y) ≡ Less) (viewers shown es)
 unfolding viewers
 below_shown shown own x [] named below = tt
@@ -73,7 +81,8 @@ below_shown shown own x (e ∷ es) named below =
     let parts = both_true _ _ below in
     by_shown (shown e.1) refl parts.0 (below_shown shown own x es named.1 parts.1)
   where
-    by_shown : (o : Option Showing) → shown e.1 ≡ o → T (is_lt (fold_cmp x e.0)) → AllByRecursion (λ y. fold_cmp x (key y) ≡ Less) (viewers shown es)
+    by_shown : (o : Option Showing) → shown e.1 ≡ o → T (is_lt (fold_cmp x e.0))
+        → AllByRecursion (λ y. fold_cmp x (key y) ≡ Less) (viewers shown es)
         → AllByRecursion (λ y. fold_cmp x (key y) ≡ Less) (map (λ (s : Showing). s.viewer) (cons_option o (filter_map shown (map (λ e. e.1) es))))
     by_shown None is lt rest = rest
     by_shown (Some s) is lt rest = (ap (fold_cmp x) (ap key (own.viewer e.1 s is) ∙ named.0) ∙ less_is _ lt, rest)
@@ -86,7 +95,9 @@ shown_rise shown own (e ∷ es) named rise =
     let parts = both_true _ _ rise in
     by_shown (shown e.1) refl (below_shown shown own e.0 es named.1 parts.0) (shown_rise shown own es named.1 parts.1)
   where
-    by_shown : (o : Option Showing) → shown e.1 ≡ o → AllByRecursion (λ y. fold_cmp e.0 (key y) ≡ Less) (viewers shown es) → IsStrictlySortedBy name_cmp (viewers shown es)
+    by_shown : (o : Option Showing) → shown e.1 ≡ o
+        → AllByRecursion (λ y. fold_cmp e.0 (key y) ≡ Less) (viewers shown es)
+        → IsStrictlySortedBy name_cmp (viewers shown es)
         → IsStrictlySortedBy name_cmp (map (λ (s : Showing). s.viewer) (cons_option o (filter_map shown (map (λ e. e.1) es))))
     by_shown None is below rest = rest
     by_shown (Some s) is below rest =
@@ -105,7 +116,10 @@ pub each_viewer_once : EachViewerOnce
 unfolding seen viewers IsStrictlySortedBy
 each_viewer_once room effect well = by_idle (is_idle room effect)
   where
-    by_idle : (b : Bool) → IsStrictlySortedBy name_cmp (map (λ (s : Showing). s.viewer) (if b then [] else filter_map (shown_to room effect) (values room.users)))
+    by_idle : (b : Bool)
+        → IsStrictlySortedBy name_cmp
+        (map (λ (s : Showing). s.viewer)
+        (if b then [] else filter_map (shown_to room effect) (values room.users)))
     by_idle true = tt
     by_idle false =
         shown_rise (shown_to room effect) (own_showing room effect) (entries room.users) (table_named room.users well.users_named) (entries_sorted room.users)

@@ -41,7 +41,8 @@ there_altered : (room : Room) (name : List ℕ) (change : Channel → Option Cha
     → IsWellFormed (alter_channel name (option_and_then change) room)
 there_altered room name change well kept = channel_altered room name (option_and_then change) well (by_row (row room.channels (key name)) refl)
   where
-    by_row : (o : Option Channel) → row room.channels (key name) ≡ o → (after : Channel) → option_and_then change o ≡ Some after → IsSoundRow room.users (key name) after
+    by_row : (o : Option Channel) → row room.channels (key name) ≡ o → (after : Channel)
+        → option_and_then change o ≡ Some after → IsSoundRow room.users (key name) after
     by_row None at after is = not_none after is
     by_row (Some before) at after is = kept before after (well.channels_sound (key name) before at) is
 
@@ -51,7 +52,8 @@ pub there_mapped : (room : Room) (name : List ℕ) (change : Channel → Channel
     → IsWellFormed (alter_channel name (option_map change) room)
 there_mapped room name change well kept = channel_altered room name (option_map change) well (by_row (row room.channels (key name)) refl)
   where
-    by_row : (o : Option Channel) → row room.channels (key name) ≡ o → (after : Channel) → option_map change o ≡ Some after → IsSoundRow room.users (key name) after
+    by_row : (o : Option Channel) → row room.channels (key name) ≡ o → (after : Channel)
+        → option_map change o ≡ Some after → IsSoundRow room.users (key name) after
     by_row None at after is = not_none after is
     by_row (Some before) at after is =
         subst (IsSoundRow room.users (key name)) (same_some (change before) after is) (kept before (well.channels_sound (key name) before at))
@@ -65,7 +67,8 @@ all_altered room users change well named kept = record {
   channels_sound = λ fold channel is. by_row fold (row room.channels fold) refl channel (sym (row-each change room.channels fold) ∙ is);
 }
   where
-    by_row : (fold : List ℕ) (o : Option Channel) → row room.channels fold ≡ o → (after : Channel) → option_and_then change o ≡ Some after → IsSoundRow users fold after
+    by_row : (fold : List ℕ) (o : Option Channel) → row room.channels fold ≡ o → (after : Channel)
+        → option_and_then change o ≡ Some after → IsSoundRow users fold after
     by_row fold None at after is = not_none after is
     by_row fold (Some before) at after is = kept fold before after (well.channels_sound fold before at) is
 
@@ -99,12 +102,14 @@ with_user room user well =
     user_altered room user.nick (λ _. Some user) well (λ other is. ap (λ (u : User). key u.nick) (sym (same_some user other is)))
     (put_within (key user.nick) user room.users)
 
-with_mode : (room : Room) (nick : List ℕ) (invisible : Bool) → IsWellFormed room → IsWellFormed (alter_user nick (option_map (with_invisible invisible)) room)
+with_mode : (room : Room) (nick : List ℕ) (invisible : Bool) → IsWellFormed room
+    → IsWellFormed (alter_user nick (option_map (with_invisible invisible)) room)
 with_mode room nick invisible well =
     user_altered room nick (option_map (with_invisible invisible)) well (λ user is. by_row (row room.users (key nick)) refl user is)
     (mapped_within (key nick) (with_invisible invisible) room.users)
   where
-    by_row : (o : Option User) → row room.users (key nick) ≡ o → (user : User) → option_map (with_invisible invisible) o ≡ Some user → key user.nick ≡ key nick
+    by_row : (o : Option User) → row room.users (key nick) ≡ o → (user : User)
+        → option_map (with_invisible invisible) o ≡ Some user → key user.nick ≡ key nick
     by_row None at user is = not_none user is
     by_row (Some before) at user is =
         ap (λ (u : User). key u.nick) (sym (same_some (with_invisible invisible before) user is)) ∙ well.users_named (key nick) before at
@@ -124,7 +129,8 @@ without_user_well room nick well =
     (λ fold before after sound is. without_sound room.users fold nick before after sound is)
 
 -- users when one of them has another nickname
-moved_named : (users : Table User) (old new : List ℕ) → AreNamed users → is_some (row users old) ≡ true → AreNamed (moved old (key new) (with_nick new) users)
+moved_named : (users : Table User) (old new : List ℕ) → AreNamed users
+    → is_some (row users old) ≡ true → AreNamed (moved old (key new) (with_nick new) users)
 moved_named users old new named there fold user is = by_row (row users old) refl there
   where
     by_fold : (x : User) (b c : Bool) → same_fold fold (key new) ≡ b

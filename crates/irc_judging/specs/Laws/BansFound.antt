@@ -28,5 +28,6 @@ any_alike x m is (ban ∷ bans) =
     ap (λ b. b || list_any (same x) bans) (same-equivalence.congr x m ban is) ∙ ap (λ b. same m ban || b) (any_alike x m is bans)
 
 -- a ban that was found by a mask of a ban is one
-pub stored_is_mask : (mask there : List ℕ) (bans : List (List ℕ)) → is_ban_mask mask ≡ true → find (same mask) bans ≡ Some there → is_ban_mask there ≡ true
+pub stored_is_mask : (mask there : List ℕ) (bans : List (List ℕ)) → is_ban_mask mask ≡ true
+    → find (same mask) bans ≡ Some there → is_ban_mask there ≡ true
 stored_is_mask mask there bans is found = same_is_mask mask there (find_passes (same mask) bans there found) is

@@ -43,18 +43,25 @@ pub record IsSoMade (Q : ModeChange → Type 0) (users : Table User) (now : Chan
   pub limit_set : (word : List ℕ) → is_limit word ≡ true → option_map_or (nat_eq (number_of word)) now.modes.limit false ≡ false
       → Q (change_made true letter.Limit (Some (without_zeros word)))
   pub limit_cleared : is_some now.modes.limit ≡ true → Q (change_made false letter.Limit None)
-  pub ban_set : (mask : List ℕ) → given ≡ Some mask → is_ban_mask mask ≡ true → find (same mask) now.modes.bans ≡ None → Q (change_made true letter.Ban (Some mask))
-  pub ban_taken : (mask there : List ℕ) → is_ban_mask mask ≡ true → find (same mask) now.modes.bans ≡ Some there → Q (change_made false letter.Ban (Some there))
-  pub operator : (plus : Bool) (word : List ℕ) (user : User) (flags : Flags) → row users (key word) ≡ Some user → row now.members (key word) ≡ Some flags
+  pub ban_set : (mask : List ℕ) → given ≡ Some mask → is_ban_mask mask ≡ true
+      → find (same mask) now.modes.bans ≡ None → Q (change_made true letter.Ban (Some mask))
+  pub ban_taken : (mask there : List ℕ) → is_ban_mask mask ≡ true
+      → find (same mask) now.modes.bans ≡ Some there
+      → Q (change_made false letter.Ban (Some there))
+  pub operator : (plus : Bool) (word : List ℕ) (user : User) (flags : Flags)
+      → row users (key word) ≡ Some user → row now.members (key word) ≡ Some flags
       → differs plus flags.op ≡ true → Q (change_made plus letter.Operator (Some (user.nick)))
-  pub voice : (plus : Bool) (word : List ℕ) (user : User) (flags : Flags) → row users (key word) ≡ Some user → row now.members (key word) ≡ Some flags
+  pub voice : (plus : Bool) (word : List ℕ) (user : User) (flags : Flags)
+      → row users (key word) ≡ Some user → row now.members (key word) ≡ Some flags
       → differs plus flags.voice ≡ true → Q (change_made plus letter.Voice (Some (user.nick)))
 
 as_asked : (Q : ModeChange → Type 0) (plus : Bool) (which : ModeLetter) (word : Option (List ℕ)) → Q (change_made plus which word)
     → IsAskedFor Q plus which (change_made plus which word)
 as_asked Q plus which word so = record { so = so; plus_is = refl; letter_is = refl }
 
-if_so : (Q : ModeChange → Type 0) (plus : Bool) (which : ModeLetter) (word : Option (List ℕ)) (test : Bool) → (test ≡ true → Q (change_made plus which word))
+if_so : (Q : ModeChange → Type 0) (plus : Bool) (which : ModeLetter) (word : Option (List ℕ))
+    (test : Bool)
+    → (test ≡ true → Q (change_made plus which word))
     → IsSo (IsAskedFor Q plus which) (kept_if test (change_made plus which word))
 if_so Q plus which word true so = as_asked Q plus which word (so refl)
 if_so Q plus which word false so = tt
@@ -69,14 +76,18 @@ key_so Q name true (Some given) (Some there) set cleared =
     by_test (IsSo (IsAskedFor Q true letter.Key)) (not (is_key given)) Nothing (Says (KeySet name)) (λ none. tt) (λ some. tt)
 key_so Q name true (Some given) None set cleared = by (is_key given) refl
   where
-    by : (test : Bool) → is_key given ≡ test → IsSo (IsAskedFor Q true letter.Key) (cond (not test) Nothing (Keeps (change_made true letter.Key (Some given))))
+    by : (test : Bool) → is_key given ≡ test
+        → IsSo (IsAskedFor Q true letter.Key)
+        (cond (not test) Nothing (Keeps (change_made true letter.Key (Some given))))
     by true is = as_asked Q true letter.Key (Some given) (set given is refl)
     by false is = tt
 key_so Q name false word None set cleared = tt
 key_so Q name false word (Some there) set cleared = as_asked Q false letter.Key (Some there) (cleared there refl)
 
 limit_so : (Q : ModeChange → Type 0) (plus : Bool) (word : Option (List ℕ)) (before : Option ℕ)
-    → ((given : List ℕ) → is_limit given ≡ true → option_map_or (nat_eq (number_of given)) before false ≡ false → Q (change_made true letter.Limit (Some (without_zeros given))))
+    → ((given : List ℕ) → is_limit given ≡ true
+    → option_map_or (nat_eq (number_of given)) before false ≡ false
+    → Q (change_made true letter.Limit (Some (without_zeros given))))
     → (is_some before ≡ true → Q (change_made false letter.Limit None))
     → IsSo (IsAskedFor Q plus letter.Limit) (limit_judged plus word before)
 limit_so Q true None before set cleared = tt
@@ -95,7 +106,8 @@ ban_so : (Q : ModeChange → Type 0) (name : List ℕ) (plus : Bool) (mask : Lis
     → IsSo (IsAskedFor Q plus letter.Ban) (ban_judged name plus mask there count)
 ban_so Q name true mask (Some stored) count set taken = tt
 ban_so Q name true mask None count set taken =
-    by_test (IsSo (IsAskedFor Q true letter.Ban)) (nat_le max_bans count) (Says (BanListFull name)) (Keeps (change_made true letter.Ban (Some mask))) (λ full. tt)
+    by_test (IsSo (IsAskedFor Q true letter.Ban)) (nat_le max_bans count) (Says (BanListFull name))
+    (Keeps (change_made true letter.Ban (Some mask))) (λ full. tt)
     (λ room. as_asked Q true letter.Ban (Some mask) (set refl))
 ban_so Q name false mask (Some stored) count set taken = as_asked Q false letter.Ban (Some stored) (taken stored refl)
 ban_so Q name false mask None count set taken = tt
@@ -105,7 +117,9 @@ mask_so : (Q : ModeChange → Type 0) (users : Table User) (now : Channel) (plus
 mask_so Q users now plus None so = tt
 mask_so Q users now plus (Some word) so = by (is_ban_mask word) refl
   where
-    by : (test : Bool) → is_ban_mask word ≡ test → IsSo (IsAskedFor Q plus letter.Ban) (mask_judged now.name plus (cond test (Some word) None) now.modes.bans)
+    by : (test : Bool) → is_ban_mask word ≡ test
+        → IsSo (IsAskedFor Q plus letter.Ban)
+        (mask_judged now.name plus (cond test (Some word) None) now.modes.bans)
     by true is =
         ban_so Q now.name plus word (find (same word) now.modes.bans) (length now.modes.bans) (λ none. so.ban_set word refl is none)
         (λ stored there. so.ban_taken word stored is there)
@@ -124,7 +138,8 @@ flag_so Q users now plus which so (Some word) = by_user (row users (key word)) r
     by_flags user is None at = tt
     by_flags user is (Some flags) at = if_so Q plus which (Some (user.nick)) (differs plus (flag_of which flags)) (so word user flags is at)
 
-    by_user : (found : Option User) → row users (key word) ≡ found → IsSo (IsAskedFor Q plus which) (member_judged now.members now.name plus which word found)
+    by_user : (found : Option User) → row users (key word) ≡ found
+        → IsSo (IsAskedFor Q plus which) (member_judged now.members now.name plus which word found)
     by_user None is = tt
     by_user (Some user) is = by_flags user is (row now.members (key word)) refl
 
@@ -142,7 +157,8 @@ judged_for Q users now plus letter.Ban word so = mask_so Q users now plus word s
 judged_for Q users now plus letter.Operator word so = flag_so Q users now plus letter.Operator (so.operator plus) word
 judged_for Q users now plus letter.Voice word so = flag_so Q users now plus letter.Voice (so.voice plus) word
 
-without_asked : (Q : ModeChange → Type 0) (plus : Bool) (which : ModeLetter) (verdict : Verdict) → IsSo (IsAskedFor Q plus which) verdict → IsSo Q verdict
+without_asked : (Q : ModeChange → Type 0) (plus : Bool) (which : ModeLetter) (verdict : Verdict)
+    → IsSo (IsAskedFor Q plus which) verdict → IsSo Q verdict
 without_asked Q plus which (Says reply) so = tt
 without_asked Q plus which (Keeps change) so = so.so
 without_asked Q plus which Nothing so = tt

@@ -14,7 +14,8 @@ pub shorter : (digits : List ℕ) → length (without_zeros digits) ≤ length d
 shorter [] = omega arith
 shorter (digit ∷ digits) = by (nat_eq digit 0x30) (shorter digits)
   where
-    by : (test : Bool) → length (without_zeros digits) ≤ length digits → length (cond test (without_zeros digits) (digit ∷ digits)) ≤ suc (length digits)
+    by : (test : Bool) → length (without_zeros digits) ≤ length digits
+        → length (cond test (without_zeros digits) (digit ∷ digits)) ≤ suc (length digits)
     by true rest = omega (arith, rest)
     by false rest = omega arith
 
@@ -23,7 +24,8 @@ digits_still [] all = refl
 digits_still (digit ∷ digits) all =
     by (nat_eq digit 0x30) (digits_still digits (second_so (is_ascii_digit digit) (list_all is_ascii_digit digits) all))
   where
-    by : (test : Bool) → list_all is_ascii_digit (without_zeros digits) ≡ true → list_all is_ascii_digit (cond test (without_zeros digits) (digit ∷ digits)) ≡ true
+    by : (test : Bool) → list_all is_ascii_digit (without_zeros digits) ≡ true
+        → list_all is_ascii_digit (cond test (without_zeros digits) (digit ∷ digits)) ≡ true
     by true rest = rest
     by false rest = all
 

@@ -37,9 +37,14 @@ other_past : (number code : ℕ) → code < 256 → 256 ≤ number → nat_eq nu
 other_past number code small past = grind (arith, nat_tests)
 
 -- a byte that is its own fold, and the fold of no other
-alone : (code byte : ℕ) → code < 256 → nat_eq 0 code ≡ false → agree_below (told_folded code) (told code) 256 ≡ true → nat_eq (fold byte) code ≡ nat_eq byte code
+alone : (code byte : ℕ) → code < 256 → nat_eq 0 code ≡ false
+    → agree_below (told_folded code) (told code) 256 ≡ true
+    → nat_eq (fold byte) code ≡ nat_eq byte code
 alone code byte small some agrees = elim (cases_lt byte 256) [
-  | inl below ↦ sym (as_test (nat_eq (fold byte) code)) ∙ ap (λ n. nat_eq n 1) (agree_at (told_folded code) (told code) 256 byte agrees below) ∙ as_test (nat_eq byte code)
+  | inl below ↦
+      sym (as_test (nat_eq (fold byte) code))
+      ∙ ap (λ n. nat_eq n 1) (agree_at (told_folded code) (told code) 256 byte agrees below)
+      ∙ as_test (nat_eq byte code)
   | inr past ↦ ap (λ n. nat_eq n code) (past_table byte past) ∙ some ∙ sym (other_past byte code small past)
 ]
 

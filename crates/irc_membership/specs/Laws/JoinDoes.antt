@@ -54,9 +54,12 @@ join_does me room list keys well there = either_does me room (join_steps room me
 -- ---- it looks at its own user's invitations alone
 
 -- what a joiner is told is the same, whoever is invited
-joins_aside : (room : Room) (me : User) (name : List ℕ) (op : Bool) (channel : Channel) → joins room me name op channel ≡ joins room me name op (uninviting channel)
+joins_aside : (room : Room) (me : User) (name : List ℕ) (op : Bool) (channel : Channel)
+    → joins room me name op channel ≡ joins room me name op (uninviting channel)
 joins_aside room me name op channel =
-    ap (λ (now : Channel). Do (Join me.nick channel.name op) ∷ topic_for_joiner now.name now.topic ++ names_of room.users me now ++ end_of_names name ∷ [])
+    ap (λ (now : Channel).
+    Do (Join me.nick channel.name op) ∷ topic_for_joiner now.name now.topic
+    ++ names_of room.users me now ++ end_of_names name ∷ [])
     (joined_aside (key me.nick) op channel)
 
 admitted_aside : (room : Room) (me : User) (name : List ℕ) (channel : Channel) (refusal : Option Act)
@@ -100,7 +103,8 @@ found_alike room me asked (Some one) (Some two) same invited =
     ∙ sym (ap (admitted room me asked.channel (uninviting two)) (kept_out_aside me asked.key two))
     ∙ sym (admitted_aside room me asked.channel two (kept_out me asked.key two))
 
-asked_alike : (room other : Room) (me : User) (asked : JoinEntry) → AreAlikeFor me.nick room other → joins_asked room me asked ≡ joins_asked other me asked
+asked_alike : (room other : Room) (me : User) (asked : JoinEntry) → AreAlikeFor me.nick room other
+    → joins_asked room me asked ≡ joins_asked other me asked
 asked_alike room other me asked so =
     found_alike room me asked (row room.channels (key asked.channel)) (row other.channels (key asked.channel)) (so.alike.channels (key asked.channel))
     (so.invited (key asked.channel))

@@ -55,7 +55,10 @@ joins_by_users : (room now : Room) (me : User) (name : List ℕ) (op : Bool) (ch
     → joins now me name op channel ≡ joins room me name op channel
 joins_by_users room now me name op channel same =
     let after_join = joined (key me.nick) op channel in
-    ap (λ users. Do (Join me.nick channel.name op) ∷ topic_for_joiner after_join.name after_join.topic ++ names_of users me after_join ++ end_of_names name ∷ []) same
+    ap (λ users.
+    Do (Join me.nick channel.name op) ∷ topic_for_joiner after_join.name after_join.topic
+    ++ names_of users me after_join ++ end_of_names name ∷ [])
+    same
 
 admitted_by_users : (room now : Room) (me : User) (name : List ℕ) (channel : Channel) (refusal : Option Act) → now.users ≡ room.users
     → admitted now me name channel refusal ≡ admitted room me name channel refusal
@@ -93,7 +96,8 @@ module _ (Q : Room → Effect → Type 0) (me : User) (room : Room) where
       (λ right. by_test R (is_full channel.modes.limit channel) (Some (Answer (ChannelIsFull channel.name))) None (λ no_room. tt)
       (λ some_room. joins_so name false channel first))))
 
-  found_so : (asked : JoinEntry) → IsSoOfJoins Q me room asked.channel → is_member room me.nick asked.channel ≡ false → is_channel asked.channel ≡ true
+  found_so : (asked : JoinEntry) → IsSoOfJoins Q me room asked.channel
+      → is_member room me.nick asked.channel ≡ false → is_channel asked.channel ≡ true
       → (found : Option Channel) → row room.channels (key asked.channel) ≡ found → EachInTurn Q room (effects_among (joins_found room me asked found))
   found_so asked so outside named None is = joins_so asked.channel true (new_channel asked.channel) (so.makes outside named is)
   found_so asked so outside named (Some channel) is = admitted_so asked.channel asked.key channel (so.enters outside channel is)

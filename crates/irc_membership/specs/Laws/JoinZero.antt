@@ -89,7 +89,8 @@ all_stand room (e ∷ es) rise found =
       all_stand room es parts.1 (λ q channel is. found q channel (later q channel parts.0 is (same_fold q e.0) refl)),
     )
   where
-    later : (q : List ℕ) (channel : Channel) → T (below_all fold_cmp e.0 es) → find fold_cmp q es ≡ Some channel → (b : Bool) → same_fold q e.0 ≡ b
+    later : (q : List ℕ) (channel : Channel) → T (below_all fold_cmp e.0 es)
+        → find fold_cmp q es ≡ Some channel → (b : Bool) → same_fold q e.0 ≡ b
         → cond (same_fold q e.0) (Some e.1) (find fold_cmp q es) ≡ Some channel
     later q channel below is true one = let none = none_below e.0 es below in let folds = ap (λ f. find fold_cmp f es) (one_fold q e.0 one) in cc
     later q channel below is false two = ap (λ b. cond b (Some e.1) (find fold_cmp q es)) two ∙ is

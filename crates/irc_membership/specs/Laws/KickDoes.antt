@@ -51,11 +51,13 @@ found_aside : (me : User) (text : List ℕ) (asked : Kicking) (users : Table Use
 found_aside me text asked users None = refl
 found_aside me text asked users (Some channel) = refl
 
-one_alike : (me : User) (text : List ℕ) (room other : Room) (asked : Kicking) → AreAlike room other → kick_one me text room asked ≡ kick_one me text other asked
+one_alike : (me : User) (text : List ℕ) (room other : Room) (asked : Kicking) → AreAlike room other
+    → kick_one me text room asked ≡ kick_one me text other asked
 one_alike me text room other asked alike =
     row_alike (λ users. kicks_found users me text asked) (found_aside me text asked) room other alike (key asked.channel)
 
-one_keeps : (me : User) (text : List ℕ) (room : Room) (asked : Kicking) → EachInTurn (IsKeeping AreAlike) room (effects_among (kick_one me text room asked))
+one_keeps : (me : User) (text : List ℕ) (room : Room) (asked : Kicking)
+    → EachInTurn (IsKeeping AreAlike) room (effects_among (kick_one me text room asked))
 one_keeps me text room asked = one_so (IsKeeping AreAlike) me text room asked (record {
   kicks_it = λ channel other is member known. kick_keeps_alike me.nick channel.name other.nick text;
 })

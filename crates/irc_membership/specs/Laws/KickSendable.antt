@@ -18,10 +18,13 @@ use Rattle.irc_membership.specs.Laws.KickLaw.{one_so, kick_is_own}
 
 -- of a user that is there, in a room within limits, where a line can carry its words
 abbrev pub KickIsSendable : Type 0
-KickIsSendable = (me : User) (room : Room) (channels nicks : List ℕ) (more : List (List ℕ)) → IsWellFormed room → IsWithinLimits room → row room.users (key me.nick) ≡ Some me
+KickIsSendable =
+    (me : User) (room : Room) (channels nicks : List ℕ) (more : List (List ℕ)) → IsWellFormed room
+    → IsWithinLimits room → row room.users (key me.nick) ≡ Some me
     → AllByRecursion IsCarried more → AreSendable room (kick_steps room me channels nicks more)
 
-all_carry : (me : User) (text : List ℕ) (room : Room) → IsCarriedText text → (asked : Option (List Kicking)) → CarrySendable room (kick_all me text room asked)
+all_carry : (me : User) (text : List ℕ) (room : Room) → IsCarriedText text
+    → (asked : Option (List Kicking)) → CarrySendable room (kick_all me text room asked)
 all_carry me text room within None = tt
 all_carry me text room within (Some asked) =
     each-in_turn CarriesSendable (kick_one me text)
@@ -36,4 +39,6 @@ kick_carries me room channels nicks more nick carried =
 pub kick_is_sendable : KickIsSendable
 kick_is_sendable me room channels nicks more well within mine carried =
     own_are_sendable me room (kick_steps room me channels nicks more) well (nick_stored room well (key me.nick) me mine)
-    (kick_is_own me room channels nicks more) (kick_carries me room channels nicks more (nick_carried me.nick (within.users (key me.nick) me mine).nick) carried)
+    (kick_is_own me room channels nicks more)
+    (kick_carries me room channels nicks more
+    (nick_carried me.nick (within.users (key me.nick) me mine).nick) carried)

@@ -37,7 +37,8 @@ left_aside : (me : User) (text name : List ℕ) (users : Table User) (found : Op
 left_aside me text name users None = refl
 left_aside me text name users (Some channel) = refl
 
-one_alike : (me : User) (text : List ℕ) (room other : Room) (name : List ℕ) → AreAlike room other → part_one me text room name ≡ part_one me text other name
+one_alike : (me : User) (text : List ℕ) (room other : Room) (name : List ℕ) → AreAlike room other
+    → part_one me text room name ≡ part_one me text other name
 one_alike me text room other name alike = row_alike (λ users. left_by me text name) (left_aside me text name) room other alike (key name)
 
 one_keeps : (me : User) (text : List ℕ) (room : Room) (name : List ℕ) → EachInTurn (IsKeeping AreAlike) room (effects_among (part_one me text room name))

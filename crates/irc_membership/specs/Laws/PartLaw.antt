@@ -41,7 +41,9 @@ found_so Q me text room name so (Some channel) is =
 
 one_own : (me : User) (text : List ℕ) (room : Room) (name : List ℕ) → AreOwn me room (part_one me text room name)
 one_own me text room name =
-    found_so (IsOwn me) me text room name (record { leaves_it = λ channel is member. own.parts name text channel is member }) (row room.channels (key name)) refl
+    found_so (IsOwn me) me text room name
+    (record { leaves_it = λ channel is member. own.parts name text channel is member })
+    (row room.channels (key name)) refl
 
 pub part_is_own : PartIsOwn
 unfolding part_steps

@@ -130,7 +130,11 @@ taken_apart : (mask there : List ℕ) (bans : List (List ℕ)) → is_ban_mask m
     → cond (is_ban_mask there) (without_ban there bans) bans ≢ bans
 taken_apart mask there bans is found e =
     never (sym (ap is_some found) ∙ find_any (same mask) bans ∙ any_alike mask there (find_passes (same mask) bans there found) bans
-    ∙ ap (list_any (same there)) (sym e ∙ ap (λ b. cond b (without_ban there bans) bans) (stored_is_mask mask there bans is found)) ∙ taken_gone there bans)
+    ∙ ap (list_any (same there))
+    (sym e
+    ∙ ap (λ b. cond b (without_ban there bans) bans)
+    (stored_is_mask mask there bans is found))
+    ∙ taken_gone there bans)
   where
     never : {A : Type 0} → true ≡ false → A
     never h = cc
@@ -165,9 +169,11 @@ made_changes users now named plus which word = judged_so (λ made. changed made 
   ban_set = λ mask given is none e. set_apart mask now.modes.bans is none (ap (λ (c : Channel). c.modes.bans) e);
   ban_taken = λ mask there is found e. taken_apart mask there now.modes.bans is found (ap (λ (c : Channel). c.modes.bans) e);
   operator = λ sign name user flags is at other e.
-      flag_apart now.members user.nick name flags (λ f. record f { op = sign }) (λ f. f.op) (named (key name) user is) at other (ap (λ (c : Channel). c.members) e);
+      flag_apart now.members user.nick name flags (λ f. record f { op = sign }) (λ f. f.op)
+      (named (key name) user is) at other (ap (λ (c : Channel). c.members) e);
   voice = λ sign name user flags is at other e.
-      flag_apart now.members user.nick name flags (λ f. record f { voice = sign }) (λ f. f.voice) (named (key name) user is) at other (ap (λ (c : Channel). c.members) e);
+      flag_apart now.members user.nick name flags (λ f. record f { voice = sign }) (λ f. f.voice)
+      (named (key name) user is) at other (ap (λ (c : Channel). c.members) e);
 })
 
 verdict_changes : (now : Channel) (verdict : Verdict) → IsSo (λ made. changed made now ≢ now) verdict → EachChanges now (outcome_of verdict).changes
@@ -176,7 +182,9 @@ verdict_changes now (Keeps made) so = record { now = so; later = tt }
 verdict_changes now Nothing so = tt
 
 one_changes : (users : Table User) (start now : Channel) → AreNamed users → (item : Asked) → EachChanges now (one_served users start now item).changes
-one_changes users start now named (change plus which word) = verdict_changes now (judge users now plus which word) (made_changes users now named plus which word)
+one_changes users start now named (change plus which word) =
+    verdict_changes now (judge users now plus which word)
+    (made_changes users now named plus which word)
 one_changes users start now named list = tt
 one_changes users start now named no_word = tt
 one_changes users start now named (unknown byte) = tt
@@ -185,7 +193,8 @@ both_change : (now : Channel) (a b : List ModeChange) → EachChanges now a → 
 both_change now [] b one other = other
 both_change now (first ∷ a) b one other = record { now = one.now; later = both_change (changed first now) a b one.later other }
 
-served_changes : (users : Table User) (start now : Channel) → AreNamed users → (items : List Asked) → EachChanges now (served users start now items).changes
+served_changes : (users : Table User) (start now : Channel) → AreNamed users → (items : List Asked)
+    → EachChanges now (served users start now items).changes
 served_changes users start now named [] = tt
 served_changes users start now named (item ∷ items) =
     let first = one_served users start now item in

@@ -44,7 +44,9 @@ letter_aside plus letter.Voice (Some word) now = refl
 
 changed_aside : (changes : List ModeChange) (now : Channel) → all_changed changes (uninviting now) ≡ uninviting (all_changed changes now)
 changed_aside [] now = refl
-changed_aside (first ∷ changes) now = ap (all_changed changes) (letter_aside first.plus first.letter first.word now) ∙ changed_aside changes (changed first now)
+changed_aside (first ∷ changes) now =
+    ap (all_changed changes) (letter_aside first.plus first.letter first.word now)
+    ∙ changed_aside changes (changed first now)
 
 judged_aside : (users : Table User) (now : Channel) (plus : Bool) (which : ModeLetter) (word : Option (List ℕ))
     → judge users (uninviting now) plus which word ≡ judge users now plus which word
@@ -68,7 +70,8 @@ told_aside start no_word = refl
 told_aside start (unknown byte) = refl
 told_aside start (change plus which word) = refl
 
-one_aside : (users : Table User) (start now : Channel) (item : Asked) → one_served users (uninviting start) (uninviting now) item ≡ one_served users start now item
+one_aside : (users : Table User) (start now : Channel) (item : Asked)
+    → one_served users (uninviting start) (uninviting now) item ≡ one_served users start now item
 one_aside users start now (change plus which word) = ap outcome_of (judged_aside users now plus which word)
 one_aside users start now list = refl
 one_aside users start now no_word = refl
@@ -77,7 +80,8 @@ one_aside users start now (unknown byte) = refl
 abbrev both_outcomes : Outcome → Outcome → Outcome
 both_outcomes first rest = record { replies = first.replies ++ rest.replies; changes = first.changes ++ rest.changes }
 
-served_aside : (users : Table User) (start now : Channel) (items : List Asked) → served users (uninviting start) (uninviting now) items ≡ served users start now items
+served_aside : (users : Table User) (start now : Channel) (items : List Asked)
+    → served users (uninviting start) (uninviting now) items ≡ served users start now items
 served_aside users start now [] = refl
 served_aside users start now (item ∷ items) =
     let first = one_served users start now item in
@@ -88,7 +92,8 @@ served_aside users start now (item ∷ items) =
 flat_aside : (start : Channel) (items : List Asked) → flat_map (letter_replies (uninviting start)) items ≡ flat_map (letter_replies start) items
 flat_aside start [] = refl
 flat_aside start (item ∷ items) =
-    ap (λ acts. acts ++ flat_map (letter_replies (uninviting start)) items) (told_aside start item) ∙ ap (λ acts. letter_replies start item ++ acts) (flat_aside start items)
+    ap (λ acts. acts ++ flat_map (letter_replies (uninviting start)) items) (told_aside start item)
+    ∙ ap (λ acts. letter_replies start item ++ acts) (flat_aside start items)
 
 denied_aside : (start : Channel) (items : List Asked) → denied (uninviting start) items ≡ denied start items
 denied_aside start [] = refl
@@ -97,9 +102,13 @@ denied_aside start (list ∷ items) = ap (λ acts. letter_replies start list ++ 
 denied_aside start (no_word ∷ items) = ap (λ acts. letter_replies start no_word ++ acts) (denied_aside start items)
 denied_aside start (unknown byte ∷ items) = ap (λ acts. letter_replies start (unknown byte) ++ acts) (denied_aside start items)
 
-asked_aside : (users : Table User) (me : User) (channel : Channel) (items : List Asked) → asked_of users me (uninviting channel) items ≡ asked_of users me channel items
+asked_aside : (users : Table User) (me : User) (channel : Channel) (items : List Asked)
+    → asked_of users me (uninviting channel) items ≡ asked_of users me channel items
 asked_aside users me channel items =
-    ap (λ o. cond (is_operator (row channel.members (key me.nick))) (in_one me channel o) (denied (uninviting channel) items)) (served_aside users channel channel items)
+    ap (λ o.
+    cond (is_operator (row channel.members (key me.nick))) (in_one me channel o)
+    (denied (uninviting channel) items))
+    (served_aside users channel channel items)
     ∙ ap (cond (is_operator (row channel.members (key me.nick))) (in_one me channel (served users channel channel items))) (denied_aside channel items)
 
 channel_aside : (users : Table User) (me : User) (name : List ℕ) (more : List (List ℕ)) (found : Option Channel)

@@ -99,7 +99,8 @@ own_so Q me room [] so = tt
 own_so Q me room (letters ∷ more) so =
     let invisible = invisible_after true me.invisible letters in
     quiet_first Q room (unknown_told letters) (made_invisible me invisible)
-    (by_test (λ (acts : List Act). effects_among acts ≡ []) (list_any is_unknown_flag letters) (Answer UModeUnknownFlag ∷ []) [] (λ some. refl) (λ none. refl))
+    (by_test (λ (acts : List Act). effects_among acts ≡ []) (list_any is_unknown_flag letters)
+    (Answer UModeUnknownFlag ∷ []) [] (λ some. refl) (λ none. refl))
     (by_test (λ (acts : List Act). EachInTurn Q room (effects_among acts)) (differs me.invisible invisible) (Do (UserMode me.nick invisible) ∷ []) []
     (λ apart. record { now = so invisible apart; later = tt }) (λ alike. tt))
 
@@ -111,7 +112,8 @@ user_so Q me room target more so =
     (λ own. own_so Q me room more so.sets_own) (λ other. tt)
 
 changing_so : (Q : Room → Effect → Type 0) (me : User) (room : Room) (channel : Channel) (changes : List ModeChange)
-    → (is_nil changes ≡ false → Q room (ChangeModes (by.User me.nick) channel.name changes)) → EachInTurn Q room (effects_among (changing me channel changes))
+    → (is_nil changes ≡ false → Q room (ChangeModes (by.User me.nick) channel.name changes))
+    → EachInTurn Q room (effects_among (changing me channel changes))
 changing_so Q me room channel [] so = tt
 changing_so Q me room channel (first ∷ changes) so = record { now = so refl; later = tt }
 
@@ -121,7 +123,9 @@ asked_so : (Q : Room → Effect → Type 0) (me : User) (room : Room) (name : Li
 asked_so Q me room name channel words so is =
     let items = modes_read words in
     let outcome = served room.users channel channel items in
-    by_test (λ (acts : List Act). EachInTurn Q room (effects_among acts)) (is_operator (row channel.members (key me.nick))) (in_one me channel outcome) (denied channel items)
+    by_test (λ (acts : List Act). EachInTurn Q room (effects_among acts))
+    (is_operator (row channel.members (key me.nick))) (in_one me channel outcome)
+    (denied channel items)
     (λ operator. quiet_first Q room outcome.replies (changing me channel outcome.changes) (served_quiet room.users channel channel items)
     (changing_so Q me room channel outcome.changes (so.changes_it channel is operator)))
     (λ other. quiet_so Q room (denied channel items) (denied_quiet channel items))

@@ -159,7 +159,8 @@ module _ (room : Room) (well : IsWellFormed room) (limits : IsWithinLimits room)
       let changes = all_served channel channel within (modes_read words) (read_carried words carried) in
       record { changes_readable = some_asked_are_readable words (changed_by room channel words) changes.asked filled; words_sent = changes.sent }
 
-  pub mode_carries : (me : User) (name : List ℕ) (words : List (List ℕ)) → AllByRecursion IsCarried words → CarrySendable room (mode_steps room me name words)
+  pub mode_carries : (me : User) (name : List ℕ) (words : List (List ℕ))
+      → AllByRecursion IsCarried words → CarrySendable room (mode_steps room me name words)
   mode_carries me name words carried = mode_so CarriesSendable me room name words (record {
     changes_it = λ channel is operator filled. sent_whole channel (limits.channels (key name) channel is) words carried filled;
     sets_own = λ invisible other. tt;

@@ -16,7 +16,8 @@ IsCarriedAsked other = ⊤
 abbrev IsCarriedReading : Reading → Type 0
 IsCarriedReading reading = IsCarriedAsked reading.asked
 
-answer_carried : (plus : Bool) (which : ModeLetter) (next : Option (List ℕ)) → IfSome next IsCarried → IsCarriedAsked (answer (needs plus which) plus which next)
+answer_carried : (plus : Bool) (which : ModeLetter) (next : Option (List ℕ))
+    → IfSome next IsCarried → IsCarriedAsked (answer (needs plus which) plus which next)
 answer_carried plus letter.InviteOnly next carried = tt
 answer_carried plus letter.Moderated next carried = tt
 answer_carried plus letter.NoOutside next carried = tt
@@ -50,9 +51,11 @@ behind_first : (words : List (List ℕ)) → AllByRecursion IsCarried words → 
 behind_first [] all = tt
 behind_first (word ∷ words) all = all.1
 
-after_carried : (plus : Bool) (byte : ℕ) (words : List (List ℕ)) → AllByRecursion IsCarried words → AllByRecursion IsCarried (words_after plus byte words)
+after_carried : (plus : Bool) (byte : ℕ) (words : List (List ℕ)) → AllByRecursion IsCarried words
+    → AllByRecursion IsCarried (words_after plus byte words)
 after_carried plus byte words all =
-    by_test (λ (left : List (List ℕ)). AllByRecursion IsCarried left) (letter_asks plus (mode_of byte)) (drop 1 words) words (λ takes. behind_first words all)
+    by_test (λ (left : List (List ℕ)). AllByRecursion IsCarried left)
+    (letter_asks plus (mode_of byte)) (drop 1 words) words (λ takes. behind_first words all)
     (λ none. all)
 
 letters_carried : (plus : Bool) (letters : List ℕ) (words : List (List ℕ)) → AllByRecursion IsCarried words
@@ -71,7 +74,9 @@ counted_carried : (earlier readings : List Reading) → AllByRecursion IsCarried
 counted_carried earlier [] all = tt
 counted_carried earlier (reading ∷ later) all =
     let rest = counted_carried (earlier ++ reading ∷ []) later all.1 in
-    by_test (λ (items : List Asked). AllByRecursion IsCarriedAsked (items ++ counted (earlier ++ reading ∷ []) later)) (counts earlier reading) (reading.asked ∷ []) []
+    by_test (λ (items : List Asked).
+    AllByRecursion IsCarriedAsked (items ++ counted (earlier ++ reading ∷ []) later))
+    (counts earlier reading) (reading.asked ∷ []) []
     (λ counts. (all.0, rest)) (λ dropped. rest)
 
 pub read_carried : (words : List (List ℕ)) → AllByRecursion IsCarried words → AllByRecursion IsCarriedAsked (modes_read words)

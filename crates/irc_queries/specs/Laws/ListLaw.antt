@@ -40,4 +40,5 @@ list_only_answers room me [] =
     let channels = filter (is_listed me) (values room.channels) in
     none-both (map (channel_entry room.users me) channels) (Answer ListEnd ∷ []) (entries_answer room.users me channels) refl
 list_only_answers room me (list ∷ more) =
-    none-both (flat_map (asked_entry room me) (entries list)) (Answer ListEnd ∷ []) (none-flat (asked_entry room me) (asked_answers room me) (entries list)) refl
+    none-both (flat_map (asked_entry room me) (entries list)) (Answer ListEnd ∷ [])
+    (none-flat (asked_entry room me) (asked_answers room me) (entries list)) refl

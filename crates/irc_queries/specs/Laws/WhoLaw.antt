@@ -51,21 +51,29 @@ members_answer room place seen channel (member ∷ members) =
     first_answers room place seen channel member.1 (row room.users member.0) (filter_map (member_line room place seen channel) members)
     (members_answer room place seen channel members)
 
-channel_answers : (room : Room) (place : Place) (seen : User → Bool) (me : User) (found : Option Channel) → effects_among (replies_of_members room place seen me found) ≡ []
+channel_answers : (room : Room) (place : Place) (seen : User → Bool) (me : User)
+    (found : Option Channel)
+    → effects_among (replies_of_members room place seen me found) ≡ []
 channel_answers room place seen me None = refl
 channel_answers room place seen me (Some channel) =
-    either (is_known me channel) (filter_map (member_line room place seen channel) (entries channel.members)) [] (members_answer room place seen channel (entries channel.members)) refl
+    either (is_known me channel)
+    (filter_map (member_line room place seen channel) (entries channel.members)) []
+    (members_answer room place seen channel (entries channel.members)) refl
 
 told_answers : (room : Room) (place : Place) (me : User) (asked : List ℕ) → effects_among (who_replies room place me asked) ≡ []
 told_answers room place me asked =
     let seen = λ (user : User). is_seen room me user in
-    either (names_channel asked) (replies_of_members room place seen me (row room.channels (key asked))) (replies_of_users place seen asked (values room.users))
+    either (names_channel asked)
+    (replies_of_members room place seen me (row room.channels (key asked)))
+    (replies_of_users place seen asked (values room.users))
     (channel_answers room place seen me (row room.channels (key asked)))
     (users_answer place (filter (λ user. is_asked_for asked user && seen user) (values room.users)))
 
 pub who_only_answers : WhoOnlyAnswers
 unfolding who_steps
-who_only_answers room place me [] = none-both (who_replies room place me (codes "0")) (end_of_who (asterisk ∷ []) ∷ []) (told_answers room place me (codes "0")) refl
+who_only_answers room place me [] =
+    none-both (who_replies room place me (codes "0")) (end_of_who (asterisk ∷ []) ∷ [])
+    (told_answers room place me (codes "0")) refl
 who_only_answers room place me (asked ∷ more) =
     none-both (cond (asks_for_operators more) [] (who_replies room place me asked)) (end_of_who asked ∷ [])
     (either (asks_for_operators more) [] (who_replies room place me asked) refl (told_answers room place me asked)) refl

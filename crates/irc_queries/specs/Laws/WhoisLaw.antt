@@ -24,7 +24,8 @@ channels_answer : (user : User) (lines : List (List OnChannel)) → effects_amon
 channels_answer user [] = refl
 channels_answer user (line ∷ lines) = channels_answer user lines
 
-there_answers : (room : Room) (place : Place) (me : User) (name : List ℕ) (found : Option User) → effects_among (told_if_there room place me name found) ≡ []
+there_answers : (room : Room) (place : Place) (me : User) (name : List ℕ) (found : Option User)
+    → effects_among (told_if_there room place me name found) ≡ []
 there_answers room place me name None = refl
 there_answers room place me name (Some user) = channels_answer user (in_lines max_whois_channels (places room me user))
 

@@ -71,7 +71,9 @@ SaysSeen context own asked =
 abbrev pub SaysFound : Context → List (Bor (Row Channel)) → List ℕ → ℕ → Batch → Batch → Type 0
 SaysFound context own name =
     let room = context.room.now.room in
-    SaysSteps context (replies_of_members room (place_of context.routes.now) (λ user. asker_sees context own user) context.me.now (row room.channels (key name)))
+    SaysSteps context
+    (replies_of_members room (place_of context.routes.now) (λ user. asker_sees context own user)
+    context.me.now (row room.channels (key name)))
 
 -- of these members of a channel
 abbrev pub SaysMembers : Context → List (Bor (Row Channel)) → Channel → List (List ℕ × Flags) → ℕ → Batch → Batch → Type 0

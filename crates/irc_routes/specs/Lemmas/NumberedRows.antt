@@ -23,7 +23,8 @@ use Rattle.irc_routes.specs.Lemmas.TableRows.{length-values, row_passes, length_
 no_row : (q : List ℕ) (r : ServerRow) → row empty q ≡ Some r → ⊥
 no_row q r there = let clash = sym (get-empty fold_cmp q) ∙ there in cc clash
 
-pub numbered_alone : (name info created : List ℕ) → IsServer name → IsInfo info → length created ≤ max_created → IsNumbered (alone_known name info created)
+pub numbered_alone : (name info created : List ℕ) → IsServer name → IsInfo info
+    → length created ≤ max_created → IsNumbered (alone_known name info created)
 numbered_alone name info created rule limits fits = record {
   name = rule;
   info = limits;
@@ -37,7 +38,8 @@ numbered_alone name info created rule limits fits = record {
 
 -- ---- fewer rows
 
-not_there : (table : Table ServerRow) (q : List ℕ) (o : Option ServerRow) → row table q ≡ o → ((r : ServerRow) → o ≡ Some r → ⊥) → row table q ≡ None
+not_there : (table : Table ServerRow) (q : List ℕ) (o : Option ServerRow) → row table q ≡ o
+    → ((r : ServerRow) → o ≡ Some r → ⊥) → row table q ≡ None
 not_there table q None is never = is
 not_there table q (Some r) is never = absurd (never r refl)
 
@@ -50,7 +52,9 @@ numbered_fewer known table numbered stays fewer = record {
   info = numbered.info;
   created = numbered.created;
   rows = λ q r there. numbered.rows q r (stays q r there);
-  not_itself = not_there table known.name (row table known.name) refl (λ r there. let clash = sym numbered.not_itself ∙ stays known.name r there in cc clash);
+  not_itself =
+      not_there table known.name (row table known.name) refl
+      (λ r there. let clash = sym numbered.not_itself ∙ stays known.name r there in cc clash);
   few = let few = numbered.few in omega arith;
   ours = λ a b r s one other. numbered.ours a b r s (stays a r one) (stays b s other);
   tokens = λ a b r s one other. numbered.tokens a b r s (stays a r one) (stays b s other);
@@ -131,7 +135,8 @@ map_none f None none = refl
 map_none f (Some x) none = cc
 
 -- what is so of the new row, and of each row that was there, is so of each row now
-after_put : {X : Type 0} (table : Table X) (name : List ℕ) (new : X) (P : List ℕ → X → Type 0) → P name new → (q : List ℕ) (r : X) → (row table q ≡ Some r
+after_put : {X : Type 0} (table : Table X) (name : List ℕ) (new : X) (P : List ℕ → X → Type 0)
+    → P name new → (q : List ℕ) (r : X) → (row table q ≡ Some r
     → P q r)
     → row (alter name (λ _. Some new) table) q ≡ Some r → P q r
 after_put table name new P at_new q r before there = by (same_fold q name) refl (sym (row-alter name (λ _. Some new) table q) ∙ there)
@@ -154,7 +159,9 @@ module _ (known : Known) (link : ℕ) (uplink name : List ℕ) (distance token :
 
   new_number : (q : List ℕ) (r : ServerRow) → row_of known q ≡ Some r → r.ours ≡ smallest_free known → ⊥
   new_number q r there same =
-      let used = row_passes (λ (s : ServerRow). nat_eq s.ours (smallest_free known)) known.rows q r there ((Decides-eqb r.ours (smallest_free known)).1 same) in
+      let used =
+      row_passes (λ (s : ServerRow). nat_eq s.ours (smallest_free known)) known.rows q r there
+      ((Decides-eqb r.ours (smallest_free known)).1 same) in
       let clash = sym (smallest_is_least (others known)).free ∙ used in
       cc clash
 
@@ -208,7 +215,8 @@ module _ (known : Known) (link : ℕ) (uplink name : List ℕ) (distance token :
     few = few_now;
     ours = λ a b r s one other same.
         after_put known.rows name new_row (λ a r. r.ours ≡ s.ours → a ≡ b)
-        (after_put known.rows name new_row (λ b s. smallest_free known ≡ s.ours → name ≡ b) (λ _. refl) b s (λ there same. absurd (new_number b s there
+        (after_put known.rows name new_row (λ b s. smallest_free known ≡ s.ours → name ≡ b)
+        (λ _. refl) b s (λ there same. absurd (new_number b s there
         (sym same))) other)
         a r
         (λ there. after_put known.rows name new_row (λ b s. r.ours ≡ s.ours → a ≡ b) (λ same. absurd (new_number a r there same)) b s

@@ -51,7 +51,8 @@ any_of_one : {X Y : Type 0} (t : Y → Bool) (f : X → Y) (x : X) (xs : List X)
 any_of_one t f x xs true more is = ap (λ m. t (f x) || m) is
 any_of_one t f x xs false more is = is
 
-any_of_filtered : {X Y : Type 0} (t : Y → Bool) (f : X → Y) (p : X → Bool) (xs : List X) → list_any t (map f (filter p xs)) ≡ list_any (λ x. p x && t (f x)) xs
+any_of_filtered : {X Y : Type 0} (t : Y → Bool) (f : X → Y) (p : X → Bool) (xs : List X)
+    → list_any t (map f (filter p xs)) ≡ list_any (λ x. p x && t (f x)) xs
 any_of_filtered t f p [] = refl
 any_of_filtered t f p (x ∷ xs) = any_of_one t f x (filter p xs) (p x) (list_any (λ x. p x && t (f x)) xs) (any_of_filtered t f p xs)
 
@@ -69,7 +70,8 @@ module _ (known : Known) (link : ℕ) (name : List ℕ) (numbered : IsNumbered k
       let is : at.name ≡ name = sym (numbered.rows at.name at.value at.there).named ∙ (bytes_decides at.value.name name).0 parts.1 in
       ap (option_map (λ (r : ServerRow). r.link)) (ap (row_of known) (sym is) ∙ at.there) ∙ ap (λ l. Some l) ((Decides-eqb at.value.link link).0 parts.0)
 
-  is_there : (o : Option ServerRow) → row_of known name ≡ o → option_map (λ (r : ServerRow). r.link) o ≡ Some link → list_any is_it (others known) ≡ true
+  is_there : (o : Option ServerRow) → row_of known name ≡ o
+      → option_map (λ (r : ServerRow). r.link) o ≡ Some link → list_any is_it (others known) ≡ true
   is_there None is hop = cc
   is_there (Some r) is hop =
       row_passes is_it known.rows name r is (
@@ -154,7 +156,8 @@ found_by_name name q (x ∷ xs) =
     ap (λ b. cond b (Some x) (map_of.find fold_cmp q (map (λ x. (name x, x)) xs))) (same_test q (name x))
     ∙ ap (λ o. cond (pointwise nat_eq (name x) q) (Some x) o) (found_by_name name q xs)
 
-found_is_named : {X : Type 0} (name : X → List ℕ) (q : List ℕ) (xs : List X) (y : X) → map_of.find fold_cmp q (map (λ x. (name x, x)) xs) ≡ Some y → name y ≡ q
+found_is_named : {X : Type 0} (name : X → List ℕ) (q : List ℕ) (xs : List X) (y : X)
+    → map_of.find fold_cmp q (map (λ x. (name x, x)) xs) ≡ Some y → name y ≡ q
 found_is_named name q [] y there = cc
 found_is_named {X} name q (x ∷ xs) y there = by (same_fold q (name x)) refl there (found_is_named name q xs y)
   where
@@ -172,7 +175,9 @@ mapped_found q [] = refl
 mapped_found q (r ∷ rows) = by (same_fold q r.name) (mapped_found q rows)
   where
     by : (b : Bool)
-        → map_of.find fold_cmp q (map by_name (map known_server rows)) ≡ option_map known_server (map_of.find fold_cmp q (map (λ (r : ServerRow). (r.name, r)) rows))
+        → map_of.find fold_cmp q (map by_name (map known_server rows))
+        ≡ option_map known_server
+        (map_of.find fold_cmp q (map (λ (r : ServerRow). (r.name, r)) rows))
         → cond b (Some (known_server r)) (map_of.find fold_cmp q (map by_name (map known_server rows)))
         ≡ option_map known_server (cond b (Some r) (map_of.find fold_cmp q (map (λ (r : ServerRow). (r.name, r)) rows)))
     by true rest = refl
@@ -205,7 +210,8 @@ module _ (known : Known) (numbered : IsNumbered known) where
       ∙ ap (λ es. option_map known_server (map_of.find fold_cmp name es)) rows_named
       ∙ ap (option_map known_server) (sym (get-entries known.rows name)))
 
-  told_of : {Y : Type 0} (f : KnownServer → Y) (g : ServerRow → Y) → ((r : ServerRow) → f (known_server r) ≡ g r) → (b : Bool) (o : Option ServerRow)
+  told_of : {Y : Type 0} (f : KnownServer → Y) (g : ServerRow → Y)
+      → ((r : ServerRow) → f (known_server r) ≡ g r) → (b : Bool) (o : Option ServerRow)
       → cond b (Some (f (itself known))) (option_map g o) ≡ option_map f (cond b (Some (itself known)) (option_map known_server o))
   told_of f g same true o = refl
   told_of f g same false None = refl

@@ -63,7 +63,8 @@ pub record IsLeastFree (rows : List ServerRow) (n x : ℕ) : Type 0 where
 abbrev is_free : List ServerRow → ℕ → Bool
 is_free rows n = not (is_used_in rows n)
 
-at_or_after : (rows : List ServerRow) (n x m : ℕ) → is_used_in rows n ≡ true → n ≤ m → ((k : ℕ) → n + 1 ≤ k → k < x → is_used_in rows k ≡ true) → m < x
+at_or_after : (rows : List ServerRow) (n x m : ℕ) → is_used_in rows n ≡ true → n ≤ m
+    → ((k : ℕ) → n + 1 ≤ k → k < x → is_used_in rows k ≡ true) → m < x
     → is_used_in rows m ≡ true
 at_or_after rows n x m used from after below =
     elim (nat_eq m n) as (λ b. nat_eq m n ≡ b → is_used_in rows m ≡ true) [
@@ -124,7 +125,8 @@ found_least rows n free from below = least_is_one rows first_token n (smallest_f
     (smallest_is_least rows)
 
 -- there are not as many servers as numbers
-pub not_all_used : (rows : List ServerRow) (n : ℕ) → first_token + length rows < n → ((m : ℕ) → first_token ≤ m → m < n → is_used_in rows m ≡ true) → ⊥
+pub not_all_used : (rows : List ServerRow) (n : ℕ) → first_token + length rows < n
+    → ((m : ℕ) → first_token ≤ m → m < n → is_used_in rows m ≡ true) → ⊥
 not_all_used rows n many below =
     let least = smallest_is_least rows in
     let low = smallest_is_low rows in

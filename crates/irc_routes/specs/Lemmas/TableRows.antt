@@ -30,7 +30,8 @@ length-values table = length-map (entries table) (λ e. e.1) ∙ sym (len-entrie
 some_value : {X : Type 0} (x y : X) → Some x ≡ Some y → x ≡ y
 some_value x y e = cc
 
-found_passes : {X : Type 0} (p : X → Bool) (x : X) (v : X) (rest : Option X) (b more : Bool) → cond b (Some v) rest ≡ Some x → p x ≡ true → (rest ≡ Some x
+found_passes : {X : Type 0} (p : X → Bool) (x : X) (v : X) (rest : Option X) (b more : Bool)
+    → cond b (Some v) rest ≡ Some x → p x ≡ true → (rest ≡ Some x
     → more ≡ true)
     → (p v || more) ≡ true
 found_passes p x v rest true more found passes later = ap (λ y. p y || more) (some_value v x found) ∙ ap (λ b. b || more) passes
@@ -47,7 +48,8 @@ find_passes p q x (e ∷ es) found passes =
     found_passes p x e.1 (find fold_cmp q es) (same_fold q e.0) (list_any p (map (λ e. e.1) es)) found passes (λ later. find_passes p q x es later passes)
 
 -- a row at a name is one of the rows
-pub row_passes : {X : Type 0} (p : X → Bool) (table : Table X) (q : List ℕ) (x : X) → row table q ≡ Some x → p x ≡ true → list_any p (values table) ≡ true
+pub row_passes : {X : Type 0} (p : X → Bool) (table : Table X) (q : List ℕ) (x : X)
+    → row table q ≡ Some x → p x ≡ true → list_any p (values table) ≡ true
 row_passes p table q x there passes = find_passes p q x (entries table) (sym (get-entries table q) ∙ there) passes
 
 -- a row that stands at some name and passes a test
@@ -94,7 +96,8 @@ module _ {X : Type 0} (name : X → List ℕ) where
 
 -- ---- rows that pass a test, in a list and in a table
 
-module _ {X V : Type 0} (entry : X → List ℕ × V) (p : X → Bool) (g : V → Option V) (is : (x : X) → g (entry x).1 ≡ cond (p x) (Some ((entry x).1)) None) where
+module _ {X V : Type 0} (entry : X → List ℕ × V) (p : X → Bool) (g : V → Option V)
+    (is : (x : X) → g (entry x).1 ≡ cond (p x) (Some ((entry x).1)) None) where
   abbrev Tests : Unit {0} → X → Bool → Unit {0} → X → Type 0
   Tests s x b t y = (b ≡ p x) × (y ≡ x)
 
@@ -148,7 +151,9 @@ module _ {X : Type 0} (p : X → Bool) (g : X → Option X) (is : (x : X) → g 
   values_filtered [] = refl
   values_filtered (e ∷ es) = by (p e.1) ∙ ap (λ more. cond (p e.1) (e.1 ∷ more) more) (values_filtered es)
     where
-      by : (b : Bool) → map (λ e. e.1) (cond b (e ∷ filter stays es) (filter stays es)) ≡ cond b (e.1 ∷ map (λ e. e.1) (filter stays es)) (map (λ e. e.1)
+      by : (b : Bool)
+          → map (λ e. e.1) (cond b (e ∷ filter stays es) (filter stays es))
+          ≡ cond b (e.1 ∷ map (λ e. e.1) (filter stays es)) (map (λ e. e.1)
           (filter stays es))
       by true = refl
       by false = refl

@@ -11,9 +11,9 @@ use Rattle.irc_channels.specs.Channels.{has_member}
 use Rattle.irc_modes.specs.Modes.{is_nil}
 use Rattle.irc_room.specs.effect.Effect.{Effect}
 use Rattle.irc_room.specs.effect.Effect.TheVariants.{Rename, Quit, Join, Part, Kick, Say}
+use Rattle.irc_room.specs.effect.Target.{Target}
 use Rattle.irc_room.specs.effect.Target.TheVariants.{Channel, User}
 use Rattle.irc_room.specs.Room.{Room}
-use Rattle.irc_room.specs.Readers.{nicks_in}
 use Rattle.irc_stage.specs.declared.clients.Client.{Client}
 use Rattle.irc_stage.specs.declared.clients.Client.TheVariants.{Registered}
 
@@ -27,19 +27,17 @@ conn_as by_nick nick = option_to_list (row by_nick (key nick))
 abbrev pub conns_of : Table ℕ → List (List ℕ) → List ℕ
 conns_of by_nick nicks = flat_map (conn_as by_nick) nicks
 
--- those of the members of a channel
-abbrev pub heard_by : Room → Table ℕ → List ℕ → List ℕ
-heard_by room by_nick channel = conns_of by_nick (nicks_in room channel)
+-- somebody says something, to whom or in what this tells
+abbrev pub IsSaid : (Target → Type 0) → Effect → Type 0
+IsSaid IsFor (Say who notice target words) = IsFor target
+IsSaid IsFor effect = ⊥
 
--- somebody says something in this channel
+-- in this channel, or to this user
 abbrev pub IsSaidIn : List ℕ → Effect → Type 0
-IsSaidIn channel (Say who notice (Channel where_to) words) = where_to ≡ channel
-IsSaidIn channel effect = ⊥
+IsSaidIn channel effect = IsSaid (λ target. target ≡ Channel channel) effect
 
--- somebody says something to this user
 abbrev pub IsSaidTo : List ℕ → Effect → Type 0
-IsSaidTo nick (Say who notice (User to_whom) words) = to_whom ≡ nick
-IsSaidTo nick effect = ⊥
+IsSaidTo nick effect = IsSaid (λ target. target ≡ User nick) effect
 
 -- ---- what is kept
 
@@ -110,10 +108,9 @@ abbrev pub SetsIf : Option ℕ → List ℕ → List ℕ → Lists → Lists →
 SetsIf None channel nick old new = new ≡ old
 SetsIf (Some conn) channel nick old new = SetsAt channel nick (Some conn) old new
 
--- of what is right for a room nothing is left by a nickname
+-- nothing by a nickname is left in the lists of the channels that its user is in
 abbrev pub Leaves : Room → List ℕ → Lists → Lists → Type 0
-Leaves room nick old new =
-    (by_nick : Table ℕ) → AreSo old room by_nick → Forgets nick old new
+Leaves room nick old new = Sets (is_in room nick) nick None old new
 
 -- a client that is a user listens wherever its user is, or nowhere any more
 abbrev pub IsListenerSeated : Room → ℕ → Client → Lists → Lists → Type 0

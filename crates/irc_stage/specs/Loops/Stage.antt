@@ -1,10 +1,7 @@
 -- A server as its code has it while an event is handled.
 use Rattle.std.specs.Prelude.{◌≡◌, ℕ, ⊤, Bool, false, Option, Some, None, List, [], ◌∷◌, ◌++◌, map}
 use Rattle.std.specs.List.{flat_map}
-use Rattle.std.specs.Ordering.{nat_cmp}
-use Rattle.std.specs.FinMap.{FinMap, get, from_entries}
-use Rattle.std.specs.BTreeMap.{BTreeMap}
-use Rattle.arrayvec.specs.ArrayVec.{ArrayVec}
+use Rattle.std.specs.FinMap.{get}
 use Rattle.irc_line.specs.MessageViews.{optional_now}
 use Rattle.irc_names.specs.Fold.{key}
 use Rattle.irc_names.specs.Tables.{Table, row, alter}
@@ -13,10 +10,9 @@ use Rattle.irc_room.specs.effect.Effect.{Effect}
 use Rattle.irc_room.specs.effect.Effect.TheVariants.{Rename}
 use Rattle.irc_room.specs.Room.{IsWellFormed}
 use Rattle.irc_room.specs.Effects.{IsPossible}
-use Rattle.irc_room.specs.shown_line.ShownLine.{ShownLine}
-use Rattle.irc_room.specs.Applying.{Kept, pairs_of}
+use Rattle.irc_room.specs.Applying.{Kept}
 use Rattle.irc_room.specs.InTurn.{IsSoFirst}
-use Rattle.irc_room.specs.Seen.{Showing}
+use Rattle.irc_room.specs.Seen.{seen}
 use Rattle.irc_acts.specs.declared.act.Act.{Act}
 use Rattle.irc_acts.specs.declared.act.Act.TheVariants.{Do}
 use Rattle.irc_stage.specs.declared.clients.Client.{Client}
@@ -36,23 +32,8 @@ use Rattle.irc_stage.specs.EffectTold.{Served, changed, changed_if, client_ended
 use Rattle.irc_stage.specs.ClientTold.{closed_told, step_told, steps_told}
 use Rattle.irc_stage.specs.Loops.Listening.{AreSo}
 
--- what a room hands out, as it is shown
-abbrev pub shown_of : List ℕ × ArrayVec ℕ → Showing
-shown_of pair = record { viewer = pair.0; line = pair.1.items }
-
-abbrev pub all_shown : Clients → List (List ℕ × ArrayVec ℕ) → List Sent
-all_shown clients pairs = flat_map (to_viewer clients) (map shown_of pairs)
-
 abbrev pub clients_of : ClientTable → Clients
 clients_of table = numbered table.by_number
-
--- each line that an effect shows, to the clients among its viewers
-abbrev pub lines_shown : ClientTable → ShownLine → List Sent
-lines_shown clients shown = all_shown (clients_of clients) (pairs_of shown)
-
--- the line at hand, put out to this viewer where it is a client
-abbrev pub held_shown_to : List ℕ → Clients → Batch → Batch
-held_shown_to nick clients out = record out { outs = out.outs ++ to_viewer clients (record { viewer = nick; line = out.held }) }
 
 -- the client that is the user of the first nickname has the second
 abbrev pub all_renamed : List ℕ → List ℕ → Clients → Clients
@@ -114,7 +95,13 @@ lines_on links line = map (λ link. line_on link line) links
 abbrev pub Shows : Effect → Stage → Batch → Stage → Batch → Type 0
 Shows effect old out new out_after = so_far new out_after.outs ≡ with_effect effect (so_far old out.outs)
 
--- the same, but that an invitation of another server's user is not kept
+-- it is shown to the clients among its viewers
+abbrev pub ShowsTo : Effect → Stage → Batch → Batch → Type 0
+ShowsTo effect old out out_after =
+    out_after.outs ≡ out.outs ++ flat_map (to_viewer (clients_of old.clients)) (seen old.room.room effect)
+
+-- An effect changes the room and is shown, but that an invitation of another server's user is not
+-- kept.
 abbrev pub Changes : Effect → Stage → Batch → Stage → Batch → Type 0
 Changes effect old out new out_after = served_at new out_after.outs ≡ changed effect (served_at old out.outs)
 

@@ -1,11 +1,7 @@
 use Rattle.std.proofs.Common.{ap}
 use Rattle.irc_shown.specs.Room.{Room}
 use Rattle.irc_room.proofs.CountedUsers.{none_home}
-use Rattle.irc_room.proofs.OwnKept.{none_told}
 use Rattle.irc_room.proofs.room.Room.new.Goals as goal
 
 pub invariant_of-result : goal.invariant_of-result
-invariant_of-result c = record {
-  counted = none_home c.args.own c.new.result.users (ap (λ (room : Room). room.users) c.new.ensures);
-  told = λ alive. none_told c.args.own c.new-2.result.names.rows c.new.result c.new-2.ensures c.new.ensures;
-}
+invariant_of-result c = none_home c.args.own c.new.result.users (ap (λ (room : Room). room.users) c.new.ensures)

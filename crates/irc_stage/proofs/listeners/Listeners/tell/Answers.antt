@@ -1,7 +1,7 @@
 use Rattle.std.proofs.Common.{ℕ, List, map, ap, ◌∙◌}
 use Rattle.irc_batch.specs.Batches.{put_out_all, to_others}
 use Rattle.irc_tables.specs.Lemmas.RowsAsTable.{ok_also}
-use Rattle.irc_stage.proofs.ListsHeard.{values_of}
+use Rattle.irc_stage.proofs.Conns.{values_of}
 use Rattle.irc_stage.proofs.listeners.Listeners.tell.Goals as goal
 
 pub returns-clause-ok : goal.returns-clause-ok

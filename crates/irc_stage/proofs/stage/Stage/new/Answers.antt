@@ -3,7 +3,7 @@ use Rattle.irc_room.specs.Applying.{Kept}
 use Rattle.irc_stage.specs.Loops.Listening.{AreSo}
 use Rattle.irc_stage.specs.Loops.Stage.{numbered}
 use Rattle.irc_stage.proofs.LinkEnds.{none_met}
-use Rattle.irc_stage.proofs.ListsHeard.{nobody_heard}
+use Rattle.irc_stage.proofs.Conns.{nobody_heard}
 use Rattle.irc_stage.proofs.stage.Stage.new.Goals as goal
 
 pub returns-clause-ready : goal.returns-clause-ready

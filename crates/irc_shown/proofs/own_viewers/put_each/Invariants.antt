@@ -1,9 +1,0 @@
-use Rattle.std.proofs.Common.{take}
-use Rattle.std.specs.List.{list_any}
-use Rattle.irc_names.specs.Fold.{key}
-use Rattle.irc_room_tables.specs.Indexes.{stands}
-use Rattle.irc_shown.specs.Loops.Viewing.{Gains}
-use Rattle.irc_shown.proofs.own_viewers.put_each.Given as goal
-
-abbrev pub invariant-loop-row : goal.invariant-loop-row
-invariant-loop-row l = Gains l.fn.names l.names (λ fold. list_any (λ row. stands l.here.names.rows (key row.name.items) fold) (take l.row-index l.rows))

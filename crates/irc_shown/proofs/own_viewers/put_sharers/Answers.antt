@@ -1,5 +1,0 @@
-use Rattle.irc_shown.proofs.WhoSees.{all_but_one}
-use Rattle.irc_shown.proofs.own_viewers.put_sharers.Goals as goal
-
-pub returns : goal.returns
-returns c = all_but_one _ _ c.args.nick.now c.as_bytes.result.now c.as_bytes.ensures.value _ c.in_ok-put_shared.ensures c.remove.ensures.after
