@@ -1,12 +1,11 @@
 -- The same of a line which says a deed of a server.
-use Rattle.std.proofs.Common.{◌≡◌, ℕ, Bool, true, false, Option, Some, None, List, [], ◌∷◌, ◌++◌, refl, sym, ◌∙◌, ap, filter_map, option_to_list, if◌then◌else◌}
+use Rattle.std.proofs.Common.{◌≡◌, ℕ, Bool, true, false, Option, Some, None, List, [], ◌∷◌, ◌++◌, refl, sym, ◌∙◌, ap, option_to_list, if◌then◌else◌}
 use Rattle.std.specs.FinMap.{entries, get}
-use Rattle.std.specs.List.{cons_option}
 use Rattle.irc_line.specs.Messages.{Written}
 use Rattle.irc_names.specs.Fold.{same}
 use Rattle.irc_channels.specs.declared.flags.Flags.{Flags}
 use Rattle.irc_modes.specs.declared.modes.ModeChange.{ModeChange}
-use Rattle.irc_batch.specs.Batches.{Sent, end_of}
+use Rattle.irc_batch.specs.Batches.{end_of}
 use Rattle.irc_room.specs.effect.Effect.{Effect}
 use Rattle.irc_room.specs.effect.Effect.TheVariants.{Quit}
 use Rattle.irc_room.specs.InTurn.{EachInTurn}
@@ -35,7 +34,7 @@ use Rattle.irc_deeds.specs.DeedTold.{arrival_of, deed_told, forgotten, gain_told
 use Rattle.irc_deeds.specs.Heard.{meets, tells}
 use Rattle.irc_deeds.specs.LinkServed.{after_heard, line_served, met_by, on_link, owes}
 use Rattle.irc_line.specs.Reading.{read_of}
-use Rattle.irc_server.specs.Owed.{lines_to}
+use Rattle.irc_server.specs.Owed.{line_to_conn, lines_to}
 use Rattle.irc_server.specs.Served.{served}
 use Rattle.irc_relay.specs.Links.{distance}
 use Rattle.irc_follow.specs.Tree.{told_token}
@@ -50,24 +49,13 @@ use Rattle.irc_follow.specs.Lemmas.LostUsers.{lost_are_of, lost_counted}
 use Rattle.irc_follow.specs.Lemmas.SaidDeed.{IsQuietDeed, brings_quietly, deed_served, not_it, same_effects, sets_quietly, there, tops_quietly}
 use Rattle.irc_follow.specs.Lemmas.SaidEffect.{own_name}
 use Rattle.irc_follow.specs.Lemmas.SaidEffectShown.{all_lines, append_nil, but_links, client_along, client_is, lines_behind, rooms, said_effect_shows, shown_so, well_here}
+use Rattle.irc_follow.specs.Lemmas.ToldClients.{none_for_some}
 use Rattle.irc_registering.specs.Closing.{error_line}
 
 module _ (who : ℕ) where
   none_of_link : (link : ℕ) (lines : List Written) → lines_to who (on_link link lines) ≡ []
   none_of_link link [] = refl
   none_of_link link (parts ∷ lines) = none_of_link link lines
-
-  none_of_ends : (nick : List ℕ) (es : List (ℕ × Client))
-      → lines_to who (filter_map (λ (c : ℕ × Client). if is_client nick c.1 then Some (end_of c.0) else None) es) ≡ []
-  none_of_ends nick [] = refl
-  none_of_ends nick (e ∷ es) = by (is_client nick e.1) (none_of_ends nick es)
-    where
-      rest : List Sent
-      rest = filter_map (λ (c : ℕ × Client). if is_client nick c.1 then Some (end_of c.0) else None) es
-
-      by : (b : Bool) → lines_to who rest ≡ [] → lines_to who (cons_option (if b then Some (end_of e.0) else None) rest) ≡ []
-      by true none = none
-      by false none = none
 
   -- a server more is told on links alone
   none_of_gain : (link : ℕ) (uplink name : List ℕ) (distance token : ℕ) (info : List ℕ) (before : Served)
@@ -209,7 +197,7 @@ module _ (s : Fixed) (p t : Name) (w : of_side.Part) (view : View) (takes : Take
       ∙ ap (λ l. l ++ lines_to who (to_viewer view.clients error ++ ends_of nick view.clients)) (shown_so s p t w view takes fits who at_home (Quit nick collision_text) refl)
       ∙ ap (λ l. client_shown who w.hall.room (Quit nick collision_text) mine ++ l)
       (lines_behind who (to_viewer view.clients error) (ends_of nick view.clients)
-      ∙ ap (λ l. lines_to who (to_viewer view.clients error) ++ l) (none_of_ends who nick (entries view.clients))
+      ∙ ap (λ l. lines_to who (to_viewer view.clients error) ++ l) (none_for_some (line_to_conn who) (λ (c : ℕ × Client). is_client nick c.1) (λ (c : ℕ × Client). end_of c.0) (λ c. refl) (entries view.clients))
       ∙ append_nil (lines_to who (to_viewer view.clients error))
       ∙ to_one who view.clients error
       ∙ ap (told_line who error) (client_is s p t w view takes fits who at_home))

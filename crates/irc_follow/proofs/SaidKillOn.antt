@@ -1,9 +1,7 @@
 -- A KILL of a server goes on to each other neighbour as a line that says it there.
-use Rattle.std.proofs.Common.{◌≡◌, ◌≢◌, ◌⊎◌, inl, inr, ℕ, Bool, true, false, Option, Some, None, Ok, List, [], ◌∷◌, ◌++◌, ◌&&◌, codes, map, filter_map, lit≤, refl, sym, ◌∙◌, ap, subst, option_map, if◌then◌else◌}
-use Rattle.std.specs.FinMap.{entries}
-use Rattle.std.specs.List.{cons_option, flat_map}
+use Rattle.std.proofs.Common.{◌≡◌, ◌≢◌, ◌⊎◌, inl, inr, ℕ, true, Option, Some, None, Ok, List, [], ◌∷◌, ◌++◌, ◌&&◌, codes, map, lit≤, refl, sym, ◌∙◌, ap, subst, option_map, if◌then◌else◌}
+use Rattle.std.specs.List.{flat_map}
 use Rattle.std.specs.Option.{option_map_or}
-use Rattle.irc_batch.specs.Batches.{Sent, end_of}
 use Rattle.irc_line.specs.Messages.{IsPlain, Written, line_text, message_of}
 use Rattle.irc_names.specs.Fold.{key}
 use Rattle.irc_names.specs.Names.{IsNick, IsServer, is_nick, is_server}
@@ -24,9 +22,8 @@ use Rattle.irc_burst.specs.DeedsMeant.{a_deed, deeds_meant, killed}
 use Rattle.irc_burst_lines.specs.DeedLines.{kill_parts}
 use Rattle.irc_burst_lines.specs.Lemmas.WholeLines.{kill_fits}
 use Rattle.irc_link_reader.specs.Reader.{is_behind_link, may_come}
-use Rattle.irc_stage.specs.declared.clients.Client.{Client}
 use Rattle.irc_stage.specs.EffectTold.{Served, changed, client_ended, ends_of, in_silence}
-use Rattle.irc_stage.specs.Handle.{is_client, to_viewer}
+use Rattle.irc_stage.specs.Handle.{to_viewer}
 use Rattle.irc_stage.specs.Linked.{told_on_all}
 use Rattle.irc_stage.specs.View.{View}
 use Rattle.irc_deeds.specs.DeedTold.{deed_told, told_by}
@@ -37,26 +34,13 @@ use Rattle.irc_follow.specs.Fits.{Fits}
 use Rattle.irc_follow.specs.Laws.{GoesOn, SaidKillGoesOn}
 use Rattle.irc_follow.specs.Says.{neighbour_served, lines_on, machine, Says, IsDoableKill}
 use Rattle.irc_follow.specs.Lemmas.CarriedLines.{kill_carried}
-use Rattle.irc_follow.specs.Lemmas.LinesOnLinks.{lines_behind, none_to_viewer, none_to_viewers}
+use Rattle.irc_follow.specs.Lemmas.LinesOnLinks.{lines_behind, none_to_killed, none_to_viewers}
 use Rattle.irc_follow.specs.Lemmas.Neighbours.{IsKnownOfLines, both}
 use Rattle.irc_follow.specs.Lemmas.Neighbours as beside
 use Rattle.irc_follow.specs.Lemmas.SaidDeed.{deed_served, there}
 use Rattle.irc_follow.specs.Lemmas.SaidEffect.{rooms_alike}
 use Rattle.irc_follow.specs.Lemmas.ServerLines.{all_so}
 use Rattle.irc_registering.specs.Closing.{error_line}
-
--- ends of clients go on no link
-none_of_ends : (k : ℕ) (nick : List ℕ) (es : List (ℕ × Client))
-    → lines_on k (filter_map (λ (c : ℕ × Client). if is_client nick c.1 then Some (end_of c.0) else None) es) ≡ []
-none_of_ends k nick [] = refl
-none_of_ends k nick (e ∷ es) = by (is_client nick e.1) (none_of_ends k nick es)
-  where
-    rest : List Sent
-    rest = filter_map (λ (c : ℕ × Client). if is_client nick c.1 then Some (end_of c.0) else None) es
-
-    by : (b : Bool) → lines_on k rest ≡ [] → lines_on k (cons_option (if b then Some (end_of e.0) else None) rest) ≡ []
-    by true none = none
-    by false none = none
 
 -- the holder is the one that is named
 killed_it : (server nick : List ℕ) (room : Room) → IsStoredNick room nick → killed server room nick ≡ kills server nick ∷ []
@@ -140,9 +124,7 @@ module _ (known : IsKnownOfLines) (server nick : List ℕ) (s : Fixed) (p t u : 
       lines_behind (number s u) (flat_map (to_viewer view.clients) (seen view.room (Quit nick collision_text))) (to_viewer view.clients error ++ ends_of nick view.clients)
       ∙ ap (λ l. l ++ lines_on (number s u) (to_viewer view.clients error ++ ends_of nick view.clients))
       (none_to_viewers (number s u) view.clients (seen view.room (Quit nick collision_text)))
-      ∙ lines_behind (number s u) (to_viewer view.clients error) (ends_of nick view.clients)
-      ∙ ap (λ l. l ++ lines_on (number s u) (ends_of nick view.clients)) (none_to_viewer (number s u) error (entries view.clients))
-      ∙ none_of_ends (number s u) nick (entries view.clients)
+      ∙ none_to_killed (number s u) view.clients nick (error_line collision_text)
 
   lines : lines_on (number s u) (neighbour_served s p view line).out ≡ line_text parts ∷ []
   unfolding told_by deed_told

@@ -27,6 +27,7 @@ pub mod SaidEffectToldOn
 pub mod SaidEffectShown
 pub mod ServerLines
 pub mod SideFlows
+pub mod ToldClients
 pub mod ToldInTurn
 pub mod ToldNumbers
 pub mod ToldServers

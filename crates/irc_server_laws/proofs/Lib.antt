@@ -1,4 +1,5 @@
 pub mod AllOf
+pub mod AllServed
 pub mod Connected
 pub mod LinesEnd
 pub mod MetEnds

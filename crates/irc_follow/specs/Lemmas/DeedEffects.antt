@@ -9,7 +9,7 @@ use Rattle.irc_modes.specs.declared.modes.ModeLetter.TheVariants as letter
 use Rattle.irc_batch.specs.Batches.{Sent}
 use Rattle.irc_room.specs.effect.By.TheVariants as by
 use Rattle.irc_room.specs.effect.Effect.{Effect}
-use Rattle.irc_room.specs.effect.Effect.TheVariants.{AddUser, Rename, Quit, Join, Part, Kick, ChangeModes, SetTopic, Say, Invite, UserMode}
+use Rattle.irc_room.specs.effect.Effect.TheVariants.{AddUser, Rename, Quit, SetTopic, Say, Invite, UserMode}
 use Rattle.irc_room.specs.After.{after}
 use Rattle.irc_room.specs.Effects.{brings_free}
 use Rattle.irc_room.specs.InTurn.{after_all, EachInTurn}
@@ -123,13 +123,7 @@ quiet_users room (AddUser user) is = cc is
 quiet_users room (Rename nick new) is = cc is
 quiet_users room (Quit nick text) is = cc is
 quiet_users room (UserMode nick invisible) is = cc is
-quiet_users room (Join nick channel op) is = refl
-quiet_users room (Part nick channel text) is = refl
-quiet_users room (Kick by channel nick text) is = refl
-quiet_users room (ChangeModes by channel changes) is = refl
-quiet_users room (SetTopic by channel text) is = refl
-quiet_users room (Say by notice to text) is = refl
-quiet_users room (Invite by nick channel) is = refl
+quiet_users room effect is = refl
 
 pub users_stay : (room : Room) (effects : List Effect) → AllQuiet effects → (after_all room effects).users ≡ room.users
 users_stay room [] all = refl
@@ -144,15 +138,7 @@ module _ (view : View) where
   pub calm_view : (room : Room) (effect : Effect) → is_calm effect ≡ true → view_after (in_room room) effect ≡ in_room (after room effect)
   calm_view room (Rename nick new) is = cc is
   calm_view room (Invite by nick channel) is = cc is
-  calm_view room (AddUser user) is = refl
-  calm_view room (Quit nick text) is = refl
-  calm_view room (Join nick channel op) is = refl
-  calm_view room (Part nick channel text) is = refl
-  calm_view room (Kick by channel nick text) is = refl
-  calm_view room (ChangeModes by channel changes) is = refl
-  calm_view room (SetTopic by channel text) is = refl
-  calm_view room (Say by notice to text) is = refl
-  calm_view room (UserMode nick invisible) is = refl
+  calm_view room effect is = refl
 
   -- it does something in the room of the side, and is no doing of the server's own users
   pub record IsCounted (room : Room) (effect : Effect) : Type 0 where
@@ -161,16 +147,9 @@ module _ (view : View) where
 
   quiet_away : (room : Room) (effect : Effect) → is_quiet effect ≡ true → is_of_here (in_room room) effect ≡ false
   quiet_away room (AddUser user) is = cc is
-  quiet_away room (Rename nick new) is = refl
   quiet_away room (Quit nick text) is = cc is
-  quiet_away room (UserMode nick invisible) is = refl
   quiet_away room (Say by notice to text) is = cc is
-  quiet_away room (Join nick channel op) is = refl
-  quiet_away room (Part nick channel text) is = refl
-  quiet_away room (Kick by channel nick text) is = refl
-  quiet_away room (ChangeModes by channel changes) is = refl
-  quiet_away room (SetTopic by channel text) is = refl
-  quiet_away room (Invite by nick channel) is = refl
+  quiet_away room effect is = refl
 
   pub quiet_counted : (room : Room) (effects : List Effect) → AllQuiet effects → EachInTurn DoesSomething room effects → EachInTurn IsCounted room effects
   quiet_counted room [] quiet each = tt
@@ -182,15 +161,7 @@ module _ (view : View) where
   here_alike : (room other : Room) (effect : Effect) → AreAlike room other → is_of_here (in_room room) effect ≡ is_of_here (in_room other) effect
   here_alike room other (Quit nick text) alike = ap (λ users. is_of_here (in_room (record room { users = users })) (Quit nick text)) alike.users
   here_alike room other (Say by notice to text) alike = ap (λ users. is_of_here (in_room (record room { users = users })) (Say by notice to text)) alike.users
-  here_alike room other (AddUser user) alike = refl
-  here_alike room other (Rename nick new) alike = refl
-  here_alike room other (Join nick channel op) alike = refl
-  here_alike room other (Part nick channel text) alike = refl
-  here_alike room other (Kick by channel nick text) alike = refl
-  here_alike room other (ChangeModes by channel changes) alike = refl
-  here_alike room other (SetTopic by channel text) alike = refl
-  here_alike room other (Invite by nick channel) alike = refl
-  here_alike room other (UserMode nick invisible) alike = refl
+  here_alike room other effect alike = refl
 
   pub counted_there : (room other : Room) (effect : Effect) → AreAlike room other → IsCounted other effect → counts (in_room room) effect ≡ true
   counted_there room other effect alike counted =

@@ -311,13 +311,4 @@ module _ (s : Fixed) (fixed : IsFixed s) (t u : Name) (w : of_side.Part) (view o
 
   pub agrees : (effect : Effect) → IsDoableEffect s w effect → AgreesOnServer view.routes (reader_of other.room other.routes (number s t)) effect
   agrees (AddUser user) doable = introduced user.home doable.comes.known doable.comes.far user refl doable.sendable
-  agrees (Rename nick new) doable = tt
-  agrees (Quit nick text) doable = tt
-  agrees (Join nick channel op) doable = tt
-  agrees (Part nick channel text) doable = tt
-  agrees (Kick by channel nick text) doable = tt
-  agrees (ChangeModes by channel changes) doable = tt
-  agrees (SetTopic by channel text) doable = tt
-  agrees (Say by notice to text) doable = tt
-  agrees (Invite by nick channel) doable = tt
-  agrees (UserMode nick invisible) doable = tt
+  agrees effect doable = tt

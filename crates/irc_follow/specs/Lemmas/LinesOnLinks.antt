@@ -1,5 +1,5 @@
 -- What goes on one link: of a line on some links one, where the link is among them.
-use Rattle.std.proofs.Common.{◌≡◌, ℕ, ◌-◌, suc, Bool, true, false, cond, not, ◌||◌, T, Option, Some, None, List, [], ◌∷◌, ◌++◌, length, append-nil, map, filter, filter_map, take, nat_eq, refl, sym, ◌∙◌, ap, arith, if◌then◌else◌}
+use Rattle.std.proofs.Common.{◌≡◌, ℕ, ◌-◌, suc, Bool, true, false, cond, not, ◌||◌, T, Option, Some, None, List, [], ◌∷◌, ◌++◌, length, map, filter, take, nat_eq, refl, sym, ◌∙◌, ap, arith, if◌then◌else◌}
 use Rattle.std.proofs.lemmas.Bool.{eqb-true, eq-eqb}
 use Rattle.std.proofs.lemmas.List.Elements.{filter_map-append}
 use Rattle.std.specs.Cmp.{nat_cmp_total}
@@ -8,22 +8,22 @@ use Rattle.std.specs.FinMap.Entries.{below_all}
 use Rattle.std.specs.List.{cons_option, flat_map, list_any}
 use Rattle.std.specs.Option.{option_map_or}
 use Rattle.std.specs.Ordering.{nat_cmp}
-use Rattle.irc_batch.specs.Batches.{Sent, line_to}
+use Rattle.irc_batch.specs.Batches.{Sent}
 use Rattle.irc_line.specs.Messages.{Written, line_text, text}
 use Rattle.irc_room.specs.effect.Effect.{Effect}
-use Rattle.irc_room.specs.Seen.{Showing, seen}
+use Rattle.irc_room.specs.Seen.{Showing}
 use Rattle.irc_room.specs.Lemmas.ViewerLaws.{both_true}
 use Rattle.irc_tables.specs.Lemmas.OrderedEntries.{above-is, find-above}
 use Rattle.irc_links.specs.Ends.{Ends, is_met}
 use Rattle.irc_links.specs.Ways.{but, met_links}
 use Rattle.irc_routes.specs.Known.{link_key}
-use Rattle.irc_stage.specs.declared.clients.Client.{Client}
-use Rattle.irc_stage.specs.EffectTold.{Served, all_changed, changed, changed_if, counts, is_elsewhere, on_links, shown_at}
-use Rattle.irc_stage.specs.Handle.{is_client, to_viewer}
+use Rattle.irc_stage.specs.EffectTold.{Served, all_changed, ends_of, changed, changed_if, counts, on_links, shown_at}
+use Rattle.irc_stage.specs.Handle.{to_viewer}
 use Rattle.irc_stage.specs.RoomMachine.{Clients}
 use Rattle.irc_stage.specs.View.{View}
 use Rattle.irc_stage.specs.Lemmas.Numbers.{one_number, same_number, same_number-is}
 use Rattle.irc_follow.specs.Says.{body, line_on_link, lines_on}
+use Rattle.irc_follow.specs.Lemmas.ToldClients as told_to
 
 told : (b : Bool) → T b → b ≡ true
 told true h = refl
@@ -84,45 +84,18 @@ module _ (k : ℕ) where
       by false rest = rest
 
   -- what clients are shown goes on no link
-  pub none_to_viewer : (showing : Showing) (es : List (ℕ × Client))
-      → lines_on k (filter_map (λ (c : ℕ × Client). if is_client showing.viewer c.1 then Some (line_to c.0 showing.line) else None) es) ≡ []
-  none_to_viewer showing [] = refl
-  none_to_viewer showing (e ∷ es) = by (is_client showing.viewer e.1) (none_to_viewer showing es)
-    where
-      by : (b : Bool)
-          → lines_on k (filter_map (λ (c : ℕ × Client). if is_client showing.viewer c.1 then Some (line_to c.0 showing.line) else None) es) ≡ []
-          → lines_on k (cons_option (if b then Some (line_to e.0 showing.line) else None)
-          (filter_map (λ (c : ℕ × Client). if is_client showing.viewer c.1 then Some (line_to c.0 showing.line) else None) es)) ≡ []
-      by true none = none
-      by false none = none
-
   pub none_to_viewers : (clients : Clients) (showings : List Showing) → lines_on k (flat_map (to_viewer clients) showings) ≡ []
-  none_to_viewers clients [] = refl
-  none_to_viewers clients (showing ∷ showings) =
-      lines_behind (to_viewer clients showing) (flat_map (to_viewer clients) showings)
-      ∙ ap (λ l. l ++ lines_on k (flat_map (to_viewer clients) showings)) (none_to_viewer showing (entries clients))
-      ∙ none_to_viewers clients showings
-
-  -- what an effect shows goes on no link, and no link opens or ends by it
+  none_to_viewers = told_to.none_to_viewers (line_on_link k) (λ conn line. refl)
 
   pub none_by_effect : (view : View) (effect : Effect) → lines_on k (shown_at view effect) ≡ []
-  none_by_effect view effect = by (is_elsewhere view effect)
-    where
-      by : (b : Bool) → lines_on k (if b then [] else flat_map (to_viewer view.clients) (seen view.room effect)) ≡ []
-      by true = refl
-      by false = none_to_viewers view.clients (seen view.room effect)
-
-  none_by_one : (effect : Effect) (s : Served) → lines_on k (changed_if effect s).out ≡ lines_on k s.out
-  none_by_one effect s = by (counts s.view effect)
-    where
-      by : (b : Bool) → lines_on k (if b then changed effect s else s).out ≡ lines_on k s.out
-      by true =
-          lines_behind s.out (shown_at s.view effect) ∙ ap (λ l. lines_on k s.out ++ l) (none_by_effect s.view effect) ∙ append-nil (lines_on k s.out)
-      by false = refl
+  none_by_effect = told_to.none_by_effect (line_on_link k) (λ conn line. refl)
 
   pub none_by_all : (effects : List Effect) (s : Served) → lines_on k (all_changed effects s).out ≡ lines_on k s.out
-  none_by_all [] s = refl
-  none_by_all (effect ∷ effects) s = none_by_all effects (changed_if effect s) ∙ none_by_one effect s
+  none_by_all = told_to.none_by_all (line_on_link k) (λ conn line. refl)
+
+  pub none_to_killed : (clients : Clients) (nick line : List ℕ)
+      → lines_on k (to_viewer clients (record { viewer = nick; line = line }) ++ ends_of nick clients) ≡ []
+  none_to_killed = told_to.none_to_killed (line_on_link k) (λ conn line. refl) (λ conn. refl)
 
   -- ---- a number among those of a map
 

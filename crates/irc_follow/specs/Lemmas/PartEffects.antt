@@ -6,7 +6,7 @@ use Rattle.std.specs.Option.{option_and_then, option_map_or}
 use Rattle.irc_names.specs.Fold.{key, same}
 use Rattle.irc_names.specs.TableLaws.{same_fold, same_fold-refl, one_fold}
 use Rattle.irc_room.specs.effect.Effect.{Effect}
-use Rattle.irc_room.specs.effect.Effect.TheVariants.{AddUser, Rename, Quit, Join, Part, Kick, ChangeModes, SetTopic, Say, Invite, UserMode}
+use Rattle.irc_room.specs.effect.Effect.TheVariants.{AddUser, Rename, Quit}
 use Rattle.irc_room.specs.After.{after}
 use Rattle.irc_room.specs.Effects.{IsPossible}
 use Rattle.irc_room.specs.Limits.{KeepsLimits}
@@ -113,15 +113,7 @@ module _ (clients : Clients) (client : ℕ) (fold_now : List ℕ) where
   pub was_registered : (effect : Effect) → registered_as (clients_left effect clients) client ≡ Some fold_now → WasRegistered clients effect client fold_now
   was_registered (Rename nick new) is = renamed nick new is
   was_registered (Quit nick text) is = quitted nick text is
-  was_registered (AddUser user) is = still (AddUser user) (λ _. refl) (λ _. refl) is
-  was_registered (Join nick channel op) is = still (Join nick channel op) (λ _. refl) (λ _. refl) is
-  was_registered (Part nick channel text) is = still (Part nick channel text) (λ _. refl) (λ _. refl) is
-  was_registered (Kick by channel nick text) is = still (Kick by channel nick text) (λ _. refl) (λ _. refl) is
-  was_registered (ChangeModes by channel changes) is = still (ChangeModes by channel changes) (λ _. refl) (λ _. refl) is
-  was_registered (SetTopic by channel text) is = still (SetTopic by channel text) (λ _. refl) (λ _. refl) is
-  was_registered (Say by notice to text) is = still (Say by notice to text) (λ _. refl) (λ _. refl) is
-  was_registered (Invite by nick channel) is = still (Invite by nick channel) (λ _. refl) (λ _. refl) is
-  was_registered (UserMode nick invisible) is = still (UserMode nick invisible) (λ _. refl) (λ _. refl) is
+  was_registered effect is = still effect (λ _. refl) (λ _. refl) is
 
 -- what an effect has to be so that a side stays sound by it
 pub record KeepsPart (w : of_side.Part) (effect : Effect) : Type 0 where
@@ -150,16 +142,7 @@ kept_by_effect s w effect sound keeps = record {
 
 new_known : (s : Fixed) (w : of_side.Part) (effect : Effect) → IsDoableEffect s w effect → NewPasses w.tree.knows effect
 new_known s w (AddUser user) doable = doable.comes.known
-new_known s w (Rename nick new) doable = tt
-new_known s w (Quit nick text) doable = tt
-new_known s w (Join nick channel op) doable = tt
-new_known s w (Part nick channel text) doable = tt
-new_known s w (Kick by channel nick text) doable = tt
-new_known s w (ChangeModes by channel changes) doable = tt
-new_known s w (SetTopic by channel text) doable = tt
-new_known s w (Say by notice to text) doable = tt
-new_known s w (Invite by nick channel) doable = tt
-new_known s w (UserMode nick invisible) doable = tt
+new_known s w effect doable = tt
 
 pub effect_keeps : (s : Fixed) (w : of_side.Part) (effect : Effect) → IsSoundPart s w → IsDoableEffect s w effect → IsSoundPart s (done s w (does effect))
 unfolding done

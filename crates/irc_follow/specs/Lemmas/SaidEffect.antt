@@ -11,7 +11,7 @@ use Rattle.irc_names.specs.Tables.{row}
 use Rattle.irc_users.specs.declared.user.User.{User}
 use Rattle.irc_users.specs.UserTable.{is_home}
 use Rattle.irc_room.specs.effect.Effect.{Effect}
-use Rattle.irc_room.specs.effect.Effect.TheVariants.{AddUser, Rename, Quit, Join, Part, Kick, ChangeModes, SetTopic, Say, Invite, UserMode}
+use Rattle.irc_room.specs.effect.Effect.TheVariants.{AddUser, Rename, Quit, Say, Invite}
 use Rattle.irc_room.specs.fault.RoomFault.TheVariants.{NoSuchUser, NoSuchChannel}
 use Rattle.irc_room.specs.After.{after}
 use Rattle.irc_room.specs.Applying.{does as does_in}
@@ -100,14 +100,7 @@ module _ (s : Fixed) (p t : Name) (w : of_side.Part) (view : View) (takes : Take
         coming d = d.comes.far
     elsewhere_done (Quit nick text) is = not_of_here nick (ap doer_of (sym is))
     elsewhere_done (Say by notice to text) is = not_of_here by (ap doer_of (sym is))
-    elsewhere_done (Rename nick new) is = refl
-    elsewhere_done (Join nick channel op) is = refl
-    elsewhere_done (Part nick channel text) is = refl
-    elsewhere_done (Kick by channel nick text) is = refl
-    elsewhere_done (ChangeModes by channel changes) is = refl
-    elsewhere_done (SetTopic by channel text) is = refl
-    elsewhere_done (Invite by nick channel) is = refl
-    elsewhere_done (UserMode nick invisible) is = refl
+    elsewhere_done effect is = refl
 
     pub effect_counts : counts view effect ≡ true
     effect_counts =
@@ -161,16 +154,7 @@ module _ (s : Fixed) (p t : Name) (w : of_side.Part) (view : View) (takes : Take
       on : (b : Bool) → (if b then after view.room (Invite by nick channel) else view.room) ≡ (if not b then view.room else after view.room (Invite by nick channel))
       on true = refl
       on false = refl
-  room_at (AddUser user) there = refl
-  room_at (Rename nick new) there = refl
-  room_at (Quit nick text) there = refl
-  room_at (Join nick channel op) there = refl
-  room_at (Part nick channel text) there = refl
-  room_at (Kick by channel nick text) there = refl
-  room_at (ChangeModes by channel changes) there = refl
-  room_at (SetTopic by channel text) there = refl
-  room_at (Say by notice to text) there = refl
-  room_at (UserMode nick invisible) there = refl
+  room_at effect there = refl
 
   pub room_now : (effect : Effect) → brings_free w.hall.room effect ≡ true → list_all (has_user view.room) (needs_users effect) ≡ true
       → room_after view effect ≡ of_home t (after w.hall.room effect)
@@ -241,15 +225,7 @@ module _ (s : Fixed) (p t : Name) (w : of_side.Part) (view : View) (takes : Take
       → clients_after effect view.clients ≡ kept_here (clients_left effect w.hall.clients)
   clients_now (Rename nick new) away = clients_renamed nick new
   clients_now (Quit nick text) away = clients_quit nick (λ home is. away nick home refl is)
-  clients_now (AddUser user) away = fits.clients
-  clients_now (Join nick channel op) away = fits.clients
-  clients_now (Part nick channel text) away = fits.clients
-  clients_now (Kick by channel nick text) away = fits.clients
-  clients_now (ChangeModes by channel changes) away = fits.clients
-  clients_now (SetTopic by channel text) away = fits.clients
-  clients_now (Say by notice to text) away = fits.clients
-  clients_now (Invite by nick channel) away = fits.clients
-  clients_now (UserMode nick invisible) away = fits.clients
+  clients_now effect away = fits.clients
 
   -- ---- what it is then
 

@@ -12,7 +12,7 @@ use Rattle.irc_users.specs.declared.user.User.{User}
 use Rattle.irc_users.specs.UserTable.{is_home}
 use Rattle.irc_batch.specs.Batches.{Sent}
 use Rattle.irc_room.specs.effect.Effect.{Effect}
-use Rattle.irc_room.specs.effect.Effect.TheVariants.{AddUser, Rename, Quit, Join, Part, Kick, ChangeModes, SetTopic, Say, Invite, UserMode}
+use Rattle.irc_room.specs.effect.Effect.TheVariants.{AddUser, Invite}
 use Rattle.irc_room.specs.After.{after}
 use Rattle.irc_room.specs.Effects.{has_user, needs_users}
 use Rattle.irc_room.specs.InTurn.{EachInTurn}
@@ -87,16 +87,7 @@ module _ (who : ℕ) where
   module _ (view : View) where
     calm_there : (room : Room) (effect : Effect) → is_calm effect ≡ true → is_elsewhere (in_room view room) effect ≡ false
     calm_there room (Invite by nick channel) is = cc is
-    calm_there room (AddUser user) is = refl
-    calm_there room (Rename nick new) is = refl
-    calm_there room (Quit nick text) is = refl
-    calm_there room (Join nick channel op) is = refl
-    calm_there room (Part nick channel text) is = refl
-    calm_there room (Kick by channel nick text) is = refl
-    calm_there room (ChangeModes by channel changes) is = refl
-    calm_there room (SetTopic by channel text) is = refl
-    calm_there room (Say by notice to text) is = refl
-    calm_there room (UserMode nick invisible) is = refl
+    calm_there room effect is = refl
 
     calm_lines : (room : Room) (effect : Effect) → is_calm effect ≡ true → IsWellFormed room
         → lines_to who (shown_at (in_room view room) effect) ≡ client_shown who room effect (get view.clients who)
@@ -206,15 +197,7 @@ module _ (s : Fixed) (p t : Name) (w : of_side.Part) (view : View) (takes : Take
           ap (λ b. lines_to who (if b then [] else flat_map (to_viewer view.clients) (seen view.room (Invite by nick channel)))) there
           ∙ sym (none_shown by nick channel (away there) (get w.hall.clients who) refl)
   effect_shown effect (AddUser user) is doable = shown_so (AddUser user) refl
-  effect_shown effect (Rename nick new) is doable = shown_so (Rename nick new) refl
-  effect_shown effect (Quit nick text) is doable = shown_so (Quit nick text) refl
-  effect_shown effect (Join nick channel op) is doable = shown_so (Join nick channel op) refl
-  effect_shown effect (Part nick channel text) is doable = shown_so (Part nick channel text) refl
-  effect_shown effect (Kick by channel nick text) is doable = shown_so (Kick by channel nick text) refl
-  effect_shown effect (ChangeModes by channel changes) is doable = shown_so (ChangeModes by channel changes) refl
-  effect_shown effect (SetTopic by channel text) is doable = shown_so (SetTopic by channel text) refl
-  effect_shown effect (Say by notice to text) is doable = shown_so (Say by notice to text) refl
-  effect_shown effect (UserMode nick invisible) is doable = shown_so (UserMode nick invisible) refl
+  effect_shown effect other is doable = shown_so other refl
 
   sees_effect : (effect : Effect) (client : Option Client) → client_shown who w.hall.room effect client ≡ client_sees (does effect) w.hall.room client
   unfolding shown_by

@@ -69,31 +69,14 @@ pub told_alike : (room other : Room) (effect : Effect) → AreAlike room other �
 told_alike room other (Say by notice (target.Channel channel) text) agree = ap Some (homes_alike room other channel agree)
 told_alike room other (Say by notice (target.User nick) text) agree = ap (λ users. told_homes (record room { users = users }) (Say by notice (target.User nick) text)) agree.users
 told_alike room other (Invite by nick channel) agree = ap (λ users. told_homes (record room { users = users }) (Invite by nick channel)) agree.users
-told_alike room other (AddUser user) agree = refl
-told_alike room other (Rename nick new) agree = refl
-told_alike room other (Quit nick text) agree = refl
-told_alike room other (Join nick channel op) agree = refl
-told_alike room other (Part nick channel text) agree = refl
-told_alike room other (Kick by channel nick text) agree = refl
-told_alike room other (ChangeModes by channel changes) agree = refl
-told_alike room other (SetTopic by channel text) agree = refl
-told_alike room other (UserMode nick invisible) agree = refl
+told_alike room other effect agree = refl
 
 -- ---- what the line of an effect is read as
 
 pub no_row : (room : Room) (known : Known) (effect : Effect) → of_deeds.burst_row_of (message_of (wire room known effect)).command ≡ None
-no_row room known (AddUser user) = refl
-no_row room known (Rename nick new) = refl
-no_row room known (Quit nick text) = refl
-no_row room known (Join nick channel op) = refl
-no_row room known (Part nick channel text) = refl
-no_row room known (Kick by channel nick text) = refl
-no_row room known (ChangeModes by channel changes) = refl
-no_row room known (SetTopic by channel text) = refl
 no_row room known (Say by true to text) = refl
 no_row room known (Say by false to text) = refl
-no_row room known (Invite by nick channel) = refl
-no_row room known (UserMode nick invisible) = refl
+no_row room known effect = refl
 
 -- no server does it
 abbrev pub IsSendableBy : Effect → Type 0
@@ -121,41 +104,23 @@ one_deed own room server (AddUser user) sent free = nobody own room user free
 one_deed own room server (Rename nick new) sent free =
     ap (λ b. if b then map (kills own) (of_deeds.nicks_in_order (stored_nick room nick) (stored_nick room new))
     else does (Rename nick new) ∷ []) (not_anothers (has_user room new) (folded.same nick new) free)
-one_deed own room None (ChangeModes (by.User nick) channel changes) sent free = refl
 one_deed own room (Some server) (ChangeModes (by.User nick) channel changes) sent free = refl
 one_deed own room server (ChangeModes by.Home channel changes) sent free = absurd sent
-one_deed own room None (SetTopic (by.User nick) channel text) sent free = refl
 one_deed own room (Some server) (SetTopic (by.User nick) channel text) sent free = refl
 one_deed own room server (SetTopic by.Home channel text) sent free = absurd sent
-one_deed own room None (Quit nick text) sent free = refl
 one_deed own room (Some server) (Quit nick text) sent free = refl
-one_deed own room None (Join nick channel op) sent free = refl
 one_deed own room (Some server) (Join nick channel op) sent free = refl
-one_deed own room None (Part nick channel text) sent free = refl
 one_deed own room (Some server) (Part nick channel text) sent free = refl
-one_deed own room None (Kick by channel nick text) sent free = refl
 one_deed own room (Some server) (Kick by channel nick text) sent free = refl
-one_deed own room None (Say by notice to text) sent free = refl
 one_deed own room (Some server) (Say by notice to text) sent free = refl
-one_deed own room None (Invite by nick channel) sent free = refl
 one_deed own room (Some server) (Invite by nick channel) sent free = refl
-one_deed own room None (UserMode nick invisible) sent free = refl
 one_deed own room (Some server) (UserMode nick invisible) sent free = refl
+one_deed own room None effect sent free = refl
 
 pub sent_by : (room : Room) (effect : Effect) → IsSendable room effect → IsSendableBy effect
 sent_by room (ChangeModes by.Home channel changes) sent = absurd sent
 sent_by room (SetTopic by.Home channel text) sent = absurd sent
-sent_by room (ChangeModes (by.User nick) channel changes) sent = tt
-sent_by room (SetTopic (by.User nick) channel text) sent = tt
-sent_by room (AddUser user) sent = tt
-sent_by room (Rename nick new) sent = tt
-sent_by room (Quit nick text) sent = tt
-sent_by room (Join nick channel op) sent = tt
-sent_by room (Part nick channel text) sent = tt
-sent_by room (Kick by channel nick text) sent = tt
-sent_by room (Say by notice to text) sent = tt
-sent_by room (Invite by nick channel) sent = tt
-sent_by room (UserMode nick invisible) sent = tt
+sent_by room effect sent = tt
 
 -- what is heard of the line of an effect that is read back
 module _ (room : Room) (known : Known) (view : View) (link : ℕ) (end : End) (effect : Effect)

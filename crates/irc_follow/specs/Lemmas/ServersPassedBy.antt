@@ -12,7 +12,7 @@ use Rattle.irc_users.specs.declared.user.User.{User}
 use Rattle.irc_users.specs.UserTable.{is_home}
 use Rattle.irc_channels.specs.Channels.{has_member}
 use Rattle.irc_room.specs.effect.Effect.{Effect}
-use Rattle.irc_room.specs.effect.Effect.TheVariants.{AddUser, Rename, Quit, Join, Part, Kick, ChangeModes, SetTopic, Say, Invite, UserMode}
+use Rattle.irc_room.specs.effect.Effect.TheVariants.{AddUser, Say, Invite}
 use Rattle.irc_room.specs.effect.Target.TheVariants as target
 use Rattle.irc_room.specs.After.{after}
 use Rattle.irc_room.specs.Effects.{has_user, is_idle, is_member, needs_users, target_users, doer_of}
@@ -24,7 +24,7 @@ use Rattle.irc_room.specs.Viewers.{line_for, shows_to}
 use Rattle.irc_room.specs.Lemmas.Rows.{same_some}
 use Rattle.irc_room.specs.Lemmas.HomeLaw.{home_follows}
 use Rattle.irc_links.specs.Ways.{homes_in, homes_of, told_homes}
-use Rattle.irc_merge.specs.Deeds.{does, gains, loses, kills, brings, sets, tops, shown_by}
+use Rattle.irc_merge.specs.Deeds.{does, gains, shown_by}
 use Rattle.irc_relay.specs.Links.{Name, same, toward, distance, AreJoined, AreLinked, OneWay, forth, return}
 use Rattle.irc_relay.specs.Relay.{TakesFrom}
 use Rattle.irc_relay.specs.Lemmas.TellingNames.{Telling, alike, unlike, tell, same_when}
@@ -118,30 +118,14 @@ told_known room test all (Say by notice (target.User nick) text) homes is =
     subst (AllByRecursion (λ home. test home ≡ true)) (same_some (option_to_list (home_under room (key nick))) homes is) (one_passes room test all nick)
 told_known room test all (Invite by nick channel) homes is =
     subst (AllByRecursion (λ home. test home ≡ true)) (same_some (option_to_list (home_under room (key nick))) homes is) (one_passes room test all nick)
-told_known room test all (AddUser user) homes is = cc is
-told_known room test all (Rename nick new) homes is = cc is
-told_known room test all (Quit nick text) homes is = cc is
-told_known room test all (Join nick channel op) homes is = cc is
-told_known room test all (Part nick channel text) homes is = cc is
-told_known room test all (Kick by channel nick text) homes is = cc is
-told_known room test all (ChangeModes by channel changes) homes is = cc is
-told_known room test all (SetTopic by channel text) homes is = cc is
-told_known room test all (UserMode nick invisible) homes is = cc is
+told_known room test all effect homes is = cc is
 
 -- who does an effect that is told toward some servers is a user
 pub teller : (room : Room) (effect : Effect) (homes : List (List ℕ)) → told_homes room effect ≡ Some homes → list_all (has_user room) (needs_users effect) ≡ true
     → (nick : List ℕ) × ((doer_of effect ≡ Some nick) × (has_user room nick ≡ true))
 teller room (Say by notice to text) homes is there = (by, (refl, first_of (has_user room by) (list_all (has_user room) (target_users to)) there))
 teller room (Invite by nick channel) homes is there = (by, (refl, first_of (has_user room by) (has_user room nick && true) there))
-teller room (AddUser user) homes is there = cc is
-teller room (Rename nick new) homes is there = cc is
-teller room (Quit nick text) homes is there = cc is
-teller room (Join nick channel op) homes is there = cc is
-teller room (Part nick channel text) homes is there = cc is
-teller room (Kick by channel nick text) homes is there = cc is
-teller room (ChangeModes by channel changes) homes is there = cc is
-teller room (SetTopic by channel text) homes is there = cc is
-teller room (UserMode nick invisible) homes is there = cc is
+teller room effect homes is there = cc is
 
 module _ (s : Fixed) (t : Name) (w : of_side.Part) (effect : Effect) (passes : Passes s t w effect) where
   abbrev parent : Name
@@ -212,14 +196,7 @@ module _ (s : Fixed) (t : Name) (w : of_side.Part) (effect : Effect) (passes : P
         ∙ ap (λ b. if b then after (of_home t w.hall.room) (Invite by nick channel) else of_home t w.hall.room) (invited_away by nick channel is));
   }
   still_fits (AddUser user) is view fits sound_now = cc (sym (ap (told_homes w.hall.room) is) ∙ passes.told)
-  still_fits (Rename nick new) is view fits sound_now = cc (sym (ap (told_homes w.hall.room) is) ∙ passes.told)
-  still_fits (Quit nick text) is view fits sound_now = cc (sym (ap (told_homes w.hall.room) is) ∙ passes.told)
-  still_fits (Join nick channel op) is view fits sound_now = cc (sym (ap (told_homes w.hall.room) is) ∙ passes.told)
-  still_fits (Part nick channel text) is view fits sound_now = cc (sym (ap (told_homes w.hall.room) is) ∙ passes.told)
-  still_fits (Kick by channel nick text) is view fits sound_now = cc (sym (ap (told_homes w.hall.room) is) ∙ passes.told)
-  still_fits (ChangeModes by channel changes) is view fits sound_now = cc (sym (ap (told_homes w.hall.room) is) ∙ passes.told)
-  still_fits (SetTopic by channel text) is view fits sound_now = cc (sym (ap (told_homes w.hall.room) is) ∙ passes.told)
-  still_fits (UserMode nick invisible) is view fits sound_now = cc (sym (ap (told_homes w.hall.room) is) ∙ passes.told)
+  still_fits effect is view fits sound_now = cc (sym (ap (told_homes w.hall.room) is) ∙ passes.told)
 
   -- ---- what its clients see
 
@@ -257,14 +234,7 @@ module _ (s : Fixed) (t : Name) (w : of_side.Part) (effect : Effect) (passes : P
   unseen (Invite by nick channel) is viewer user there home =
       one_unseen nick viewer user (not_told (option_to_list (home_under w.hall.room (key nick))) (ap (told_homes w.hall.room) is)) there home
   unseen (AddUser new) is viewer user there home = refl
-  unseen (Rename nick new) is viewer user there home = cc (sym (ap (told_homes w.hall.room) is) ∙ passes.told)
-  unseen (Quit nick text) is viewer user there home = cc (sym (ap (told_homes w.hall.room) is) ∙ passes.told)
-  unseen (Join nick channel op) is viewer user there home = cc (sym (ap (told_homes w.hall.room) is) ∙ passes.told)
-  unseen (Part nick channel text) is viewer user there home = cc (sym (ap (told_homes w.hall.room) is) ∙ passes.told)
-  unseen (Kick by channel nick text) is viewer user there home = cc (sym (ap (told_homes w.hall.room) is) ∙ passes.told)
-  unseen (ChangeModes by channel changes) is viewer user there home = cc (sym (ap (told_homes w.hall.room) is) ∙ passes.told)
-  unseen (SetTopic by channel text) is viewer user there home = cc (sym (ap (told_homes w.hall.room) is) ∙ passes.told)
-  unseen (UserMode nick invisible) is viewer user there home = cc (sym (ap (told_homes w.hall.room) is) ∙ passes.told)
+  unseen effect is viewer user there home = cc (sym (ap (told_homes w.hall.room) is) ∙ passes.told)
 
   shows_none : (viewer : List ℕ) → home_under w.hall.room (key viewer) ≡ Some t → shows_to w.hall.room effect viewer ≡ None
   unfolding shows_to
@@ -376,8 +346,4 @@ passed_by_stays s t w (does effect) passes = record {
   goes_on = λ u takes. passes_on s t w effect passes u takes;
 }
 passed_by_stays s t w (gains uplink name info) passes = absurd passes
-passed_by_stays s t w (loses server name text) passes = absurd passes
-passed_by_stays s t w (kills server nick) passes = absurd passes
-passed_by_stays s t w (brings server channel members) passes = absurd passes
-passed_by_stays s t w (sets server channel changes) passes = absurd passes
-passed_by_stays s t w (tops server channel topic) passes = absurd passes
+passed_by_stays s t w deed passes = absurd passes
