@@ -1,5 +1,5 @@
 //! Lines of a link, read by what its end knows (RFC 2813 sections 4.1 and 5).
-ghost use Rattle.std.specs.Prelude.{◌≡◌, IfOk};
+ghost use Rattle.std.specs.Prelude.{◌≡◌};
 ghost use Rattle.irc_line.specs.MessageViews.{parsed};
 ghost use Rattle.irc_line.specs.Reading.{read_of};
 ghost use Rattle.irc_stage.specs.Loops.Stage.{view_of};

@@ -1,10 +1,10 @@
 //! Members of a channel, as a server brings them (RFC 2813 section 4.2.2).
-ghost use Rattle.std.specs.Prelude.{◌≡◌, Some, [], ◌∷◌, map, IfOk, OnOk};
+ghost use Rattle.std.specs.Prelude.{◌≡◌, Some, IfOk, OnOk};
 ghost use Rattle.std.specs.List.{flat_map};
 ghost use Rattle.irc_batch.specs.Growing.{Grew};
-ghost use Rattle.irc_burst.specs.Loops.Acts.{member_told, members_told};
+ghost use Rattle.irc_burst.specs.Loops.Acts.{members_told};
 ghost use Rattle.irc_burst_lines.specs.Loops.Telling.{told_members};
-ghost use Rattle.irc_merge.specs.Deeds.{member_comes};
+ghost use Rattle.irc_merge.specs.Deeds.{brings, member_comes};
 ghost use Rattle.irc_stage.specs.Loops.Linking.{IsMetAt};
 ghost use Rattle.irc_stage.specs.Loops.Stage.{IsServing, Keeps};
 ghost use Rattle.irc_deeds.specs.Loops.Telling.{brings_of, coming_of, flag_of, given_by, ChangesAll, DoesDeed};
@@ -27,6 +27,23 @@ pub(crate) struct Arrivals<'a> {
     pub channel: &'a ChannelName,
     /// Those who become members.
     pub members: &'a [NewMember],
+}
+
+impl<'a> Arrivals<'a> {
+    /// These members.
+    pub(crate) fn of(
+        server: &'a ServerName,
+        channel: &'a ChannelName,
+        members: &'a [NewMember],
+    ) -> Arrivals<'a>
+        ensures { brings_of result ≡ brings server.now channel.now (members_told members.now) }
+    {
+        Arrivals {
+            server,
+            channel,
+            members,
+        }
+    }
 }
 
 /// Users become members of a channel, which takes the spelling of the line first, where that is the greater; each has its flags, and the others are told.

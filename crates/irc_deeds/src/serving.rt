@@ -1,5 +1,5 @@
 //! What happens by a link: it is opened, a line comes by it, it is lost (RFC 2813 sections 4.1 and 5).
-ghost use Rattle.std.specs.Prelude.{◌≡◌, None, OnOk, IfOk};
+ghost use Rattle.std.specs.Prelude.{◌≡◌, None, OnOk};
 ghost use Rattle.std.specs.FinMap.{get};
 ghost use Rattle.irc_batch.specs.Growing.{Grew};
 ghost use Rattle.irc_line.specs.Reading.{read_of};

@@ -2,10 +2,23 @@
 ghost use Rattle.std.specs.Prelude.{◌≡◌, Some, IfOk, OnOk};
 ghost use Rattle.irc_batch.specs.Growing.{Grew};
 ghost use Rattle.irc_burst.specs.Loops.Acts.{act_told, acts_told};
-ghost use Rattle.irc_merge.specs.Deeds.{changes_made, is_greater_topic, raised_in};
+ghost use Rattle.irc_merge.specs.Deeds.{changes_made, is_greater_topic, raised_in, sets, tops};
 ghost use Rattle.irc_stage.specs.Loops.Linking.{IsMetAt};
 ghost use Rattle.irc_stage.specs.Loops.Stage.{IsServing, Keeps};
-ghost use Rattle.irc_deeds.specs.Loops.Telling.{loses_of, sets_of, topped_by, tops_of, ChangesAll, DoesDeed, Gains, Kills, DoesTold, DoesAllTold};
+ghost use Rattle.irc_deeds.specs.Loops.Telling.{
+  loses_of,
+  sets_of,
+  topped_by,
+  tops_of,
+  ChangesAll,
+  DoesAllTold,
+  DoesDeed,
+  DoesTold,
+  Gains,
+  IsOfChannels,
+  IsOfServers,
+  Kills,
+};
 
 use crate::members::{Arrivals, bring_all};
 use crate::quitting::quit_all;
@@ -66,6 +79,28 @@ fn tell(stage: &mut Stage, link: u64, act: &BurstAct, out: &mut Batch) -> Result
 {
     match act {
         BurstAct::Does(effect) => stage.come(link, effect, out),
+        BurstAct::Kill { server, nick } => kill(stage, link, server, nick, out),
+        BurstAct::Server { .. } | BurstAct::Lost { .. } => tell_server(stage, link, act, out),
+        _ => tell_channel(stage, link, act, out),
+    }
+}
+
+/// What a line tells of a server is done: it comes, or it is lost.
+fn tell_server(
+    stage: &mut Stage,
+    link: u64,
+    act: &BurstAct,
+    out: &mut Batch,
+) -> Result<(), AllocError>
+    requires serving { IsServing stage.old }
+    requires met { IsMetAt link stage.old }
+    requires of_servers { IsOfServers act.now }
+    ensures ok { OnOk result (DoesTold link (act_told act.now) stage.old out.old stage.new out.new) }
+    ensures serving { OnOk result (IsServing stage.new) }
+    ensures met { OnOk result (IsMetAt link stage.new) }
+    ensures grew { Grew out.old.outs out.new.outs }
+{
+    match act {
         BurstAct::Server {
             uplink,
             name,
@@ -87,49 +122,45 @@ fn tell(stage: &mut Stage, link: u64, act: &BurstAct, out: &mut Batch) -> Result
         BurstAct::Lost { server, name, text } => {
             lose(stage, link, Loss { server, name, text }, out)
         }
-        BurstAct::Kill { server, nick } => kill(stage, link, server, nick, out),
+        _ => unreachable!(),
+    }
+}
+
+/// What a line tells of a channel is done: of its members, its modes or its topic.
+fn tell_channel(
+    stage: &mut Stage,
+    link: u64,
+    act: &BurstAct,
+    out: &mut Batch,
+) -> Result<(), AllocError>
+    requires serving { IsServing stage.old }
+    requires met { IsMetAt link stage.old }
+    requires of_channels { IsOfChannels act.now }
+    ensures ok { OnOk result (DoesTold link (act_told act.now) stage.old out.old stage.new out.new) }
+    ensures serving { OnOk result (IsServing stage.new) }
+    ensures met { OnOk result (IsMetAt link stage.new) }
+    ensures grew { Grew out.old.outs out.new.outs }
+{
+    match act {
         BurstAct::Members {
             server,
             channel,
             members,
-        } => bring_all(
-            stage,
-            link,
-            Arrivals {
-                server,
-                channel,
-                members: members.as_slice(),
-            },
-            out,
-        ),
+        } => {
+            let arrivals = Arrivals::of(server, channel, members.as_slice());
+            bring_all(stage, link, arrivals, out)
+        }
         BurstAct::Modes {
             server,
             channel,
             changes,
-        } => set(
-            stage,
-            link,
-            Setting {
-                server,
-                channel,
-                changes,
-            },
-            out,
-        ),
+        } => set(stage, link, Setting::of(server, channel, changes), out),
         BurstAct::Topic {
             server,
             channel,
             text,
-        } => top(
-            stage,
-            link,
-            Topic {
-                server,
-                channel,
-                text,
-            },
-            out,
-        ),
+        } => top(stage, link, Topic::of(server, channel, text), out),
+        _ => unreachable!(),
     }
 }
 
@@ -209,6 +240,19 @@ pub(crate) struct Setting<'a> {
     changes: &'a ModeChanges,
 }
 
+impl<'a> Setting<'a> {
+    /// These changes.
+    fn of(server: &'a ServerName, channel: &'a ChannelName, changes: &'a ModeChanges) -> Setting<'a>
+        ensures { sets_of result ≡ sets server.now channel.now changes.now }
+    {
+        Setting {
+            server,
+            channel,
+            changes,
+        }
+    }
+}
+
 /// A server sets modes of a channel: of its changes those are made that raise something, and all go on as they came.
 fn set(
     stage: &mut Stage,
@@ -276,6 +320,19 @@ pub(crate) struct Topic<'a> {
     server: &'a ServerName,
     channel: &'a ChannelName,
     text: &'a Words,
+}
+
+impl<'a> Topic<'a> {
+    /// This topic.
+    fn of(server: &'a ServerName, channel: &'a ChannelName, text: &'a Words) -> Topic<'a>
+        ensures { tops_of result ≡ tops server.now channel.now text.now }
+    {
+        Topic {
+            server,
+            channel,
+            text,
+        }
+    }
 }
 
 /// A server sets a channel's topic: it is set where it is greater than the one that is there, and goes on as it came.

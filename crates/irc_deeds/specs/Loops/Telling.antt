@@ -1,7 +1,9 @@
 -- What the code does of what a line of a link tells, from one moment of a server and of what it has put out to a later one.
-use Rattle.std.specs.Prelude.{◌≡◌, ℕ, true, Option, Some, List, [], ◌∷◌, map}
+use Rattle.std.specs.Prelude.{◌≡◌, ℕ, ⊤, true, Option, Some, List, [], ◌∷◌, map}
 use Rattle.irc_batch.specs.Batches.{Batch}
 use Rattle.irc_burst.specs.DeedsMeant.{Told, a_deed, a_server}
+use Rattle.irc_burst.specs.declared.acts.BurstAct.{BurstAct}
+use Rattle.irc_burst.specs.declared.acts.BurstAct.TheVariants as act
 use Rattle.irc_burst.specs.declared.acts.NewMember.{NewMember}
 use Rattle.irc_burst.specs.Loops.Acts.{member_told, members_told}
 use Rattle.irc_merge.specs.Deeds.{Deed, brings, effects_of, flag_given, kills, loses, member_comes, sets, tops}
@@ -19,6 +21,18 @@ use Rattle.irc_deeds.specs.declared.telling.Loss.{Loss}
 use Rattle.irc_deeds.specs.declared.telling.Setting.{Setting}
 use Rattle.irc_deeds.specs.declared.telling.Topic.{Topic}
 use Rattle.irc_deeds.specs.DeedTold.{all_told, deed_told, told_by}
+
+-- what a line tells of servers, and what it tells of channels
+abbrev pub IsOfServers : BurstAct → Type 0
+IsOfServers (act.Server uplink name distance token info) = ⊤
+IsOfServers (act.Lost server name text) = ⊤
+IsOfServers other = ⊥
+
+abbrev pub IsOfChannels : BurstAct → Type 0
+IsOfChannels (act.Members server channel members) = ⊤
+IsOfChannels (act.Modes server channel changes) = ⊤
+IsOfChannels (act.Topic server channel text) = ⊤
+IsOfChannels other = ⊥
 
 -- the deeds that these tell of
 abbrev pub loses_of : Loss → Deed
