@@ -1,7 +1,5 @@
 -- A line that says an effect goes well at its turn: what is put out goes to the server's own clients and on its links, and never back.
 use Rattle.std.proofs.Common.{◌≡◌, ◌≢◌, ℕ, true, Some, List, [], ◌++◌, map, sym, ◌∙◌, ap}
-use Rattle.irc_handshake.specs.declared.openings.Opening.TheVariants as opening
-use Rattle.irc_line.specs.declared.reading.LineFault.TheVariants as fault
 use Rattle.irc_line.specs.Messages.{Written, line_text}
 use Rattle.irc_line.specs.Reading.{read_of}
 use Rattle.irc_room.specs.effect.Effect.{Effect}
