@@ -11,8 +11,6 @@ import sys
 
 CRATES = pathlib.Path(__file__).resolve().parent.parent / "crates"
 NAMED = re.compile(r"\bRattle\.((?:irc|tests)_\w+|ircd)\.proofs\b[.\w]*")
-# a lemma that rests on what wrong bodies of its crate break; docs/DECISIONS.md tells why it stays
-LEFT = {("irc_items/proofs/BurstRead.antt", "Rattle.irc_merge.proofs.CanBeDone.")}
 
 
 def private_names(crate, part):
@@ -23,7 +21,7 @@ def private_names(crate, part):
         for number, line in enumerate(file.read_text(encoding="utf-8").splitlines(), 1):
             for found in NAMED.finditer(line):
                 is_own = part == "proofs" and found[1] == crate.name
-                if not is_own and (name, found[0]) not in LEFT:
+                if not is_own:
                     yield f"{name}:{number}: {line.strip()}"
 
 
@@ -31,7 +29,7 @@ def main():
     crates = sorted(it for it in CRATES.iterdir() if it.is_dir())
     parts = [(crate, part) for crate in crates for part in ("src", "specs", "proofs")]
     named = [it for crate, part in parts for it in private_names(crate, part)]
-    told = f"{len(named)} names of what is private, in {len(crates)} crates; {len(LEFT)} is left"
+    told = f"{len(named)} names of what is private, in {len(crates)} crates"
     print("\n".join([*named, told]))
     return 1 if named else 0
 

@@ -1,12 +1,10 @@
 -- By an item each client receives what one room sends it, in whatever order lines are delivered.
-use Rattle.std.proofs.Common.{◌≡◌, ℕ, true, [], ◌∷◌, ◌++◌, append-nil, codes, refl, sym, ap, ◌∙◌}
-use Rattle.irc_world.specs.Networks.{als_people, bos_people, three_peers, two_apart, PeopleMeet}
+use Rattle.std.proofs.Common.{◌≡◌, ℕ, [], ◌∷◌, ◌++◌, refl, sym, ap, ◌∙◌}
 use Rattle.irc_world.specs.Owed.{owed_by_network}
-use Rattle.irc_world.specs.Refused.{refused}
-use Rattle.irc_world.specs.Stepping.{Item, link, step}
-use Rattle.irc_network.specs.Network.{Network, begun, given, is_at_rest, received_by}
-use Rattle.irc_items.specs.InAnyOrder.{none_yet, one_more, ArePeopleApart, CrossingBurstsMeet, HavePeopleMet, IsReached, IsThrough, ItemIsReceived}
-use Rattle.irc_items.specs.Laws.{DeliveryKeepsSettings, DeliveryStaysSound, GivenKeepsSettings, GivenStaysSound, RefusalsAreTheWorlds, RestIsOneRoom}
+use Rattle.irc_world.specs.Stepping.{Item, step}
+use Rattle.irc_network.specs.Network.{Network, begun, given}
+use Rattle.irc_items.specs.InAnyOrder.{none_yet, one_more, IsReached, ItemIsReceived}
+use Rattle.irc_items.specs.Laws.{DeliveryKeepsSettings, DeliveryStaysSound, GivenKeepsSettings, GivenStaysSound, RestIsOneRoom}
 use Rattle.irc_items.specs.SetUp.{settings_of}
 use Rattle.irc_items.specs.Sound.{owed_now, world_now, IsSound}
 use Rattle.irc_items.proofs.Common.ItemsMore.{owed_more}
@@ -53,37 +51,3 @@ module _ (laws : AreReceivingLaws) where
     where
       after : IsLater (given item net).net new
       after = later (given item net).net new (laws.stays net item through.sound through.given_so) through.reached
-
--- ---- bursts that cross
-
-module _ (laws : AreReceivingLaws) (refusals : RefusalsAreTheWorlds) (example : PeopleMeet) (net new : Network) (apart : ArePeopleApart net)
-    (reached : IsReached (given (link (codes "a.net") (codes "b.net")) net).net new) (rest : is_at_rest new ≡ true) where
-  abbrev item : Item
-  item = link (codes "a.net") (codes "b.net")
-
-  through : IsThrough net new item
-  through = record {
-    sound = apart.sound;
-    given_so = record {
-      at_rest = apart.rest;
-      taken = refusals net item apart.sound apart.rest ∙ (λ i. refused (apart.settings i) (apart.world i) item) ∙ example.taken;
-      within = tt;
-    };
-    reached = reached;
-    rest = rest;
-  }
-
-  by_link : (client : ℕ) → received_by new client ≡ received_by net client ++ (step three_peers (two_apart als_people bos_people) item).lines client
-  by_link client = item_is_received laws net new item client through
-      ∙ (λ i. received_by net client ++ (step (apart.settings i) (apart.world i) item).lines client)
-
-  pub people_meet : HavePeopleMet net new
-  people_meet = record {
-    to_al = by_link 1 ∙ ap (λ lines. received_by net 1 ++ lines) example.to_al;
-    to_an = by_link 2 ∙ ap (λ lines. received_by net 2 ++ lines) example.to_an ∙ append-nil (received_by net 2);
-    to_bo = by_link 3 ∙ ap (λ lines. received_by net 3 ++ lines) example.to_bo;
-    to_cy = by_link 4 ∙ ap (λ lines. received_by net 4 ++ lines) example.to_cy ∙ append-nil (received_by net 4);
-  }
-
-pub crossing_bursts_meet : AreReceivingLaws → RefusalsAreTheWorlds → PeopleMeet → CrossingBurstsMeet
-crossing_bursts_meet laws refusals example net new apart reached rest = people_meet laws refusals example net new apart reached rest

@@ -27,6 +27,7 @@ pub fn given_stays_sound()
     irc_merge::laws::burst_tells_no_invitation();
     irc_merge::laws::burst_read_is_merge();
     irc_merge::laws::shown_is_merge_shown();
+    irc_merge::laws::lines_can_be_done();
     irc_merge::laws::squits_split();
     irc_merge::laws::within_limits_is_told();
     irc_wire::laws::each_is_read_back();

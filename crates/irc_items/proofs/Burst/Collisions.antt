@@ -1,6 +1,6 @@
 -- A nickname that is on both sides of a new link: the line by which one end tells of its user is heard by the other as the KILL of whoever has that nickname
 -- there, and the KILL that goes back does nothing. Which lines may be so answered.
-use Rattle.std.proofs.Common.{◌≡◌, ◌≢◌, ◌⊎◌, inl, inr, ℕ, ◌+◌, ◌≤◌, arith, cond, count_by, length, Bool, true, false, ◌&&◌, is_some, Option, Some, None, Ok, List, [], ◌∷◌, ◌++◌, ◌≤◌, zero, suc, arith, bytes_eq, codes, lit≤, map, nat_eq, option_map, take, refl, sym, ◌∙◌, ap, if◌then◌else◌}
+use Rattle.std.proofs.Common.{◌≡◌, ◌≢◌, ◌⊎◌, inl, inr, ℕ, ◌+◌, ◌≤◌, arith, cond, count_by, length, Bool, true, false, ◌&&◌, is_some, Some, None, Ok, List, [], ◌∷◌, ◌++◌, ◌≤◌, zero, suc, arith, bytes_eq, codes, lit≤, map, nat_eq, option_map, take, refl, sym, ◌∙◌, ap, if◌then◌else◌}
 use Rattle.std.proofs.lemmas.Bool.{eq-eqb}
 use Rattle.std.proofs.lemmas.List.Sums.{count_by-le-length, sum_by-cons}
 use Rattle.std.specs.Option.{option_map_or}
@@ -28,9 +28,9 @@ use Rattle.irc_routes.specs.Known as of_known
 use Rattle.irc_burst.specs.DeedsMeant.{a_deed, deeds_meant, effects_told, killed, read_burst_row}
 use Rattle.irc_burst_lines.specs.DeedLines.{kill_parts}
 use Rattle.irc_burst_lines.specs.Lemmas.WholeLines.{kill_fits}
-use Rattle.irc_handshake.specs.GreetingLines.{greeting, pass_parts}
+use Rattle.irc_handshake.specs.GreetingLines.{pass_parts}
 use Rattle.irc_link_reader.specs.Reader.{Reader, is_behind_link, may_come, reader_of}
-use Rattle.irc_link_writer.specs.Written.{from, wire}
+use Rattle.irc_link_writer.specs.Written.{wire}
 use Rattle.irc_stage.specs.View.{End, View}
 use Rattle.irc_deeds.specs.Heard.{heard, of_met, tells}
 use Rattle.irc_wire.specs.EachReadBack.{EachIsReadBack}
@@ -227,20 +227,12 @@ uncut parts = ap (λ front. bytes_eq front (codes "NICK ")) (front_of_front 5 ma
 pub user_introduces : (their_room : Room) (known : Known) (user : User) → introduces (line_text (wire their_room known (AddUser user))) ≡ true
 user_introduces their_room known user = uncut (wire their_room known (AddUser user))
 
--- no line that a name is in front of
-pub named_introduces_nobody : (name command : List ℕ) (middle : List (List ℕ)) (last : Option (List ℕ))
-    → introduces (line_text (from name command middle last)) ≡ false
-named_introduces_nobody name command middle last = uncut (from name command middle last)
-
 pub kill_introduces_nobody : (server nick : List ℕ) → introduces (line_text (kill_parts server nick)) ≡ false
 kill_introduces_nobody server nick = uncut (kill_parts server nick)
 
 -- nor those of a handshake
 pub pass_introduces_nobody : (word : List ℕ) → introduces (line_text (pass_parts word)) ≡ false
 pass_introduces_nobody word = uncut (pass_parts word)
-
-pub greeting_introduces_nobody : (known : Known) → introduces (line_text (greeting known)) ≡ false
-greeting_introduces_nobody known = uncut (greeting known)
 
 -- of a link: those lines, whichever of its ends they come to
 abbrev pub answers_of : Link → Answering

@@ -1,6 +1,6 @@
 -- What a server that fits its side makes of one line of a burst, by which a server of the other side tells of that: it says its deed, or it stands aside.
 use Rattle.std.proofs.Common.{◌≡◌, ◌≢◌, ◌⊎◌, inl, inr, ℕ, ◌+◌, ◌≤◌, ◌<◌, suc, Bool, true, false, not, ◌||◌, is_some, Option, Some, None, Ok, List, [], ◌∷◌, arith, length, map, nat_eq, option_map, unwrap_or, refl, sym, ◌∙◌, ap, subst, if◌then◌else◌}
-use Rattle.std.proofs.lemmas.Bool.{eq-eqb, eqb-true}
+use Rattle.std.proofs.lemmas.Bool.{eq-eqb}
 use Rattle.std.specs.FinMap.{keys}
 use Rattle.std.specs.List.{list_any, AllByRecursion}
 use Rattle.std.specs.Option.{option_map_or, IfSome}
@@ -32,9 +32,9 @@ use Rattle.irc_merge.specs.Lemmas.DoableDeeds.{changes_do, greater_does, some_th
 use Rattle.irc_merge.specs.Lemmas.DeedsAlike.{alike_read_alike}
 use Rattle.irc_relay.specs.Distances.{IsAmong}
 use Rattle.irc_relay.specs.Lemmas.TellingNames.{Telling, alike, unlike, tell, same_when}
-use Rattle.irc_relay.specs.Links.{Name, Link, same, toward, distance, AreJoined, AreLinked, IsForest}
+use Rattle.irc_relay.specs.Links.{Name, Link, same, toward, distance, AreJoined, AreLinked}
 use Rattle.irc_relay.specs.Relay.{TakesFrom}
-use Rattle.irc_relay.specs.Lemmas.NextHops.{distance_self, linked_back, next_hop}
+use Rattle.irc_relay.specs.Lemmas.NextHops.{distance_self, linked_back}
 use Rattle.irc_relay.specs.Lemmas.ShortWays.{ways_fit_names}
 use Rattle.irc_relay.specs.Lemmas.LinkTakenOut.{tests_tell}
 use Rattle.irc_routes.specs.Known.{Known, distance_of, is_itself, row_of, token_in, token_out}
@@ -59,7 +59,6 @@ use Rattle.irc_follow.specs.Lemmas.BehindLinks.{row_is_there}
 use Rattle.irc_follow.specs.Lemmas.MemberLines.{AreNicks}
 use Rattle.irc_follow.specs.Lemmas.CarriedLines.{members_carried, modes_carried, topic_carried}
 use Rattle.irc_follow.specs.Lemmas.Neighbours.{HasEnd, IsKnownOfLines, met_end}
-use Rattle.irc_follow.specs.Lemmas.PlacesOfNames.{one_place}
 use Rattle.irc_follow.specs.Lemmas.EffectsReadNext.{distance_at, link_of, shape_at, token_found}
 use Rattle.irc_follow.specs.Lemmas.SaidEffect.{far_is_another, rooms_alike}
 use Rattle.irc_follow.specs.Lemmas.SaidGainToldOn.{low_number, low_token_number}
@@ -67,7 +66,7 @@ use Rattle.irc_follow.specs.Lemmas.SaidEffectToldOn.{effect_heard}
 use Rattle.irc_follow.specs.Lemmas.ServerLines.{brought_some, line_heard, members_plain, members_read, members_whole, modes_plain, modes_read, modes_whole, topic_plain, topic_read, topic_whole}
 use Rattle.irc_items.proofs.Burst.Taken.{changes_within, topic_within}
 use Rattle.irc_items.proofs.Burst.Told.{AreComing, AreTheirChanges, AreTheirMembers, IsTheirMember, IsTheirTopic}
-use Rattle.irc_items.proofs.Link.Over.{IsOver, way_over}
+use Rattle.irc_items.proofs.Link.Over.{IsOver}
 
 -- a server t of this side, by the link between them told of the other side by b: whoever it has behind that link is far for all of this side
 pub record IsBurstReader (s : Fixed) (b t : Name) (w : Part) (view : View) : Type 0 where
@@ -358,72 +357,6 @@ pub record IsNewNeighbour (s : Fixed) (l : Link) (links : List Link) (routes : N
 pub record KnowsBothSides (links : List Link) (b t : Name) (w : Part) : Type 0 where
   pub here : (x : Name) → w.tree.here x ≡ true → AreJoined links x t
   pub known : (x : Name) → w.tree.knows x ≡ true → AreJoined links x t ⊎ AreJoined links b x
-
--- who is behind a link, where it leads
-record IsBehind (forest : List Link) (t b x : Name) : Type 0 where
-  apart : x ≢ t
-  way : toward forest t x ≡ b
-
-module _ (s : Fixed) (b t : Name) (w : Part) (view : View) (fixed : IsFixed s) (fits : Fits s t w view) (l : Link) (links : List Link) (routes : Name → Known)
-    (new : IsNewNeighbour s l links routes b t w) (sides : KnowsBothSides links b t w) (b_known : w.tree.knows b ≡ true) where
-  sound_tree : IsSoundTree s.names (info_in s.settings) w.tree
-  sound_tree = fits.sound.tree
-
-  left : IsForest links
-  left = (subst IsForest new.forest sound_tree.forest).1
-
-  is_behind : (x : Name) → w.tree.knows x ≡ true → is_behind_link view.routes (number s b) x ≡ true → IsBehind w.tree.forest t b x
-  is_behind x known behind = by (tell x t)
-    where
-      here : option_map_or (nat_eq (number s b)) (of_known.next_hop (w.tree.routes t) x) false ≡ true
-      here = ap (λ k. option_map_or (nat_eq (number s b)) (of_known.next_hop k x) false) (sym fits.routes) ∙ behind
-
-      t_among : IsAmong s.names t
-      t_among = sound_tree.known_among t (sound_tree.here_known t fits.here)
-
-      by : Telling x t → IsBehind w.tree.forest t b x
-      by (alike _ e) = absurd (let none =
-          ap (λ o. option_map_or (nat_eq (number s b)) o false)
-          (sym (ap (λ n. option_map (λ (r : ServerRow). r.link) (row_of (w.tree.routes t) n)) (e ∙ sym (sound_tree.named t t_among))
-          ∙ ap (option_map (λ (r : ServerRow). r.link)) (sound_tree.numbered t t_among).not_itself))
-          ∙ here in cc none)
-      by (unlike _ two) = record {
-        apart = two;
-        way = sym (one_place s.names b (toward w.tree.forest t x) (sound_tree.known_among b b_known)
-            (eqb-true (number s b) (number s (toward w.tree.forest t x))
-            (ap (λ o. option_map_or (nat_eq (number s b)) o false)
-            (sym (link_of (row_of (w.tree.routes t) x) (shape_in s.names (info_in s.settings) w.tree.forest t x)
-            (shape_at s w fits.sound t x fits.here known two)))
-            ∙ here)));
-      }
-
-  far_over : (x : Name) → AreJoined links b x → IsFar s w x
-  far_over x j = λ y p here takes.
-      ap (λ ls. toward ls y x) new.forest ∙ way_over l links s.streams t b new.over y (sides.here y here) x j ∙ takes.parent
-
-  behind_far : (x : Name) → w.tree.knows x ≡ true → is_behind_link view.routes (number s b) x ≡ true → IsFar s w x
-  behind_far x known behind = by (sides.known x known)
-    where
-      by : AreJoined links x t ⊎ AreJoined links b x → IsFar s w x
-      by (inr j) = far_over x j
-      by (inl j) = absurd (new.over.apart (sym (subst (λ v. AreJoined links v x) way (next_hop links t x left (sym j) (λ e. there.apart (sym e))).joined ∙ j)))
-        where
-          there : IsBehind w.tree.forest t b x
-          there = is_behind x known behind
-
-          way : toward links t x ≡ b
-          way = (new.over.kept t x (sym j)).toward_same ∙ sym (ap (λ ls. toward ls t x) new.forest) ∙ there.way
-
-  -- so t reads b's burst
-  pub burst_reader : IsBurstReader s b t w view
-  burst_reader = record {
-    fixed = fixed;
-    takes = record { parent = new.over.parent; below = let one = new.over.depth in omega arith };
-    fits = fits;
-    known = b_known;
-    far = far_over b refl;
-    behind = behind_far;
-  }
 
 -- the row that t has of a server behind the link to b
 record HasRow (s : Fixed) (b t home : Name) (w : Part) : Type 0 where

@@ -1,29 +1,25 @@
 -- A burst is read line by line: in the room that the lines before it have left, each line tells of what the other side has. Whoever holds the nickname
 -- of a user who is introduced was there before the burst.
-use Rattle.std.proofs.Common.{◌≡◌, ℕ, ◌≤◌, Bool, true, false, cond, ◌⊎◌, inl, inr, Option, Some, None, List, [], ◌∷◌, ◌++◌, length, map, refl, sym, ◌∙◌, ap, subst, is_some, option_map, arith}
+use Rattle.std.proofs.Common.{◌≡◌, ℕ, ◌≤◌, Bool, true, false, cond, ◌⊎◌, inl, inr, Option, Some, None, List, [], ◌∷◌, ◌++◌, length, refl, sym, ◌∙◌, ap, subst, is_some, option_map, arith}
 use Rattle.std.proofs.lemmas.Bool.{and_parts}
 use Rattle.std.proofs.lemmas.List.{append-nil, length-append}
 use Rattle.std.specs.Bool.{⊤}
 use Rattle.std.specs.FinMap.{entries, entries_sorted, values, find, is_sorted}
 use Rattle.std.specs.List.{flat_map, AllByRecursion}
 use Rattle.std.specs.Option.{option_map_or}
-use Rattle.irc_channels.specs.declared.channel.Channel.{Channel}
 use Rattle.irc_channels.specs.declared.flags.Flags.{Flags}
 use Rattle.irc_follow.specs.Lemmas.DeedEffects.{members_quiet, sets_quiet, tops_quiet, users_stay}
 use Rattle.irc_merge.specs.Lemmas.DoableDeeds.{deeds_well}
-use Rattle.irc_merge.proofs.CanBeDone.{lines_can_be_done}
 use Rattle.irc_merge.specs.BurstRead.{introduced, new_members, brought, some_far, read_deed, read_all}
-use Rattle.irc_merge.specs.Bursts.{in_lines, members_a_line, bans_a_line, stored_members, burst, user_deeds, channel_deeds, settings_line}
-use Rattle.irc_merge.specs.CanBeDone.{IsOfBurst}
+use Rattle.irc_merge.specs.Bursts.{burst, user_deeds, channel_deeds}
+use Rattle.irc_merge.specs.CanBeDone.{IsOfBurst, LinesCanBeDone}
 use Rattle.irc_merge.specs.Deeds.{Deed, does, kills, brings, sets, tops, member_comes, effects_of, after_deed, after_deeds}
 use Rattle.irc_merge.specs.Laws.{AreApart}
 use Rattle.irc_merge.specs.Lemmas.Introducing.{introductions, told_user}
 use Rattle.irc_merge.specs.Lemmas.TableWords.{true_is, first_there, above_first}
-use Rattle.irc_modes.specs.Modes.{is_nil}
-use Rattle.irc_modes.specs.ModesSet.{set_changes, ban_changes}
 use Rattle.irc_modes.specs.declared.modes.ModeChange.{ModeChange}
 use Rattle.irc_names.specs.Fold.{key}
-use Rattle.irc_names.specs.Tables.{Table, fold_cmp, row}
+use Rattle.irc_names.specs.Tables.{fold_cmp, row}
 use Rattle.irc_names.specs.TableLaws.{same_fold, one_fold, row-alter}
 use Rattle.irc_room.specs.After.{after, titled_by}
 use Rattle.irc_room.specs.effect.Effect.TheVariants.{AddUser}
@@ -33,6 +29,7 @@ use Rattle.irc_room.specs.Limits.{IsWithinLimits}
 use Rattle.irc_room.specs.Room.{Room, IsWellFormed}
 use Rattle.irc_room.specs.Sendable.{IsStoredNick}
 use Rattle.irc_users.specs.declared.user.User.{User}
+use Rattle.irc_items.proofs.Burst.ChannelLines.{deeds_of_channels, IsOfChannel}
 use Rattle.irc_items.proofs.Burst.Stated.{both_all, burst_is_told}
 use Rattle.irc_items.proofs.Burst.Told.{IsTold, AreTheirs}
 use Rattle.irc_items.proofs.Link.Sides.{IsReadDeed}
@@ -82,10 +79,6 @@ read_as own server far other room (sets by channel changes) told = if_one own (s
 read_as own server far other room (tops by channel topic) told = if_one own (some_far far room channel) (tops by channel topic) tt
 read_as own server far other room deed told = absurd told.told
 
-pub read_one : (own server : List ℕ) (far : List ℕ → Bool) (other room : Room) (deed : Deed) → IsToldIn server far other room deed
-    → (read_deed own far room deed ≡ []) ⊎ ((after : Deed) × (read_deed own far room deed ≡ after ∷ []))
-read_one own server far other room deed told = elim (read_as own server far other room deed told) [ inl none ↦ inl none | inr one ↦ inr (one.after, one.is) ]
-
 -- ---- what it leaves
 
 of_burst : (server : List ℕ) (other : Room) (deed : Deed) → IsTold server other deed → IsOfBurst deed
@@ -95,12 +88,12 @@ of_burst server other (sets by channel changes) told = tt
 of_burst server other (tops by channel topic) told = tt
 of_burst server other deed told = absurd told
 
-pub read_well : (own : List ℕ) (far : List ℕ → Bool) (room : Room) (deed : Deed) → IsOfBurst deed → IsWellFormed room
+read_well : LinesCanBeDone → (own : List ℕ) (far : List ℕ → Bool) (room : Room) (deed : Deed) → IsOfBurst deed → IsWellFormed room
     → IsWellFormed (after_deeds room (read_deed own far room deed))
-read_well own far room deed is well =
+read_well doable own far room deed is well =
     let read = read_deed own far room deed ++ [] in
     subst IsWellFormed (ap (after_deeds room) (append-nil (read_deed own far room deed)))
-    (deeds_well room read (lines_can_be_done own far room (deed ∷ []) (is, tt) well) well)
+    (deeds_well room read (doable own far room (deed ∷ []) (is, tt) well) well)
 
 -- lines about channels bring no user
 brought_users : (room : Room) (server channel : List ℕ) (members : List (List ℕ × Flags))
@@ -169,24 +162,25 @@ read_theirs own server far other room deed told = absurd told.told
 
 -- ---- all lines
 
-told_in : (own server : List ℕ) (far : List ℕ → Bool) (other : Room) (deeds : List Deed) → AllByRecursion (IsTold server other) deeds → (room : Room)
-    → IsWellFormed room → AreTheirs far other room → AreToldIn own server far other room deeds
-told_in own server far other [] told room well theirs = tt
-told_in own server far other (deed ∷ deeds) told room well theirs =
+told_in : LinesCanBeDone → (own server : List ℕ) (far : List ℕ → Bool) (other : Room) (deeds : List Deed)
+    → AllByRecursion (IsTold server other) deeds → (room : Room) → IsWellFormed room → AreTheirs far other room → AreToldIn own server far other room deeds
+told_in doable own server far other [] told room well theirs = tt
+told_in doable own server far other (deed ∷ deeds) told room well theirs =
     let now : IsToldIn server far other room deed = record { well = well; theirs = theirs; told = told.0 } in (
       now,
-      told_in own server far other deeds told.1 (after_deeds room (read_deed own far room deed))
-          (read_well own far room deed (of_burst server other deed told.0) well) (read_theirs own server far other room deed now),
+      told_in doable own server far other deeds told.1 (after_deeds room (read_deed own far room deed))
+          (read_well doable own far room deed (of_burst server other deed told.0) well) (read_theirs own server far other room deed now),
     )
 
 -- whoever is far is of the other room, where nobody here is far
 nobody_far : (far : List ℕ → Bool) (room other : Room) → AreApart far room other → AreTheirs far other room
 nobody_far far room other apart fold user is away = not_true (sym (apart.near fold user is) ∙ away)
 
-pub burst_told_in : (own server : List ℕ) (far : List ℕ → Bool) (room other : Room) → IsWellFormed room → IsWellFormed other → IsWithinLimits other
+pub burst_told_in : LinesCanBeDone → (own server : List ℕ) (far : List ℕ → Bool) (room other : Room)
+    → IsWellFormed room → IsWellFormed other → IsWithinLimits other
     → AreApart far room other → AreToldIn own server far other room (burst server other)
-burst_told_in own server far room other well well_other within apart =
-    told_in own server far other (burst server other) (burst_is_told server other well_other within) room well (nobody_far far room other apart)
+burst_told_in doable own server far room other well well_other within apart =
+    told_in doable own server far other (burst server other) (burst_is_told server other well_other within) room well (nobody_far far room other apart)
 
 -- ---- how much is read, and what
 
@@ -215,10 +209,10 @@ reads_deeds own server far other room (deed ∷ deeds) told =
     (each_read own server far other (read_deed own far room deed) (read_as own server far other room deed told.0))
     (reads_deeds own server far other (after_deeds room (read_deed own far room deed)) deeds told.1)
 
-pub no_more_read : (own server : List ℕ) (far : List ℕ → Bool) (room other : Room) → IsWellFormed room → IsWellFormed other → IsWithinLimits other
-    → AreApart far room other → length (read_all own far room (burst server other)) ≤ length (burst server other)
-no_more_read own server far room other well well_other within apart =
-    read_at_most own server far other (burst server other) room (burst_told_in own server far room other well well_other within apart)
+pub no_more_read : LinesCanBeDone → (own server : List ℕ) (far : List ℕ → Bool) (room other : Room)
+    → IsWellFormed room → IsWellFormed other → IsWithinLimits other → AreApart far room other → length (read_all own far room (burst server other)) ≤ length (burst server other)
+no_more_read doable own server far room other well well_other within apart =
+    read_at_most own server far other (burst server other) room (burst_told_in doable own server far room other well well_other within apart)
 
 -- ---- whoever holds a nickname
 
@@ -250,68 +244,33 @@ AreHeldFirst own far start room [] = ⊤
 AreHeldFirst own far start room (deed ∷ deeds) =
     IsHeldFirst start room deed × AreHeldFirst own far start (after_deeds room (read_deed own far room deed)) deeds
 
--- a line that brings no user
-abbrev BringsNobody : Deed → Type 0
-BringsNobody (does (AddUser user)) = ⊥
-BringsNobody deed = ⊤
-
--- ---- no line about a channel brings a user
-
-lines_nobody : {X : Type 0} (line : X → Deed) → ((x : X) → BringsNobody (line x)) → (xs : List X) → AllByRecursion BringsNobody (map line xs)
-lines_nobody line nobody [] = tt
-lines_nobody line nobody (x ∷ xs) = (nobody x, lines_nobody line nobody xs)
-
-settings_nobody : (server channel : List ℕ) (changes : List ModeChange) → AllByRecursion BringsNobody (settings_line server channel changes)
-settings_nobody server channel [] = tt
-settings_nobody server channel (change ∷ changes) = (tt, tt)
-
-topic_nobody : (server channel topic : List ℕ) (b : Bool) → AllByRecursion BringsNobody (cond b [] (tops server channel topic ∷ []))
-topic_nobody server channel topic true = tt
-topic_nobody server channel topic false = (tt, tt)
-
-channel_nobody : (server : List ℕ) (users : Table User) (channel : Channel) → AllByRecursion BringsNobody (channel_deeds server users channel)
-channel_nobody server users channel =
-    both_all BringsNobody (map (brings server channel.name) (in_lines members_a_line (stored_members users channel))) _
-    (lines_nobody (brings server channel.name) (λ x. tt) (in_lines members_a_line (stored_members users channel)))
-    (both_all BringsNobody (settings_line server channel.name (set_changes channel.modes)) _ (settings_nobody server channel.name (set_changes channel.modes))
-    (both_all BringsNobody (map (sets server channel.name) (in_lines bans_a_line (ban_changes channel.modes.bans))) _
-    (lines_nobody (sets server channel.name) (λ x. tt) (in_lines bans_a_line (ban_changes channel.modes.bans)))
-    (topic_nobody server channel.name channel.topic (is_nil channel.topic))))
-
-channels_nobody : (server : List ℕ) (users : Table User) (channels : List Channel)
-    → AllByRecursion BringsNobody (flat_map (channel_deeds server users) channels)
-channels_nobody server users [] = tt
-channels_nobody server users (channel ∷ channels) =
-    both_all BringsNobody (channel_deeds server users channel) (flat_map (channel_deeds server users) channels)
-    (channel_nobody server users channel) (channels_nobody server users channels)
-
 -- ---- users come in folded order, each once
 
 module _ (own : List ℕ) (far : List ℕ → Bool) (start : Room) where
-  held_so : (room : Room) (deed : Deed) → BringsNobody deed → IsHeldFirst start room deed
+  held_so : (room : Room) (deed : Deed) → IsOfChannel deed → IsHeldFirst start room deed
   held_so room (does (AddUser user)) nobody = absurd nobody
   held_so room deed nobody = tt
 
-  others_held : (deeds : List Deed) → AllByRecursion BringsNobody deeds → (room : Room) → AreHeldFirst own far start room deeds
+  others_held : (deeds : List Deed) → AllByRecursion IsOfChannel deeds → (room : Room) → AreHeldFirst own far start room deeds
   others_held [] nobody room = tt
   others_held (deed ∷ deeds) nobody room =
       (held_so room deed nobody.0, others_held deeds nobody.1 (after_deeds room (read_deed own far room deed)))
 
-  both_held : (a b : List Deed) → AllByRecursion BringsNobody b → (room : Room) → AreHeldFirst own far start room a
+  both_held : (a b : List Deed) → AllByRecursion IsOfChannel b → (room : Room) → AreHeldFirst own far start room a
       → AreHeldFirst own far start room (a ++ b)
   both_held [] b nobody room held = others_held b nobody room
   both_held (deed ∷ a) b nobody room held = (held.0, both_held a b nobody (after_deeds room (read_deed own far room deed)) held.1)
 
   -- what was held of the nicknames that are still to come is held
-  users_held : (es : List (List ℕ × User)) → is_sorted fold_cmp es ≡ true → AllByRecursion IsNamed es → (room : Room) → IsWellFormed room
+  users_held : LinesCanBeDone → (es : List (List ℕ × User)) → is_sorted fold_cmp es ≡ true → AllByRecursion IsNamed es → (room : Room) → IsWellFormed room
       → ((q : List ℕ) → is_some (find fold_cmp q es) ≡ true → row room.users q ≡ row start.users q) → AreHeldFirst own far start room (introductions es)
-  users_held [] rise named room well still = tt
-  users_held (e ∷ es) rise named room well still =
+  users_held doable [] rise named room well still = tt
+  users_held doable (e ∷ es) rise named room well still =
       let parts = and_parts _ _ rise in
       let here : row room.users (key e.1.nick) ≡ row start.users (key e.1.nick) =
       subst (λ f. row room.users f ≡ row start.users f) (sym named.0) (still e.0 (first_there e es)) in (
         (λ holder at. sym here ∙ at),
-        users_held es parts.1 named.1 (after_deeds room (introduced own room e.1)) (read_well own far room (does (AddUser e.1)) tt well)
+        users_held doable es parts.1 named.1 (after_deeds room (introduced own room e.1)) (read_well doable own far room (does (AddUser e.1)) tt well)
             (λ q there.
             let apart : same_fold q e.0 ≡ false = above_first q e es parts.0 there in
             user_row own room e.1 well q
@@ -320,11 +279,11 @@ module _ (own : List ℕ) (far : List ℕ → Bool) (start : Room) where
             ∙ still q (ap (λ b. is_some (cond b (Some e.1) (find fold_cmp q es))) apart ∙ there)),
       )
 
-pub held_first : (own server : List ℕ) (far : List ℕ → Bool) (room other : Room) → IsWellFormed room → IsWellFormed other
+pub held_first : LinesCanBeDone → (own server : List ℕ) (far : List ℕ → Bool) (room other : Room) → IsWellFormed room → IsWellFormed other
     → AreHeldFirst own far room room (burst server other)
 unfolding burst
-held_first own server far room other well well_other =
+held_first doable own server far room other well well_other =
     both_held own far room (user_deeds other) (flat_map (channel_deeds server other.users) (values other.channels))
-    (channels_nobody server other.users (values other.channels)) room
-    (users_held own far room (entries other.users) (true_is _ (entries_sorted other.users)) (table_named other.users well_other.users_named) room well
+    (deeds_of_channels server other.users (values other.channels)) room
+    (users_held own far room doable (entries other.users) (true_is _ (entries_sorted other.users)) (table_named other.users well_other.users_named) room well
     (λ q there. refl))

@@ -211,7 +211,6 @@ next_is_new net room server among =
 -- a client has connected to a server, which has served it
 pub record IsConnected (net : Network) (server : Name) (host : List ℕ) : Type 0 where
   pub among : IsAmong net.names server
-  pub is_new : get (view_at net server).clients (next_client net) ≡ None
   pub served : IsServedFor net (with_client server net) (given (connect server host) net).net server (connects (next_client net) host) (connect server host)
 
 placed_for : (o : Option ℕ) → (if is_some o then None else Some no_such_server) ≡ None → is_some o ≡ true
@@ -224,7 +223,6 @@ connect_is_given stays net sound room server host taken =
     let among : IsAmong net.names server = sym (placed_if net.names server) ∙ placed_for (server_place net server) taken in
     record {
       among = among;
-      is_new = next_is_new net room server among;
       served = subst (λ new. IsServedFor net (with_client server net) new server (connects (next_client net) host) (connect server host))
           (sym (given_where (connect server host) net (with_client server net) (server_place net server) (index_in net.names server)
           (of_client (connects (next_client net) host)) refl (there net sound.set_up server among).place))

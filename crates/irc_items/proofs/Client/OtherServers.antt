@@ -15,7 +15,7 @@ use Rattle.irc_relay.specs.Lemmas.TellingNames.{same_unless, same_when}
 use Rattle.irc_routes.specs.Known.{Known}
 use Rattle.irc_stage.specs.declared.clients.Client.{Client}
 use Rattle.irc_stage.specs.declared.clients.Client.TheVariants.{Registering, Registered}
-use Rattle.irc_stage.specs.Handle.{Happening, connects, says, goes, handled}
+use Rattle.irc_stage.specs.Handle.{Happening, connects, handled}
 use Rattle.irc_stage.specs.Lemmas.Numbers.{one_number, same_number}
 use Rattle.irc_stage.specs.View.{View}
 use Rattle.irc_world.specs.Bounds.{effects_at}
@@ -69,8 +69,7 @@ module _ (s : Fixed) (client : ℕ) where
 
 pub due_home : (s : Fixed) (world : World) (h : Name) (happening : Happening) → IsDueAtHome s world h happening → home_in s.homes (client_in happening) ≡ Some h
 due_home s world h (connects conn host) due = due.0
-due_home s world h (says conn read) due = due.0
-due_home s world h (goes conn) due = due.0
+due_home s world h happening due = due.0
 
 -- a client of another server is another client
 another_client : (homes : List Name) (h t : Name) (conn q : ℕ) → home_in homes conn ≡ Some h → t ≢ h → is_home_of homes t q ≡ true → same_number q conn ≡ false

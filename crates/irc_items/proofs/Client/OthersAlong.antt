@@ -13,7 +13,7 @@ use Rattle.irc_users.specs.declared.user.User.{User}
 use Rattle.irc_numerics.specs.Replies.{reply_text}
 use Rattle.irc_batch.specs.Batches.{Sent, end_of, line_to}
 use Rattle.irc_room.specs.effect.Effect.{Effect}
-use Rattle.irc_room.specs.effect.Effect.TheVariants.{AddUser, Rename, Quit, Join, Part, Kick, ChangeModes, SetTopic, Say, Invite, UserMode}
+use Rattle.irc_room.specs.effect.Effect.TheVariants.{Rename, Quit}
 use Rattle.irc_room.specs.After.{after}
 use Rattle.irc_room.specs.InTurn.{IsSoFirst}
 use Rattle.irc_room.specs.Readers.{home_under}
@@ -99,15 +99,7 @@ module _ (conn : ℕ) where
       get-each (renamed_in nick new) one q ∙ ap (option_map (renamed_in nick new)) alike ∙ sym (get-each (renamed_in nick new) other q)
   clients_alike (Quit nick text) one other leaves q two alike =
       alike ∙ sym (get-kept other (is_another other nick) q ∙ ap (λ b. cond b (get other q) None) (leaves q two))
-  clients_alike (AddUser user) one other leaves q two alike = alike
-  clients_alike (Join nick channel op) one other leaves q two alike = alike
-  clients_alike (Part nick channel text) one other leaves q two alike = alike
-  clients_alike (Kick by channel nick text) one other leaves q two alike = alike
-  clients_alike (ChangeModes by channel changes) one other leaves q two alike = alike
-  clients_alike (SetTopic by channel text) one other leaves q two alike = alike
-  clients_alike (Say by notice to text) one other leaves q two alike = alike
-  clients_alike (Invite by nick channel) one other leaves q two alike = alike
-  clients_alike (UserMode nick invisible) one other leaves q two alike = alike
+  clients_alike effect one other leaves q two alike = alike
 
   effect_as : (effect : Effect) (before : Handled) (hall : Hall) (received : ℕ → List (List ℕ)) → IsAsHall conn before hall received → IsWellFormed hall.room
       → LeavesOthers conn effect hall.clients
@@ -175,16 +167,7 @@ module _ (conn : ℕ) where
 
   quiet_leaves : (effect : Effect) (clients : Clients) → adds_or_ends (Do effect) ≡ false → LeavesOthers conn effect clients
   quiet_leaves (Quit nick text) clients quiet = cc quiet
-  quiet_leaves (AddUser user) clients quiet = tt
-  quiet_leaves (Rename nick new) clients quiet = tt
-  quiet_leaves (Join nick channel op) clients quiet = tt
-  quiet_leaves (Part nick channel text) clients quiet = tt
-  quiet_leaves (Kick by channel nick text) clients quiet = tt
-  quiet_leaves (ChangeModes by channel changes) clients quiet = tt
-  quiet_leaves (SetTopic by channel text) clients quiet = tt
-  quiet_leaves (Say by notice to text) clients quiet = tt
-  quiet_leaves (Invite by nick channel) clients quiet = tt
-  quiet_leaves (UserMode nick invisible) clients quiet = tt
+  quiet_leaves effect clients quiet = tt
 
   neither : (a b : Bool) → (a || b) ≡ false → (a ≡ false) × (b ≡ false)
   neither true b is = cc is

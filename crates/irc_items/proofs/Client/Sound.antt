@@ -11,7 +11,7 @@ use Rattle.irc_relay.specs.Lemmas.NextHops.{linked_back}
 use Rattle.irc_stage.specs.ClientTold.{client_told}
 use Rattle.irc_stage.specs.Handle.{Happening}
 use Rattle.irc_world.specs.Bounds.{effects_at, most, part_size}
-use Rattle.irc_world.specs.Stepping.{Item, by_machine, step}
+use Rattle.irc_world.specs.Stepping.{Item, by_machine}
 use Rattle.irc_world.specs.World.{World, machine_at}
 use Rattle.irc_follow.specs.AtRest.{part_of}
 use Rattle.irc_follow.specs.Fits.{Fits}

@@ -30,15 +30,20 @@ use Rattle.irc_items.specs.Sound.{IsSound, IsUnderWay, owed_now, world_now, is_m
 
 -- ---- who owes nothing
 
--- a server that has named itself is told what was owed
-pub met_is_paid : (s : Fixed) (view : View) (to : Name) → is_met_with s view to ≡ true → owed_to s view to ≡ []
-met_is_paid s view to met = by (get view.ends (number s to)) refl
+-- whoever has named itself, if its end is there
+paid_if : (s : Fixed) (view : View) (to : Name) → ((end : End) → get view.ends (number s to) ≡ Some end → has_far end ≡ true)
+    → owed_to s view to ≡ []
+paid_if s view to named = by (get view.ends (number s to)) refl
   where
     by : (o : Option End) → get view.ends (number s to) ≡ o → owed_to s view to ≡ []
     by None is = ap (λ o. option_map_or (owed_at s view to) o []) is
     by (Some end) is =
         ap (λ o. option_map_or (owed_at s view to) o []) is
-        ∙ ap (λ b. cond b [] (map line_text (owed_by view (number s to) to end))) (sym (ap (λ o. option_map_or has_far o false) is) ∙ met)
+        ∙ ap (λ b. cond b [] (map line_text (owed_by view (number s to) to end))) (named end is)
+
+-- a server that has named itself is told what was owed
+pub met_is_paid : (s : Fixed) (view : View) (to : Name) → is_met_with s view to ≡ true → owed_to s view to ≡ []
+met_is_paid s view to met = paid_if s view to (λ end is. sym (ap (λ o. option_map_or has_far o false) is) ∙ met)
 
 some_far : (linked_so joined_so : Bool) (far : Option Name) (x : Name) → joined_so ≡ true
     → Some far ≡ (if linked_so then Some (if joined_so then Some x else None) else None) → far ≡ Some x
@@ -71,13 +76,7 @@ module _ (s : Fixed) (world : World) (routes : Name → Known) (t : Name) (view 
               (linked_so world.links t n.server end.far (if joined world.links n.server t then Some n.server else None) far)))
 
   pub nothing_owed : (to : Name) → owed_to s view to ≡ []
-  nothing_owed to = by (get view.ends (number s to)) refl
-    where
-      by : (o : Option End) → get view.ends (number s to) ≡ o → owed_to s view to ≡ []
-      by None is = ap (λ o. option_map_or (owed_at s view to) o []) is
-      by (Some end) is =
-          ap (λ o. option_map_or (owed_at s view to) o []) is
-          ∙ ap (λ b. cond b [] (map line_text (owed_by view (number s to) to end))) (end_met to end is)
+  nothing_owed to = paid_if s view to (end_met to)
 
 -- what is owed to another stays, line by line from a third
 pub owed_along : (s : Fixed) (asks : Answering) (world : World) (routes : Name → Known) (client : ℕ) (p t u : Name) → u ≢ p → (view : View)

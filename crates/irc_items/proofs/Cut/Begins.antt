@@ -7,7 +7,7 @@ use Rattle.irc_line.specs.Messages.{line_text}
 use Rattle.irc_merge.specs.Deeds.{Deed}
 use Rattle.irc_relay.specs.Distances.{IsAmong}
 use Rattle.irc_relay.specs.Following.{Starts, Tells, Terms}
-use Rattle.irc_relay.specs.Links.{Name, Link, part, joined, linked, same, toward, distance, AreJoined, AreLinked, HasEnds}
+use Rattle.irc_relay.specs.Links.{Name, Link, part, linked, same, toward, distance, AreJoined, AreLinked, HasEnds}
 use Rattle.irc_relay.specs.Relay.{under_way, GoesAway, TakesFrom, from_near_end}
 use Rattle.irc_relay.specs.Lemmas.StreamsFlow.{source_is_one, from_source_goes_away}
 use Rattle.irc_relay.specs.Lemmas.NextHops.{linked_back, linked_joined}

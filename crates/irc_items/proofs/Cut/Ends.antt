@@ -74,10 +74,6 @@ cut_ends links left a b forest linked is = subst (λ now. AreCutEnds links now a
     rest = taken_out links a b forest linked
 
 module _ (links left : List Link) (a b : Name) (cut : AreCutEnds links left a b) where
-  -- who is still joined to one end is not joined to the other
-  pub not_both : (t : Name) → AreJoined left t a → AreJoined left t b → ⊥
-  not_both t here there = cut.apart (sym there ∙ here)
-
   pub not_beyond : (t : Name) → AreJoined left t a → joined left b t ≡ false
   not_beyond t here = same_unless (part left b) (part left t) (λ there. cut.apart (there ∙ here))
 

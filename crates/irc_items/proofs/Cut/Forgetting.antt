@@ -16,11 +16,6 @@ abbrev pub all_forgotten : List (List ℕ) → Known → Known
 all_forgotten [] known = known
 all_forgotten (name ∷ names) known = all_forgotten names (without_server name known)
 
--- a server forgets others, and nothing of itself
-pub forgets_name : (names : List (List ℕ)) (known : Known) → (all_forgotten names known).name ≡ known.name
-forgets_name [] known = refl
-forgets_name (name ∷ names) known = forgets_name names (without_server name known)
-
 one_test : (q name : List ℕ) → same_fold q name ≡ pointwise nat_eq name q
 one_test q name = by (same_fold q name) (pointwise nat_eq name q) refl refl
   where

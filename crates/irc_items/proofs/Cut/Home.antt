@@ -12,10 +12,10 @@ use Rattle.irc_merge.specs.Split.{are_distinct, split}
 use Rattle.irc_merge.specs.Lemmas.SplitInTurn.{squits_split}
 use Rattle.irc_relay.specs.Distances.{EndsAreAmong, IsAmong}
 use Rattle.irc_relay.specs.Following.{all_done}
-use Rattle.irc_relay.specs.Links.{Name, Link, joined, links_without, same, AreJoined, AreLinked, IsForest, IsLeft}
+use Rattle.irc_relay.specs.Links.{Name, Link, joined, links_without, AreJoined, AreLinked, IsForest, IsLeft}
 use Rattle.irc_relay.specs.Lemmas.TellingNames.{Telling, alike, unlike, tell}
 use Rattle.irc_relay.specs.Lemmas.NextHops.{linked_back, linked_joined, linked_other}
-use Rattle.irc_relay.specs.Lemmas.LinkTakenOut.{ends, taken_out, tests_tell, without_turned}
+use Rattle.irc_relay.specs.Lemmas.LinkTakenOut.{taken_out, tests_tell}
 use Rattle.irc_routes.specs.Known.{Known, names_behind, without_link, without_server, IsNumbered}
 use Rattle.irc_burst_lines.specs.DeedLines.{squit_parts}
 use Rattle.irc_links.specs.Ends.{is_met}
@@ -28,8 +28,8 @@ use Rattle.irc_stage.specs.Lemmas.Numbers.{get-without, one_number, same_number,
 use Rattle.irc_deeds.specs.DeedTold.{deeds_told, losses, lost_behind, split_text}
 use Rattle.irc_server.specs.Owed.{lines_to}
 use Rattle.irc_server.specs.Served.{link_down, served}
-use Rattle.irc_world.specs.Stepping.{leaving_lines, remaining, servers_on_side}
-use Rattle.irc_world.specs.World.{Setting, World, home_in, home_of}
+use Rattle.irc_world.specs.Stepping.{leaving_lines, servers_on_side}
+use Rattle.irc_world.specs.World.{Setting, World}
 use Rattle.irc_world.specs.WorldHolds.{IsWorld}
 use Rattle.irc_follow.specs.AtRest.{part_of, AreRight}
 use Rattle.irc_follow.specs.Fits.{Fits}
@@ -59,17 +59,6 @@ pub record IsCutAt (s : Fixed) (world : World) (routes : Name → Known) (left :
   pub right : AreRight s world.links routes
   pub linked_ends : AreLinked world.links a b
   pub is_left : left ≡ links_without world.links a b
-
--- whichever end is named first
-pub cut_turned : (s : Fixed) (world : World) (routes : Name → Known) (left : List Link) (a b : Name) → IsCutAt s world routes left a b
-    → IsCutAt s world routes left b a
-cut_turned s world routes left a b cut = record {
-  fixed = cut.fixed;
-  holds = cut.holds;
-  right = cut.right;
-  linked_ends = linked_back world.links a b cut.linked_ends;
-  is_left = cut.is_left ∙ without_turned world.links a b;
-}
 
 -- what a server of a side knows once that has lost these
 pub routes_lost : (s : Fixed) (client : ℕ) (a b : Name) (names : List Name) (w : Part) (t : Name) → w.tree.here t ≡ true
@@ -148,7 +137,6 @@ module _ {s : Fixed} {world : World} {routes : Name → Known} {left : List Link
 -- what it is then, and what it puts out
 pub record IsParted (s : Fixed) (world : World) (routes : Name → Known) (left : List Link) (a b : Name) (view : View) (now : Served) : Type 0 where
   pub peers : now.view.peers ≡ view.peers
-  pub forgets : now.view.routes ≡ all_forgotten (names_behind (routes a) (number s b)) (routes a)
   pub knows : now.view.routes ≡ (cut_after s world routes left a b).tree.routes a
   pub end_gone : get now.view.ends (number s b) ≡ None
   pub ends_stay : (k : ℕ) → k ≢ number s b → get now.view.ends k ≡ get view.ends k
@@ -288,7 +276,6 @@ module _ {s : Fixed} {world : World} {routes : Name → Known} {left : List Link
   closed_is : IsParted s world routes left a b view (closed so)
   closed_is = record {
     peers = ap (λ (v : View). v.peers) has.view_is;
-    forgets = forgets_them;
     knows = forgets_them ∙ sym (routes_lost s 0 a b gone (cut_side world routes left a) a ((tests_tell left a a a).1.1 refl));
     end_gone = ends_now k ∙ ap (λ c. cond c None (get view.ends k)) (same_number-refl k);
     ends_stay = λ q two. ends_now q ∙ by q two (same_number q k) refl;
@@ -306,15 +293,3 @@ module _ {s : Fixed} {world : World} {routes : Name → Known} {left : List Link
 
   pub cut_home : IsParted s world routes left a b view (served view (link_down k))
   cut_home = subst (IsParted s world routes left a b view) (sym served_is) closed_is
-
--- its own clients are left
-pub remains_of_own : (s : Fixed) (world : World) (left : List Link) (a b : Name) → s.homes ≡ world.homes → (client : ℕ) → is_home_of s.homes a client ≡ true
-    → get (remaining s.settings world left a b).clients client ≡ get (world.hall a).clients client
-remains_of_own s world left a b homes client mine =
-    get-kept (world.hall a).clients (λ q. option_map_or (joined left a) (home_of world q) false) client
-    ∙ ap (λ c. cond c (get (world.hall a).clients client) None)
-    (by (home_of world client) (ap (λ all. option_map_or (same a) (home_in all client) false) (sym homes) ∙ mine))
-  where
-    by : (o : Option Name) → option_map_or (same a) o false ≡ true → option_map_or (joined left a) o false ≡ true
-    by None is = cc is
-    by (Some home) is = subst (λ h. joined left a h ≡ true) ((tests_tell left a home a).0.0 is) ((tests_tell left a a a).1.1 refl)

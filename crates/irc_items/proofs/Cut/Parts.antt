@@ -1,9 +1,7 @@
 -- The sides of a link that is lost: each is sound, its servers fit it, and lines come to it from its end.
-use Rattle.std.proofs.Common.{◌≡◌, ◌≢◌, ℕ, ◌<◌, true, List, map, refl, sym, ◌∙◌, ap, subst, arith}
+use Rattle.std.proofs.Common.{◌≡◌, ◌≢◌, ◌<◌, true, List, map, refl, sym, ◌∙◌, ap, subst, arith}
 use Rattle.irc_line.specs.Messages.{line_text}
-use Rattle.irc_merge.specs.Deeds.{Deed}
-use Rattle.irc_relay.specs.Following.{Tells, Terms}
-use Rattle.irc_relay.specs.Links.{Name, Link, joined, part, toward, distance, AreJoined, AreLinked, IsForest, IsLeft, IsNextHop}
+use Rattle.irc_relay.specs.Links.{Name, Link, joined, toward, distance, AreJoined, AreLinked, IsForest, IsLeft, IsNextHop}
 use Rattle.irc_relay.specs.Relay.{from_near_end, streams_from, Streams, TakesFrom}
 use Rattle.irc_relay.specs.Lemmas.StreamsFlow.{sources_are}
 use Rattle.irc_relay.specs.Lemmas.NextHops.{distance_self, linked_back, linked_joined, linked_other, next_hop, toward_linked}
@@ -17,7 +15,6 @@ use Rattle.irc_follow.specs.AtRest.{part_of}
 use Rattle.irc_follow.specs.Fits.{Fits}
 use Rattle.irc_follow.specs.Part.{Fixed, Part, number, IsSoundPart}
 use Rattle.irc_follow.specs.Relinked.{taking_from, FlowsAlong}
-use Rattle.irc_follow.specs.Says.{machine, play, Says}
 use Rattle.irc_follow.specs.SideFlows.{IsSide, IsToldOf}
 use Rattle.irc_follow.specs.Lemmas.SideAtRest.{joined_alike, joined_so}
 use Rattle.irc_follow.specs.Lemmas.BehindLinks.{joined_test}
@@ -26,9 +23,9 @@ use Rattle.irc_follow.specs.Lemmas.Neighbours.{IsKnownOfLines}
 use Rattle.irc_follow.specs.Lemmas.NewLink.{parent_is_linked}
 use Rattle.irc_follow.specs.Lemmas.SideFlows.{one_side_is_left, other_side_is_left}
 use Rattle.irc_items.proofs.Common.Right.{refits}
-use Rattle.irc_items.proofs.Cut.Home.{forest, linked_before, linked_still, rest, IsCutAt}
+use Rattle.irc_items.proofs.Cut.Home.{forest, linked_before, rest, IsCutAt}
 use Rattle.irc_items.proofs.Cut.Sides.{cut_side, deeds_of_cut}
-use Rattle.irc_items.proofs.Cut.Told.{said_to, tells_in_turn, IsLossOfCut, IsToldByEnd, SaysInTurn}
+use Rattle.irc_items.proofs.Cut.Told.{said_to, IsLossOfCut, IsToldByEnd, SaysInTurn}
 
 -- lines come to the side of the end e from that end, and the other end o is behind it
 pub record IsEnd (world : World) (routes : Name → Known) (left : List Link) (source : Name → Name) (e o : Name) : Type 0 where
@@ -156,13 +153,6 @@ module _ {s : Fixed} {world : World} {routes : Name → Known} {left : List Link
           ∙ beyond);
     }
 
-    -- who is linked to one that takes lines is of its side
-    pub within_side : (t p u : Name) → AreJoined left t e → TakesFrom s.streams t p → AreLinked world.links t u → AreJoined left u e
-    within_side t p u on takes near =
-        sym (linked_joined left t u (linked_still cut t u (λ is _. taker_is_another t p on takes is)
-        (λ is _. kept.parted (sym on ∙ ap (part left) is)) near))
-        ∙ on
-
     -- who is linked to its end takes lines from that
     pub next_takes : (u : Name) → AreLinked left e u → TakesFrom s.streams u e
     next_takes u near = subst (λ (st : Streams). TakesFrom st u e) (sym streams) (record {
@@ -190,14 +180,3 @@ module _ {s : Fixed} {world : World} {routes : Name → Known} {left : List Link
       where
         on : AreJoined left u e
         on = sym (linked_joined left e u near)
-
-    -- in whatever terms ask no more than that
-    pub tells_next : IsKnownOfLines → (client : ℕ) (x : Terms View (List ℕ) Part Deed) (u : Name) (other : View) → AreLinked left e u
-        → Fits s u (cut_side world routes left u) other
-        → ((w : Part) (view : View) (deed : Deed) (line : List ℕ) → IsLossOfCut world.links left e w deed → Says s e u w view deed line
-        → x.says e u w view deed line)
-        → Tells (machine s client) (play s client) x e u (cut_side world routes left u) other (deeds_of_cut s routes e o)
-        (map (λ x. line_text (squit_parts e x (split_text e o))) (names_behind (routes e) (number s o)))
-    tells_next known client x u other near reader so =
-        tells_in_turn s client e u (IsLossOfCut world.links left e) x so (cut_side world routes left u) other (deeds_of_cut s routes e o) _
-        (said_next known u other near reader)

@@ -20,7 +20,7 @@ use Rattle.irc_stage.specs.View.{View}
 use Rattle.irc_server.specs.Owed.{lines_to}
 use Rattle.irc_world.specs.Bounds.{most, part_size}
 use Rattle.irc_world.specs.Bystanders.{OnlyConnectedReceive}
-use Rattle.irc_world.specs.Stepping.{Stepped, cut, leaving_lines, parted, split_text, step}
+use Rattle.irc_world.specs.Stepping.{Stepped, cut, leaving_lines, parted, split_text}
 use Rattle.irc_world.specs.World.{World}
 use Rattle.irc_follow.specs.AtRest.{part_of, BehindIsThatSide}
 use Rattle.irc_follow.specs.Fits.{Fits}

@@ -2,7 +2,7 @@
 use Rattle.std.proofs.Common.{◌≡◌, List, inl, refl, sym, ap, subst, ◌∙◌, arith}
 use Rattle.irc_relay.specs.Distances.{EndsAreAmong, IsAmong}
 use Rattle.irc_relay.specs.Lemmas.TellingNames.{Telling, alike, unlike, tell}
-use Rattle.irc_relay.specs.Links.{Name, Link, joined, toward, distance, links_without, AreJoined, AreLinked, HasEnds, IsForest}
+use Rattle.irc_relay.specs.Links.{Name, Link, toward, distance, links_without, AreJoined, AreLinked, HasEnds, IsForest}
 use Rattle.irc_relay.specs.Relay.{streams_from, from_near_end, Covers}
 use Rattle.irc_relay.specs.Lemmas.StreamsFlow.{near_ends_cover}
 use Rattle.irc_relay.specs.Lemmas.NextHops.{distance_self, linked_back, next_hop}

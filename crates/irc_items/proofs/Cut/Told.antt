@@ -207,6 +207,16 @@ pub record IsToldByEnd (s : Fixed) (world : World) (left : List Link) (a b : Nam
   pub end_far : (t p : Name) → AreJoined left t a → TakesFrom s.streams t p → toward world.links t a ≡ p
   pub not_linked : (t p x : Name) → AreJoined left t a → TakesFrom s.streams t p → AreJoined left x b → AreLinked world.links t x → ⊥
 
+-- a loss at its turn, which can be told where the side is sound
+record IsNextLoss (s : Fixed) (links left : List Link) (a b : Name) (w : Part) (name : Name) : Type 0 where
+  side : IsOfCut links left a w
+  doable : IsSoundPart s w → IsDoableLoss s w a name (split_text a b)
+
+abbrev CanBeLost : Fixed → List Link → List Link → Name → Name → Part → List Name → Type 0
+CanBeLost s links left a b w [] = ⊤
+CanBeLost s links left a b w (name ∷ names) =
+    IsNextLoss s links left a b w name × CanBeLost s links left a b (done s w (loses a name (split_text a b))) names
+
 module _ (known : IsKnownOfLines) {s : Fixed} {world : World} {routes : Name → Known} {left : List Link} {a b : Name} (cut : IsCutAt s world routes left a b)
     (ways : IsToldByEnd s world left a b) where
   abbrev text : List ℕ
@@ -252,52 +262,55 @@ module _ (known : IsKnownOfLines) {s : Fixed} {world : World} {routes : Name →
       two : exactly_same name x ≡ false → name ≢ x
       two other e = cc (sym other ∙ (bytes_decides name x).1 e)
 
+  abbrev CanAll : Part → List Name → Type 0
+  CanAll w names = CanBeLost s world.links left a b w names
+
+  can_in_turn : (names : List Name) (w : Part) → IsOfCut world.links left a w → w.tree.knows a ≡ true
+      → AllByRecursion (λ x. w.tree.knows x ≡ true) names → AllByRecursion (λ x. AreJoined left x b) names → are_distinct names ≡ true
+      → CanAll w names
+  unfolding done
+  can_in_turn [] w side knows_a knows beyond once = tt
+  can_in_turn (name ∷ names) w side knows_a knows beyond once =
+      let parts = not_and (list_any (exactly_same name) names) (are_distinct names) once in (
+        record { side = side; doable = λ sound. doable_loss w name side sound knows_a knows.0 beyond.0 },
+        can_in_turn names (done s w (loses a name text)) (record { forest = side.forest; here = side.here })
+            (λ i. knows_a i && not (same_unless a name (λ e. (rest cut).parted (subst (λ v. AreJoined left v b) (sym e) beyond.0)) i))
+            (known_still w.tree.knows name names parts.0 knows.1) beyond.1 parts.1,
+      )
+
+  all_can : (w : Part) → IsOfCut world.links left a w → ((x : Name) → AreJoined world.links x a → w.tree.knows x ≡ true)
+      → CanAll w (names_behind (routes a) (number s b))
+  all_can w side knows =
+      can_in_turn (names_behind (routes a) (number s b)) w side (knows a refl)
+      (of_cut.all_so (λ x. AreJoined left x b) (λ x. w.tree.knows x ≡ true) (λ x on. knows x (of_cut.lost_joined cut x on))
+      (names_behind (routes a) (number s b)) (lost_beyond cut)) (lost_beyond cut) (lost_once cut)
+
   module _ (u : Name) (next : TakesFrom s.streams u a) where
     abbrev AreSaid : Part → View → List Name → Type 0
     AreSaid w other names = SaysInTurn s a u (IsLossOfCut world.links left a) w other (losses a b names) (map (λ x. line_text (squit_parts a x text)) names)
 
-    said_along : (names : List Name) (w : Part) (other : View) → IsOfCut world.links left a w → Fits s u w other → w.tree.knows a ≡ true
-        → AllByRecursion (λ x. w.tree.knows x ≡ true) names → AllByRecursion (λ x. AreJoined left x b) names → are_distinct names ≡ true
-        → AreSaid w other names
-    unfolding done
-    said_along [] w other side reader knows_a knows beyond once = says_none
-    said_along (name ∷ names) w other side reader knows_a knows beyond once =
-        let parts = not_and (list_any (exactly_same name) names) (are_distinct names) once in
-        let doable = doable_loss w name side reader.sound knows_a knows.0 beyond.0 in
-        let said = loss_said known s cut.fixed a u w other next reader name text doable in
-        says_first (record { side = side; loss = tt }) said
-        (said_along names (done s w (loses a name text)) (neighbour_served s a other (line_text (squit_parts a name text))).view
-        (record { forest = side.forest; here = side.here }) (said_loses_fits s a u w other next reader a name text (line_text (squit_parts a name text)) said)
-        (λ i. knows_a i && not (same_unless a name (λ e. (rest cut).parted (subst (λ v. AreJoined left v b) (sym e) beyond.0)) i))
-        (known_still w.tree.knows name names parts.0 knows.1) beyond.1 parts.1)
+    said_along : (names : List Name) (w : Part) (other : View) → CanAll w names → Fits s u w other → AreSaid w other names
+    said_along [] w other can reader = says_none
+    said_along (name ∷ names) w other can reader =
+        let said = loss_said known s cut.fixed a u w other next reader name text (can.0.doable reader.sound) in
+        says_first (record { side = can.0.side; loss = tt }) said
+        (said_along names (done s w (loses a name text)) (neighbour_served s a other (line_text (squit_parts a name text))).view can.1
+        (said_loses_fits s a u w other next reader a name text (line_text (squit_parts a name text)) said))
 
     -- whoever fits the side that it is on is told of all of them
     pub said_to : (w : Part) (other : View) → IsOfCut world.links left a w → ((x : Name) → AreJoined world.links x a → w.tree.knows x ≡ true) → Fits s u w other
         → SaysInTurn s a u (IsLossOfCut world.links left a) w other (deeds_of_cut s routes a b)
         (map (λ x. line_text (squit_parts a x text)) (names_behind (routes a) (number s b)))
-    said_to w other side knows reader =
-        said_along (names_behind (routes a) (number s b)) w other side reader (knows a refl)
-        (of_cut.all_so (λ x. AreJoined left x b) (λ x. w.tree.knows x ≡ true) (λ x on. knows x (of_cut.lost_joined cut x on))
-        (names_behind (routes a) (number s b)) (lost_beyond cut)) (lost_beyond cut) (lost_once cut)
+    said_to w other side knows reader = said_along (names_behind (routes a) (number s b)) w other (all_can w side knows) reader
 
   -- ---- what they come to
 
-  lost_along : DoneStaysSound → (names : List Name) (w : Part) → IsOfCut world.links left a w → IsSoundPart s w → w.tree.knows a ≡ true
-      → AllByRecursion (λ x. w.tree.knows x ≡ true) names → AllByRecursion (λ x. AreJoined left x b) names → are_distinct names ≡ true
-      → IsSoundPart s (all_done (play s 0) w (losses a b names))
-  unfolding done
-  lost_along law [] w side sound knows_a knows beyond once = sound
-  lost_along law (name ∷ names) w side sound knows_a knows beyond once =
-      let parts = not_and (list_any (exactly_same name) names) (are_distinct names) once in
-      lost_along law names (done s w (loses a name text)) (record { forest = side.forest; here = side.here })
-      (law s w (loses a name text) cut.fixed sound (doable_loss w name side sound knows_a knows.0 beyond.0))
-      (λ i. knows_a i && not (same_unless a name (λ e. (rest cut).parted (subst (λ v. AreJoined left v b) (sym e) beyond.0)) i))
-      (known_still w.tree.knows name names parts.0 knows.1) beyond.1 parts.1
+  lost_along : DoneStaysSound → (names : List Name) (w : Part) → CanAll w names → IsSoundPart s w → IsSoundPart s (all_done (play s 0) w (losses a b names))
+  lost_along law [] w can sound = sound
+  lost_along law (name ∷ names) w can sound =
+      lost_along law names (done s w (loses a name text)) can.1 (law s w (loses a name text) cut.fixed sound (can.0.doable sound))
 
   -- the side is sound once all of them are lost
   pub side_without : DoneStaysSound → (w : Part) → IsOfCut world.links left a w → ((x : Name) → AreJoined world.links x a → w.tree.knows x ≡ true)
       → IsSoundPart s w → IsSoundPart s (all_done (play s 0) w (deeds_of_cut s routes a b))
-  side_without law w side knows sound =
-      lost_along law (names_behind (routes a) (number s b)) w side sound (knows a refl)
-      (of_cut.all_so (λ x. AreJoined left x b) (λ x. w.tree.knows x ≡ true) (λ x on. knows x (of_cut.lost_joined cut x on))
-      (names_behind (routes a) (number s b)) (lost_beyond cut)) (lost_beyond cut) (lost_once cut)
+  side_without law w side knows sound = lost_along law (names_behind (routes a) (number s b)) w (all_can w side knows) sound

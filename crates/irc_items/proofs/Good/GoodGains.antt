@@ -1,6 +1,6 @@
 -- A line that says that the network has a server more goes well at its turn: who names itself is answered with just what it is owed,
 -- and others are told.
-use Rattle.std.proofs.Common.{◌≡◌, ◌≢◌, ℕ, Bool, true, false, ◌||◌, Some, None, List, [], ◌∷◌, ◌++◌, append-nil, map, is_some, nat_eq, refl, sym, ◌∙◌, ap, if◌then◌else◌}
+use Rattle.std.proofs.Common.{◌≡◌, ◌≢◌, ℕ, Bool, true, false, ◌||◌, Some, None, List, [], ◌∷◌, ◌++◌, append-nil, map, is_some, refl, sym, ◌∙◌, ap, if◌then◌else◌}
 use Rattle.std.specs.Option.{option_map_or}
 use Rattle.irc_line.specs.Messages.{Written, line_text}
 use Rattle.irc_line.specs.Reading.{read_of}
@@ -18,22 +18,20 @@ use Rattle.irc_stage.specs.View.{View}
 use Rattle.irc_deeds.specs.DeedTold.{gain_told, told_by}
 use Rattle.irc_deeds.specs.Heard.{Heard, meets, tells}
 use Rattle.irc_deeds.specs.LinkServed.{after_heard, line_served, on_link, owed_by, owes}
-use Rattle.irc_server.specs.Owed.{lines_to}
 use Rattle.irc_server.specs.Served.{served}
 use Rattle.irc_follow.specs.Tree.{told_token}
 use Rattle.irc_follow.specs.Part.{Fixed, done, number, IsFixed}
 use Rattle.irc_follow.specs.Part as of_side
 use Rattle.irc_follow.specs.Fits.{Fits}
 use Rattle.irc_follow.specs.Says.{neighbour_served, lines_on, Says}
-use Rattle.irc_follow.specs.Lemmas.LinesOnLinks.{but_another, lines_behind, on_these}
+use Rattle.irc_follow.specs.Lemmas.LinesOnLinks.{but_another}
 use Rattle.irc_follow.specs.Lemmas.SaidGain as gain_of
 use Rattle.irc_follow.specs.Lemmas.SaidGainToldOn.{none_on_another}
-use Rattle.irc_follow.specs.Lemmas.SaidEffectShown.{but_links}
-use Rattle.irc_items.specs.GoodLines.{closings, IsGoodReply}
+use Rattle.irc_items.specs.GoodLines.{IsGoodReply}
 use Rattle.irc_items.specs.Relayed.{owed_at, owed_to}
-use Rattle.irc_items.proofs.Good.GoodEffects.{on_arrival, teller_is_met}
 use Rattle.irc_items.proofs.Good.MetEnds.{far_is, good_reply, met_known, met_linked, owes_none, AreLinkedAlike, IsAnswer, IsLaterSide}
-use Rattle.irc_items.proofs.Good.PutOut.{all_on_it, closed_behind, none_back, none_closed_on_link, none_closed_on_links, none_to_clients}
+use Rattle.irc_items.proofs.Good.PutOut.{all_on_it, but_itself, none_closed_on_link, none_to_clients}
+use Rattle.irc_items.proofs.Good.Replies.{answer_so, lines_put_out, teller_is_met, IsPutOutSo}
 
 -- What is put out goes on the link of arrival, and then on all others that count. The first is just what is owed there.
 pub record IsToldOn (s : Fixed) (p : Name) (view : View) (after : Served) : Type 0 where
@@ -58,49 +56,34 @@ module _ (s : Fixed) (links : List Link) (p t : Name) (w : of_side.Part) (view :
     abbrev others : List ℕ
     others = but (Some (number s p)) (met_links after.view.ends)
 
-    none_closed : closings after.out ≡ []
-    none_closed =
-        ap closings told.out
-        ∙ closed_behind (on_link (number s p) told.answered) (on_links others told.parts) (none_closed_on_link (number s p) told.answered)
-        (none_closed_on_links others told.parts)
-
-    none_to_own : (client : ℕ) → lines_to client after.out ≡ []
-    none_to_own client =
-        ap (lines_to client) told.out
-        ∙ but_links client (on_link (number s p) told.answered) others told.parts
-        ∙ none_to_clients client (number s p) told.answered
-
-    back : lines_on (number s p) after.out ≡ owed_to s view p
-    back =
-        ap (lines_on (number s p)) told.out
-        ∙ lines_behind (number s p) (on_link (number s p) told.answered) (on_links others told.parts)
-        ∙ ap (λ l. l ++ lines_on (number s p) (on_links others told.parts)) (all_on_it (number s p) told.answered ∙ told.owed)
-        ∙ ap (λ l. owed_to s view p ++ l) (none_back (number s p) (met_links after.view.ends) told.parts)
-        ∙ append-nil (owed_to s view p)
-
     module _ (later : of_side.Part) (stays : IsLaterSide links t w later) (fits_after : Fits s t later after.view) where
-      to_linked : (u : Name) (line : List ℕ) (lines : List (List ℕ)) → lines_on (number s u) after.out ≡ line ∷ lines → AreLinked links t u
-      to_linked u line lines is = by (nat_eq (number s p) (number s u)) refl
-        where
-          by : (b : Bool) → nat_eq (number s p) (number s u) ≡ b → AreLinked links t u
-          by true arrival = on_arrival s links p t w view takes fits forest u arrival
-          by false other =
-              met_linked s links t later after.view fits_after stays.forest u line lines (line_text told.parts)
-              (sym (ap (lines_on (number s u)) told.out
-              ∙ lines_behind (number s u) (on_link (number s p) told.answered) (on_links others told.parts)
-              ∙ ap (λ l. l ++ lines_on (number s u) (on_links others told.parts)) (none_on_another (number s u) (number s p) other told.answered)
-              ∙ on_these (number s u) others told.parts
-              ∙ ap (map (λ _. line_text told.parts)) (but_another (number s u) (number s p) other (met_links after.view.ends))) ∙ is)
+      put_out : IsPutOutSo s links p t view after
+      put_out = record {
+        first = on_link (number s p) told.answered;
+        ways = others;
+        parts = told.parts;
+        out = told.out;
+        closes_none = none_closed_on_link (number s p) told.answered;
+        on_no_other = λ u other. none_on_another (number s u) (number s p) other told.answered;
+        to_clients = λ client none. none_to_clients client (number s p) told.answered;
+        on_linked = λ u other line lines is. met_linked s links t later after.view fits_after stays.forest u line lines (line_text told.parts)
+            (sym (ap (map (λ _. line_text told.parts)) (but_another (number s u) (number s p) other (met_links after.view.ends))) ∙ is);
+      }
+
+      back : lines_on (number s p) after.out ≡ owed_to s view p
+      unfolding put_out
+      back =
+          lines_put_out s links p t w view takes fits forest after put_out (number s p)
+          ∙ (λ i. (all_on_it (number s p) told.answered ∙ told.owed) i
+          ++ map (λ _. line_text told.parts) (but_itself (number s p) (met_links after.view.ends) i))
+          ∙ append-nil (owed_to s view p)
 
       told_answer : later.tree.knows p ≡ true → IsAnswer s links p t view after
-      told_answer known = record {
-        closes_none = none_closed;
-        to_linked = to_linked;
-        to_own = λ client line lines is. cc (sym (none_to_own client) ∙ is);
-        pays = ap (λ l. l ++ owed_to s after.view p) back
-            ∙ ap (λ l. owed_to s view p ++ l) (owes_none s links t later after.view fits_after stays.forest p (λ there. known))
-            ∙ append-nil (owed_to s view p);
-      }
+      told_answer known =
+          answer_so s links p t w view takes fits forest after put_out
+          (ap (λ l. l ++ owed_to s after.view p) back
+          ∙ ap (λ l. owed_to s view p ++ l) (owes_none s links t later after.view fits_after stays.forest p (λ there. known))
+          ∙ append-nil (owed_to s view p))
 
   -- ---- what a line of a server's gain is served as
 

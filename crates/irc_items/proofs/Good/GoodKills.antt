@@ -1,8 +1,7 @@
 -- A line that says a KILL goes well at its turn. A server's own goes on all links, so one line goes back; another server's goes on all but that of arrival.
-use Rattle.std.proofs.Common.{◌≡◌, ◌≢◌, inr, ℕ, Bool, true, false, cond, Option, Some, None, List, [], ◌∷◌, ◌++◌, append-nil, map, filter, filter_map, nat_eq, refl, sym, ◌∙◌, ap, if◌then◌else◌}
+use Rattle.std.proofs.Common.{◌≡◌, ◌≢◌, ℕ, Bool, true, false, Option, Some, None, List, [], ◌∷◌, ◌++◌, map, filter, nat_eq, refl, sym, ◌∙◌, ap, if◌then◌else◌}
 use Rattle.std.specs.Cmp.Lexicographic.{bytes_decides}
 use Rattle.std.specs.FinMap.{entries, get}
-use Rattle.std.specs.List.{cons_option}
 use Rattle.std.specs.Option.{option_map_or}
 use Rattle.irc_batch.specs.Batches.{Sent, end_of}
 use Rattle.irc_line.specs.Messages.{Written, line_text}
@@ -24,55 +23,23 @@ use Rattle.irc_stage.specs.Handle.{is_client, to_viewer}
 use Rattle.irc_stage.specs.Linked.{told_on_all}
 use Rattle.irc_stage.specs.View.{View}
 use Rattle.irc_deeds.specs.DeedTold.{deed_told, told_by}
-use Rattle.irc_server.specs.Owed.{lines_to}
-use Rattle.irc_follow.specs.Part.{Fixed, done, is_home_of, number}
+use Rattle.irc_server.specs.Owed.{line_to_conn, lines_to}
+use Rattle.irc_follow.specs.Part.{Fixed, number}
 use Rattle.irc_follow.specs.Part as of_side
 use Rattle.irc_follow.specs.Fits.{Fits}
 use Rattle.irc_follow.specs.Says.{neighbour_served, lines_on, Says}
 use Rattle.irc_follow.specs.Lemmas.ClientLines.{to_one, told_line}
-use Rattle.irc_follow.specs.Lemmas.LinesOnLinks.{among_met, but_another, lines_behind, none_by_effect, none_to_viewer, on_these}
+use Rattle.irc_follow.specs.Lemmas.LinesOnLinks.{among_met, but_another, lines_behind, none_by_effect, none_to_killed}
 use Rattle.irc_follow.specs.Lemmas.Neighbours.{but_none}
-use Rattle.irc_follow.specs.Lemmas.SaidDeed.{deed_served, said_kills_fits, there}
-use Rattle.irc_follow.specs.Lemmas.SaidEffect.{client_here, own_name}
-use Rattle.irc_follow.specs.Lemmas.SaidEffectShown.{but_links, lines_behind as lines_to_behind}
-use Rattle.irc_items.specs.GoodLines.{closings, IsGoodReply, PaysNothing}
-use Rattle.irc_items.specs.Relayed.{owed_to}
-use Rattle.irc_items.proofs.Good.GoodEffects.{on_arrival, teller_is_met}
-use Rattle.irc_items.proofs.Good.MetEnds.{met_known, met_linked, owes_none, AreLinkedAlike}
-use Rattle.irc_items.proofs.Good.PutOut.{but_itself, closed_behind, is_on, none_closed_by_effect, none_closed_on_links, none_closed_to_viewer, none_shown}
+use Rattle.irc_follow.specs.Lemmas.SaidDeed.{deed_served, there}
+use Rattle.irc_follow.specs.Lemmas.SaidEffect.{own_name}
+use Rattle.irc_follow.specs.Lemmas.SaidEffectShown.{lines_behind as lines_to_behind}
+use Rattle.irc_follow.specs.Lemmas.ToldClients as told_to
+use Rattle.irc_items.specs.GoodLines.{closings, reason_of, IsGoodReply}
+use Rattle.irc_items.proofs.Good.MetEnds.{met_known, met_linked, AreLinkedAlike}
+use Rattle.irc_items.proofs.Good.PutOut.{but_itself, closed_behind, is_on, none_closed_by_effect, none_shown}
+use Rattle.irc_items.proofs.Good.Replies.{lines_put_out, reply_so, teller_is_met, IsPutOutSo}
 use Rattle.irc_registering.specs.Closing.{error_line}
-
--- ---- the end of a client is no line, and the end of no link
-
-abbrev end_if : List ℕ → ℕ × Client → Option Sent
-end_if nick c = if is_client nick c.1 then Some (end_of c.0) else None
-
-no_lines_of_ends : (k : ℕ) (nick : List ℕ) (es : List (ℕ × Client)) → lines_on k (filter_map (end_if nick) es) ≡ []
-no_lines_of_ends k nick [] = refl
-no_lines_of_ends k nick (e ∷ es) = by (is_client nick e.1) (no_lines_of_ends k nick es)
-  where
-    by : (b : Bool) → lines_on k (filter_map (end_if nick) es) ≡ []
-        → lines_on k (cons_option (if b then Some (end_of e.0) else None) (filter_map (end_if nick) es)) ≡ []
-    by true none = none
-    by false none = none
-
-nothing_said_by_ends : (client : ℕ) (nick : List ℕ) (es : List (ℕ × Client)) → lines_to client (filter_map (end_if nick) es) ≡ []
-nothing_said_by_ends client nick [] = refl
-nothing_said_by_ends client nick (e ∷ es) = by (is_client nick e.1) (nothing_said_by_ends client nick es)
-  where
-    by : (b : Bool) → lines_to client (filter_map (end_if nick) es) ≡ []
-        → lines_to client (cons_option (if b then Some (end_of e.0) else None) (filter_map (end_if nick) es)) ≡ []
-    by true none = none
-    by false none = none
-
-none_closed_by_ends : (nick : List ℕ) (es : List (ℕ × Client)) → closings (filter_map (end_if nick) es) ≡ []
-none_closed_by_ends nick [] = refl
-none_closed_by_ends nick (e ∷ es) = by (is_client nick e.1) (none_closed_by_ends nick es)
-  where
-    by : (b : Bool) → closings (filter_map (end_if nick) es) ≡ []
-        → closings (cons_option (if b then Some (end_of e.0) else None) (filter_map (end_if nick) es)) ≡ []
-    by true none = none
-    by false none = none
 
 -- ---- what clients are told of it: who shares a channel sees the QUIT, and the one that is killed is told why, and closed
 
@@ -90,9 +57,7 @@ module _ (view : View) (nick : List ℕ) where
   none_on k =
       lines_behind k (shown_at view (Quit nick collision_text)) to_killed
       ∙ ap (λ l. l ++ lines_on k to_killed) (none_by_effect k view (Quit nick collision_text))
-      ∙ lines_behind k (to_viewer view.clients error) (ends_of nick view.clients)
-      ∙ ap (λ l. l ++ lines_on k (ends_of nick view.clients)) (none_to_viewer k error (entries view.clients))
-      ∙ no_lines_of_ends k nick (entries view.clients)
+      ∙ none_to_killed k view.clients nick (error_line collision_text)
 
   none_to : (client : ℕ) → get view.clients client ≡ None → lines_to client told_clients ≡ []
   none_to client none =
@@ -100,13 +65,13 @@ module _ (view : View) (nick : List ℕ) where
       ∙ ap (λ l. l ++ lines_to client to_killed) (none_shown client view (Quit nick collision_text) none)
       ∙ lines_to_behind client (to_viewer view.clients error) (ends_of nick view.clients)
       ∙ ap (λ l. l ++ lines_to client (ends_of nick view.clients)) (to_one client view.clients error ∙ ap (told_line client error) none)
-      ∙ nothing_said_by_ends client nick (entries view.clients)
+      ∙ told_to.none_for_some (line_to_conn client) (λ (c : ℕ × Client). is_client nick c.1) (λ (c : ℕ × Client). end_of c.0)
+      (λ c. refl) (entries view.clients)
 
   none_closed_to_clients : closings told_clients ≡ []
   none_closed_to_clients =
       closed_behind (shown_at view (Quit nick collision_text)) to_killed (none_closed_by_effect view (Quit nick collision_text))
-      (closed_behind (to_viewer view.clients error) (ends_of nick view.clients) (none_closed_to_viewer error (entries view.clients))
-      (none_closed_by_ends nick (entries view.clients)))
+      (told_to.none_to_killed reason_of (λ conn line. refl) (λ conn. refl) view.clients nick (error_line collision_text))
 
 module _ (s : Fixed) (links : List Link) (p t : Name) (w : of_side.Part) (view : View) (takes : TakesFrom s.streams t p) (fits : Fits s t w view)
     (forest : AreLinkedAlike links w.tree.forest t) where
@@ -139,36 +104,27 @@ module _ (s : Fixed) (links : List Link) (p t : Name) (w : of_side.Part) (view :
     out_is : (neighbour_served s p view line).out ≡ told_clients view nick ++ on_links (ways (same server t)) parts
     out_is = ap (λ (so : Served). so.out) after_is
 
-    ends_are : (neighbour_served s p view line).view.ends ≡ view.ends
-    ends_are = ap (λ (so : Served). so.view.ends) after_is
+    abbrev after : Served
+    after = neighbour_served s p view line
 
-    none_closed : closings (neighbour_served s p view line).out ≡ []
-    none_closed =
-        ap closings out_is
-        ∙ closed_behind (told_clients view nick) (on_links (ways (same server t)) parts) (none_closed_to_clients view nick)
-        (none_closed_on_links (ways (same server t)) parts)
-
-    -- ---- on its links
-
-    lines_are : (u : Name) → lines_on (number s u) (neighbour_served s p view line).out
-        ≡ map (λ _. line_text parts) (filter (is_on (number s u)) (ways (same server t)))
-    lines_are u =
-        ap (lines_on (number s u)) out_is
-        ∙ lines_behind (number s u) (told_clients view nick) (on_links (ways (same server t)) parts)
-        ∙ ap (λ l. l ++ lines_on (number s u) (on_links (ways (same server t)) parts)) (none_on view nick (number s u))
-        ∙ on_these (number s u) (ways (same server t)) parts
-
-    to_linked : (u : Name) (first : List ℕ) (lines : List (List ℕ)) → lines_on (number s u) (neighbour_served s p view line).out ≡ first ∷ lines
-        → AreLinked links t u
-    to_linked u first lines is = by (same server t) (nat_eq k (number s u)) refl (sym (lines_are u) ∙ is)
+    put_out : IsPutOutSo s links p t view after
+    put_out = record {
+      first = told_clients view nick;
+      ways = ways (same server t);
+      parts = parts;
+      out = out_is;
+      closes_none = none_closed_to_clients view nick;
+      on_no_other = λ u other. none_on view nick (number s u);
+      to_clients = none_to view nick;
+      on_linked = λ u other first lines. on_linked u other first lines (same server t);
+    }
       where
-        by : (own b : Bool) → nat_eq k (number s u) ≡ b → map (λ _. line_text parts) (filter (is_on (number s u)) (ways own)) ≡ first ∷ lines
-            → AreLinked links t u
-        by true b at found =
+        on_linked : (u : Name) → nat_eq k (number s u) ≡ false → (first : List ℕ) (lines : List (List ℕ)) (own : Bool)
+            → map (λ _. line_text parts) (filter (is_on (number s u)) (ways own)) ≡ first ∷ lines → AreLinked links t u
+        on_linked u other first lines true found =
             met_linked s links t w view fits forest u first lines (line_text parts)
             (sym (ap (λ l. map (λ _. line_text parts) (filter (is_on (number s u)) l)) (but_none (met_links view.ends))) ∙ found)
-        by false true back found = on_arrival s links p t w view takes fits forest u back
-        by false false other found =
+        on_linked u other first lines false found =
             met_linked s links t w view fits forest u first lines (line_text parts)
             (sym (ap (map (λ _. line_text parts)) (but_another (number s u) k other (met_links view.ends))) ∙ found)
 
@@ -179,8 +135,12 @@ module _ (s : Fixed) (links : List Link) (p t : Name) (w : of_side.Part) (view :
     knows_p : w.tree.knows p ≡ true
     knows_p = met_known s links t w view fits forest p says.end says.is_end met
 
-    goes_back : lines_on k (neighbour_served s p view line).out ≡ (if same server t then line_text (kill_parts t nick) ∷ [] else [])
-    goes_back = lines_are p ∙ by (same server t) refl
+    goes_back : lines_on k after.out ≡ (if same server t then line_text (kill_parts t nick) ∷ [] else [])
+    unfolding put_out
+    goes_back =
+        lines_put_out s links p t w view takes fits forest after put_out k
+        ∙ ap (λ l. l ++ map (λ _. line_text parts) (filter (is_on k) (ways (same server t)))) (none_on view nick k)
+        ∙ by (same server t) refl
       where
         by : (own : Bool) → same server t ≡ own
             → map (λ _. line_text parts) (filter (is_on k) (ways own)) ≡ (if own then line_text (kill_parts t nick) ∷ [] else [])
@@ -192,44 +152,8 @@ module _ (s : Fixed) (links : List Link) (p t : Name) (w : of_side.Part) (view :
             ∙ ap (λ name. line_text (kill_parts name nick) ∷ []) ((bytes_decides server t).0 own)
         by false others = ap (map (λ _. line_text parts)) (but_itself k (met_links view.ends))
 
-    -- ---- to its clients
-
-    to_own : (client : ℕ) (first : List ℕ) (lines : List (List ℕ)) → lines_to client (neighbour_served s p view line).out ≡ first ∷ lines
-        → is_home_of s.homes t client ≡ true
-    to_own client first lines is = by (is_home_of s.homes t client) refl
-      where
-        by : (b : Bool) → is_home_of s.homes t client ≡ b → b ≡ true
-        by true home = refl
-        by false away =
-            cc (sym (ap (lines_to client) out_is
-            ∙ but_links client (told_clients view nick) (ways (same server t)) parts
-            ∙ none_to view nick client
-            (client_here s p t w view takes fits client ∙ ap (λ b. cond b (get w.hall.clients client) None) away)) ∙ is)
-
-    -- ---- what is owed
-
-    still_owes_none : (u : Name) → (AreLinked links t u → w.tree.knows u ≡ true) → owed_to s (neighbour_served s p view line).view u ≡ []
-    unfolding done
-    still_owes_none u known =
-        owes_none s links t (done s w (kills server nick)) (neighbour_served s p view line).view (said_kills_fits s p t w view takes fits server nick line says)
-        forest u known
-
     pub kills_goes_well : ((u : Name) → AreLinked links t u → u ≢ p → w.tree.knows u ≡ true)
-        → IsGoodReply s links p t view (neighbour_served s p view line) (if same server t then line_text (kill_parts t nick) ∷ [] else [])
-    kills_goes_well known = record {
-      closes_none = none_closed;
-      to_linked = to_linked;
-      to_own = to_own;
-      pays = ap (λ l. lines_on k (neighbour_served s p view line).out ++ l) (still_owes_none p (λ there. knows_p))
-          ∙ append-nil (lines_on k (neighbour_served s p view line).out)
-          ∙ goes_back
-          ∙ sym (ap (λ l. l ++ (if same server t then line_text (kill_parts t nick) ∷ [] else []))
-          (owes_none s links t w view fits forest p (λ there. knows_p)));
-      others = pays_nothing;
-      met_stay = λ u is. ap (λ ends. option_map_or is_met (get ends (number s u)) false) ends_are ∙ is;
-    }
-      where
-        pays_nothing : (u : Name) → u ≢ p → PaysNothing s view (neighbour_served s p view line) u
-        pays_nothing u other =
-            let before = owes_none s links t w view fits forest u (λ there. known u there other) in
-            record { owes_as_before = still_owes_none u (λ there. known u there other) ∙ sym before; in_turn = inr before }
+        → IsGoodReply s links p t view after (if same server t then line_text (kill_parts t nick) ∷ [] else [])
+    kills_goes_well =
+        reply_so s links p t w view takes fits forest after put_out (if same server t then line_text (kill_parts t nick) ∷ [] else []) goes_back
+        (ap (λ (so : Served). so.view.ends) after_is) knows_p

@@ -7,7 +7,7 @@ use Rattle.std.specs.Option.{option_map_or}
 use Rattle.irc_burst_lines.specs.DeedLines.{kill_parts}
 use Rattle.irc_line.specs.Messages.{line_text}
 use Rattle.irc_line.specs.Reading.{read_of}
-use Rattle.irc_merge.specs.Deeds.{Deed, does, gains, loses, kills, brings, sets, tops}
+use Rattle.irc_merge.specs.Deeds.{Deed, does, gains, kills}
 use Rattle.irc_relay.specs.Following.{Follows, SaysOn, Terms, sends, keeps}
 use Rattle.irc_relay.specs.Links.{Name, Link, same, toward, AreLinked}
 use Rattle.irc_relay.specs.Relay.{TakesFrom}
@@ -29,7 +29,7 @@ use Rattle.irc_follow.specs.Says.{neighbour_served, lines_on, machine, play, ter
 use Rattle.irc_follow.specs.Lemmas.SidesFollowed.{servers_follow, IsKnownOfLine}
 use Rattle.irc_items.specs.GoodLines.{closings, Answering, IsAnswered, IsGoodLine, IsGoodReply, IsUnheard}
 use Rattle.irc_items.specs.Relayed.{owed_at, owed_to}
-use Rattle.irc_items.proofs.Good.GoodDeeds.{brings_goes_well, loses_goes_well, sets_goes_well, tops_goes_well}
+use Rattle.irc_items.proofs.Good.GoodDeeds.{whole_goes_well}
 use Rattle.irc_items.proofs.Good.GoodEffects.{effect_goes_well}
 use Rattle.irc_items.proofs.Good.GoodGains.{gain_goes_well}
 use Rattle.irc_items.proofs.Good.GoodKills.{kills_goes_well}
@@ -135,13 +135,10 @@ module _ (s : Fixed) (asks : Answering) (world : World) (routes : Name → Known
 
     said_good : (deed : Deed) → MayKill s asks world routes p t deed line → Says s p t w view deed line → Good
     said_good (does effect) may says =
-        unanswered (does effect) says (effect_goes_well s world.links p t w view takes fits alike_here effect line says
-        (known.fits s p t w view (does effect) line fixed takes fits says) known_beside)
+        unanswered (does effect) says (effect_goes_well s world.links p t w view takes fits alike_here effect line says known_beside)
     said_good (gains uplink name info) may says =
         unanswered (gains uplink name info) says (gain_goes_well s world.links p t w view takes fits alike_here fixed uplink name info line says
         (known.fits s p t w view (gains uplink name info) line fixed takes fits says) known_beside)
-    said_good (loses server name text) may says =
-        unanswered (loses server name text) says (loses_goes_well s world.links p t w view takes fits alike_here server name text line says known_beside)
     said_good (kills server nick) may says = record {
       is_line = says.is_line;
       end = says.end;
@@ -150,14 +147,8 @@ module _ (s : Fixed) (asks : Answering) (world : World) (routes : Name → Known
       good = kills_goes_well s world.links p t w view takes fits alike_here server nick line says known_beside;
       answer = answer_of s asks world routes p t line server nick may;
     }
-    said_good (brings server channel members) may says =
-        unanswered (brings server channel members) says
-        (brings_goes_well s world.links p t w view takes fits alike_here server channel members line says known_beside)
-    said_good (sets server channel changes) may says =
-        unanswered (sets server channel changes) says
-        (sets_goes_well s world.links p t w view takes fits alike_here server channel changes line says known_beside)
-    said_good (tops server channel topic) may says =
-        unanswered (tops server channel topic) says (tops_goes_well s world.links p t w view takes fits alike_here server channel topic line says known_beside)
+    said_good deed may says =
+        unanswered deed says (whole_goes_well s world.links p t w view takes fits alike_here deed tt line says known_beside)
 
   -- ---- of one that says none
 
@@ -227,14 +218,9 @@ told_on_may : (s : Fixed) (asks : Answering) (world : World) (routes : Name → 
     (line next_line : List ℕ)
     → Fits s t w view → TakesFrom s.streams t p → TakesFrom s.streams u t → u ≢ p → Says s p t w view deed line
     → MayKill s asks world routes t u deed next_line
-told_on_may s asks world routes p t u w view (does effect) line next_line fits takes next apart says = tt
-told_on_may s asks world routes p t u w view (gains uplink name info) line next_line fits takes next apart says = tt
-told_on_may s asks world routes p t u w view (loses server name text) line next_line fits takes next apart says = tt
 told_on_may s asks world routes p t u w view (kills server nick) line next_line fits takes next apart says =
     λ is. absurd (not_readers s p t u w view server nick fits takes next apart says.doable is)
-told_on_may s asks world routes p t u w view (brings server channel members) line next_line fits takes next apart says = tt
-told_on_may s asks world routes p t u w view (sets server channel changes) line next_line fits takes next apart says = tt
-told_on_may s asks world routes p t u w view (tops server channel topic) line next_line fits takes next apart says = tt
+told_on_may s asks world routes p t u w view deed line next_line fits takes next apart says = tt
 
 -- ---- servers follow
 

@@ -2,7 +2,7 @@
 use Rattle.std.proofs.Common.{◌≡◌, ℕ, Bool, true, false, cond, Option, Some, None, refl, sym, ◌∙◌, ap, option_map}
 use Rattle.std.specs.FinMap.{get, insert, remove, retain_keys}
 use Rattle.irc_room.specs.effect.Effect.{Effect}
-use Rattle.irc_room.specs.effect.Effect.TheVariants.{AddUser, Rename, Quit, Join, Part, Kick, ChangeModes, SetTopic, Say, Invite, UserMode}
+use Rattle.irc_room.specs.effect.Effect.TheVariants.{Rename}
 use Rattle.irc_stage.specs.declared.clients.Client.{Client}
 use Rattle.irc_stage.specs.Handle.{clients_after, renamed_in}
 use Rattle.irc_stage.specs.RoomMachine.{Clients, each_client}
@@ -61,13 +61,4 @@ module _ (stays : ℕ → Bool) where
 
   pub staying_after : (effect : Effect) (clients : Clients) → clients_after effect (staying clients) ≡ staying (clients_after effect clients)
   staying_after (Rename nick new) clients = staying_each (renamed_in nick new) clients
-  staying_after (AddUser user) clients = refl
-  staying_after (Quit nick text) clients = refl
-  staying_after (Join nick channel op) clients = refl
-  staying_after (Part nick channel text) clients = refl
-  staying_after (Kick by channel nick text) clients = refl
-  staying_after (ChangeModes by channel changes) clients = refl
-  staying_after (SetTopic by channel text) clients = refl
-  staying_after (Say by notice to text) clients = refl
-  staying_after (Invite by nick channel) clients = refl
-  staying_after (UserMode nick invisible) clients = refl
+  staying_after effect clients = refl

@@ -11,7 +11,7 @@ use Rattle.irc_users.specs.declared.user.User.{User}
 use Rattle.irc_users.specs.UserTable.{is_home}
 use Rattle.irc_batch.specs.Batches.{Sent}
 use Rattle.irc_room.specs.effect.Effect.{Effect}
-use Rattle.irc_room.specs.effect.Effect.TheVariants.{AddUser, Rename, Quit, Join, Part, Kick, ChangeModes, SetTopic, Say, Invite, UserMode}
+use Rattle.irc_room.specs.effect.Effect.TheVariants.{Invite}
 use Rattle.irc_room.specs.After.{after}
 use Rattle.irc_room.specs.Effects.{has_user, needs_users, IsPossible}
 use Rattle.irc_room.specs.Invitations.{after_at, is_at, of_home}
@@ -104,16 +104,7 @@ module _ (t : Name) (stays : ℕ → Bool) (start : View) where
             ≡ (if not b then of_home t machine.room else after (of_home t machine.room) (Invite by nick channel))
         on true = refl
         on false = refl
-    room_at (AddUser user) there = refl
-    room_at (Rename nick new) there = refl
-    room_at (Quit nick text) there = refl
-    room_at (Join nick channel op) there = refl
-    room_at (Part nick channel text) there = refl
-    room_at (Kick by channel nick text) there = refl
-    room_at (ChangeModes by channel changes) there = refl
-    room_at (SetTopic by channel text) there = refl
-    room_at (Say by notice to text) there = refl
-    room_at (UserMode nick invisible) there = refl
+    room_at effect there = refl
 
     pub room_now : (effect : Effect) → IsPossible machine.room effect → room_after (view_in machine) effect ≡ of_home t (after machine.room effect)
     room_now effect possible = sym (home_follows t machine.room effect is.well possible.nick_free ∙ room_at effect possible.users_there)
@@ -194,16 +185,7 @@ module _ (t : Name) (stays : ℕ → Bool) (start : View) where
               (if b then [] else flat_map (to_viewer (staying stays machine.clients)) (seen (of_home t machine.room) (Invite by nick channel)))) so
               ∙ nothing_there by nick channel
               (is_not (is_at t machine.room.users (key nick)) (sym (invited_elsewhere by nick channel there) ∙ so)) (stays who) refl
-      shown_so (AddUser user) there = shown_here (AddUser user) refl
-      shown_so (Rename nick new) there = shown_here (Rename nick new) refl
-      shown_so (Quit nick text) there = shown_here (Quit nick text) refl
-      shown_so (Join nick channel op) there = shown_here (Join nick channel op) refl
-      shown_so (Part nick channel text) there = shown_here (Part nick channel text) refl
-      shown_so (Kick by channel nick text) there = shown_here (Kick by channel nick text) refl
-      shown_so (ChangeModes by channel changes) there = shown_here (ChangeModes by channel changes) refl
-      shown_so (SetTopic by channel text) there = shown_here (SetTopic by channel text) refl
-      shown_so (Say by notice to text) there = shown_here (Say by notice to text) refl
-      shown_so (UserMode nick invisible) there = shown_here (UserMode nick invisible) refl
+      shown_so effect there = shown_here effect refl
 
       told_more : (effect : Effect) (put_out heard : List Sent) → list_all (has_user machine.room) (needs_users effect) ≡ true
           → lines_to who put_out ≡ cond (stays who) (lines_to who heard) []

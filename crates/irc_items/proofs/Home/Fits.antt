@@ -15,7 +15,7 @@ use Rattle.irc_relay.specs.Distances.{IsAmong}
 use Rattle.irc_relay.specs.Links.{Name, joined, same}
 use Rattle.irc_stage.specs.declared.clients.Client.TheVariants.{Registered}
 use Rattle.irc_stage.specs.ClientTold.{client_told}
-use Rattle.irc_stage.specs.Handle.{Happening, connects, says, goes, handled}
+use Rattle.irc_stage.specs.Handle.{Happening, connects, handled}
 use Rattle.irc_stage.specs.RoomMachine.{RoomMachine}
 use Rattle.irc_stage.specs.View.{View}
 use Rattle.irc_server.specs.Owed.{lines_to}
@@ -40,7 +40,6 @@ pub record DoesAsMachine (s : Fixed) (world : World) (routes : Name → Known) (
   pub own : (client : ℕ) (line : List ℕ) (lines : List (List ℕ)) → lines_to client (client_told view happening).out ≡ line ∷ lines
       → is_home_of s.homes h client ≡ true
   pub ends : (client_told view happening).view.ends ≡ view.ends
-  pub routes_same : (client_told view happening).view.routes ≡ view.routes
   pub closes_none : closings (client_told view happening).out ≡ []
 
 pub record AreHomeLaws : Type 0 where
@@ -53,8 +52,7 @@ due_mine s world h happening due = ap (λ o. option_map_or (same h) o false) (at
   where
     at_home : (happening : Happening) → IsDueAtHome s world h happening → home_in s.homes (client_in happening) ≡ Some h
     at_home (connects conn host) due = due.0
-    at_home (says conn read) due = due.0
-    at_home (goes conn) due = due.0
+    at_home happening due = due.0
 
 module _ (s : Fixed) (world : World) (routes : Name → Known) (h : Name) (view : View) (fits : Fits s h (part_of s world routes h) view) where
   -- each other server of its part is behind one of its links
@@ -129,7 +127,6 @@ module _ (s : Fixed) (world : World) (routes : Name → Known) (h : Name) (view 
           one.told client ∙ ap (λ b. cond b (lines_to client (handled (machine_at s.settings world h) happening).out) []) mine;
       own = λ client line lines some. nobody_else client line lines some (is_home_of s.homes h client) refl;
       ends = ap (λ (v : View). v.ends) one.view;
-      routes_same = ap (λ (v : View). v.routes) one.view;
       closes_none = one.closes_none;
     }
 

@@ -4,7 +4,7 @@ use Rattle.std.specs.Cmp.Lexicographic.{bytes_decides}
 use Rattle.std.specs.FinMap.{empty, get-empty, retain_keys}
 use Rattle.std.specs.Ordering.{nat_cmp}
 use Rattle.irc_room.specs.effect.Effect.{Effect}
-use Rattle.irc_room.specs.effect.Effect.TheVariants.{AddUser, Rename, Quit, Join, Part, Kick, ChangeModes, SetTopic, Say, Invite, UserMode}
+use Rattle.irc_room.specs.effect.Effect.TheVariants.{AddUser}
 use Rattle.irc_room.specs.After.{after}
 use Rattle.irc_room.specs.Effects.{IsPossible}
 use Rattle.irc_room.specs.InTurn.{EachInTurn}
@@ -22,14 +22,14 @@ use Rattle.irc_routes.specs.Known.{Known, place_of}
 use Rattle.irc_stage.specs.declared.clients.Client.{Client}
 use Rattle.irc_stage.specs.ClientTold.{client_told}
 use Rattle.irc_stage.specs.EffectTold.{room_after}
-use Rattle.irc_stage.specs.Handle.{Happening, connects, says, goes}
+use Rattle.irc_stage.specs.Handle.{Happening, says}
 use Rattle.irc_stage.specs.RoomMachine.{RoomMachine}
 use Rattle.irc_stage.specs.View.{View}
 use Rattle.irc_wire.specs.EachReadBack.{EachIsReadBack}
 use Rattle.irc_world.specs.Bounds.{effects_at}
 use Rattle.irc_world.specs.World.{World, machine_at, place_at}
 use Rattle.irc_world.specs.WorldHolds.{IsWorld}
-use Rattle.irc_follow.specs.AtRest.{part_of, AreRight, IsOfWorld}
+use Rattle.irc_follow.specs.AtRest.{part_of}
 use Rattle.irc_follow.specs.Fits.{Fits}
 use Rattle.irc_follow.specs.Laws.{DoneStaysSound, GoesOn, told, passed}
 use Rattle.irc_follow.specs.Part.{Fixed, done, is_home_of, number, IsFixed}
@@ -95,16 +95,7 @@ module _ (laws : AreTellingLaws) (s : Fixed) (fixed : IsFixed s) (links : List L
         known = ap w.tree.knows (sym at_home) ∙ telling.writer.sound.tree.here_known h telling.writer.here;
         far = subst (IsFar s w) at_home telling.far;
       }
-  comes_far w telling (Rename nick new) its = tt
-  comes_far w telling (Quit nick text) its = tt
-  comes_far w telling (Join nick channel op) its = tt
-  comes_far w telling (Part nick channel text) its = tt
-  comes_far w telling (Kick by channel nick text) its = tt
-  comes_far w telling (ChangeModes by channel changes) its = tt
-  comes_far w telling (SetTopic by channel text) its = tt
-  comes_far w telling (Say by notice to text) its = tt
-  comes_far w telling (Invite by nick channel) its = tt
-  comes_far w telling (UserMode nick invisible) its = tt
+  comes_far w telling effect its = tt
 
   doable_now : (w : of_side.Part) → IsTelling w → (effect : Effect) → IsOwnTold h w.hall.room effect → IsDoableEffect s w effect
   doable_now w telling effect its = record {
@@ -248,9 +239,8 @@ module _ (laws : AreTellingLaws) (s : Fixed) (world : World) (routes : Name → 
   said_well = by happening due
     where
       by : (happening : Happening) → IsDueAtHome s world h happening → IsSaidWell happening
-      by (connects conn host) due = tt
       by (says conn read) due = due.2
-      by (goes conn) due = tt
+      by happening due = tt
 
   each : EachInTurn (IsOwnTold h) (world.hall h).room effects
   each = effects_told laws.spoken h (is_home_of s.homes h) (λ x. joined world.links x h) view (machine_at s.settings world h) home
@@ -281,53 +271,20 @@ module _ (laws : AreTellingLaws) (s : Fixed) (world : World) (routes : Name → 
     hall = sym (is_world.sound.one_hall u h together) i;
   }
 
-  few_next : (u : Name) → length (lines_on (number s u) (client_told view happening).out) ≤ length effects
-  few_next u =
-      subst (λ lines. length lines ≤ length effects) (sym (lines_so (number s u))) (few_along (number s u) view (of_home h (world.hall h).room) effects)
-
-  none_elsewhere : (v : Name) → (AreLinked world.links h v → ⊥) → lines_on (number s v) (client_told view happening).out ≡ []
-  none_elsewhere v apart = lines_so (number s v) ∙ none_along laws s fixed world.links h view v effects here apart begins each
-
--- ----
-
-pub told_by_home : AreTellingLaws → (s : Fixed) (world later : World) (routes : Name → Known) (h u : Name) (view other : View) (happening : Happening)
-    (client : ℕ) → later.links ≡ world.links → IsFixed s → IsForest world.links → s.streams ≡ streams_from world.links (from_one world.links h)
-    → AreLinked world.links h u → IsWorld s.settings world → IsOfWorld s world → AreRight s world.links routes
-    → Fits s h (part_of s world routes h) view → Fits s u (part_of s world routes u) other
-    → place_of (routes h) ≡ place_at s.settings world.links h → IsDueAtHome s world h happening
-    → Tells (machine s client) (play s client) (good_terms s no_answers later routes) h u (part_of s world routes u) other
-    (map does (effects_at (machine_at s.settings world h) happening)) (lines_on (number s u) (client_told view happening).out)
-told_by_home laws s world later routes h u view other happening client same_links fixed forest streams there is_world of_world right fits reader place due =
-    let one = same_part laws s world routes h view happening fixed forest streams is_world fits place due u
-    (linked_joined world.links u h (linked_back world.links h u there)) in
-    subst (λ w. Tells (machine s client) (play s client) (good_terms s no_answers later routes) h u w other
-    (map does (effects_at (machine_at s.settings world h) happening)) (lines_on (number s u) (client_told view happening).out)) one
-    (tells_next laws s world routes h view happening fixed forest streams is_world fits place due later same_links client u other there
-    (subst (λ w. Fits s u w other) (sym one) reader))
-
-pub few_by_home : AreTellingLaws → (s : Fixed) (world : World) (routes : Name → Known) (h : Name) (view : View) (happening : Happening)
-    → IsFixed s → IsForest world.links → s.streams ≡ streams_from world.links (from_one world.links h) → IsWorld s.settings world
-    → Fits s h (part_of s world routes h) view → place_of (routes h) ≡ place_at s.settings world.links h → IsDueAtHome s world h happening → (u : Name)
-    → length (lines_on (number s u) (client_told view happening).out) ≤ length (effects_at (machine_at s.settings world h) happening)
-few_by_home laws s world routes h view happening fixed forest streams is_world fits place due =
-    few_next laws s world routes h view happening fixed forest streams is_world fits place due
-
-pub unlinked_by_home : AreTellingLaws → (s : Fixed) (world : World) (routes : Name → Known) (h : Name) (view : View) (happening : Happening)
-    → IsFixed s → IsForest world.links → s.streams ≡ streams_from world.links (from_one world.links h) → IsWorld s.settings world
-    → Fits s h (part_of s world routes h) view → place_of (routes h) ≡ place_at s.settings world.links h → IsDueAtHome s world h happening → (v : Name)
-    → (AreLinked world.links h v → ⊥) → lines_on (number s v) (client_told view happening).out ≡ []
-unlinked_by_home laws s world routes h view happening fixed forest streams is_world fits place due =
-    none_elsewhere laws s world routes h view happening fixed forest streams is_world fits place due
-
--- all of it, as the network begins to follow
-pub tells_from_home : AreTellingLaws → (s : Fixed) (world later : World) (routes : Name → Known) (h : Name) (view : View) (happening : Happening)
-    → later.links ≡ world.links → IsFixed s → IsForest world.links → s.streams ≡ streams_from world.links (from_one world.links h) → IsWorld s.settings world
-    → IsOfWorld s world → AreRight s world.links routes → Fits s h (part_of s world routes h) view → place_of (routes h) ≡ place_at s.settings world.links h
-    → IsDueAtHome s world h happening → IsToldByHome s world later routes h view happening
-tells_from_home laws s world later routes h view happening same_links fixed forest streams is_world of_world right fits place due = record {
-  told = λ u other client there reader.
-      told_by_home laws s world later routes h u view other happening client same_links fixed forest streams there is_world of_world right fits reader place
-      due;
-  few = λ u other there reader. few_by_home laws s world routes h view happening fixed forest streams is_world fits place due u;
-  unlinked = unlinked_by_home laws s world routes h view happening fixed forest streams is_world fits place due;
-}
+  -- all of it, as the network begins to follow
+  pub tells_from_home : (later : World) → later.links ≡ world.links → IsToldByHome s world later routes h view happening
+  tells_from_home later same_links = record {
+    told = told;
+    few = λ u other there reader. subst (λ lines. length lines ≤ length effects) (sym (lines_so (number s u)))
+        (few_along (number s u) view (of_home h (world.hall h).room) effects);
+    unlinked = λ v apart. lines_so (number s v) ∙ none_along laws s fixed world.links h view v effects here apart begins each;
+  }
+    where
+      told : (u : Name) (other : View) (client : ℕ) → AreLinked world.links h u → Fits s u (part_of s world routes u) other
+          → Tells (machine s client) (play s client) (good_terms s no_answers later routes) h u (part_of s world routes u) other (map does effects)
+          (lines_on (number s u) (client_told view happening).out)
+      told u other client there reader =
+          let one = same_part u (linked_joined world.links u h (linked_back world.links h u there)) in
+          subst (λ w. Tells (machine s client) (play s client) (good_terms s no_answers later routes) h u w other
+          (map does effects) (lines_on (number s u) (client_told view happening).out)) one
+          (tells_next later same_links client u other there (subst (λ w. Fits s u w other) (sym one) reader))

@@ -153,16 +153,7 @@ module _ (t : Name) where
     own_users_after : (machine : RoomMachine) (effect : Effect) → AreOwnUsers machine.clients machine.room.users → IsOwnStep machine.room effect
         → AreOwnUsers (clients_after effect machine.clients) (after machine.room effect).users
     own_users_after machine (Rename nick new) own step = renamed_own machine nick new own step
-    own_users_after machine (AddUser user) own step = kept_own machine (AddUser user) own step.own
-    own_users_after machine (Quit nick text) own step = kept_own machine (Quit nick text) own step.own
-    own_users_after machine (Join nick channel op) own step = kept_own machine (Join nick channel op) own step.own
-    own_users_after machine (Part nick channel text) own step = kept_own machine (Part nick channel text) own step.own
-    own_users_after machine (Kick by channel nick text) own step = kept_own machine (Kick by channel nick text) own step.own
-    own_users_after machine (ChangeModes by channel changes) own step = kept_own machine (ChangeModes by channel changes) own step.own
-    own_users_after machine (SetTopic by channel text) own step = kept_own machine (SetTopic by channel text) own step.own
-    own_users_after machine (Say by notice to text) own step = kept_own machine (Say by notice to text) own step.own
-    own_users_after machine (Invite by nick channel) own step = kept_own machine (Invite by nick channel) own step.own
-    own_users_after machine (UserMode nick invisible) own step = kept_own machine (UserMode nick invisible) own step.own
+    own_users_after machine effect own step = kept_own machine effect own step.own
 
     -- what holds of the room machine of this server's part: these servers' users are in it
     pub record IsHomeRoom (knows : Name → Bool) (machine : RoomMachine) : Type 0 where
@@ -172,16 +163,7 @@ module _ (t : Name) where
 
     new_known : (knows : Name → Bool) (room : Room) (effect : Effect) → knows t ≡ true → IsOwnDoing room effect → NewPasses knows effect
     new_known knows room (AddUser user) here own = ap knows ((bytes_decides user.home t).0 own) ∙ here
-    new_known knows room (Rename nick new) here own = tt
-    new_known knows room (Quit nick text) here own = tt
-    new_known knows room (Join nick channel op) here own = tt
-    new_known knows room (Part nick channel text) here own = tt
-    new_known knows room (Kick by channel nick text) here own = tt
-    new_known knows room (ChangeModes by channel changes) here own = tt
-    new_known knows room (SetTopic by channel text) here own = tt
-    new_known knows room (Say by notice to text) here own = tt
-    new_known knows room (Invite by nick channel) here own = tt
-    new_known knows room (UserMode nick invisible) here own = tt
+    new_known knows room effect here own = tt
 
     pub home_room_after : (knows : Name → Bool) (machine : RoomMachine) (effect : Effect) → knows t ≡ true → IsHomeRoom knows machine
         → IsOwnStep machine.room effect → IsHomeRoom knows (machine_after machine effect)
@@ -197,15 +179,7 @@ module _ (t : Name) where
   own_doing me room (AddUser user) done own = absurd (cc done)
   own_doing me room (Rename nick new) done own = λ user is.
       own user (ap (λ n. row room.users (key n)) (sym (same_some nick me.nick done)) ∙ is)
-  own_doing me room (Quit nick text) done own = tt
-  own_doing me room (Join nick channel op) done own = tt
-  own_doing me room (Part nick channel text) done own = tt
-  own_doing me room (Kick by channel nick text) done own = tt
-  own_doing me room (ChangeModes by channel changes) done own = tt
-  own_doing me room (SetTopic by channel text) done own = tt
-  own_doing me room (Say by notice to text) done own = tt
-  own_doing me room (Invite by nick channel) done own = tt
-  own_doing me room (UserMode nick invisible) done own = tt
+  own_doing me room effect done own = tt
 
   pub own_in_turn : (me : User) (room : Room) (effects : List Effect) → IsOwnAt room.users (key me.nick) → EachInTurn IsPossible room effects
       → AllByRecursion (IsDoneBy me) effects → EachInTurn IsOwnStep room effects

@@ -21,37 +21,34 @@ module _ (l : Link) (links : List Link) (forest : IsForest links) (apart : part 
   more : IsMade l links
   more = made l links forest apart
 
-  near_joined : (x t : Name) → AreJoined links t l.near → joined (l ∷ links) x t ≡ (joined links x l.near || joined links x l.far)
-  near_joined x t here = both_so _ _ forth turn
+  -- where whoever is joined to one of a's side then is joined to a or to b before, and whoever was joined to b is then
+  of_side : (a b : Name)
+      → ((x t : Name) → AreJoined links t a → AreJoined (l ∷ links) x t → AreJoined links x a ⊎ AreJoined links x b)
+      → ((x t : Name) → AreJoined links x b → AreJoined links a t → AreJoined (l ∷ links) x t)
+      → (x t : Name) → AreJoined links t a → joined (l ∷ links) x t ≡ (joined links x a || joined links x b)
+  of_side a b meets crossed x t here = both_so _ _ forth turn
     where
-      forth : joined (l ∷ links) x t ≡ true → (joined links x l.near || joined links x l.far) ≡ true
-      forth so = elim (more.meets x t (joined_so (l ∷ links) x t so)) [
-        | within one ↦ or_left _ _ (joined_test links x l.near (one ∙ here))
-        | over one other ↦ or_left _ _ (joined_test links x l.near one)
-        | back one other ↦ or_right _ _ (joined_test links x l.far one)
+      forth : joined (l ∷ links) x t ≡ true → (joined links x a || joined links x b) ≡ true
+      forth so = elim (meets x t here (joined_so (l ∷ links) x t so)) [
+        | inl one ↦ or_left _ _ (joined_test links x a one)
+        | inr other ↦ or_right _ _ (joined_test links x b other)
       ]
 
-      turn : (joined links x l.near || joined links x l.far) ≡ true → joined (l ∷ links) x t ≡ true
+      turn : (joined links x a || joined links x b) ≡ true → joined (l ∷ links) x t ≡ true
       turn so = elim (either_true _ _ so) [
-        | inl one ↦ joined_test (l ∷ links) x t ((more.kept x t (joined_so links x l.near one ∙ sym here)).joined)
-        | inr other ↦ joined_test (l ∷ links) x t (more.back_joined x t (joined_so links x l.far other) (sym here))
+        | inl one ↦ joined_test (l ∷ links) x t ((more.kept x t (joined_so links x a one ∙ sym here)).joined)
+        | inr other ↦ joined_test (l ∷ links) x t (crossed x t (joined_so links x b other) (sym here))
       ]
+
+  near_joined : (x t : Name) → AreJoined links t l.near → joined (l ∷ links) x t ≡ (joined links x l.near || joined links x l.far)
+  near_joined = of_side l.near l.far
+      (λ x t here so. elim (more.meets x t so) [ within one ↦ inl (one ∙ here) | over one other ↦ inl one | back one other ↦ inr one ])
+      more.back_joined
 
   far_joined : (x t : Name) → AreJoined links t l.far → joined (l ∷ links) x t ≡ (joined links x l.far || joined links x l.near)
-  far_joined x t there = both_so _ _ forth turn
-    where
-      forth : joined (l ∷ links) x t ≡ true → (joined links x l.far || joined links x l.near) ≡ true
-      forth so = elim (more.meets x t (joined_so (l ∷ links) x t so)) [
-        | within one ↦ or_left _ _ (joined_test links x l.far (one ∙ there))
-        | over one other ↦ or_right _ _ (joined_test links x l.near one)
-        | back one other ↦ or_left _ _ (joined_test links x l.far one)
-      ]
-
-      turn : (joined links x l.far || joined links x l.near) ≡ true → joined (l ∷ links) x t ≡ true
-      turn so = elim (either_true _ _ so) [
-        | inl one ↦ joined_test (l ∷ links) x t ((more.kept x t (joined_so links x l.far one ∙ sym there)).joined)
-        | inr other ↦ joined_test (l ∷ links) x t (more.over_joined x t (joined_so links x l.near other) (sym there))
-      ]
+  far_joined = of_side l.far l.near
+      (λ x t there so. elim (more.meets x t so) [ within one ↦ inl (one ∙ there) | over one other ↦ inr one | back one other ↦ inl one ])
+      more.over_joined
 
   pub near_ends : AreEnds l links l.near l.far
   near_ends = record { linked = inl (inr (refl, refl)); apart = λ one. apart (sym one); joined = near_joined }

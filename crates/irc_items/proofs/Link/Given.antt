@@ -214,9 +214,6 @@ module _ (stays : ServedKeepsItsSetting) (net : Network) (sound : IsSound net) (
   abbrev q : ℕ
   q = index_in net.names far
 
-  near_other : near ≢ far
-  near_other e = m.apart (ap (part net.links) e)
-
   not_linked : (a b : Name) → part net.links a ≢ part net.links b → linked net.links a b ≡ false
   not_linked a b apart = by (linked net.links a b) refl
     where

@@ -73,7 +73,7 @@ module _ (laws : AreLinkItemLaws) (net : Network) (sound : IsSound net) (rest : 
   }
 
   rooms : (t b : Name) → HasEnds l t b → AreRooms world t b
-  rooms t b ends = rooms_meet (settings_of net) world holds t b (λ on. not_both l world.links (apart given_so) t t b ends refl on)
+  rooms t b ends = rooms_meet laws.rooms.doable (settings_of net) world holds t b (λ on. not_both l world.links (apart given_so) t t b ends refl on)
 
   tells : IsToldByLink laws.link.after_link laws.link.quiet given_so
   tells = told_by_link laws.rooms laws.link.after_link laws.link.quiet given_so

@@ -1,24 +1,19 @@
 -- Whom a burst kills, and what its lines show: a client whose nickname the other side has too is killed by the line that tells of that nickname, is told so,
 -- and sees nothing more. Any other client stays, and sees all that is shown.
-use Rattle.std.proofs.Common.{◌≡◌, ℕ, Bool, true, false, cond, not, Option, Some, None, is_some, List, [], ◌∷◌, ◌++◌, map, option_to_list, refl, sym, ◌∙◌, ap, subst, append-nil, append_assoc, if◌then◌else◌}
+use Rattle.std.proofs.Common.{◌≡◌, ℕ, Bool, true, false, cond, not, Option, Some, None, is_some, List, [], ◌∷◌, ◌++◌, option_to_list, refl, sym, ◌∙◌, ap, subst, append-nil, append_assoc, if◌then◌else◌}
 use Rattle.std.proofs.lemmas.Bool.{and_parts}
-use Rattle.std.specs.Bool.{⊤}
 use Rattle.std.specs.FinMap.{get, entries, entries_sorted, values, find, is_sorted, get-entries}
 use Rattle.std.specs.FinMap.Entries.{below_all}
 use Rattle.std.specs.List.{flat_map, AllByRecursion}
 use Rattle.std.specs.Option.{option_and_then, option_map_or}
-use Rattle.irc_channels.specs.declared.channel.Channel.{Channel}
 use Rattle.irc_channels.specs.declared.flags.Flags.{Flags}
 use Rattle.irc_merge.specs.BurstRead.{introduced, new_members, brought, some_far, read_deed, read_all}
-use Rattle.irc_merge.specs.Bursts.{in_lines, members_a_line, bans_a_line, stored_members, burst, channel_deeds, settings_line}
-use Rattle.irc_merge.specs.Deeds.{Deed, does, gains, loses, kills, brings, sets, tops, titled, effects_of, after_deed, after_deeds, shown_by, shown_by_all}
+use Rattle.irc_merge.specs.Bursts.{burst, channel_deeds}
+use Rattle.irc_merge.specs.Deeds.{Deed, does, kills, brings, sets, tops, titled, effects_of, after_deed, after_deeds, shown_by, shown_by_all}
 use Rattle.irc_merge.specs.Lemmas.Introducing.{met, met_by, is_met, met_well, introductions, other_met}
 use Rattle.irc_merge.specs.Lemmas.TableWords.{true_is, absent}
 use Rattle.irc_merge.specs.Quits.{collision_text}
 use Rattle.irc_merge.specs.ShownAlong.{shown_along}
-use Rattle.irc_modes.specs.Modes.{is_nil}
-use Rattle.irc_modes.specs.ModesSet.{set_changes, ban_changes}
-use Rattle.irc_modes.specs.declared.modes.ModeChange.{ModeChange}
 use Rattle.irc_names.specs.Fold.{key, same}
 use Rattle.irc_names.specs.FoldLaws.{same-tells}
 use Rattle.irc_names.specs.Tables.{fold_cmp, row}
@@ -44,6 +39,7 @@ use Rattle.irc_follow.specs.Part.{Fixed, Part, client_sees, done, is_home_of, to
 use Rattle.irc_follow.specs.Says.{play}
 use Rattle.irc_follow.specs.Lemmas.DeedEffects.{AllQuiet, members_quiet, sets_quiet, tops_quiet, users_stay}
 use Rattle.irc_follow.specs.Lemmas.PartEffects.{same_folds}
+use Rattle.irc_items.proofs.Burst.ChannelLines.{deeds_of_channels, IsOfChannel}
 use Rattle.irc_items.proofs.Burst.Stated.{both_all}
 use Rattle.irc_items.proofs.Link.Gains.{clients_left, clients_spared, hall_left, in_hall, read_deed_done}
 use Rattle.irc_items.proofs.Link.Sides.{IsReadDeed}
@@ -89,11 +85,7 @@ spares (kills server nick) clients q = get-kept clients (is_another clients nick
     by (Some (Registering pending)) = refl
     by (Some (Registered name)) = by_name name (same name nick)
 spares (does effect) clients q = all_stay (does effect) (λ name. refl) (get clients q)
-spares (gains uplink name info) clients q = all_stay (gains uplink name info) (λ nick. refl) (get clients q)
-spares (loses server name text) clients q = all_stay (loses server name text) (λ nick. refl) (get clients q)
-spares (brings server channel members) clients q = all_stay (brings server channel members) (λ nick. refl) (get clients q)
-spares (sets server channel changes) clients q = all_stay (sets server channel changes) (λ nick. refl) (get clients q)
-spares (tops server channel topic) clients q = all_stay (tops server channel topic) (λ nick. refl) (get clients q)
+spares deed clients q = all_stay deed (λ nick. refl) (get clients q)
 
 pub left_of : (deeds : List Deed) (clients : Clients) (q : ℕ) → get (clients_left deeds clients) q ≡ client_left deeds (get clients q)
 left_of [] clients q = refl
@@ -140,12 +132,7 @@ pub record Fares (killed : Bool) (room : Room) (nick : List ℕ) (deeds : List D
 
 end_told : (deed : Deed) (nick : List ℕ) → told_end deed nick ≡ end_line (is_killed deed nick)
 end_told (kills server other) nick = refl
-end_told (does effect) nick = refl
-end_told (gains uplink name info) nick = refl
-end_told (loses server name text) nick = refl
-end_told (brings server channel members) nick = refl
-end_told (sets server channel changes) nick = refl
-end_told (tops server channel topic) nick = refl
+end_told deed nick = refl
 
 first_seen : (room : Room) (nick : List ℕ) (deed : Deed) (deeds : List Deed) (b : Bool) → is_killed deed nick ≡ b
     → seen_in room (deed ∷ deeds) (Some (Registered nick))
@@ -192,40 +179,6 @@ unseen_along viewer (effect ∷ effects) quiet room none = λ i.
     (ap (λ us. row us (key viewer)) (users_stay room (effect ∷ []) (quiet.0, tt)) ∙ none) i
 
 -- ---- lines about channels
-
-abbrev IsOfChannel : Deed → Type 0
-IsOfChannel (brings server channel members) = ⊤
-IsOfChannel (sets server channel changes) = ⊤
-IsOfChannel (tops server channel topic) = ⊤
-IsOfChannel deed = ⊥
-
-lines_of : {X : Type 0} (line : X → Deed) → ((x : X) → IsOfChannel (line x)) → (xs : List X) → AllByRecursion IsOfChannel (map line xs)
-lines_of line each [] = tt
-lines_of line each (x ∷ xs) = (each x, lines_of line each xs)
-
-settings_of_channel : (server channel : List ℕ) (changes : List ModeChange) → AllByRecursion IsOfChannel (settings_line server channel changes)
-settings_of_channel server channel [] = tt
-settings_of_channel server channel (change ∷ changes) = (tt, tt)
-
-topic_of_channel : (server channel topic : List ℕ) (b : Bool) → AllByRecursion IsOfChannel (cond b [] (tops server channel topic ∷ []))
-topic_of_channel server channel topic true = tt
-topic_of_channel server channel topic false = (tt, tt)
-
-deeds_of_channel : (server : List ℕ) (room : Room) (channel : Channel) → AllByRecursion IsOfChannel (channel_deeds server room.users channel)
-deeds_of_channel server room channel =
-    both_all IsOfChannel (map (brings server channel.name) (in_lines members_a_line (stored_members room.users channel))) _
-    (lines_of (brings server channel.name) (λ x. tt) (in_lines members_a_line (stored_members room.users channel)))
-    (both_all IsOfChannel (settings_line server channel.name (set_changes channel.modes)) _
-    (settings_of_channel server channel.name (set_changes channel.modes))
-    (both_all IsOfChannel (map (sets server channel.name) (in_lines bans_a_line (ban_changes channel.modes.bans))) _
-    (lines_of (sets server channel.name) (λ x. tt) (in_lines bans_a_line (ban_changes channel.modes.bans)))
-    (topic_of_channel server channel.name channel.topic (is_nil channel.topic))))
-
-deeds_of_channels : (server : List ℕ) (room : Room) (channels : List Channel) → AllByRecursion IsOfChannel (flat_map (channel_deeds server room.users) channels)
-deeds_of_channels server room [] = tt
-deeds_of_channels server room (channel ∷ channels) =
-    both_all IsOfChannel (channel_deeds server room.users channel) (flat_map (channel_deeds server room.users) channels)
-    (deeds_of_channel server room channel) (deeds_of_channels server room channels)
 
 brought_of_channel : (server channel : List ℕ) (members : List (List ℕ × Flags)) → AllByRecursion IsOfChannel (brought server channel members)
 brought_of_channel server channel [] = tt
@@ -407,5 +360,5 @@ pub burst_fares : (own server : List ℕ) (far : List ℕ → Bool) (room other 
 unfolding burst
 burst_fares own server far room other well well_other viewer mine at =
     subst (λ o. Fares (is_some o) room viewer (read_all own far room (burst server other))) (sym (get-entries other.users (key viewer)))
-    (fares_from viewer own far (flat_map (channel_deeds server other.users) (values other.channels)) (deeds_of_channels server other (values other.channels))
+    (fares_from viewer own far (flat_map (channel_deeds server other.users) (values other.channels)) (deeds_of_channels server other.users (values other.channels))
     (entries other.users) (true_is _ (entries_sorted other.users)) (table_named other.users well_other.users_named) room well mine at)

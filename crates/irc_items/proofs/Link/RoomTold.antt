@@ -18,6 +18,7 @@ use Rattle.irc_room.specs.Lemmas.SendingAlike.{alike_keep_limits}
 use Rattle.irc_burst.specs.DeedsMeant.{as_stored}
 use Rattle.irc_burst_lines.specs.DeedLines.{deed_parts}
 use Rattle.irc_link_reader.specs.Reader.{is_behind_link}
+use Rattle.irc_merge.specs.CanBeDone.{LinesCanBeDone}
 use Rattle.irc_merge.specs.BurstRead.{some_far, brought, new_members, read_all, read_deed}
 use Rattle.irc_merge.specs.Bursts.{burst}
 use Rattle.irc_merge.specs.Deeds.{Deed, does, kills, brings, sets, tops, after_deeds}
@@ -41,7 +42,7 @@ use Rattle.irc_follow.specs.Lemmas.PlacesOfNames.{one_place}
 use Rattle.irc_items.proofs.Burst.Lines.{members_aside, members_said, modes_aside, modes_said, new_user_said, topic_aside, topic_said, IsBurstReader, IsNewNeighbour, KnowsBothSides}
 use Rattle.irc_items.proofs.Burst.Read.{held_by, AreHeldFirst, AreToldIn, IsHeldFirst, IsToldIn}
 use Rattle.irc_items.proofs.Burst.Taken.{members_come, members_spelled}
-use Rattle.irc_items.proofs.Burst.Told.{AreComing, AreTheirChanges, AreTheirMembers, IsTheirTopic}
+use Rattle.irc_items.proofs.Burst.Told.{AreComing, AreTheirMembers}
 use Rattle.irc_items.proofs.Burst.Collisions.{answers_of, user_collides}
 use Rattle.irc_items.proofs.Good.GoodLines.{MayKill}
 use Rattle.irc_items.proofs.Link.Answers.{may_answer}
@@ -53,6 +54,7 @@ pub record AreRoomLaws : Type 0 where
   pub sides : IsKnownOfSides
   pub line : IsKnownOfLine
   pub read_back : EachIsReadBack
+  pub doable : LinesCanBeDone
 
 module _ (laws : AreRoomLaws) {s : Fixed} {l : Link} {world : World} {routes : Name → Known} {t b : Name} (is : IsSideOfLink s l world routes t b)
     (client : ℕ) (known_at : Name → Known) (at_b : known_at b ≡ routes b) where
@@ -222,31 +224,28 @@ module _ (laws : AreRoomLaws) {s : Fixed} {l : Link} {world : World} {routes : N
               (sym (ap (map (as_stored room)) e)
               ∙ members_spelled far their_room room channel members told.well (is.holds.sound.well_formed b) told.theirs theirs ∙ e))
 
+      -- what is read where somebody of the channel is far
+      if_some_far : (channel : List ℕ) (deed : Deed) → IsReadDeed t deed → May deed (line_of deed)
+          → (some_far (is_behind_link view.routes (number s b)) room channel ≡ true → Says s b t (w hall) view deed (line_of deed))
+          → (some_far (is_behind_link view.routes (number s b)) room channel ≡ false → Aside s b t (w hall) view (line_of deed))
+          → IsReadSo (line_of deed) (if some_far far room channel then deed ∷ [] else [])
+      if_some_far channel deed read may says aside = by (some_far far room channel) refl
+        where
+          by : (c : Bool) → some_far far room channel ≡ c → IsReadSo (line_of deed) (if c then deed ∷ [] else [])
+          by true e = read_said (line_of deed) deed read may (says (ap (λ f. some_far f room channel) far_is ∙ e))
+          by false e = read_aside (line_of deed) (aside (ap (λ f. some_far f room channel) far_is ∙ e))
+
       modes_one : (channel : List ℕ) (changes : List ModeChange) → IsToldIn b far their_room room (sets b channel changes)
           → IsReadSo (line_of (sets b channel changes)) (if some_far far room channel then sets b channel changes ∷ [] else [])
-      modes_one channel changes told = by (some_far far room channel) refl
-        where
-          theirs : AreTheirChanges channel changes
-          theirs = told.told.1
-
-          by : (c : Bool) → some_far far room channel ≡ c → IsReadSo (line_of (sets b channel changes)) (if c then sets b channel changes ∷ [] else [])
-          by true e = read_said (line_of (sets b channel changes)) (sets b channel changes) tt tt
-              (modes_said laws.sides.handshakes.lines s b t (w hall) view reader channel changes theirs (ap (λ f. some_far f room channel) far_is ∙ e))
-          by false e = read_aside (line_of (sets b channel changes))
-              (modes_aside laws.sides.handshakes.lines s b t (w hall) view reader channel changes theirs (ap (λ f. some_far f room channel) far_is ∙ e))
+      modes_one channel changes told = if_some_far channel (sets b channel changes) tt tt
+          (modes_said laws.sides.handshakes.lines s b t (w hall) view reader channel changes told.told.1)
+          (modes_aside laws.sides.handshakes.lines s b t (w hall) view reader channel changes told.told.1)
 
       topic_one : (channel topic : List ℕ) → IsToldIn b far their_room room (tops b channel topic)
           → IsReadSo (line_of (tops b channel topic)) (if some_far far room channel then tops b channel topic ∷ [] else [])
-      topic_one channel topic told = by (some_far far room channel) refl
-        where
-          theirs : IsTheirTopic channel topic
-          theirs = told.told.1
-
-          by : (c : Bool) → some_far far room channel ≡ c → IsReadSo (line_of (tops b channel topic)) (if c then tops b channel topic ∷ [] else [])
-          by true e = read_said (line_of (tops b channel topic)) (tops b channel topic) tt tt
-              (topic_said laws.sides.handshakes.lines s b t (w hall) view reader channel topic theirs (ap (λ f. some_far f room channel) far_is ∙ e))
-          by false e = read_aside (line_of (tops b channel topic))
-              (topic_aside laws.sides.handshakes.lines s b t (w hall) view reader channel topic theirs (ap (λ f. some_far f room channel) far_is ∙ e))
+      topic_one channel topic told = if_some_far channel (tops b channel topic) tt tt
+          (topic_said laws.sides.handshakes.lines s b t (w hall) view reader channel topic told.told.1)
+          (topic_aside laws.sides.handshakes.lines s b t (w hall) view reader channel topic told.told.1)
 
       module _ (user : User) (told : IsToldIn b far their_room room (does (AddUser user))) where
         home_far : joined links user.home b ≡ true
@@ -289,21 +288,19 @@ module _ (laws : AreRoomLaws) {s : Fixed} {l : Link} {world : World} {routes : N
             by None free = user_comes free
             by (Some holder) taken = holder_killed holder taken (held holder taken)
 
+      -- whoever is named in a line of b is b
+      by_b : (deed_of : List ℕ → Deed) (by : List ℕ) → by ≡ b
+          → (IsToldIn b far their_room room (deed_of b) → IsReadSo (line_of (deed_of b)) (read_deed t far room (deed_of b)))
+          → IsToldIn b far their_room room (deed_of by) → IsReadSo (line_of (deed_of by)) (read_deed t far room (deed_of by))
+      by_b deed_of by is = subst
+          (λ v. IsToldIn b far their_room room (deed_of v) → IsReadSo (line_of (deed_of v)) (read_deed t far room (deed_of v))) (sym is)
+
       told_one : (deed : Deed) → IsToldIn b far their_room room deed → IsHeldFirst (world.hall t).room room deed
           → IsReadSo (line_of deed) (read_deed t far room deed)
       told_one (does (AddUser user)) told held = user_one user told held
-      told_one (brings by channel members) told held =
-          subst (λ v. IsToldIn b far their_room room (brings v channel members)
-          → IsReadSo (line_of (brings v channel members)) (read_deed t far room (brings v channel members)))
-          (sym told.told.0) (members_one channel members) told
-      told_one (sets by channel changes) told held =
-          subst (λ v. IsToldIn b far their_room room (sets v channel changes)
-          → IsReadSo (line_of (sets v channel changes)) (read_deed t far room (sets v channel changes)))
-          (sym told.told.0) (modes_one channel changes) told
-      told_one (tops by channel topic) told held =
-          subst (λ v. IsToldIn b far their_room room (tops v channel topic)
-          → IsReadSo (line_of (tops v channel topic)) (read_deed t far room (tops v channel topic)))
-          (sym told.told.0) (topic_one channel topic) told
+      told_one (brings by channel members) told held = by_b (λ v. brings v channel members) by told.told.0 (members_one channel members) told
+      told_one (sets by channel changes) told held = by_b (λ v. sets v channel changes) by told.told.0 (modes_one channel changes) told
+      told_one (tops by channel topic) told held = by_b (λ v. tops v channel topic) by told.told.0 (topic_one channel topic) told
       told_one deed told held = absurd told.told
 
   -- ---- line by line

@@ -16,7 +16,7 @@ use Rattle.irc_stage.specs.View.{View, password_for}
 use Rattle.irc_merge.specs.Bursts.{burst}
 use Rattle.irc_world.specs.Bounds.{most, part_size}
 use Rattle.irc_world.specs.Bystanders.{OnlyConnectedReceive}
-use Rattle.irc_world.specs.Stepping.{Stepped, link, link_made, step}
+use Rattle.irc_world.specs.Stepping.{Stepped, link, link_made}
 use Rattle.irc_world.specs.World.{World}
 use Rattle.irc_follow.specs.AtRest.{part_of}
 use Rattle.irc_follow.specs.Fits.{Fits}

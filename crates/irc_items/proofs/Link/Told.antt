@@ -46,7 +46,7 @@ module _ {net new : Network} {near far : Name} (laws : AreRoomLaws) (after_link 
     forest = forest given;
     right = right_here given;
     holds = given.step.holds;
-    rooms = rooms_meet (settings_of net) world given.step.holds t b (λ on. not_both l world.links (apart given) t t b ends refl on);
+    rooms = rooms_meet laws.doable (settings_of net) world given.step.holds t b (λ on. not_both l world.links (apart given) t t b ends refl on);
   }
 
   room_of : (t : Name) → IsAmong net.names t → (view_at new t).room ≡ of_home t (world.hall t).room

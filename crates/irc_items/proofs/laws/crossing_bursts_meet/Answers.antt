@@ -1,4 +1,4 @@
-use Rattle.irc_items.proofs.InAnyOrder.{crossing_bursts_meet}
+use Rattle.irc_items.proofs.PartedAndBack.{crossing_bursts_meet}
 use Rattle.irc_items.proofs.laws.crossing_bursts_meet.Goals as goal
 
 pub returns : goal.returns

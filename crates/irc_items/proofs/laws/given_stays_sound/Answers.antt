@@ -71,7 +71,7 @@ returns c = given_stays_sound (record { rest = c.rest_is_one_room.ensures; world
       };
       home = record { decisions = decisions; sound = c.part_at_rest_is_sound.ensures };
       tells = λ s world after routes h view happening same_links fixed forest streams among is_world of_world right fits place due.
-          tells_from_home telling s world after routes h view happening same_links fixed forest streams is_world of_world right fits place due;
+          tells_from_home telling s world routes h view happening fixed forest streams is_world fits place due after same_links;
       place = c.place_is_worlds.ensures;
       kept = c.keeps_its_setting.ensures;
       steps = steps;
@@ -107,6 +107,7 @@ returns c = given_stays_sound (record { rest = c.rest_is_one_room.ensures; world
         };
         line = line;
         read_back = c.each_is_read_back.ensures;
+        doable = c.lines_can_be_done.ensures;
       };
       links = record {
         at_rest = c.part_at_rest_is_sound.ensures;
