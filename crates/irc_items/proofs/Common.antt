@@ -20,7 +20,8 @@
 --   why they are done  each source puts out lines that tell of them in turn, `Tells` (as Cut.Told), each deed can be done and told when its turn comes
 --   where that leads   each server is what it has to be in the world after (as Cut.Coming), and each client has received what the world says
 --   a bound            of the lines that come, which is `most` of the world
--- and a case in ../GivenStaysSound. The rest is here.
+-- and a case in ../GivenStaysSound, ../Refusals and ../KeepsSettings, and its laws in src/laws.rt. The rest is here. docs/ARCHITECTURE.md, "To add a
+-- kind of item", has the places in other crates. This is for items that leave names and settings of servers as they are (`HasTaken`).
 pub mod Step
 pub mod Ends
 pub mod Reading

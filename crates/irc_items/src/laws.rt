@@ -1,5 +1,5 @@
 //! What holds of networks of servers, whatever the order in which lines are delivered. Each law is a function that does nothing, and its contract is the law: the
-//! check proves it, and a crate above may cite it.
+//! check proves it, and a crate above may cite it. The plan of the proof stands at the head of `proofs/Common.antt`.
 ghost use Rattle.irc_items.specs.InAnyOrder.{ClashingNicknamesGo, CrossingBurstsMeet, ItemIsReceived, RejoinJoinsTheRooms, SplitPartsTheRoom};
 ghost use Rattle.irc_items.specs.Kept.{DeliveryKeepsSound, SettlingKeepsSound, TakenAreFew, TurnLeavesFewer, TurnsAreFew};
 ghost use Rattle.irc_items.specs.Laws.{DeliveryKeepsSettings, DeliveryStaysSound, GivenKeepsSettings, GivenStaysSound, NewLinkIsOpen, NewNetworkIsSound, NoLinkIsClosed, OnlyLinesClose, ReceivedIsFront, RefusalsAreTheWorlds, RestIsOneRoom, WaitingAreLines};

@@ -1,4 +1,4 @@
--- A network is sound once a link is given, where no nickname is on both sides.
+-- A network is sound once a link is given: whoever has a nickname that is on both sides is killed.
 use Rattle.std.proofs.Common.{◌≡◌, ℕ, true, None, List, ◌∷◌, refl, subst, arith}
 use Rattle.irc_merge.specs.Deeds.{Deed}
 use Rattle.irc_relay.specs.Following.{all_done, IsFollowing}

@@ -1,4 +1,4 @@
--- A network is sound once a link is made between two parts that share no nickname.
+-- What a link that is made comes to: what clients receive by it, and how many lines.
 use Rattle.std.proofs.Common.{◌≡◌, ◌≢◌, ◌⊎◌, ℕ, suc, ◌+◌, ◌*◌, ◌-◌, ◌<◌, ◌≤◌, Bool, true, false, ◌||◌, Some, is_some, List, [], ◌∷◌, ◌++◌, length, count_by, refl, sym, ap, subst, ◌∙◌, arith, inl, inr, unwrap_or}
 use Rattle.irc_handshake.specs.GreetingLines.{greeting, pass_parts}
 use Rattle.irc_line.specs.Messages.{line_text}
