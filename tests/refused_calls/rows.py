@@ -71,13 +71,17 @@ EFFECTS = [
     "mode al #c +o bo", "topic al #c :new", "say al #c :hi", "say al bo :hi", "invite al ee #c", "umode al +",
 ]
 
+# those whose change alone, shown to nobody, takes memory in this room
+GROWING = ("user", "join", "invite")
+
 # effects that do nothing, which take no memory
 IDLE = ["join al #c op", "part ee #c :x", "kick al #c ee :x"]
 
 
 def of_rooms():
     rows = [("room", "hall", HALL, f"apply {effect}") for effect in EFFECTS]
-    rows += [("none", "hall", HALL, f"apply {effect}") for effect in IDLE]
+    rows += [("room" if effect.startswith(GROWING) else "none", "hall", HALL, f"change {effect}") for effect in EFFECTS]
+    rows += [("none", "hall", HALL, f"{call} {effect}") for call in ("apply", "change") for effect in IDLE]
     for size in range(25):
         many = [f"apply user n{at} a.net" for at in range(size)]
         rows.append(("room", "hall", many, "apply user new a.net"))
