@@ -1,10 +1,12 @@
 -- The rows of tables that are the same once each is changed, and what is made of such rows.
 use Rattle.std.specs.Prelude.{T}
-use Rattle.std.proofs.Common.{◌≡◌, ℕ, Bool, true, false, cond, ◌&&◌, ◌||◌, ◌++◌, Option, Some, None, List, [], ◌∷◌, map, filter, refl, sym, ◌∙◌, ap, subst}
+use Rattle.std.proofs.Common.{◌≡◌, ℕ, Bool, true, false, cond, ◌&&◌, ◌||◌, ◌++◌, Option, Some, None}
+use Rattle.std.proofs.Common.{List, [], ◌∷◌, map, filter, refl, sym, ◌∙◌, ap, subst}
 use Rattle.std.specs.List.{cons_option, flat_map, filter_map, list_any}
 use Rattle.std.specs.Option.{option_map, option_and_then}
 use Rattle.std.specs.Ordering.{is_lt}
-use Rattle.std.specs.FinMap.{entries, entries_sorted, values, find, from_sorted, is_sorted, get-entries, get-from_sorted, entries-from_sorted}
+use Rattle.std.specs.FinMap.{entries, entries_sorted, values, find, from_sorted, is_sorted}
+use Rattle.std.specs.FinMap.{get-entries, get-from_sorted, entries-from_sorted}
 use Rattle.std.specs.FinMap.Entries.{below_all}
 use Rattle.irc_names.specs.Tables.{Table, row, each, fold_cmp}
 use Rattle.irc_names.specs.TableLaws.{same_fold, same_table, row-each}

@@ -1,5 +1,6 @@
 -- What a line can carry of the words that clients give, and of names.
-use Rattle.std.proofs.Common.{◌≡◌, ℕ, zero, suc, ◌≤◌, Bool, true, false, not, ◌||◌, ◌&&◌, List, [], ◌∷◌, length, take, nat_eq, refl, sym, ◌∙◌, ap, arith}
+use Rattle.std.proofs.Common.{◌≡◌, ℕ, zero, suc, ◌≤◌, Bool, true, false, not, ◌||◌, ◌&&◌, List, []}
+use Rattle.std.proofs.Common.{◌∷◌, length, take, nat_eq, refl, sym, ◌∙◌, ap, arith}
 use Rattle.std.specs.List.{list_all, AllByRecursion}
 use Rattle.std.specs.Char.{is_ascii_alphabetic, is_ascii_digit}
 use Rattle.std.specs.Cmp.{first_so, second_so}
@@ -8,7 +9,8 @@ use Rattle.std.proofs.lemmas.List.{length-take}
 use Rattle.irc_line.specs.Bytes.{is_line_end}
 use Rattle.irc_line.specs.Carried.{is_carried_byte, is_carried, IsCarried}
 use Rattle.irc_names.specs.Limits.{max_words}
-use Rattle.irc_names.specs.Names.{is_special, is_nick_byte, is_nick, is_key_byte, is_key, starts_without_colon, fits}
+use Rattle.irc_names.specs.Names.{is_special, is_nick_byte, is_nick, is_key_byte, is_key}
+use Rattle.irc_names.specs.Names.{starts_without_colon, fits}
 use Rattle.irc_names.specs.Limits.{max_nick, max_key}
 use Rattle.irc_channels.specs.Texts.{cut_words}
 use Rattle.irc_room.specs.Limits.{IsCarriedText}

@@ -1,5 +1,6 @@
 -- Lists whose entries are parted by commas (RFC 2812 section 2.3.1).
-use Rattle.std.specs.Prelude.{◌≡◌, ◌<◌, ℕ, suc, Bool, not, Option, Some, None, MatchOption, List, [], ◌∷◌, filter, length, nat_eq}
+use Rattle.std.specs.Prelude.{◌≡◌, ◌<◌, ℕ, suc, Bool, not, Option, Some, None, MatchOption, List}
+use Rattle.std.specs.Prelude.{[], ◌∷◌, filter, length, nat_eq}
 use Rattle.std.specs.Borrow.{Bor}
 use Rattle.std.specs.List.{slice_split}
 use Rattle.irc_modes.specs.Modes.{is_nil}

@@ -12,7 +12,8 @@ use Rattle.irc_room.specs.Effects.{has_user, has_channel, is_member}
 use Rattle.irc_acts.specs.declared.act.Act.{Act}
 use Rattle.irc_acts.specs.Acts.{effects_among}
 use Rattle.irc_acts.specs.Doing.{DoesSomething, AreDoing}
-use Rattle.irc_acts.specs.Own.{IsOwn, to_user, to_channel, makes, enters, parts, sets_topic, kicks, invites, changes_modes, sets_user_mode, AreOwn}
+use Rattle.irc_acts.specs.Own.{IsOwn, to_user, to_channel, makes, enters, parts, sets_topic, kicks}
+use Rattle.irc_acts.specs.Own.{invites, changes_modes, sets_user_mode, AreOwn}
 use Rattle.irc_acts.specs.OwnLaws.{own_in_turn}
 
 -- whether a user is a member of a channel that was found, by the name that is stored

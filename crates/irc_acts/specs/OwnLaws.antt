@@ -1,5 +1,6 @@
 -- What follows where each effect of some steps is its user's own.
-use Rattle.std.proofs.Common.{◌≡◌, ℕ, true, ◌&&◌, is_some, Some, List, [], ◌∷◌, refl, sym, ◌∙◌, ap, subst}
+use Rattle.std.proofs.Common.{◌≡◌, ℕ, true, ◌&&◌, is_some, Some, List, [], ◌∷◌, refl, sym, ◌∙◌, ap}
+use Rattle.std.proofs.Common.{subst}
 use Rattle.std.specs.Prelude.{⊤}
 use Rattle.std.specs.List.{AllByRecursion, list_all}
 use Rattle.irc_names.specs.Fold.{key}
@@ -18,7 +19,8 @@ use Rattle.irc_acts.specs.declared.act.Act.{Act}
 use Rattle.irc_acts.specs.declared.act.Act.TheVariants.{Answer, Raw, Do}
 use Rattle.irc_acts.specs.Acts.{effects_among}
 use Rattle.irc_acts.specs.Possible.{ArePossible}
-use Rattle.irc_acts.specs.Own.{IsOwn, to_user, to_channel, makes, enters, parts, sets_topic, kicks, invites, changes_modes, sets_user_mode, AreOwn}
+use Rattle.irc_acts.specs.Own.{IsOwn, to_user, to_channel, makes, enters, parts, sets_topic, kicks}
+use Rattle.irc_acts.specs.Own.{invites, changes_modes, sets_user_mode, AreOwn}
 
 -- an answer, a line, or a text: it leaves the room as it is
 pub record LeavesRoom (me : User) (room : Room) (effect : Effect) : Type 0 where

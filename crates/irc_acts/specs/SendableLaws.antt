@@ -1,6 +1,7 @@
 -- What is a user's own has the names of who is there, as they are stored: so it can be sent where
 -- the texts that it carries can.
-use Rattle.std.proofs.Common.{◌≡◌, ℕ, Bool, true, false, cond, is_some, Option, Some, None, List, [], ◌∷◌, refl, sym, ◌∙◌, ap, subst}
+use Rattle.std.proofs.Common.{◌≡◌, ℕ, Bool, true, false, cond, is_some, Option, Some, None, List}
+use Rattle.std.proofs.Common.{[], ◌∷◌, refl, sym, ◌∙◌, ap, subst}
 use Rattle.std.specs.Option.{option_map}
 use Rattle.irc_names.specs.Fold.{key}
 use Rattle.irc_names.specs.Names.{is_channel}
@@ -13,11 +14,14 @@ use Rattle.irc_room.specs.effect.Effect.{Effect}
 use Rattle.irc_room.specs.Room.{Room, IsWellFormed}
 use Rattle.irc_room.specs.After.{after}
 use Rattle.irc_room.specs.InTurn.{EachInTurn}
-use Rattle.irc_room.specs.Sendable.{IsStoredNick, IsStoredChannel, IsNameFor, IsChannelOrNew, IsSendable}
+use Rattle.irc_room.specs.Sendable.{IsStoredNick, IsStoredChannel, IsNameFor, IsChannelOrNew}
+use Rattle.irc_room.specs.Sendable.{IsSendable}
 use Rattle.irc_room.specs.Lemmas.WellFormedLaw.{after_is_well_formed}
 use Rattle.irc_acts.specs.declared.act.Act.{Act}
 use Rattle.irc_acts.specs.Acts.{effects_among}
-use Rattle.irc_acts.specs.Own.{IsChannelName, of_found, by_rule, IsOwn, to_user, to_channel, makes, enters, parts, sets_topic, kicks, invites, changes_modes, sets_user_mode, AreOwn}
+use Rattle.irc_acts.specs.Own.{IsChannelName, of_found, by_rule, IsOwn, to_user, to_channel, makes}
+use Rattle.irc_acts.specs.Own.{enters, parts, sets_topic, kicks, invites, changes_modes}
+use Rattle.irc_acts.specs.Own.{sets_user_mode, AreOwn}
 use Rattle.irc_acts.specs.OwnLaws.{own_possible}
 use Rattle.irc_acts.specs.Sendable.{AreSendable, CarriesSendable, CarrySendable}
 

@@ -13,7 +13,8 @@ use irc_names::same;
 use irc_room::{Effect, Room};
 use irc_users::User;
 
-/// The flags of the user of a nickname in the channel of a name, once these steps are done, where it is a member then.
+/// The flags of the user of a nickname in the channel of a name, once these steps are done, where
+/// it is a member then.
 pub fn flags(room: &Room, steps: &[Act], nick: &[u8], channel: &[u8]) -> Option<Flags>
     requires { AreMoves room.now.room steps.now }
     ensures { result ≡ flags_at (ahead room.now.room steps.now) (key nick.now) (key channel.now) }
@@ -58,7 +59,8 @@ fn flags_by(act: &Act, nick: &[u8], channel: &[u8], before: Option<Flags>) -> Op
     }
 }
 
-/// How many members the channel of a name has, once these steps are done; none where it is not there.
+/// How many members the channel of a name has, once these steps are done; none where it is not
+/// there.
 pub fn members(room: &Room, steps: &[Act], channel: &[u8]) -> usize
     requires { AreMoves room.now.room steps.now }
     ensures { result ≡ members_at (ahead room.now.room steps.now) (key channel.now) }
@@ -110,7 +112,8 @@ fn channels_by(act: &Act, nick: &[u8], before: usize) -> usize
     }
 }
 
-/// The channel of a name as the room has it, where some member is left once these steps are done, by which members only leave.
+/// The channel of a name as the room has it, where some member is left once these steps are done,
+/// by which members only leave.
 pub fn channel<'a>(room: &'a Room, steps: &[Act], name: &[u8]) -> Option<&'a Channel>
     requires { AreLeaves room.now.room steps.now }
     ensures { IsNamedAs result (channel_ahead room.now.room steps.now name.now) }

@@ -3,7 +3,8 @@ ghost use Rattle.std.specs.Prelude.{◌≡◌, ◌≤◌, false, not, ◌∷◌,
 ghost use Rattle.std.specs.List.{list_any};
 ghost use Rattle.irc_line.specs.Bytes.{begins};
 ghost use Rattle.irc_line.specs.MessageViews.{optional_now};
-ghost use Rattle.irc_acts.specs.CommaLists.{is_comma, entries, pieces, pieces_left, length_left, IsNextEntry};
+ghost use Rattle.irc_acts.specs.CommaLists.{is_comma, entries, pieces, pieces_left, length_left};
+ghost use Rattle.irc_acts.specs.CommaLists.{IsNextEntry};
 
 const COMMA: u8 = b',';
 
@@ -32,7 +33,8 @@ pub fn entry_count(list: &[u8]) -> usize
     count
 }
 
-/// The first piece of a comma list, which may be empty, and the list behind its comma, if there is one.
+/// The first piece of a comma list, which may be empty, and the list behind its comma, if there is
+/// one.
 pub fn first_piece(list: &[u8]) -> (&[u8], Option<&[u8]>)
     ensures parted { pieces list.now ≡ result.0.now ∷ pieces_left (optional_now result.1) }
     ensures shorter { length_left (optional_now result.1) ≤ length list.now }

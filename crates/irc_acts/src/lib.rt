@@ -1,4 +1,5 @@
-//! What all commands stand on: steps, the room ahead, comma lists, how a user stands to a channel, and words of a client.
+//! What all commands stand on: steps, the room ahead, comma lists, how a user stands to a channel,
+//! and words of a client.
 #![tactic(auto)]
 
 mod act;

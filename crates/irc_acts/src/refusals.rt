@@ -1,6 +1,8 @@
 //! Replies by which several commands refuse.
 ghost use Rattle.std.specs.Prelude.{◌≡◌};
-ghost use Rattle.irc_numerics.specs.declared.replies.Reply.TheVariants.{NeedMoreParams, NoSuchChannel, NotOnChannel};
+ghost use Rattle.irc_numerics.specs.declared.replies.Reply.TheVariants.{NeedMoreParams};
+ghost use Rattle.irc_numerics.specs.declared.replies.Reply.TheVariants.{NoSuchChannel};
+ghost use Rattle.irc_numerics.specs.declared.replies.Reply.TheVariants.{NotOnChannel};
 ghost use Rattle.irc_acts.specs.declared.act.Act.TheVariants.{Answer};
 ghost use Rattle.irc_acts.specs.Acts.{client_words};
 

@@ -3,7 +3,9 @@ ghost use Rattle.std.specs.Prelude.{◌≡◌};
 ghost use Rattle.std.specs.List.{list_any};
 ghost use Rattle.irc_names.specs.Fold.{key};
 ghost use Rattle.irc_channels.specs.Channels.{has_member};
-ghost use Rattle.irc_acts.specs.Standing.{channels_now, is_banned, is_known, is_listed, is_operator, is_seen_from, mark_of, mask_of, visibility_of};
+ghost use Rattle.irc_acts.specs.Standing.{channels_now, is_banned, is_known, is_listed};
+ghost use Rattle.irc_acts.specs.Standing.{is_operator, is_seen_from, mark_of, mask_of};
+ghost use Rattle.irc_acts.specs.Standing.{visibility_of};
 
 use arrayvec::ArrayVec;
 use irc_channels::{Channel, Flags, Stored};
@@ -53,7 +55,8 @@ pub fn visibility_of(privacy: Privacy) -> Visibility
     }
 }
 
-/// Whether a channel is listed for a user: for its members, and for others where it is neither private nor secret.
+/// Whether a channel is listed for a user: for its members, and for others where it is neither
+/// private nor secret.
 pub fn is_listed(user: &User, channel: &Channel) -> bool
     ensures { result ≡ is_listed user.now channel.now }
 {
@@ -67,8 +70,8 @@ pub fn is_known(user: &User, channel: &Channel) -> bool
     !matches!(channel.modes.privacy, Privacy::Secret) || channel.has_member(&user.nick)
 }
 
-/// Whether a user is seen by another, whose own channels are given: itself, a user without mode i, and one that is in one of these channels
-/// (RFC 2812 section 3.6.1).
+/// Whether a user is seen by another, whose own channels are given: itself, a user without mode i,
+/// and one that is in one of these channels (RFC 2812 section 3.6.1).
 pub fn is_seen(me: &User, own: &[&Row<Stored>], user: &User) -> bool
     ensures { result ≡ is_seen_from (channels_now own.now) me.now user.now }
 {

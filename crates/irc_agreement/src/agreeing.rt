@@ -11,9 +11,10 @@ use irc_channels::{Channel, Flags, Stored};
 use irc_room::Room;
 use irc_tables::Row;
 
-/// Whether two halves of a network agree: where each channel that both would still have, once every user whose nickname is on both
-/// sides has quit (RFC 2812 section 3.7.1), has one name by bytes, the same modes with key, limit and bans, and one topic. It makes no
-/// difference then which half is named first where they become one. It takes no memory, and neither room changes.
+/// Whether two halves of a network agree: where each channel that both would still have, once every
+/// user whose nickname is on both sides has quit (RFC 2812 section 3.7.1), has one name by bytes,
+/// the same modes with key, limit and bans, and one topic. It makes no difference then which half
+/// is named first where they become one. It takes no memory, and neither room changes.
 pub fn agree(one: &Room, other: &Room) -> bool
     ensures { result ≡ agree one.now.room other.now.room }
 {
@@ -63,7 +64,8 @@ fn alike_if_left(one: &Room, other: &Room, here: &Channel, there: &Channel) -> b
     }
 }
 
-/// Whether a channel is left once all of its members have quit whose nicknames the other half has too.
+/// Whether a channel is left once all of its members have quit whose nicknames the other half has
+/// too.
 fn is_left(other: &Room, channel: &Channel) -> bool
     ensures { result ≡ is_left other.now.room channel.now }
 {

@@ -2,13 +2,15 @@
 ghost use Rattle.std.specs.Prelude.{◌≡◌};
 ghost use Rattle.std.specs.Cmp.Lexicographic.{pointwise};
 ghost use Rattle.irc_names.specs.Spellings.{exactly_same};
-ghost use Rattle.irc_merge.specs.Agreeing.{are_alike, same_flag, same_key, same_limit, same_modes, same_privacy};
+ghost use Rattle.irc_merge.specs.Agreeing.{are_alike, same_flag, same_key, same_limit, same_modes};
+ghost use Rattle.irc_merge.specs.Agreeing.{same_privacy};
 
 use irc_channels::Channel;
 use irc_modes::{Key, Modes, Privacy};
 use irc_names::BanMask;
 
-/// Whether two channels have one name by bytes, the same modes with key, limit and bans, and one topic.
+/// Whether two channels have one name by bytes, the same modes with key, limit and bans, and one
+/// topic.
 pub(crate) fn are_alike(one: &Channel, other: &Channel) -> bool
     ensures { result ≡ are_alike one.now other.now }
 {

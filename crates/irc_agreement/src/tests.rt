@@ -11,7 +11,8 @@ use irc_users::{RealName, User, UserName};
 use std::alloc::{AllocError, Global};
 use std::process::Abort;
 
-/// Two halves, and whether they agree. A half is the members of its channel, the channel, its ban and its topic.
+/// Two halves, and whether they agree. A half is the members of its channel, the channel, its ban
+/// and its topic.
 static CASES: [(&str, &str, bool); 9] = [
     ("al #c x!*@* Hi", "bo #c x!*@* Hi", true),
     ("al #c x!*@* Hi", "bo #c x!*@* hi", false),

@@ -1,5 +1,6 @@
 -- NAMES, and the names that a joiner is sent.
-use Rattle.std.specs.Prelude.{ℕ, Bool, not, ◌||◌, Option, Some, None, List, [], ◌∷◌, ◌++◌, length, map, filter, if◌then◌else◌}
+use Rattle.std.specs.Prelude.{ℕ, Bool, not, ◌||◌, Option, Some, None, List, [], ◌∷◌, ◌++◌, length}
+use Rattle.std.specs.Prelude.{map, filter, if◌then◌else◌}
 use Rattle.std.specs.List.{filter_map, flat_map}
 use Rattle.std.specs.Option.{option_and_then}
 use Rattle.std.specs.Int.{div_ceil}
@@ -28,7 +29,8 @@ is_named_to me channel member = has_member (key me.nick) channel || not member.i
 
 -- a member's row as it is listed: what it is there, and its nickname as stored
 abbrev pub listed_as : (User → Bool) → Flags → User → Option Listed
-listed_as is_named flags user = if is_named user then Some (record { mark = mark_of flags; nick = user.nick }) else None
+listed_as is_named flags user =
+    if is_named user then Some (record { mark = mark_of flags; nick = user.nick }) else None
 
 -- a row of a channel's members, by the user whose it is
 abbrev pub listed : Table User → (User → Bool) → List ℕ × Flags → Option Listed
@@ -36,7 +38,8 @@ listed users is_named member = option_and_then (listed_as is_named member.1) (ro
 
 -- the members that are named to a user, in folded order
 abbrev pub named_members : Table User → User → Channel → List Listed
-named_members users me channel = filter_map (listed users (is_named_to me channel)) (rows_of channel.members)
+named_members users me channel =
+    filter_map (listed users (is_named_to me channel)) (rows_of channel.members)
 
 -- a list in lines of this many, the last with what is left
 unfoldable pub in_lines : {X : Type 0} → ℕ → List X → List (List X)
@@ -73,14 +76,16 @@ end_of_names asked = Answer (EndOfNames (client_words asked))
 
 -- what is told of one name that is asked for; it has an end, be it a channel or not
 abbrev pub one_names : Room → User → List ℕ → List Act
-one_names room me name = known_names room.users me (row room.channels (key name)) ++ end_of_names name ∷ []
+one_names room me name =
+    known_names room.users me (row room.channels (key name)) ++ end_of_names name ∷ []
 
 -- of each channel of a comma list, one after another
 abbrev pub list_names : Room → User → List ℕ → List Act
 list_names room me list = flat_map (one_names room me) (entries list)
 
--- What a NAMES does (RFC 2812 section 3.2.5). Without a parameter, all channels that are listed; users on no such channel are not named (our
--- own choice).
+-- What a NAMES does (RFC 2812 section 3.2.5). Without a parameter, all channels that are listed;
+-- users on no such channel are not named (our own choice).
 unfoldable pub names_steps : Room → User → List (List ℕ) → List Act
-names_steps room me [] = listed_names room me (values room.channels) ++ end_of_names (asterisk ∷ []) ∷ []
+names_steps room me [] =
+    listed_names room me (values room.channels) ++ end_of_names (asterisk ∷ []) ∷ []
 names_steps room me (list ∷ more) = list_names room me list

@@ -6,7 +6,8 @@ ghost use Rattle.irc_tables.specs.RowViews.{row_entry};
 ghost use Rattle.irc_channels.specs.Channels.{has_member};
 ghost use Rattle.irc_acts.specs.Steps.{AddsTo};
 ghost use Rattle.irc_answers.specs.Names.{listed, name_line, name_lines};
-ghost use Rattle.irc_answers.specs.Loops.NameLines.{is_shown, ArePartedAt, Fills, FillsEach, FillsOne};
+ghost use Rattle.irc_answers.specs.Loops.NameLines.{is_shown, ArePartedAt, Fills, FillsEach};
+ghost use Rattle.irc_answers.specs.Loops.NameLines.{FillsOne};
 
 use arrayvec::ArrayVec;
 use irc_acts::standing::{mark_of, visibility_of};

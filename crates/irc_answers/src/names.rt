@@ -4,7 +4,8 @@ ghost use Rattle.irc_names.specs.Fold.{key};
 ghost use Rattle.irc_line.specs.PartViews.{words_now};
 ghost use Rattle.irc_channels.specs.Channels.{has_member};
 ghost use Rattle.irc_acts.specs.Steps.{among_users, by_room, AddsTo, Yields};
-ghost use Rattle.irc_answers.specs.Names.{end_of_names, joiner_names, list_names, names_of, names_steps, one_names};
+ghost use Rattle.irc_answers.specs.Names.{end_of_names, joiner_names, list_names, names_of};
+ghost use Rattle.irc_answers.specs.Names.{names_steps, one_names};
 ghost use Rattle.irc_answers.specs.Loops.NameLines.{names_if_listed};
 ghost use Rattle.irc_answers.specs.Laws.NamesLaw.{NamesOnlyAnswers};
 
@@ -118,7 +119,8 @@ fn put_if_listed(
     }
 }
 
-/// Appends the names of the channel that is asked for, where it is there and known to the user, and their end.
+/// Appends the names of the channel that is asked for, where it is there and known to the user, and
+/// their end.
 fn put_asked(
     steps: &mut Vec<Act, Global>,
     context: &Context<'_>,

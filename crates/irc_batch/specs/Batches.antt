@@ -1,11 +1,13 @@
 -- What is put out to connections and on links, in order.
-use Rattle.std.specs.Prelude.{ℕ, ⊤, ◌≤◌, Bool, false, not, nat_eq, Option, Some, None, List, [], ◌∷◌, ◌++◌, length, map, filter}
+use Rattle.std.specs.Prelude.{ℕ, ⊤, ◌≤◌, Bool, false, not, nat_eq, Option, Some, None, List, []}
+use Rattle.std.specs.Prelude.{◌∷◌, ◌++◌, length, map, filter}
 use Rattle.irc_line.specs.Limits.{max_text}
 use Rattle.irc_batch.specs.declared.close_reason.CloseReason.{CloseReason}
 use Rattle.irc_batch.specs.declared.batch.Out.{Out}
 use Rattle.irc_batch.specs.declared.batch.Out.TheVariants.{Line, Close, LinkLine, LinkClose}
 
--- one thing that is put out: a line to a connection or on a link, with its CR LF, or the end of a connection, or of a link and why
+-- one thing that is put out: a line to a connection or on a link, with its CR LF, or the end of a
+-- connection, or of a link and why
 pub data Sent : Type 0 where
   line_to : (conn : ℕ) (line : List ℕ) → Sent
   end_of : (conn : ℕ) → Sent
@@ -47,7 +49,8 @@ is_number None conn = false
 is_number (Some one) conn = nat_eq one conn
 
 abbrev pub to_others : List ℕ → Option ℕ → List ℕ → List Sent
-to_others line one conns = map (λ conn. line_to conn line) (filter (λ conn. not (is_number one conn)) conns)
+to_others line one conns =
+    map (λ conn. line_to conn line) (filter (λ conn. not (is_number one conn)) conns)
 
 -- what the code's value says
 abbrev pub sent_of : Out → Sent

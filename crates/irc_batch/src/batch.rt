@@ -3,7 +3,8 @@ ghost use Rattle.std.specs.Prelude.{◌≡◌, ◌≤◌, Some, [], ◌∷◌, �
 ghost use Rattle.std.specs.Option.{option_map};
 ghost use Rattle.std.specs.List.{slice_get};
 ghost use Rattle.irc_line.specs.Limits.{max_text};
-ghost use Rattle.irc_batch.specs.Batches.{end_of, end_of_link, line_on, line_to, nothing, put_line, put_out, put_out_all, sent_of, to_others, IsText};
+ghost use Rattle.irc_batch.specs.Batches.{end_of, end_of_link, line_on, line_to, nothing, put_line};
+ghost use Rattle.irc_batch.specs.Batches.{put_out, put_out_all, sent_of, to_others, IsText};
 ghost use Rattle.irc_batch.specs.Growing.{Grew};
 ghost use Rattle.irc_batch.specs.Loops.Marks.{bytes_at, IsSpan};
 ghost use Rattle.irc_batch.specs.declared.batch.Out.{Out as AnOut};
@@ -41,8 +42,9 @@ enum Mark {
     LinkClose(u64, CloseReason),
 }
 
-/// Lines to connections and on links, and ends of these, in order. The bytes of all lines lie one behind another, and a line that goes to many
-/// lies there once. No line has more than 512 bytes (RFC 2812 section 2.3).
+/// Lines to connections and on links, and ends of these, in order. The bytes of all lines lie one
+/// behind another, and a line that goes to many lies there once. No line has more than 512 bytes
+/// (RFC 2812 section 2.3).
 #[derive(Drop)]
 pub struct Batch {
     bytes: Vec<u8, Global>,
@@ -59,7 +61,10 @@ impl Model for Batch {
 
     ghost Value = { Batch };
 
-    ghost view = { λ b. record { outs = map (sent_by b.bytes.items) b.marks.items; held = bytes_at b.bytes.items b.held } };
+    ghost view = { λ b. record {
+      outs = map (sent_by b.bytes.items) b.marks.items;
+      held = bytes_at b.bytes.items b.held;
+    } };
 
     ghost invariant = { λ b. Lies (length b.bytes.items) b.held b.marks.items };
 }
@@ -164,7 +169,8 @@ impl Batch {
     /// # Errors
     /// Where memory runs out; it has been put out to some of them then.
     pub fn send_to_others(&mut self, conns: &[u64], one: Option<u64>) -> Result<(), AllocError>
-        ensures ok { OnOk result (self.new ≡ put_out_all (to_others self.old.held one conns.now) self.old) }
+        ensures ok { OnOk result
+            (self.new ≡ put_out_all (to_others self.old.held one conns.now) self.old) }
         ensures grew { Grew self.old.outs self.new.outs }
     {
         for conn in conns {
@@ -175,7 +181,8 @@ impl Batch {
 
     /// Puts out the line at hand to a connection, unless it is this one.
     fn send_unless(&mut self, conn: u64, one: Option<u64>) -> Result<(), AllocError>
-        ensures ok { OnOk result (self.new ≡ put_out_all (to_others self.old.held one (conn ∷ [])) self.old) }
+        ensures ok { OnOk result
+            (self.new ≡ put_out_all (to_others self.old.held one (conn ∷ [])) self.old) }
         ensures refused { OnErr result (self.new ≡ self.old) }
     {
         match one {
@@ -232,7 +239,8 @@ impl Batch {
         note(&mut self.marks, Mark::LinkClose(link, reason))
     }
 
-    /// Takes out all but the first of the things that are put out, so many at most. The line at hand stays.
+    /// Takes out all but the first of the things that are put out, so many at most. The line at
+    /// hand stays.
     pub fn truncate(&mut self, count: usize)
         ensures { self.new ≡ record self.old { outs = take count self.old.outs } }
     {

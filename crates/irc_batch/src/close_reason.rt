@@ -1,8 +1,9 @@
 //! Why a server ends a link.
 use thiserror::Error;
 
-/// Why a server ends a link (our own choice: RFC 2813 names no such numbers), in the order in which causes are looked for in a line of a
-/// linked server; each has its number. Its text is told to whoever runs the server.
+/// Why a server ends a link (our own choice: RFC 2813 names no such numbers), in the order in which
+/// causes are looked for in a line of a linked server; each has its number. Its text is told to
+/// whoever runs the server.
 #[derive(Clone, Copy, Debug, Drop, PartialEq, Eq, Error)]
 pub enum CloseReason {
     /// No line of a link has this command.
@@ -29,7 +30,8 @@ pub enum CloseReason {
     /// A server that is introduced is known (RFC 2813 section 4.1.2).
     #[error("a server that is known already")]
     AlreadyKnown = 8,
-    /// The line comes before its time, or after it: a handshake is first, and once (RFC 2813 section 4.1).
+    /// The line comes before its time, or after it: a handshake is first, and once (RFC 2813
+    /// section 4.1).
     #[error("a line out of its time")]
     Order = 9,
     /// There is no room for one more server.

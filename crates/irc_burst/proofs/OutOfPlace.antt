@@ -14,14 +14,18 @@ use Rattle.irc_burst.specs.Loops.Handshakes.{IsOpened, IsOutOfPlace}
 
 module _ (has_password : Bool) (room : Room) (known : Known) (link : ℕ) (message : Parsed) where
   meant_as : (o : Option (Result Opening CloseReason)) → opening_of has_password message ≡ o
-      → handshake_meant has_password room known link message ≡ unwrap_or o (Err (out_of_place (deeds_meant room known link message)))
+      → handshake_meant has_password room known link message ≡ unwrap_or o
+      (Err (out_of_place (deeds_meant room known link message)))
   unfolding handshake_meant
-  meant_as o is = ap (λ given. unwrap_or given (Err (out_of_place (deeds_meant room known link message)))) is
+  meant_as o is =
+      ap (λ given. unwrap_or given (Err (out_of_place (deeds_meant room known link message)))) is
 
-  pub opened-some : (given : Result Opening CloseReason) → opening_of has_password message ≡ Some given → handshake_meant has_password room known link message ≡ given
+  pub opened-some : (given : Result Opening CloseReason) → opening_of has_password message
+      ≡ Some given → handshake_meant has_password room known link message ≡ given
   opened-some given is = meant_as (Some given) is
 
-  pub opened-none : (fault : BurstFault) → opening_of has_password message ≡ None → IsOutOfPlace message (deeds_meant room known link message) fault
+  pub opened-none : (fault : BurstFault) → opening_of has_password message ≡ None
+      → IsOutOfPlace message (deeds_meant room known link message) fault
       → IsOpened message (handshake_meant has_password room known link message) (Err fault)
   opened-none (Closes given) is closed = meant_as None is ∙ ap Err closed
   opened-none Memory is closed = closed

@@ -1,6 +1,8 @@
--- What a line of a link comes to while the neighbour has not named itself (RFC 2813 section 4.1): it begins the link, or closes it. What is wrong with a line
--- in itself is told before that it is out of its place; who may link is asked last, where the server's peers are known.
---   `PASS pw 0210010001 TREE|`     begins the link, if no password has come; `SERVER b.net 1 1 :B` does if one has
+-- What a line of a link comes to while the neighbour has not named itself (RFC 2813 section 4.1):
+-- it begins the link, or closes it. What is wrong with a line in itself is told before that it is
+-- out of its place; who may link is asked last, where the server's peers are known.
+-- `PASS pw 0210010001 TREE|` begins the link, if no password has come; `SERVER b.net 1 1 :B` does
+-- if one has
 --   `FOO`                          UnknownCommand
 --   `:bo QUIT`                     Parameters
 --   `:bo QUIT :x`                  Order, whoever bo is
@@ -23,4 +25,5 @@ out_of_place (Err given) = told_first given
 -- `has_password` is whether a password has come
 unfoldable pub handshake_meant : Bool → Room → Known → ℕ → Parsed → Result Opening CloseReason
 handshake_meant has_password room known link message =
-    unwrap_or (opening_of has_password message) (Err (out_of_place (deeds_meant room known link message)))
+    unwrap_or (opening_of has_password message)
+    (Err (out_of_place (deeds_meant room known link message)))

@@ -14,7 +14,8 @@ pub struct NewMember {
     pub flags: Flags,
 }
 
-/// What a line of a server tells. `server` is whose line it is, which is kept where it is passed on.
+/// What a line of a server tells. `server` is whose line it is, which is kept where it is passed
+/// on.
 #[derive(Drop)]
 pub enum BurstAct {
     /// Something is done in the room.

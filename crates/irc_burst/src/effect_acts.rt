@@ -1,9 +1,11 @@
-//! What an effect comes to, of which a line of a link tells: where two users would have one nickname, they quit (RFC 2812 section 3.7.1).
+//! What an effect comes to, of which a line of a link tells: where two users would have one
+//! nickname, they quit (RFC 2812 section 3.7.1).
 ghost use Rattle.std.specs.Prelude.{◌≡◌, ◌∷◌, [], Some, IfOk, OnOk};
 ghost use Rattle.std.specs.Option.{option_copied};
 ghost use Rattle.irc_room.specs.Seen.{stored_nick};
 ghost use Rattle.irc_burst.specs.DeedsMeant.{a_deed, kept_prefix, takes_anothers};
-ghost use Rattle.irc_burst.specs.Loops.Acts.{Appended, act_told, acts_told, all_collided_at, collided_at, introduced_at, kills_at, renamed_at};
+ghost use Rattle.irc_burst.specs.Loops.Acts.{Appended, act_told, acts_told, all_collided_at};
+ghost use Rattle.irc_burst.specs.Loops.Acts.{collided_at, introduced_at, kills_at, renamed_at};
 
 use crate::acts::BurstAct;
 use irc_link_reader::Arrival;
@@ -12,7 +14,8 @@ use irc_room::{By, Effect};
 use irc_users::User;
 use std::alloc::{AllocError, Global};
 
-/// What some effects come to, of which a line tells; `server` is whose line it is, if it is one of a server.
+/// What some effects come to, of which a line tells; `server` is whose line it is, if it is one of
+/// a server.
 pub(crate) fn all_collided(
     alloc: Global,
     at: Arrival<'_>,

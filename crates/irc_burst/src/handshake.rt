@@ -11,12 +11,14 @@ use irc_link_reader::Arrival;
 use irc_link_words::is_command;
 use std::alloc::Global;
 
-/// What a line says that came by a link before the neighbour named itself. `has_password` is whether it has given a password.
+/// What a line says that came by a link before the neighbour named itself. `has_password` is
+/// whether it has given a password.
 ///
 /// # Errors
-/// [`BurstFault::Closes`] with the first reason, in this order: UnknownCommand, Parameters, Order, UnknownPeer where the neighbour gives itself a name that is
-/// no server's. Whether it is a peer, and gave its password, is not looked at: that is [`irc_handshake::refusal`]. [`BurstFault::Memory`] where memory runs out,
-/// which takes a MODE.
+/// [`BurstFault::Closes`] with the first reason, in this order: UnknownCommand, Parameters, Order,
+/// UnknownPeer where the neighbour gives itself a name that is no server's. Whether it is a peer,
+/// and gave its password, is not looked at: that is [`irc_handshake::refusal`].
+/// [`BurstFault::Memory`] where memory runs out, which takes a MODE.
 #[tactic(auto, using(crate::proofs::OutOfPlace::opened_so))]
 pub fn read_handshake_line(
     alloc: Global,

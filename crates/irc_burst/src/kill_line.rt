@@ -30,7 +30,8 @@ pub(crate) fn kill_line(
 
 /// Refuses another text than that of a collision.
 fn expect_collision(text: &[u8]) -> Result<(), WireFault>
-    ensures { result ≡ (if bytes_eq text.now (codes "Nick collision") then Ok tt else Err Parameters) }
+    ensures { result ≡ (if bytes_eq text.now (codes "Nick collision") then Ok tt
+        else Err Parameters) }
 {
     if text == b"Nick collision".as_slice() {
         Ok(())

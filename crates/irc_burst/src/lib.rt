@@ -1,5 +1,5 @@
-//! Lines of servers read as what they tell: servers that come and go, nicknames that two users have, members and modes and topics of a burst. Definitions
-//! are in `specs/`.
+//! Lines of servers read as what they tell: servers that come and go, nicknames that two users
+//! have, members and modes and topics of a burst. Definitions are in `specs/`.
 #![tactic(auto)]
 
 mod acts;

@@ -1,4 +1,5 @@
-//! The members that an NJOIN names: nicknames with their marks, parted by commas (RFC 2813 section 4.2.2). Nothing here takes memory.
+//! The members that an NJOIN names: nicknames with their marks, parted by commas (RFC 2813 section
+//! 4.2.2). Nothing here takes memory.
 ghost use Rattle.std.specs.Prelude.{◌≡◌, ◌<◌, Ok, Err, count_by, length, if◌then◌else◌};
 ghost use Rattle.std.specs.List.{after_first, before_first, list_all, position_or_len, slice_split};
 ghost use Rattle.irc_channels.specs.declared.flags.Flags.{Flags};

@@ -1,13 +1,17 @@
 //! NJOIN: users become members of a channel (RFC 2813 section 4.2.2).
-ghost use Rattle.std.specs.Prelude.{◌≡◌, ◌&&◌, [], Some, None, fold, map, not, option_to_list, IfOk, OnOk, if◌then◌else◌};
+ghost use Rattle.std.specs.Prelude.{◌≡◌, ◌&&◌, [], Some, None, fold, map, not, option_to_list};
+ghost use Rattle.std.specs.Prelude.{IfOk, OnOk, if◌then◌else◌};
 ghost use Rattle.std.specs.List.{list_any, slice_split};
 ghost use Rattle.irc_line.specs.PartViews.{words_now};
 ghost use Rattle.irc_names.specs.Fold.{key, same};
 ghost use Rattle.irc_room.specs.Room.{IsWellFormed};
 ghost use Rattle.irc_merge.specs.BurstRead.{brought, new_members};
 ghost use Rattle.irc_link_reader.specs.Loops.Readings.{reader};
-ghost use Rattle.irc_burst.specs.DeedsMeant.{a_deed, as_stored, first_reason, is_comma, member_of, members_of, njoin_line};
-ghost use Rattle.irc_burst.specs.Loops.Acts.{IsActRead, act_told, closes, is_member_among, members_brought, members_found, members_told, new_nick, njoin_line_at, taken_as_stored, told_if};
+ghost use Rattle.irc_burst.specs.DeedsMeant.{a_deed, as_stored, first_reason, is_comma, member_of};
+ghost use Rattle.irc_burst.specs.DeedsMeant.{members_of, njoin_line};
+ghost use Rattle.irc_burst.specs.Loops.Acts.{IsActRead, act_told, closes, is_member_among};
+ghost use Rattle.irc_burst.specs.Loops.Acts.{members_brought, members_found, members_told};
+ghost use Rattle.irc_burst.specs.Loops.Acts.{new_nick, njoin_line_at, taken_as_stored, told_if};
 
 use crate::acts::{BurstAct, NewMember};
 use crate::fault::BurstFault;
@@ -68,7 +72,8 @@ fn member_words<'a>(
     mut params: Params<'a>,
 ) -> Result<MemberWords<'a>, BurstFault>
     ensures { members_found (reader at.entry) at.entry.room.now.room result
-        ≡ closes (first_reason (njoin_line (reader at.entry) at.entry.room.now.room (Some server.now) params.entry)) }
+        ≡ closes (first_reason (njoin_line (reader at.entry) at.entry.room.now.room
+        (Some server.now) params.entry)) }
 {
     let channel = params.next()?;
     let text = params.next()?;
@@ -100,7 +105,8 @@ fn new_members(
     text: &[u8],
 ) -> Result<Vec<NewMember, Global>, AllocError>
     ensures { IfOk result (λ members. members_told members.items
-        ≡ map (as_stored at.entry.room.now.room) (new_members (reader at.entry).is_far at.entry.room.now.room channel.now (members_of text.now))) }
+        ≡ map (as_stored at.entry.room.now.room) (new_members
+        (reader at.entry).is_far at.entry.room.now.room channel.now (members_of text.now))) }
 {
     let words = split(alloc, text)?;
     members_in_turn(alloc, at, channel, words.as_slice())
@@ -114,7 +120,8 @@ fn members_in_turn(
     words: &[&[u8]],
 ) -> Result<Vec<NewMember, Global>, AllocError>
     ensures ones { IfOk result (λ members. members_told members.items
-        ≡ fold (taken_as_stored (reader at.entry).is_far at.entry.room.now.room channel.now) [] (map member_of (words_now words.now))) }
+        ≡ fold (taken_as_stored (reader at.entry).is_far at.entry.room.now.room channel.now) []
+        (map member_of (words_now words.now))) }
     ensures well { IsWellFormed at.entry.room.now.room }
 {
     at.room.own();
@@ -133,7 +140,8 @@ fn push_new(
     word: &[u8],
 ) -> Result<(), AllocError>
     ensures { OnOk result (members_told members.new.items
-        ≡ taken_as_stored (reader at.entry).is_far at.entry.room.now.room channel.now (members_told members.old.items) (member_of word.now)) }
+        ≡ taken_as_stored (reader at.entry).is_far at.entry.room.now.room channel.now
+        (members_told members.old.items) (member_of word.now)) }
 {
     let among = is_among(members.as_slice(), nick_of(word));
     match new_nick(at, channel, nick_of(word)) {
@@ -163,7 +171,8 @@ fn is_named(members: &[NewMember], nick: &[u8]) -> bool
         .any(|member| same(member.nick.as_bytes(), nick))
 }
 
-/// The nickname, as it is stored, of one who becomes a member: a user behind the link who is none yet.
+/// The nickname, as it is stored, of one who becomes a member: a user behind the link who is none
+/// yet.
 fn new_nick(at: Arrival<'_>, channel: &[u8], nick: &[u8]) -> Option<Nick>
     ensures { result ≡ new_nick at.entry nick.now channel.now }
 {

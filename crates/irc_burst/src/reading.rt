@@ -2,7 +2,8 @@
 ghost use Rattle.std.specs.Prelude.{◌≡◌, Some};
 ghost use Rattle.irc_line.specs.MessageViews.{optional_now, parsed};
 ghost use Rattle.irc_burst.specs.DeedsMeant.{server_of};
-ghost use Rattle.irc_burst.specs.Loops.Acts.{IsBurstMeant, AreActsListed, IsActRead, IsReadIn, effects_at};
+ghost use Rattle.irc_burst.specs.Loops.Acts.{IsBurstMeant, AreActsListed, IsActRead, IsReadIn};
+ghost use Rattle.irc_burst.specs.Loops.Acts.{effects_at};
 ghost use Rattle.irc_burst.specs.Loops.Commands.{comes_to};
 
 use crate::acts::BurstAct;
@@ -24,9 +25,10 @@ use std::alloc::Global;
 /// What a line means that came by a link after its handshake: the acts that it tells of, in order.
 ///
 /// # Errors
-/// [`BurstFault::Closes`] with the first reason, in this order: UnknownCommand, Parameters, BadToken, WrongDirection, BadName, then AlreadyKnown, Full or
-/// Order. [`BurstFault::Memory`] where memory runs out, which takes a line that means something, or a MODE: it is never told in place of another line's
-/// fault.
+/// [`BurstFault::Closes`] with the first reason, in this order: UnknownCommand, Parameters,
+/// BadToken, WrongDirection, BadName, then AlreadyKnown, Full or Order. [`BurstFault::Memory`]
+/// where memory runs out, which takes a line that means something, or a MODE: it is never told in
+/// place of another line's fault.
 #[tactic(auto, using(crate::proofs::EffectsRead::whole_lines))]
 pub fn read_burst_line(
     alloc: Global,

@@ -1,12 +1,16 @@
 //! Lines that speak of servers (RFC 2813 section 4.1).
 ghost use Rattle.std.specs.Prelude.{◌≡◌, is_none, Ok, Err, Some, if◌then◌else◌};
-ghost use Rattle.irc_link_words.specs.declared.fault.WireFault.TheVariants.{BadName, BadToken, Parameters, WrongDirection};
+ghost use Rattle.irc_link_words.specs.declared.fault.WireFault.TheVariants.{BadName, BadToken};
+ghost use Rattle.irc_link_words.specs.declared.fault.WireFault.TheVariants.{Parameters};
+ghost use Rattle.irc_link_words.specs.declared.fault.WireFault.TheVariants.{WrongDirection};
 ghost use Rattle.irc_line.specs.MessageViews.{optional_now};
 ghost use Rattle.irc_link_reader.specs.Loops.Readings.{reader};
 ghost use Rattle.irc_routes.specs.Info.{is_info};
 ghost use Rattle.irc_routes.specs.Known.{is_known};
 ghost use Rattle.irc_burst.specs.DeedsMeant.{first_reason, only_first, pass_line};
-ghost use Rattle.irc_burst.specs.Loops.Acts.{closes, is_next_at, is_one_further, may_be_lost, server_judged_at, server_line_at, squit_line_at, told_found, GivesTold};
+ghost use Rattle.irc_burst.specs.Loops.Acts.{closes, is_next_at, is_one_further, may_be_lost};
+ghost use Rattle.irc_burst.specs.Loops.Acts.{server_judged_at, server_line_at, squit_line_at};
+ghost use Rattle.irc_burst.specs.Loops.Acts.{told_found, GivesTold};
 
 use crate::acts::BurstAct;
 use crate::fault::BurstFault;

@@ -1,6 +1,8 @@
 -- A list in lines of so many: the first, and those behind it.
-use Rattle.std.proofs.Common.{◌≡◌, ℕ, ◌+◌, ◌-◌, ◌/◌, ◌%◌, ◌<◌, ◌≤◌, ◌⊎◌, inl, inr, min, suc, List, [], ◌∷◌, length, map, take, drop, sym, ◌∙◌, ap, arith, length-drop}
-use Rattle.std.proofs.Math.Nat.{add-div_left, add-mod_left, div-eq_of_lt, mod-eq_of_lt, zero-div, zero-mod}
+use Rattle.std.proofs.Common.{◌≡◌, ℕ, ◌+◌, ◌-◌, ◌/◌, ◌%◌, ◌<◌, ◌≤◌, ◌⊎◌, inl, inr, min, suc, List}
+use Rattle.std.proofs.Common.{[], ◌∷◌, length, map, take, drop, sym, ◌∙◌, ap, arith, length-drop}
+use Rattle.std.proofs.Math.Nat.{add-div_left, add-mod_left, div-eq_of_lt, mod-eq_of_lt, zero-div}
+use Rattle.std.proofs.Math.Nat.{zero-mod}
 use Rattle.std.proofs.lemmas.Bool.{cases_lt}
 use Rattle.std.specs.Int.{div_ceil}
 use Rattle.std.specs.Simd.{first_chunks}
@@ -20,7 +22,8 @@ ceil_zero m = ap (λ d. d + min 1 (0 % m)) (zero-div m) ∙ ap (λ r. 0 + min 1 
 
 ceil_one : (n k : ℕ) → suc k < n → div_ceil (suc k) n ≡ 1
 ceil_one n k below =
-    ap (λ d. d + min 1 (suc k % n)) (div-eq_of_lt below) ∙ ap (λ r. 0 + min 1 r) (mod-eq_of_lt below) ∙ least k
+    ap (λ d. d + min 1 (suc k % n)) (div-eq_of_lt below)
+    ∙ ap (λ r. 0 + min 1 r) (mod-eq_of_lt below) ∙ least k
   where
     least : (m : ℕ) → 0 + min 1 (suc m) ≡ 1
     least m = omega arith
@@ -36,11 +39,13 @@ ceil_next n k some = by_length (cases_lt (suc k) n)
         let is : suc k ≡ n + (suc k - n) = omega (arith, full) in
         ap (λ l. div_ceil l n) is ∙ ceil_more n (suc k - n) some
 
-lines_next : {X : Type 0} (n : ℕ) (x : X) (xs : List X) → 0 < n → in_lines n (x ∷ xs) ≡ take n (x ∷ xs) ∷ in_lines n (drop n (x ∷ xs))
+lines_next : {X : Type 0} (n : ℕ) (x : X) (xs : List X) → 0 < n
+    → in_lines n (x ∷ xs) ≡ take n (x ∷ xs) ∷ in_lines n (drop n (x ∷ xs))
 unfolding in_lines
 lines_next n x xs some =
     ap (λ k. first_chunks n k (x ∷ xs)) (ceil_next n (length xs) some)
-    ∙ ap (λ l. take n (x ∷ xs) ∷ first_chunks n (div_ceil l n) (drop n (x ∷ xs))) (sym (length-drop n (x ∷ xs)))
+    ∙ ap (λ l. take n (x ∷ xs) ∷ first_chunks n (div_ceil l n) (drop n (x ∷ xs)))
+    (sym (length-drop n (x ∷ xs)))
 
 -- the first of them
 pub lines_on : {X Y : Type 0} (f : List X → Y) (n : ℕ) (xs : List X) → 0 < n → 0 < length xs
@@ -48,10 +53,13 @@ pub lines_on : {X Y : Type 0} (f : List X → Y) (n : ℕ) (xs : List X) → 0 <
 lines_on f n [] some more = absurd (omega arith)
 lines_on f n (x ∷ xs) some more = ap (map f) (lines_next n x xs some)
 
-pub no_lines : {X Y : Type 0} (f : List X → Y) (n : ℕ) (xs : List X) → length xs ≡ 0 → map f (in_lines n xs) ≡ []
+pub no_lines : {X Y : Type 0} (f : List X → Y) (n : ℕ) (xs : List X) → length xs ≡ 0
+    → map f (in_lines n xs) ≡ []
 unfolding in_lines
 no_lines f n [] none = ap (λ k. map f (first_chunks n k [])) (ceil_zero n)
 no_lines f n (x ∷ xs) none = absurd (omega (arith, none))
 
-pub smaller : {X : Type 0} (n : ℕ) (xs after : List X) → after ≡ drop n xs → 0 < n → 0 < length xs → length after < length xs
-smaller n xs after is some more = let long = ap length is ∙ length-drop n xs in omega (arith, long, some, more)
+pub smaller : {X : Type 0} (n : ℕ) (xs after : List X) → after ≡ drop n xs → 0 < n → 0 < length xs
+    → length after < length xs
+smaller n xs after is some more =
+    let long = ap length is ∙ length-drop n xs in omega (arith, long, some, more)

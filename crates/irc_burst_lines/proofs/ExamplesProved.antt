@@ -1,5 +1,6 @@
 -- The worked burst, by computing what lists of users and channels say.
-use Rattle.std.proofs.Common.{◌≡◌, ℕ, true, false, not, ◌&&◌, Option, List, [], ◌∷◌, ◌++◌, refl, ◌∙◌, ap, map, filter, fold, length, is_some, codes, nat_eq}
+use Rattle.std.proofs.Common.{◌≡◌, ℕ, true, false, not, ◌&&◌, Option, List, [], ◌∷◌, ◌++◌, refl}
+use Rattle.std.proofs.Common.{◌∙◌, ap, map, filter, fold, length, is_some, codes, nat_eq}
 use Rattle.std.proofs.Math.Path.{fun_ext}
 use Rattle.std.specs.Fmt.{digits}
 use Rattle.std.specs.FinMap.{empty, get-empty, len-empty}
@@ -24,7 +25,8 @@ use Rattle.irc_merge.specs.Lemmas.ListedMerge.{burst_listed, list_burst}
 use Rattle.irc_merge.specs.Lemmas.WholeSides.{whole_side}
 use Rattle.irc_burst_lines.specs.DeedLines.{deed_parts}
 use Rattle.irc_burst_lines.specs.BurstLines.{burst_parts, is_near, server_deed}
-use Rattle.irc_burst_lines.specs.Examples.{alone, al_comes, al_joins, modes_set, bans_set, topic_set, als_room, OneSideIsTold}
+use Rattle.irc_burst_lines.specs.Examples.{alone, al_comes, al_joins, modes_set, bans_set}
+use Rattle.irc_burst_lines.specs.Examples.{topic_set, als_room, OneSideIsTold}
 
 -- ---- al's room is well formed
 
@@ -32,31 +34,55 @@ here : IsWellFormed (room_after (al_comes ∷ []))
 unfolding fold_byte fold_table
 here =
     after_is_well_formed no_room al_comes no_room_is_well_formed
-    (record { users_there = refl; channel_there = refl; nick_free = ap not (user_is [] (codes "al")) })
+    (record {
+      users_there = refl;
+      channel_there = refl;
+      nick_free = ap not (user_is [] (codes "al"));
+    })
 
 joined : IsWellFormed (room_after (al_comes ∷ al_joins ∷ []))
 unfolding fold_byte fold_table
 joined =
     after_is_well_formed (room_after (al_comes ∷ [])) al_joins here
-    (record { users_there = ap (λ b. b && true) (user_is (al_comes ∷ []) (codes "al")); channel_there = refl; nick_free = refl })
+    (record {
+      users_there = ap (λ b. b && true) (user_is (al_comes ∷ []) (codes "al"));
+      channel_there = refl;
+      nick_free = refl;
+    })
 
 moded : IsWellFormed (room_after (al_comes ∷ al_joins ∷ modes_set ∷ []))
 unfolding fold_byte fold_table
 moded =
     after_is_well_formed (room_after (al_comes ∷ al_joins ∷ [])) modes_set joined
-    (record { users_there = refl; channel_there = ap is_some (channel_is (al_comes ∷ al_joins ∷ []) (codes "#m")); nick_free = refl })
+    (record {
+      users_there = refl;
+      channel_there = ap is_some
+          (channel_is (al_comes ∷ al_joins ∷ []) (codes "#m"));
+      nick_free = refl;
+    })
 
 banned : IsWellFormed (room_after (al_comes ∷ al_joins ∷ modes_set ∷ bans_set ∷ []))
 unfolding fold_byte fold_table is_key is_ban_mask
 banned =
     after_is_well_formed (room_after (al_comes ∷ al_joins ∷ modes_set ∷ [])) bans_set moded
-    (record { users_there = refl; channel_there = ap is_some (channel_is (al_comes ∷ al_joins ∷ modes_set ∷ []) (codes "#m")); nick_free = refl })
+    (record {
+      users_there = refl;
+      channel_there = ap is_some
+          (channel_is (al_comes ∷ al_joins ∷ modes_set ∷ []) (codes "#m"));
+      nick_free = refl;
+    })
 
 well : IsWellFormed (room_after als_room)
 unfolding fold_byte fold_table is_key is_ban_mask
 well =
-    after_is_well_formed (room_after (al_comes ∷ al_joins ∷ modes_set ∷ bans_set ∷ [])) topic_set banned
-    (record { users_there = refl; channel_there = ap is_some (channel_is (al_comes ∷ al_joins ∷ modes_set ∷ bans_set ∷ []) (codes "#m")); nick_free = refl })
+    after_is_well_formed
+    (room_after (al_comes ∷ al_joins ∷ modes_set ∷ bans_set ∷ [])) topic_set banned
+    (record {
+      users_there = refl;
+      channel_there = ap is_some (channel_is
+          (al_comes ∷ al_joins ∷ modes_set ∷ bans_set ∷ []) (codes "#m"));
+      nick_free = refl;
+    })
 
 -- ---- a.net knows no other server, so all of the room is on its side
 
@@ -71,20 +97,24 @@ no_servers link =
 
 all_near : (link : ℕ) → is_near alone link ≡ (λ home. true)
 all_near link =
-    fun_ext (λ home. ap (λ (o : Option ServerRow). not (option_map_or (nat_eq link) (option_map (λ (r : ServerRow). r.link) o) false)) (get-empty fold_cmp home))
+    fun_ext (λ home. ap (λ (o : Option ServerRow). not (option_map_or (nat_eq link)
+    (option_map (λ (r : ServerRow). r.link) o) false)) (get-empty fold_cmp home))
 
 whole : (link : ℕ) → side_of (is_near alone link) (room_after als_room) ≡ room_after als_room
-whole link = ap (λ passes. side_of passes (room_after als_room)) (all_near link) ∙ whole_side (room_after als_room) well
+whole link = ap (λ passes. side_of passes (room_after als_room)) (all_near link)
+    ∙ whole_side (room_after als_room) well
 
 -- ---- what is told
 
-listed : (link : ℕ) → burst_parts (room_after als_room) alone link ≡ map (deed_parts (room_after als_room) alone) (list_burst (codes "a.net") (list_room als_room))
+listed : (link : ℕ) → burst_parts (room_after als_room) alone link
+    ≡ map (deed_parts (room_after als_room) alone) (list_burst (codes "a.net") (list_room als_room))
 unfolding burst_parts fold_byte fold_table is_key is_ban_mask
 listed link =
     ap (map (deed_parts (room_after als_room) alone))
     ((λ i. map server_deed (no_servers link i) ++ burst (codes "a.net") (whole link i))
     ∙ ap (burst (codes "a.net")) (all_listed no_list als_room)
-    ∙ burst_listed (codes "a.net") (list_room als_room) (record { users = tt; channels = tt; members = (tt, tt) }))
+    ∙ burst_listed (codes "a.net") (list_room als_room)
+    (record { users = tt; channels = tt; members = (tt, tt) }))
 
 pub one_side_is_told : OneSideIsTold
 unfolding digits fold_byte fold_table is_key is_limit is_ban_mask in_lines cut line_text

@@ -5,5 +5,6 @@ use Rattle.irc_modes.specs.Limits.{max_mode_word}
 
 pub limit_fits : (n : ℕ) → n < 65536 → length (decimal n) ≤ max_mode_word
 limit_fits n small =
-    let few : length (decimal n) ≤ 5 = length-decimal-le 5 n (omega arith) (omega (arith, small)) (omega (arith, small)) in
+    let few : length (decimal n) ≤ 5 =
+    length-decimal-le 5 n (omega arith) (omega (arith, small)) (omega (arith, small)) in
     omega (arith, few)

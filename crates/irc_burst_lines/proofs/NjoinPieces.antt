@@ -1,5 +1,7 @@
 -- The line of an NJOIN, piece by piece.
-use Rattle.std.proofs.Common.{◌≡◌, ℕ, zero, suc, ◌+◌, ◌≤◌, ◌<◌, Some, List, [], ◌∷◌, ◌++◌, length, get_or, take, drop, codes, arith, refl, sym, ap, ◌∙◌, append_assoc, append-nil}
+use Rattle.std.proofs.Common.{◌≡◌, ℕ, zero, suc, ◌+◌, ◌≤◌, ◌<◌, Some, List, [], ◌∷◌, ◌++◌, length}
+use Rattle.std.proofs.Common.{get_or, take, drop, codes, arith, refl, sym, ap, ◌∙◌, append_assoc}
+use Rattle.std.proofs.Common.{append-nil}
 use Rattle.std.proofs.lemmas.List.{drop_more, drop_all, length-map}
 use Rattle.irc_line.specs.Bytes.{cut, crlf}
 use Rattle.irc_line.specs.Limits.{max_line}
@@ -12,25 +14,29 @@ use Rattle.irc_burst_lines.specs.DeedLines.{member_text, more_text}
 use Rattle.irc_burst_lines.specs.Loops.Telling.{told_member, told_members}
 
 -- a step of the loop over the members
-pub more_on : (line mid new whole : List ℕ) (members : List Member) (i : ℕ) (d item : Member) → i < length members → item ≡ get_or members i d
-    → mid ≡ cut (line ++ codes ",") → new ≡ cut (mid ++ member_text (told_member item))
-    → cut (line ++ more_text (told_members (drop i members))) ≡ cut whole → cut (new ++ more_text (told_members (drop (i + 1) members))) ≡ cut whole
+pub more_on : (line mid new whole : List ℕ) (members : List Member) (i : ℕ) (d item : Member)
+    → i < length members → item ≡ get_or members i d → mid ≡ cut (line ++ codes ",")
+    → new ≡ cut (mid ++ member_text (told_member item))
+    → cut (line ++ more_text (told_members (drop i members))) ≡ cut whole
+    → cut (new ++ more_text (told_members (drop (i + 1) members))) ≡ cut whole
 more_on line mid new whole members i d item within is comma named so_far =
     let one = cut_two line mid new (codes ",") (member_text (told_member item)) comma named in
-    piece_on line new _ _ _ (one ∙ ap (λ (m : Member). cut (line ++ (codes "," ++ member_text (told_member m)))) is)
+    piece_on line new _ _ _
+    (one ∙ ap (λ (m : Member). cut (line ++ (codes "," ++ member_text (told_member m)))) is)
     (ap (λ ms. more_text (told_members ms)) (drop_more members i d within))
     ∙ so_far
 
-pub more_done : (line whole : List ℕ) (members : List Member) (i : ℕ) → length members ≤ i → length line ≤ max_line
-    → cut (line ++ more_text (told_members (drop i members))) ≡ cut whole → line ≡ cut whole
+pub more_done : (line whole : List ℕ) (members : List Member) (i : ℕ) → length members ≤ i
+    → length line ≤ max_line → cut (line ++ more_text (told_members (drop i members))) ≡ cut whole
+    → line ≡ cut whole
 more_done line whole members i past fits so_far =
     sym (ap cut (append-nil line) ∙ cut_all line fits)
     ∙ sym (ap (λ ms. cut (line ++ more_text (told_members ms))) (drop_all i members past))
     ∙ so_far
 
 -- a member: two marks, and its nickname
-pub member_pushed : (line a b d op voice nick : List ℕ) → a ≡ cut (line ++ op) → b ≡ cut (a ++ voice) → d ≡ cut (b ++ nick)
-    → d ≡ cut (line ++ (op ++ voice ++ nick))
+pub member_pushed : (line a b d op voice nick : List ℕ) → a ≡ cut (line ++ op)
+    → b ≡ cut (a ++ voice) → d ≡ cut (b ++ nick) → d ≡ cut (line ++ (op ++ voice ++ nick))
 member_pushed line a b d op voice nick first second third =
     cut_two line b d (op ++ voice) nick (cut_two line a b op voice first second) third
 
@@ -41,26 +47,32 @@ behind_channel c m =
     ∙ append_assoc c (32 ∷ 58 ∷ []) m
     ∙ ap (λ t. t ++ 32 ∷ 58 ∷ m) (sym (append-nil c))
 
-in_a_row : (x c m : List ℕ) → ((x ++ codes " NJOIN " ++ c ++ codes " ") ++ codes ":") ++ m ≡ (x ++ codes " ") ++ codes "NJOIN" ++ ((32 ∷ c) ++ []) ++ (32 ∷ 58 ∷ m)
+in_a_row : (x c m : List ℕ) → ((x ++ codes " NJOIN " ++ c ++ codes " ") ++ codes ":")
+    ++ m ≡ (x ++ codes " ") ++ codes "NJOIN" ++ ((32 ∷ c) ++ []) ++ (32 ∷ 58 ∷ m)
 in_a_row [] c m = ap (λ t. 32 ∷ 78 ∷ 74 ∷ 79 ∷ 73 ∷ 78 ∷ 32 ∷ t) (behind_channel c m)
 in_a_row (x ∷ xs) c m = ap (λ t. x ∷ t) (in_a_row xs c m)
 
 pub njoin_written : (name channel members : List ℕ) (a b d line : List ℕ)
-    → a ≡ cut (codes ":" ++ name ++ codes " NJOIN " ++ channel ++ codes " ") → b ≡ cut (a ++ codes ":") → d ≡ cut (b ++ members)
-    → line ≡ d ++ crlf → line ≡ text (from name (codes "NJOIN") (channel ∷ []) (Some members))
+    → a ≡ cut (codes ":" ++ name ++ codes " NJOIN " ++ channel ++ codes " ")
+    → b ≡ cut (a ++ codes ":") → d ≡ cut (b ++ members) → line ≡ d ++ crlf
+    → line ≡ text (from name (codes "NJOIN") (channel ∷ []) (Some members))
 unfolding line_text
 njoin_written name channel members a b d line head colon brought ended =
     let front = codes ":" ++ name ++ codes " NJOIN " ++ channel ++ codes " " in
-    let whole = cut_two [] b d (front ++ codes ":") members (cut_two [] a b front (codes ":") head colon) brought in
+    let whole = cut_two [] b d (front ++ codes ":") members
+    (cut_two [] a b front (codes ":") head colon) brought in
     ended ∙ ap (λ l. l ++ crlf) (whole ∙ ap cut (in_a_row (codes ":" ++ name) channel members))
 
 -- so many of some members
-pub members_taken : (n : ℕ) (members : List Member) → told_members (take n members) ≡ take n (told_members members)
+pub members_taken : (n : ℕ) (members : List Member)
+    → told_members (take n members) ≡ take n (told_members members)
 members_taken zero members = refl
 members_taken (suc n) [] = refl
-members_taken (suc n) (member ∷ members) = ap (λ more. told_member member ∷ more) (members_taken n members)
+members_taken (suc n) (member ∷ members) =
+    ap (λ more. told_member member ∷ more) (members_taken n members)
 
-pub members_left : (n : ℕ) (members : List Member) → told_members (drop n members) ≡ drop n (told_members members)
+pub members_left : (n : ℕ) (members : List Member)
+    → told_members (drop n members) ≡ drop n (told_members members)
 members_left zero members = refl
 members_left (suc n) [] = refl
 members_left (suc n) (member ∷ members) = members_left n members

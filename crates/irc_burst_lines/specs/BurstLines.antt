@@ -1,6 +1,8 @@
--- The burst: what a server writes to a neighbour that is new (RFC 2813 section 5.3.2). The neighbour has to know a server before what is behind it, a user's
--- server before the user, a channel's members before what only a channel with members has; so first come the servers that are not behind the link, the
--- nearer first, then their users, and then channel by channel the members, the modes, the bans and the topic.
+-- The burst: what a server writes to a neighbour that is new (RFC 2813 section 5.3.2). The
+-- neighbour has to know a server before what is behind it, a user's server before the user, a
+-- channel's members before what only a channel with members has; so first come the servers that are
+-- not behind the link, the nearer first, then their users, and then channel by channel the members,
+-- the modes, the bans and the topic.
 --   :a.net SERVER b.net 2 3 :B
 --   NICK al 1 u h 1 + :Al
 --   :a.net NJOIN #m :@al
@@ -27,7 +29,8 @@ server_deed r = gains r.uplink r.name r.info
 
 -- what an end tells of its side: the servers first, for each user is told of by its home
 abbrev pub burst_deeds : Room → Known → ℕ → List Deed
-burst_deeds room known link = map server_deed (servers_told known link) ++ burst_of known.name (is_near known link) room
+burst_deeds room known link =
+    map server_deed (servers_told known link) ++ burst_of known.name (is_near known link) room
 
 -- a burst as it goes out on a link: one line for each deed, none of which changes the room here
 unfoldable pub burst_parts : Room → Known → ℕ → List Written

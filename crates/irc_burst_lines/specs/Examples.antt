@@ -15,19 +15,28 @@ alone = alone_known (codes "a.net") (codes "Test server") (codes "2024-01-01")
 
 -- al of a.net comes, and makes #m
 abbrev pub al_comes : Effect
-al_comes = AddUser (record { nick = codes "al"; user = codes "u"; host = codes "h"; real = codes "Al"; home = codes "a.net"; invisible = false })
+al_comes = AddUser (record {
+  nick = codes "al";
+  user = codes "u";
+  host = codes "h";
+  real = codes "Al";
+  home = codes "a.net";
+  invisible = false;
+})
 
 abbrev pub al_joins : Effect
 al_joins = Join (codes "al") (codes "#m") true
 
 -- modes n, t and l, four bans, and a topic
 abbrev pub modes_set : Effect
-modes_set = ChangeModes by.Home (codes "#m") (set letter.NoOutside None ∷ set letter.TopicLocked None ∷ set letter.Limit (Some (codes "5")) ∷ [])
+modes_set = ChangeModes by.Home (codes "#m") (set letter.NoOutside None
+    ∷ set letter.TopicLocked None ∷ set letter.Limit (Some (codes "5")) ∷ [])
 
 abbrev pub bans_set : Effect
 bans_set =
     ChangeModes by.Home (codes "#m")
-    (set letter.Ban (Some (codes "c!*@*")) ∷ set letter.Ban (Some (codes "b!*@*")) ∷ set letter.Ban (Some (codes "d!*@*"))
+    (set letter.Ban (Some (codes "c!*@*")) ∷ set letter.Ban (Some (codes "b!*@*")) ∷ set letter.Ban
+    (Some (codes "d!*@*"))
     ∷ set letter.Ban (Some (codes "a!*@*")) ∷ [])
 
 abbrev pub topic_set : Effect

@@ -1,13 +1,19 @@
 //! The burst: what a server writes to a neighbour that is new (RFC 2813 section 5.3.2).
 //!
-//! The neighbour has to know a server before what is linked to it and before its users, and users before the channels that they are in. So the order is:
-//! the servers that are not behind the link, the nearer first; their users; channel by channel the members, the modes, the bans and the topic.
+//! The neighbour has to know a server before what is linked to it and before its users, and users
+//! before the channels that they are in. So the order is:
+//! the servers that are not behind the link, the nearer first; their users; channel by channel the
+//! members, the modes, the bans and the topic.
 ghost use Rattle.std.specs.Prelude.{◌≡◌, IfOk, OnOk};
 ghost use Rattle.std.specs.Option.{option_map};
 ghost use Rattle.irc_line.specs.Messages.{text};
 ghost use Rattle.irc_link_writer.specs.Written.{introduction};
 ghost use Rattle.irc_burst_lines.specs.BurstLines.{burst_parts, is_near};
-ghost use Rattle.irc_burst_lines.specs.Loops.Telling.{AreLines, Gains, Tells, channels_told, near_row, near_rows, row_parts, rows_told, server_rows, told_in, told_member, told_members, user_lines, users_now, users_told};
+ghost use Rattle.irc_burst_lines.specs.Loops.Telling.{AreLines, Gains, Tells, channels_told};
+ghost use Rattle.irc_burst_lines.specs.Loops.Telling.{near_row, near_rows, row_parts, rows_told};
+ghost use Rattle.irc_burst_lines.specs.Loops.Telling.{server_rows, told_in, told_member};
+ghost use Rattle.irc_burst_lines.specs.Loops.Telling.{told_members, user_lines, users_now};
+ghost use Rattle.irc_burst_lines.specs.Loops.Telling.{users_told};
 
 use crate::njoin_line::Member;
 use crate::server_lines::server_text;
@@ -22,7 +28,8 @@ use irc_tables::Row;
 use irc_users::User;
 use std::alloc::{AllocError, Global};
 
-/// The lines that tell a new neighbour of the network on this side: of all that is not behind the link.
+/// The lines that tell a new neighbour of the network on this side: of all that is not behind the
+/// link.
 ///
 /// # Errors
 /// Where memory runs out.
@@ -79,7 +86,8 @@ fn tell_each_user(
     link: u64,
     users: &[&User],
 ) -> Result<(), AllocError>
-    ensures { OnOk result (Tells (user_lines routes.now link (users_now users.now)) lines.old lines.new) }
+    ensures { OnOk result
+        (Tells (user_lines routes.now link (users_now users.now)) lines.old lines.new) }
 {
     for user in users {
         if is_near(routes, link, &user.home) {
@@ -113,7 +121,8 @@ fn tell_channels(
     routes: &Routes,
     link: u64,
 ) -> Result<(), AllocError>
-    ensures { OnOk result (Tells (channels_told routes.now link room.now.room) lines.old lines.new) }
+    ensures { OnOk result
+        (Tells (channels_told routes.now link room.now.room) lines.old lines.new) }
 {
     tell_each_channel(lines, room, routes, link, room.channels())
 }
@@ -126,7 +135,8 @@ fn tell_each_channel(
     link: u64,
     channels: &[Row<Stored>],
 ) -> Result<(), AllocError>
-    ensures { OnOk result (Tells (rows_told routes.now link room.now.room channels.now) lines.old lines.new) }
+    ensures { OnOk result
+        (Tells (rows_told routes.now link room.now.room channels.now) lines.old lines.new) }
 {
     for row in channels {
         tell_one_channel(lines, room, routes, link, row.value.channel())?;
@@ -142,7 +152,8 @@ fn tell_one_channel(
     link: u64,
     channel: &Channel,
 ) -> Result<(), AllocError>
-    ensures { OnOk result (Tells (told_in routes.now link room.now.room channel.now) lines.old lines.new) }
+    ensures { OnOk result
+        (Tells (told_in routes.now link room.now.room channel.now) lines.old lines.new) }
 {
     let rows = channel.members.as_slice();
     let members = near_members(*lines.allocator(), room, routes, link, rows)?;

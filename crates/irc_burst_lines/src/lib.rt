@@ -1,4 +1,5 @@
-//! Lines in which servers tell each other of servers and of what they hold, and the burst that is told to a new neighbour. Definitions are in `specs/`.
+//! Lines in which servers tell each other of servers and of what they hold, and the burst that is
+//! told to a new neighbour. Definitions are in `specs/`.
 #![tactic(auto)]
 
 mod bursting;

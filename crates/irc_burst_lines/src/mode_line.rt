@@ -14,7 +14,8 @@ use irc_mode_words::{push_letters, push_parameter};
 use irc_modes::ModeChange;
 use irc_names::{ChannelName, ServerName};
 
-/// The line in which a server tells of modes of a channel, with the words that the changes have: `:a.net MODE #m +ntl 5`.
+/// The line in which a server tells of modes of a channel, with the words that the changes have:
+/// `:a.net MODE #m +ntl 5`.
 pub fn mode_text(server: &ServerName, channel: &ChannelName, changes: &[ModeChange]) -> Text
     ensures { result.items ≡ text (mode_parts server.now channel.now changes.now) }
 {

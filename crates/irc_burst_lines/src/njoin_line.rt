@@ -21,7 +21,8 @@ pub struct Member<'a> {
     pub flags: Flags,
 }
 
-/// The line that brings members of a channel, each with its flags: `:a.net NJOIN #c :@al,+bo,@+cy,dee`.
+/// The line that brings members of a channel, each with its flags: `:a.net NJOIN #c
+/// :@al,+bo,@+cy,dee`.
 pub fn njoin_text(server: &ServerName, channel: &ChannelName, members: &[Member<'_>]) -> Text
     ensures { result.items ≡ text (njoin_parts server.now channel.now (told_members members.now)) }
 {

@@ -1,9 +1,11 @@
-//! Lines that speak of servers, and the other lines of a server (RFC 2813 section 4). Nothing here takes memory.
+//! Lines that speak of servers, and the other lines of a server (RFC 2813 section 4). Nothing here
+//! takes memory.
 ghost use Rattle.std.specs.Prelude.{◌≡◌, Some};
 ghost use Rattle.irc_line.specs.Messages.{text};
 ghost use Rattle.irc_line.specs.PartViews.{words_now};
 ghost use Rattle.irc_link_writer.specs.Written.{from};
-ghost use Rattle.irc_burst_lines.specs.DeedLines.{kill_parts, server_parts, squit_parts, topic_parts};
+ghost use Rattle.irc_burst_lines.specs.DeedLines.{kill_parts, server_parts, squit_parts};
+ghost use Rattle.irc_burst_lines.specs.DeedLines.{topic_parts};
 
 use irc_channels::Words;
 use irc_line::{Parts, Prefix, Text, write_message};
@@ -12,7 +14,8 @@ use irc_names::{ChannelName, Nick, ServerName};
 use irc_routes::{Info, Routes};
 use itoa::Buffer;
 
-/// A server more, in the routes that have it already: `:a.net SERVER b.net 2 3 :B` (RFC 2813 section 4.1.2).
+/// A server more, in the routes that have it already: `:a.net SERVER b.net 2 3 :B` (RFC 2813
+/// section 4.1.2).
 pub fn server_text(routes: &Routes, uplink: &ServerName, name: &ServerName, info: &Info) -> Text
     ensures { result.items ≡ text (server_parts routes.now uplink.now name.now info.now) }
 {
@@ -53,7 +56,8 @@ pub fn topic_text(server: &ServerName, channel: &ChannelName, topic: &Words) -> 
 
 /// A line from a server, with a last parameter.
 fn line(server: &ServerName, command: &[u8], middle: &[&[u8]], last: &[u8]) -> Text
-    ensures { result.items ≡ text (from server.now command.now (words_now middle.now) (Some last.now)) }
+    ensures { result.items ≡ text
+        (from server.now command.now (words_now middle.now) (Some last.now)) }
 {
     write_message(&Parts {
         prefix: Prefix::Name(server.as_bytes()),

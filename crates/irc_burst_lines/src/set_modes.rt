@@ -1,7 +1,8 @@
 //! The changes that set what is set of a channel's modes.
 ghost use Rattle.std.specs.Prelude.{◌≡◌, ◌∷◌, [], Some, IfOk, OnOk};
 ghost use Rattle.std.specs.Option.{option_copied};
-ghost use Rattle.irc_modes.specs.ModesSet.{ban_changes, flag_set, key_set, limit_set, privacy_set, set, set_changes};
+ghost use Rattle.irc_modes.specs.ModesSet.{ban_changes, flag_set, key_set, limit_set, privacy_set};
+ghost use Rattle.irc_modes.specs.ModesSet.{set, set_changes};
 ghost use Rattle.irc_modes.specs.Texts.{IsModeWord};
 ghost use Rattle.irc_burst_lines.specs.Loops.Telling.{Grew};
 

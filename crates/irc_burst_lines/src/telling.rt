@@ -1,6 +1,8 @@
 //! What a channel is told by.
 ghost use Rattle.std.specs.Prelude.{◌≡◌, ◌++◌, ◌∷◌, [], drop, take, OnOk};
-ghost use Rattle.irc_burst_lines.specs.Loops.Telling.{Tells, ban_lines, lines_of_bans, lines_of_channel, lines_of_members, lines_of_modes, topic_lines};
+ghost use Rattle.irc_burst_lines.specs.Loops.Telling.{Tells, ban_lines, lines_of_bans};
+ghost use Rattle.irc_burst_lines.specs.Loops.Telling.{lines_of_channel, lines_of_members};
+ghost use Rattle.irc_burst_lines.specs.Loops.Telling.{lines_of_modes, topic_lines};
 
 use crate::mode_line::mode_text;
 use crate::njoin_line::{Member, njoin_text};
@@ -21,14 +23,16 @@ pub(crate) fn put(lines: &mut Vec<Text, Global>, line: Text) -> Result<(), Alloc
     Ok(())
 }
 
-/// Tells of a channel: these of its members, its modes, its bans, its topic. Without a member there is nothing to tell.
+/// Tells of a channel: these of its members, its modes, its bans, its topic. Without a member there
+/// is nothing to tell.
 pub(crate) fn tell_channel(
     lines: &mut Vec<Text, Global>,
     server: &ServerName,
     channel: &Channel,
     members: &[Member<'_>],
 ) -> Result<(), AllocError>
-    ensures { OnOk result (Tells (lines_of_channel server.now channel.now members.now) lines.old lines.new) }
+    ensures { OnOk result
+        (Tells (lines_of_channel server.now channel.now members.now) lines.old lines.new) }
 {
     if members.is_empty() {
         return Ok(());
@@ -46,7 +50,8 @@ fn tell_members(
     channel: &ChannelName,
     members: &[Member<'_>],
 ) -> Result<(), AllocError>
-    ensures { OnOk result (Tells (lines_of_members server.now channel.now members.now) lines.old lines.new) }
+    ensures { OnOk result
+        (Tells (lines_of_members server.now channel.now members.now) lines.old lines.new) }
 {
     let mut rest = members;
     while !rest.is_empty() {
@@ -93,7 +98,8 @@ fn tell_changes(
     channel: &ChannelName,
     changes: &[ModeChange],
 ) -> Result<(), AllocError>
-    ensures { OnOk result (Tells (ban_lines server.now channel.now changes.now) lines.old lines.new) }
+    ensures { OnOk result
+        (Tells (ban_lines server.now channel.now changes.now) lines.old lines.new) }
 {
     let mut rest = changes;
     while !rest.is_empty() {
@@ -110,7 +116,8 @@ fn tell_topic(
     channel: &ChannelName,
     topic: &Words,
 ) -> Result<(), AllocError>
-    ensures { OnOk result (Tells (topic_lines server.now channel.now topic.now) lines.old lines.new) }
+    ensures { OnOk result
+        (Tells (topic_lines server.now channel.now topic.now) lines.old lines.new) }
 {
     if topic.as_bytes().is_empty() {
         return Ok(());

@@ -1,6 +1,7 @@
 -- A network in which lines are on their way in front of all that waits on a way in it.
 --
--- what waits from a.net to b.net is `NICK by`; `PING x` is ahead: with it in front there wait `PING x`, `NICK by`
+-- what waits from a.net to b.net is `NICK by`; `PING x` is ahead: with it in front there wait `PING
+-- x`, `NICK by`
 use Rattle.std.specs.Prelude.{ℕ, suc, List, [], ◌∷◌, ◌++◌, map}
 use Rattle.std.specs.FinMap.{FinMap, entries, from_entries}
 use Rattle.std.specs.Ordering.{nat_cmp}
@@ -15,16 +16,19 @@ Ways = FinMap nat_cmp (List (List ℕ))
 
 -- the lines of each way are changed, by where it goes
 abbrev pub each_way : (ℕ → List (List ℕ) → List (List ℕ)) → Ways → Ways
-each_way change ways = from_entries (map (λ (e : ℕ × List (List ℕ)). (e.0, change e.0 e.1)) (entries ways))
+each_way change ways =
+    from_entries (map (λ (e : ℕ × List (List ℕ)). (e.0, change e.0 e.1)) (entries ways))
 
 -- what waits on the ways of a server, with these lines ahead of it
 abbrev pub site_behind : (ℕ → List (List ℕ)) → Site → Site
-site_behind ahead site = record site { queues = each_way (λ to lines. ahead to ++ lines) site.queues }
+site_behind ahead site =
+    record site { queues = each_way (λ to lines. ahead to ++ lines) site.queues }
 
 -- of all servers, by their places
 abbrev pub sites_behind : Ahead → List Site → List Site
 sites_behind ahead [] = []
-sites_behind ahead (site ∷ sites) = site_behind (ahead 0) site ∷ sites_behind (λ place. ahead (suc place)) sites
+sites_behind ahead (site ∷ sites) =
+    site_behind (ahead 0) site ∷ sites_behind (λ place. ahead (suc place)) sites
 
 -- the network in which these lines are delivered before those that wait in it
 abbrev pub net_behind : Ahead → Network → Network

@@ -15,14 +15,19 @@ byte_course_at net desk = record { net = net; receipts = receipts_of desk.lines.
 abbrev pub IsItemGiven : Item → ByteNetwork → ByteNetwork → Desk → Type 0
 IsItemGiven item old new after = byte_course_at new after ≡ item_given item old
 
--- so many bytes came from the first of two servers to the other, or all that were on their way where there were fewer
+-- so many bytes came from the first of two servers to the other, or all that were on their way
+-- where there were fewer
 abbrev pub HaveCome : Ends → ℕ → ByteNetwork → Desk → ByteNetwork → Desk → Type 0
-HaveCome ends count old before new after = byte_course_at new after ≡ bytes_come ends.near ends.far count (byte_course_at old before)
+HaveCome ends count old before new after =
+    byte_course_at new after ≡ bytes_come ends.near ends.far count (byte_course_at old before)
 
 -- a turn completed so many lines; none where no byte was on its way
 abbrev pub IsTurn : Option ℕ → ByteNetwork → Desk → ByteNetwork → Desk → Type 0
-IsTurn lines old before new after = TurnsBy lines (byte_course_at old before) (byte_course_at new after)
+IsTurn lines old before new after =
+    TurnsBy lines (byte_course_at old before) (byte_course_at new after)
 
--- turn by turn bytes came until so many lines were complete; none where no byte is on its way any more
+-- turn by turn bytes came until so many lines were complete; none where no byte is on its way any
+-- more
 abbrev pub HaveComeToLine : Option ℕ → ByteNetwork → Desk → ByteNetwork → Desk → Type 0
-HaveComeToLine lines old before new after = ComesToLine lines (byte_course_at old before) (byte_course_at new after)
+HaveComeToLine lines old before new after =
+    ComesToLine lines (byte_course_at old before) (byte_course_at new after)

@@ -1,6 +1,8 @@
--- Bytes that come in turn: each time through the next LF, in the first direction in which a byte is on its way.
+-- Bytes that come in turn: each time through the next LF, in the first direction in which a byte is
+-- on its way.
 --
--- from a.net to b.net the LF of a line is on its way that has come already, from b.net to c.net a line
+-- from a.net to b.net the LF of a line is on its way that has come already, from b.net to c.net a
+-- line
 --   a turn    the LF comes to b.net, and completes nothing
 --   a turn    the line comes to c.net, with its CR LF
 --   at rest   nothing is on its way
@@ -35,8 +37,9 @@ TurnsBy (Some lines) old new = (turn_taken old ≡ Some new) × (lines ≡ lines
 -- turn by turn, by which so many lines are completed in all
 pub data TurnsGo : ℕ → ByteCourse → ByteCourse → Type 0 where
   none_yet : {course : ByteCourse} → TurnsGo 0 course course
-  turn_first : {all count : ℕ} {course between last : ByteCourse} → turn_taken course ≡ Some between → all ≡ lines_in_turn course.net + count
-      → TurnsGo count between last → TurnsGo all course last
+  turn_first : {all count : ℕ} {course between last : ByteCourse} → turn_taken course ≡ Some between
+      → all ≡ lines_in_turn course.net + count → TurnsGo count between last
+      → TurnsGo all course last
 
 -- turns that complete none, and behind them one that completes so many
 pub record GoesToLine (lines : ℕ) (old new : ByteCourse) : Type 0 where

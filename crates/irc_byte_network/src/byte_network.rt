@@ -5,9 +5,11 @@ ghost use Rattle.irc_network.specs.Loops.Courses.{ends_now};
 ghost use Rattle.irc_network.specs.Views.{item_of};
 ghost use Rattle.irc_wires.specs.Wires.{first_direction, through_line_feed, wire_at};
 ghost use Rattle.irc_byte_network.specs.Calls.{HaveCome, HaveComeToLine, IsItemGiven, IsTurn};
-ghost use Rattle.irc_byte_network.specs.Loops.Coming.{HasHeard, bytes_between, direction_between, lines_between};
+ghost use Rattle.irc_byte_network.specs.Loops.Coming.{HasHeard, bytes_between, direction_between};
+ghost use Rattle.irc_byte_network.specs.Loops.Coming.{lines_between};
 ghost use Rattle.irc_byte_network.specs.Loops.Writing.{IsWrittenOut};
-ghost use Rattle.irc_byte_network.specs.ByteNetwork.{cut_ends, is_byte_rest, lost_along, new_byte_network, HasRows};
+ghost use Rattle.irc_byte_network.specs.ByteNetwork.{cut_ends, is_byte_rest, lost_along};
+ghost use Rattle.irc_byte_network.specs.ByteNetwork.{new_byte_network, HasRows};
 ghost use Rattle.irc_byte_network.specs.Whole.{IsTidy};
 
 use crate::came::Came;
@@ -17,7 +19,8 @@ use irc_wires::Wires;
 use std::alloc::{AllocError, Global};
 use std::marker::Model;
 
-/// A network of servers, and the bytes that are on their way along its links. No line waits in it between calls: what a server puts out is written at once.
+/// A network of servers, and the bytes that are on their way along its links. No line waits in it
+/// between calls: what a server puts out is written at once.
 #[derive(Drop)]
 pub struct ByteNetwork<H: History> {
     alloc: Global,
@@ -66,14 +69,16 @@ impl<H: History> ByteNetwork<H> {
         &self.network
     }
 
-    /// How many bytes are on their way from the first of two servers to the other up to and with the next LF; all where there is none.
+    /// How many bytes are on their way from the first of two servers to the other up to and with
+    /// the next LF; all where there is none.
     pub fn through_line_feed(&self, ends: Ends) -> usize
         ensures { result ≡ through_line_feed (wire_at self.now.wires ends.near ends.far).bytes }
     {
         self.wires.through_line_feed(ends.near, ends.far as u64)
     }
 
-    /// The first direction in which a byte is on its way, by the place that it is from and then that where it goes.
+    /// The first direction in which a byte is on its way, by the place that it is from and then
+    /// that where it goes.
     pub fn first_direction(&self) -> Option<Ends>
         ensures { option_map direction_between result ≡ first_direction self.now.wires }
     {
@@ -86,11 +91,12 @@ impl<H: History> ByteNetwork<H> {
         }
     }
 
-    /// An item that is not refused is taken, and kept, and what servers put out upon it is written. What clients receive by it is on the desk, on which
-    /// nothing is before.
+    /// An item that is not refused is taken, and kept, and what servers put out upon it is written.
+    /// What clients receive by it is on the desk, on which nothing is before.
     ///
     /// # Errors
-    /// Where memory runs out: nothing is promised of the network then, and nothing more is to be asked of it.
+    /// Where memory runs out: nothing is promised of the network then, and nothing more is to be
+    /// asked of it.
     pub fn give(&mut self, item: Item, desk: &mut Desk) -> Result<(), AllocError>
         requires rows { HasRows self.old }
         requires begins { desk.old.lines.items ≡ [] }
@@ -112,11 +118,13 @@ impl<H: History> ByteNetwork<H> {
         }
     }
 
-    /// So many bytes come from one server to another, or all that are on their way where there are fewer. The server that they come to is asked for each line
-    /// that they complete, in turn. What clients receive by them is on the desk, behind what was there.
+    /// So many bytes come from one server to another, or all that are on their way where there are
+    /// fewer. The server that they come to is asked for each line that they complete, in turn. What
+    /// clients receive by them is on the desk, behind what was there.
     ///
     /// # Errors
-    /// Where memory runs out: nothing is promised of the network then, and nothing more is to be asked of it.
+    /// Where memory runs out: nothing is promised of the network then, and nothing more is to be
+    /// asked of it.
     pub fn come(&mut self, ends: Ends, count: usize, desk: &mut Desk) -> Result<Came, AllocError>
         requires rows { HasRows self.old }
         ensures bytes { IfOk result (λ came. came.bytes ≡ min count (bytes_between self.old ends)) }
@@ -136,11 +144,13 @@ impl<H: History> ByteNetwork<H> {
         Ok(came)
     }
 
-    /// The bytes through the next LF come in the first direction in which a byte is on its way. The number is how many lines they complete; none where no byte
-    /// is on its way. What clients receive by them is on the desk, behind what was there.
+    /// The bytes through the next LF come in the first direction in which a byte is on its way. The
+    /// number is how many lines they complete; none where no byte is on its way. What clients
+    /// receive by them is on the desk, behind what was there.
     ///
     /// # Errors
-    /// Where memory runs out: nothing is promised of the network then, and nothing more is to be asked of it.
+    /// Where memory runs out: nothing is promised of the network then, and nothing more is to be
+    /// asked of it.
     pub fn come_in_turn(&mut self, desk: &mut Desk) -> Result<Option<usize>, AllocError>
         requires rows { HasRows self.old }
         ensures { IfOk result (λ lines. IsTurn lines self.old desk.old self.new desk.new) }
@@ -152,11 +162,13 @@ impl<H: History> ByteNetwork<H> {
         Ok(Some(came.lines))
     }
 
-    /// Bytes come in turn until they complete a line. The number is how many lines they complete; none where none is on its way, and then no byte is any
-    /// more. What clients receive is on the desk, behind what was there.
+    /// Bytes come in turn until they complete a line. The number is how many lines they complete;
+    /// none where none is on its way, and then no byte is any more. What clients receive is on the
+    /// desk, behind what was there.
     ///
     /// # Errors
-    /// Where memory runs out: nothing is promised of the network then, and nothing more is to be asked of it.
+    /// Where memory runs out: nothing is promised of the network then, and nothing more is to be
+    /// asked of it.
     pub fn come_to_line(&mut self, desk: &mut Desk) -> Result<Option<usize>, AllocError>
         requires tidy { IsTidy self.old }
         ensures { IfOk result (λ lines. HaveComeToLine lines self.old desk.old self.new desk.new) }

@@ -1,5 +1,6 @@
 //! What holds of any network whose links carry bytes.
-ghost use Rattle.irc_byte_network.specs.Whole.{BytesComeAsLines, EachComesToLine, GivenAsLines, NewIsWhole, NoByteRests, RestAsLines, TurnAsLines};
+ghost use Rattle.irc_byte_network.specs.Whole.{BytesComeAsLines, EachComesToLine, GivenAsLines};
+ghost use Rattle.irc_byte_network.specs.Whole.{NewIsWhole, NoByteRests, RestAsLines, TurnAsLines};
 
 /// A network in which nothing is on its way yet is as one whose links carry lines.
 pub fn new_is_whole()
@@ -35,7 +36,8 @@ pub fn each_comes_to_line()
     ensures { EachComesToLine }
 {}
 
-/// Where nothing is on its way, no line is where links carry lines; and where no byte is on its way, no part of a line has come either.
+/// Where nothing is on its way, no line is where links carry lines; and where no byte is on its
+/// way, no part of a line has come either.
 pub fn rest_as_lines()
     ensures lines { RestAsLines }
     ensures bytes { NoByteRests }

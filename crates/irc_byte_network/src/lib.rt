@@ -1,4 +1,5 @@
-//! A network of servers whose links carry bytes: what is on its way along them, and what comes of it. Definitions are in `specs/`.
+//! A network of servers whose links carry bytes: what is on its way along them, and what comes of
+//! it. Definitions are in `specs/`.
 #![tactic(auto)]
 
 mod byte_network;

@@ -1,5 +1,6 @@
 -- A channel as a row of a table, and each change that is made to one (RFC 2811 sections 2 to 4).
-use Rattle.std.specs.Prelude.{ℕ, Bool, false, not, is_some, Option, Some, None, List, [], ◌∷◌, if◌then◌else◌}
+use Rattle.std.specs.Prelude.{ℕ, Bool, false, not, is_some, Option, Some, None, List, [], ◌∷◌}
+use Rattle.std.specs.Prelude.{if◌then◌else◌}
 use Rattle.std.specs.List.{list_any}
 use Rattle.std.specs.Option.{option_map}
 use Rattle.std.specs.FinMap.{empty, keys}
@@ -16,7 +17,8 @@ use Rattle.irc_modes.specs.Modes.{adds_ban, is_nil, mode_changed, no_modes}
 
 -- a channel that somebody makes, before anybody is in it: nothing is set
 abbrev pub new_channel : List ℕ → Channel
-new_channel name = record { name = name; modes = no_modes; topic = []; members = empty; invited = empty }
+new_channel name =
+    record { name = name; modes = no_modes; topic = []; members = empty; invited = empty }
 
 -- whether the user with this fold is a member
 abbrev pub has_member : List ℕ → Channel → Bool
@@ -26,7 +28,8 @@ has_member nick channel = is_some (row channel.members nick)
 abbrev pub is_invited : List ℕ → Channel → Bool
 is_invited nick channel = is_some (row channel.invited nick)
 
--- a channel ends when its last member leaves, with its modes, topic and invitations (RFC 2811 section 3)
+-- a channel ends when its last member leaves, with its modes, topic and invitations (RFC 2811
+-- section 3)
 abbrev pub while_members : Channel → Option Channel
 while_members channel = if is_nil (keys channel.members) then None else Some channel
 
@@ -41,7 +44,8 @@ joined nick op channel =
 -- a member leaves; one who is none changes nothing
 abbrev pub left : List ℕ → Channel → Option Channel
 left nick channel =
-    if has_member nick channel then while_members (record channel { members = alter nick (λ _. None) channel.members }) else Some channel
+    if has_member nick channel then while_members
+    (record channel { members = alter nick (λ _. None) channel.members }) else Some channel
 
 -- a user is gone, and its invitation too
 abbrev pub without_user : List ℕ → Channel → Option Channel
@@ -80,16 +84,20 @@ adds_none changes channel = not (list_any (adds_ban channel.modes.bans) changes)
 
 -- a flag of one member; whoever is none has none
 abbrev pub member_changed : List ℕ → (Flags → Flags) → Channel → Channel
-member_changed nick change channel = record channel { members = alter (key nick) (option_map change) channel.members }
+member_changed nick change channel =
+    record channel { members = alter (key nick) (option_map change) channel.members }
 
 -- the modes of the channel itself; its members keep their flags
 abbrev pub modes_changed : (Modes → Modes) → Channel → Channel
 modes_changed change channel = record channel { modes = change channel.modes }
 
--- what a change of a mode does, of a member or of the channel; one that wants a parameter and has none changes nothing
+-- what a change of a mode does, of a member or of the channel; one that wants a parameter and has
+-- none changes nothing
 abbrev pub letter_changed : Bool → ModeLetter → Option (List ℕ) → Channel → Channel
-letter_changed plus letter.Operator (Some word) channel = member_changed word (λ f. record f { op = plus }) channel
-letter_changed plus letter.Voice (Some word) channel = member_changed word (λ f. record f { voice = plus }) channel
+letter_changed plus letter.Operator (Some word) channel =
+    member_changed word (λ f. record f { op = plus }) channel
+letter_changed plus letter.Voice (Some word) channel =
+    member_changed word (λ f. record f { voice = plus }) channel
 letter_changed plus other word channel = modes_changed (mode_changed plus other word) channel
 
 abbrev pub changed : ModeChange → Channel → Channel

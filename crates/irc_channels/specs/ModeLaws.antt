@@ -11,4 +11,5 @@ NewIsWithinLimits = (name : List ℕ) → AreWithinLimits (new_channel name).mod
 
 -- whatever the changes, they leave modes within limits
 abbrev pub ChangedIsWithinLimits : Type 0
-ChangedIsWithinLimits = (changes : List ModeChange) (channel : Channel) → AreWithinLimits channel.modes → AreWithinLimits (all_changed changes channel).modes
+ChangedIsWithinLimits = (changes : List ModeChange) (channel : Channel)
+    → AreWithinLimits channel.modes → AreWithinLimits (all_changed changes channel).modes

@@ -1,10 +1,13 @@
 //! A channel.
-ghost use Rattle.std.specs.Prelude.{◌≡◌, false, not, Some, None, IsOk, IsTrue, OnOk, OnErr, if◌then◌else◌};
+ghost use Rattle.std.specs.Prelude.{◌≡◌, false, not, Some, None, IsOk, IsTrue, OnOk, OnErr};
+ghost use Rattle.std.specs.Prelude.{if◌then◌else◌};
 ghost use Rattle.std.specs.List.{list_any};
 ghost use Rattle.std.specs.FinMap.{keys};
 ghost use Rattle.irc_names.specs.Fold.{key};
 ghost use Rattle.irc_modes.specs.Modes.{adds_ban, is_nil};
-ghost use Rattle.irc_channels.specs.Channels.{new_channel, has_member, joined, left, without_user, renamed, invited_too, is_invited, uninvited, with_topic, respelled, all_changed};
+ghost use Rattle.irc_channels.specs.Channels.{new_channel, has_member, joined, left, without_user};
+ghost use Rattle.irc_channels.specs.Channels.{renamed, invited_too, is_invited, uninvited};
+ghost use Rattle.irc_channels.specs.Channels.{with_topic, respelled, all_changed};
 
 use crate::flags::Flags;
 use crate::member_changing::change_members;
@@ -58,8 +61,8 @@ impl Channel {
         self.members.len() > 0
     }
 
-    /// A user joins, and its invitation is used up; one who is a member already changes nothing, and takes no memory. Where there is
-    /// no memory nothing has changed.
+    /// A user joins, and its invitation is used up; one who is a member already changes nothing,
+    /// and takes no memory. Where there is no memory nothing has changed.
     ///
     /// # Errors
     /// Where memory runs out; nothing has changed then.
@@ -77,8 +80,8 @@ impl Channel {
         Ok(())
     }
 
-    /// A member leaves; one who is none changes nothing. Tells whether the channel stays: it ends when its last member leaves (RFC
-    /// 2811 section 3).
+    /// A member leaves; one who is none changes nothing. Tells whether the channel stays: it ends
+    /// when its last member leaves (RFC 2811 section 3).
     pub fn leave(&mut self, nick: &Nick) -> bool
         ensures { left (key nick.now) self.old ≡ (if result then Some self.new else None) }
     {
@@ -89,7 +92,8 @@ impl Channel {
         self.has_members()
     }
 
-    /// A user is gone, and its invitation too. Tells whether the channel stays, which ends where no member is left.
+    /// A user is gone, and its invitation too. Tells whether the channel stays, which ends where no
+    /// member is left.
     pub fn forget(&mut self, nick: &Nick) -> bool
         ensures { without_user (key nick.now) self.old ≡ (if result then Some self.new else None) }
     {
@@ -106,7 +110,8 @@ impl Channel {
         self.invited.rename(nick.as_bytes(), new.as_bytes());
     }
 
-    /// A user is invited; one who is invited already takes no memory. Where there is no memory nothing has changed.
+    /// A user is invited; one who is invited already takes no memory. Where there is no memory
+    /// nothing has changed.
     ///
     /// # Errors
     /// Where memory runs out; nothing has changed then.
@@ -141,8 +146,8 @@ impl Channel {
         }
     }
 
-    /// Changes modes, of the channel and of its members, one after another. Only a ban that is added takes memory; where there is none
-    /// nothing has changed.
+    /// Changes modes, of the channel and of its members, one after another. Only a ban that is
+    /// added takes memory; where there is none nothing has changed.
     ///
     /// # Errors
     /// Where memory runs out; nothing has changed then.
@@ -150,7 +155,8 @@ impl Channel {
     pub fn change(&mut self, changes: &[ModeChange]) -> Result<(), AllocError>
         ensures ok { OnOk result (self.new ≡ all_changed changes.now self.old) }
         ensures refused { OnErr result (self.new ≡ self.old) }
-        ensures none_added { list_any (adds_ban self.old.modes.bans) changes.now ≡ false → IsOk result }
+        ensures none_added { list_any (adds_ban self.old.modes.bans) changes.now ≡ false
+            → IsOk result }
     {
         self.modes.change(changes)?;
         change_members(&mut self.members, changes);

@@ -6,8 +6,12 @@ ghost use Rattle.std.specs.FinMap.{empty, entries};
 ghost use Rattle.irc_names.specs.Fold.{key};
 ghost use Rattle.irc_names.specs.Tables.{alter, row, each};
 ghost use Rattle.irc_tables.specs.RowViews.{row_entry};
-ghost use Rattle.irc_channels.specs.Channels.{adds_none, has_member, is_invited, left, without_user, renamed, invited_too, uninvited, with_topic, respelled, all_changed};
-ghost use Rattle.irc_channels.specs.ChannelTable.{entry_at, fault_at, joined_or_made, leaving_fault_at, members_in, Alters, GoesWellWhere, IsOwedOrMemory};
+ghost use Rattle.irc_channels.specs.Channels.{adds_none, has_member, is_invited, left};
+ghost use Rattle.irc_channels.specs.Channels.{without_user, renamed, invited_too, uninvited};
+ghost use Rattle.irc_channels.specs.Channels.{with_topic, respelled, all_changed};
+ghost use Rattle.irc_channels.specs.ChannelTable.{entry_at, fault_at, joined_or_made};
+ghost use Rattle.irc_channels.specs.ChannelTable.{leaving_fault_at, members_in, Alters};
+ghost use Rattle.irc_channels.specs.ChannelTable.{GoesWellWhere, IsOwedOrMemory};
 
 use crate::channel::Channel;
 use crate::fault::ChannelsFault;
@@ -88,7 +92,8 @@ impl Channels {
         self.rows.as_slice()
     }
 
-    /// The members of a channel, in folded order of their nicknames; none where there is no such channel.
+    /// The members of a channel, in folded order of their nicknames; none where there is no such
+    /// channel.
     pub fn members(&self, name: &[u8]) -> &[Row<Flags>]
         ensures { map row_entry result.now ≡ members_in (row self.now (key name.now)) }
     {
@@ -98,8 +103,8 @@ impl Channels {
         }
     }
 
-    /// A user joins a channel, which is made where it is not there, as it is spelled here (RFC 2812 section 3.2.1). One who is a
-    /// member already changes nothing, and takes no memory.
+    /// A user joins a channel, which is made where it is not there, as it is spelled here (RFC 2812
+    /// section 3.2.1). One who is a member already changes nothing, and takes no memory.
     ///
     /// # Errors
     /// [`ChannelsFault::Memory`] where memory runs out. Nothing has changed then.
@@ -110,7 +115,8 @@ impl Channels {
         op: bool,
     ) -> Result<(), ChannelsFault>
         ensures fault { IsOwedOrMemory None (result_err result) }
-        ensures ok { Alters result channel.now (joined_or_made nick.now op channel.now) self.old self.new }
+        ensures ok { Alters result channel.now
+            (joined_or_made nick.now op channel.now) self.old self.new }
         ensures refused { OnErr result (self.new ≡ self.old) }
         ensures member { GoesWellWhere (has_member (key nick.now)) channel.now self.old result }
     {
@@ -125,14 +131,16 @@ impl Channels {
         Ok(())
     }
 
-    /// A member leaves a channel, which ends with its last member (RFC 2811 section 3). It takes no memory.
+    /// A member leaves a channel, which ends with its last member (RFC 2811 section 3). It takes no
+    /// memory.
     ///
     /// # Errors
     /// [`ChannelsFault::NoSuchChannel`] where the channel is not there, then
     /// [`ChannelsFault::NotMember`] where the user is no member of it. Nothing has changed then.
     pub fn part(&mut self, nick: &Nick, channel: &ChannelName) -> Result<(), ChannelsFault>
         ensures fault { result_err result ≡ leaving_fault_at nick.now self.old channel.now }
-        ensures ok { Alters result channel.now (option_and_then (left (key nick.now))) self.old self.new }
+        ensures ok { Alters result channel.now
+            (option_and_then (left (key nick.now))) self.old self.new }
         ensures refused { OnErr result (self.new ≡ self.old) }
     {
         let Some(found) = self.find(channel.as_bytes()) else {
@@ -145,7 +153,8 @@ impl Channels {
         Ok(())
     }
 
-    /// Changes modes of a channel and of its members, one after another (RFC 2811 section 4). Only a ban that is added takes memory.
+    /// Changes modes of a channel and of its members, one after another (RFC 2811 section 4). Only
+    /// a ban that is added takes memory.
     ///
     /// # Errors
     /// [`ChannelsFault::NoSuchChannel`] where the channel is not there,
@@ -156,7 +165,8 @@ impl Channels {
         changes: &[ModeChange],
     ) -> Result<(), ChannelsFault>
         ensures fault { IsOwedOrMemory (fault_at self.old channel.now) (result_err result) }
-        ensures ok { Alters result channel.now (option_map (all_changed changes.now)) self.old self.new }
+        ensures ok { Alters result channel.now
+            (option_map (all_changed changes.now)) self.old self.new }
         ensures refused { OnErr result (self.new ≡ self.old) }
         ensures none_added { GoesWellWhere (adds_none changes.now) channel.now self.old result }
     {
@@ -173,7 +183,8 @@ impl Channels {
     /// [`ChannelsFault::NoSuchChannel`] where the channel is not there. Nothing has changed then.
     pub fn set_topic(&mut self, channel: &ChannelName, topic: &Words) -> Result<(), ChannelsFault>
         ensures fault { result_err result ≡ fault_at self.old channel.now }
-        ensures ok { Alters result channel.now (option_map (with_topic topic.now)) self.old self.new }
+        ensures ok { Alters result channel.now
+            (option_map (with_topic topic.now)) self.old self.new }
         ensures refused { OnErr result (self.new ≡ self.old) }
     {
         if !self.has(channel) {
@@ -211,7 +222,8 @@ impl Channels {
     /// [`ChannelsFault::Memory`] where memory runs out. Nothing has changed then.
     pub fn invite(&mut self, nick: &Nick, channel: &ChannelName) -> Result<(), ChannelsFault>
         ensures fault { IsOwedOrMemory (fault_at self.old channel.now) (result_err result) }
-        ensures ok { Alters result channel.now (option_map (invited_too (key nick.now))) self.old self.new }
+        ensures ok { Alters result channel.now
+            (option_map (invited_too (key nick.now))) self.old self.new }
         ensures refused { OnErr result (self.new ≡ self.old) }
         ensures there { GoesWellWhere (is_invited (key nick.now)) channel.now self.old result }
     {
@@ -222,13 +234,15 @@ impl Channels {
         Ok(())
     }
 
-    /// Takes the invitation of a user to a channel back; where there is none nothing changes. It takes no memory.
+    /// Takes the invitation of a user to a channel back; where there is none nothing changes. It
+    /// takes no memory.
     ///
     /// # Errors
     /// [`ChannelsFault::NoSuchChannel`] where the channel is not there. Nothing has changed then.
     pub fn uninvite(&mut self, nick: &Nick, channel: &ChannelName) -> Result<(), ChannelsFault>
         ensures fault { result_err result ≡ fault_at self.old channel.now }
-        ensures ok { Alters result channel.now (option_map (uninvited (key nick.now))) self.old self.new }
+        ensures ok { Alters result channel.now
+            (option_map (uninvited (key nick.now))) self.old self.new }
         ensures refused { OnErr result (self.new ≡ self.old) }
     {
         if !self.has(channel) {
@@ -239,15 +253,16 @@ impl Channels {
         Ok(())
     }
 
-    /// A user has another nickname, and its memberships and invitations with it. It takes no memory.
+    /// A user has another nickname, and its memberships and invitations with it. It takes no
+    /// memory.
     pub fn rename_member(&mut self, nick: &Nick, new: &Nick)
         ensures { self.new ≡ each (λ c. Some (renamed (key nick.now) (key new.now) c)) self.old }
     {
         self.rows.change_each(&Renaming { nick, new });
     }
 
-    /// A member of one channel, or one invited to it, has another nickname. Where the channel is not there nothing changes. It takes no
-    /// memory.
+    /// A member of one channel, or one invited to it, has another nickname. Where the channel is
+    /// not there nothing changes. It takes no memory.
     pub fn rename_in(&mut self, nick: &Nick, new: &Nick, channel: &[u8])
         ensures { self.new ≡ alter (key channel.now)
             (option_and_then (λ c. Some (renamed (key nick.now) (key new.now) c))) self.old }
@@ -255,18 +270,19 @@ impl Channels {
         self.rows.change_at(channel, &Renaming { nick, new });
     }
 
-    /// A user is gone from all channels, and its invitations with it; each channel that it was the last member of ends. It takes no
-    /// memory.
+    /// A user is gone from all channels, and its invitations with it; each channel that it was the
+    /// last member of ends. It takes no memory.
     pub fn remove_user(&mut self, nick: &Nick)
         ensures { self.new ≡ each (without_user (key nick.now)) self.old }
     {
         self.rows.change_each(&Forgetting { nick });
     }
 
-    /// A user is gone from one channel, and its invitation with it; the channel ends where it has no member then. Where the channel is not
-    /// there nothing changes. It takes no memory.
+    /// A user is gone from one channel, and its invitation with it; the channel ends where it has
+    /// no member then. Where the channel is not there nothing changes. It takes no memory.
     pub fn remove_from(&mut self, nick: &Nick, channel: &[u8])
-        ensures { self.new ≡ alter (key channel.now) (option_and_then (without_user (key nick.now))) self.old }
+        ensures { self.new ≡ alter (key channel.now)
+            (option_and_then (without_user (key nick.now))) self.old }
     {
         self.rows.change_at(channel, &Forgetting { nick });
     }

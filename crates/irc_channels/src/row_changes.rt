@@ -1,7 +1,9 @@
 //! What the calls on the channels do to one of them.
 ghost use Rattle.std.specs.Prelude.{Some};
 ghost use Rattle.irc_names.specs.Fold.{key};
-ghost use Rattle.irc_channels.specs.Channels.{adds_none, has_member, is_invited, joined, left, without_user, renamed, invited_too, uninvited, with_topic, respelled, all_changed};
+ghost use Rattle.irc_channels.specs.Channels.{adds_none, has_member, is_invited, joined, left};
+ghost use Rattle.irc_channels.specs.Channels.{without_user, renamed, invited_too, uninvited};
+ghost use Rattle.irc_channels.specs.Channels.{with_topic, respelled, all_changed};
 
 use crate::stored::Stored;
 use crate::words::Words;
@@ -63,7 +65,8 @@ pub(crate) struct Renaming<'a> {
 }
 
 impl<'a> RowChange<Stored> for Renaming<'a> {
-    ghost changed = { λ renaming channel. Some (renamed (key renaming.nick.now) (key renaming.new.now) channel) };
+    ghost changed = { λ renaming channel.
+        Some (renamed (key renaming.nick.now) (key renaming.new.now) channel) };
 
     fn change(&self, stored: &mut Stored) -> bool {
         stored.channel.rename(self.nick, self.new);

@@ -14,9 +14,11 @@ pub decided_does : DecidedDoes
 decided_does room place who message well =
     decided_so room place who message (λ d. AreDoing room d.steps) (record {
       silent = tt;
-      own = λ me steps is own carries. own_are_doing me room steps well (stored_there room well (key who) me is) own;
+      own = λ me steps is own carries. own_are_doing me room steps well
+          (stored_there room well (key who) me is) own;
       renamed = λ me nickname is named free. record { now = refl; later = tt };
-      leaves_all = λ me is. own_are_doing me room (map (leaves me) (own_channels room me)) well (stored_there room well (key who) me is) (leaving_all_is_own me room well);
+      leaves_all = λ me is. own_are_doing me room (map (leaves me) (own_channels room me)) well
+          (stored_there room well (key who) me is) (leaving_all_is_own me room well);
       quits = λ me reason line is reason_is. record { now = refl; later = tt };
     })
 

@@ -21,14 +21,17 @@ pub record IsNeverOwn (me : User) (test : Act → Bool) : Type 0 where
   pub of_lines : (line : ArrayVec ℕ) → test (Raw line) ≡ false
   pub of_own : (room : Room) (effect : Effect) → IsOwn me room effect → test (Do effect) ≡ false
 
-pub never_own : (me : User) (test : Act → Bool) → IsNeverOwn me test → (room : Room) (acts : List Act) → AreOwn me room acts → list_any test acts ≡ false
+pub never_own : (me : User) (test : Act → Bool) → IsNeverOwn me test
+    → (room : Room) (acts : List Act) → AreOwn me room acts → list_any test acts ≡ false
 never_own me test never room [] own = refl
 never_own me test never room (Answer reply ∷ acts) own =
-    ap (λ b. b || list_any test acts) (never.of_answers reply) ∙ never_own me test never room acts own
+    ap (λ b. b || list_any test acts) (never.of_answers reply)
+    ∙ never_own me test never room acts own
 never_own me test never room (Raw line ∷ acts) own =
     ap (λ b. b || list_any test acts) (never.of_lines line) ∙ never_own me test never room acts own
 never_own me test never room (Do effect ∷ acts) own =
-    ap (λ b. b || list_any test acts) (never.of_own room effect own.now) ∙ never_own me test never (after room effect) acts own.later
+    ap (λ b. b || list_any test acts) (never.of_own room effect own.now)
+    ∙ never_own me test never (after room effect) acts own.later
 
 -- ---- who is a user, and by which nickname
 
@@ -75,8 +78,9 @@ own_renames_nobody me who = never_coming me (renames_other who) by_act
     by_act act none = refl
 
 -- a test that fails for each channel that is left
-pub none_leaving : (me : User) (test : Act → Bool) (channels : List Channel) → ((channel : Channel) → test (leaves me channel) ≡ false)
-    → list_any test (map (leaves me) channels) ≡ false
+pub none_leaving : (me : User) (test : Act → Bool) (channels : List Channel) → ((channel : Channel)
+    → test (leaves me channel) ≡ false) → list_any test (map (leaves me) channels) ≡ false
 none_leaving me test [] each = refl
 none_leaving me test (channel ∷ channels) each =
-    ap (λ b. b || list_any test (map (leaves me) channels)) (each channel) ∙ none_leaving me test channels each
+    ap (λ b. b || list_any test (map (leaves me) channels)) (each channel)
+    ∙ none_leaving me test channels each

@@ -1,5 +1,7 @@
--- What a connection gives before it is registered keeps to the limits, and it is added as a user that other servers can be told of.
-use Rattle.std.proofs.Common.{◌≡◌, ◌≢◌, ℕ, ◌≤◌, Bool, true, false, cond, not, Option, Some, None, List, [], ◌∷◌, length, take, map, refl, sym, ap, subst, arith}
+-- What a connection gives before it is registered keeps to the limits, and it is added as a user
+-- that other servers can be told of.
+use Rattle.std.proofs.Common.{◌≡◌, ◌≢◌, ℕ, ◌≤◌, Bool, true, false, cond, not, Option, Some, None}
+use Rattle.std.proofs.Common.{List, [], ◌∷◌, length, take, map, refl, sym, ap, subst, arith}
 use Rattle.std.proofs.lemmas.List.{length-take, take_all}
 use Rattle.std.specs.List.{AllByRecursion}
 use Rattle.std.specs.Option.{IfSome}
@@ -23,7 +25,9 @@ use Rattle.irc_registering.specs.declared.pending.Pending.{Pending}
 use Rattle.irc_registering.specs.declared.command_names.Command.{Command}
 use Rattle.irc_registering.specs.declared.command_names.Command.TheVariants as command
 use Rattle.irc_registering.specs.Ping.{ping_steps}
-use Rattle.irc_registering.specs.Register.{replies, user_of, welcomed, completed, complete, nick_chosen, nick_row, user_row, pending_row_of, register, Registered}
+use Rattle.irc_registering.specs.Register.{replies, user_of, welcomed, completed, complete}
+use Rattle.irc_registering.specs.Register.{nick_chosen, nick_row, user_row, pending_row_of}
+use Rattle.irc_registering.specs.Register.{register, Registered}
 use Rattle.irc_commands.specs.Sendable.{IsNamed, IsPendingWithin, RegisteringIsSendable}
 use Rattle.irc_commands.proofs.SendableLaws.{all_words}
 use Rattle.irc_registering.specs.CommandNames.{command_of}
@@ -46,7 +50,8 @@ name_cleaned : (bytes : List ℕ) → IsUserName (clean_user bytes)
 unfolding clean_user
 name_cleaned bytes =
     let kept = take max_user_name bytes in
-    clean_name bytes kept (map clean_user_byte kept) (length kept) refl (ap (map clean_user_byte) (sym (take_all (length kept) kept (omega arith))))
+    clean_name bytes kept (map clean_user_byte kept) (length kept) refl
+    (ap (map clean_user_byte) (sym (take_all (length kept) kept (omega arith))))
 
 some_cleaned : (bytes : List ℕ) → bytes ≢ [] → clean_user bytes ≢ []
 unfolding clean_user
@@ -64,16 +69,30 @@ real_carried bytes carried = front_carried max_real_name bytes carried
 -- ---- row by row
 
 module _ (room : Room) (place : Place) (server : IsServer place.name) where
-  with_names : (pending : Pending) → IsPendingWithin pending → (nickname username : Option (List ℕ)) → pending.nick ≡ nickname → pending.user ≡ username
+  with_names : (pending : Pending) → IsPendingWithin pending
+      → (nickname username : Option (List ℕ)) → pending.nick ≡ nickname → pending.user ≡ username
       → IsGood room (completed room place pending nickname username)
   with_names pending within None username nick name = (within, tt)
   with_names pending within (Some nickname) None nick name = (within, tt)
   with_names pending within (Some nickname) (Some username) nick name =
-      let named : IsNamed username = subst (λ (o : Option (List ℕ)). IfSome o IsNamed) name within.name in
-      by_test (IsGood room) (has_user room nickname) (replies (record pending { nick = None }) (Answer (NicknameInUse nickname) ∷ []))
-      (record { pending = pending; steps = welcomed place (user_of place pending nickname username); registered = true; close = false })
+      let named : IsNamed username =
+      subst (λ (o : Option (List ℕ)). IfSome o IsNamed) name within.name in
+      by_test (IsGood room) (has_user room nickname)
+      (replies (record pending { nick = None }) (Answer (NicknameInUse nickname) ∷ []))
+      (record {
+        pending = pending;
+        steps = welcomed place (user_of place pending nickname username);
+        registered = true;
+        close = false;
+      })
       (λ taken. (
-        record { nick = tt; name = within.name; real_fits = within.real_fits; real_carried = within.real_carried; host = within.host },
+        record {
+          nick = tt;
+          name = within.name;
+          real_fits = within.real_fits;
+          real_carried = within.real_carried;
+          host = within.host;
+        },
         tt,
       ))
       (λ free. (
@@ -92,16 +111,20 @@ module _ (room : Room) (place : Place) (server : IsServer place.name) where
         },
       ))
 
-  completing : (pending : Pending) → IsPendingWithin pending → IsGood room (complete room place pending)
+  completing : (pending : Pending) → IsPendingWithin pending
+      → IsGood room (complete room place pending)
   completing pending within = with_names pending within pending.nick pending.user refl refl
 
-  choosing : (pending : Pending) → IsPendingWithin pending → (nickname : List ℕ) → IsGood room (nick_chosen room place pending nickname)
+  choosing : (pending : Pending) → IsPendingWithin pending → (nickname : List ℕ)
+      → IsGood room (nick_chosen room place pending nickname)
   choosing pending within nickname =
       let in_use = replies pending (Answer (NicknameInUse nickname) ∷ []) in
       let chosen = complete room place (record pending { nick = Some nickname }) in
-      by_test (IsGood room) (not (is_nick nickname)) (replies pending (Answer (ErroneousNickname (client_words nickname)) ∷ []))
+      by_test (IsGood room) (not (is_nick nickname))
+      (replies pending (Answer (ErroneousNickname (client_words nickname)) ∷ []))
       (cond (has_user room nickname) in_use chosen) (λ erroneous. (within, tt))
-      (λ fine. by_test (IsGood room) (has_user room nickname) in_use chosen (λ taken. (within, tt)) (λ free. completing (record pending { nick = Some nickname }) (record {
+      (λ fine. by_test (IsGood room) (has_user room nickname) in_use chosen (λ taken. (within, tt))
+      (λ free. completing (record pending { nick = Some nickname }) (record {
         nick = not_so (is_nick nickname) fine;
         name = within.name;
         real_fits = within.real_fits;
@@ -109,37 +132,44 @@ module _ (room : Room) (place : Place) (server : IsServer place.name) where
         host = within.host;
       })))
 
-  by_nick : (pending : Pending) → IsPendingWithin pending → (params : List (List ℕ)) → IsGood room (nick_row room place pending params)
+  by_nick : (pending : Pending) → IsPendingWithin pending → (params : List (List ℕ))
+      → IsGood room (nick_row room place pending params)
   by_nick pending within [] = (within, tt)
   by_nick pending within ([] ∷ more) = (within, tt)
   by_nick pending within ((b ∷ bytes) ∷ more) = choosing pending within (b ∷ bytes)
 
-  by_user : (pending : Pending) → IsPendingWithin pending → (params : List (List ℕ)) → AllByRecursion IsCarried params
-      → AllByRecursion IsPlainWord (earlier_pieces params) → IsGood room (user_row room place pending params)
+  by_user : (pending : Pending) → IsPendingWithin pending → (params : List (List ℕ))
+      → AllByRecursion IsCarried params → AllByRecursion IsPlainWord (earlier_pieces params)
+      → IsGood room (user_row room place pending params)
   by_user pending within [] carried plain = (within, tt)
   by_user pending within (username ∷ []) carried plain = (within, tt)
   by_user pending within (username ∷ mode ∷ []) carried plain = (within, tt)
   by_user pending within (username ∷ mode ∷ unused ∷ []) carried plain = (within, tt)
   by_user pending within (username ∷ mode ∷ unused ∷ real ∷ more) carried plain =
-      completing (record pending { user = Some (clean_user username); real = cut_real real }) (record {
+      completing (record pending { user = Some (clean_user username); real = cut_real real })
+      (record {
         nick = within.nick;
-        name = record { clean = name_cleaned username; some = some_cleaned username plain.0.is_some };
+        name =
+            record { clean = name_cleaned username; some = some_cleaned username plain.0.is_some };
         real_fits = real_fits real;
         real_carried = real_carried real carried.1.1.1.0;
         host = within.host;
       })
 
-  pinged : (pending : Pending) → IsPendingWithin pending → (params : List (List ℕ)) → IsGood room (replies pending (ping_steps place params))
+  pinged : (pending : Pending) → IsPendingWithin pending → (params : List (List ℕ))
+      → IsGood room (replies pending (ping_steps place params))
   unfolding ping_steps
   pinged pending within [] = (within, tt)
   pinged pending within (word ∷ more) = (within, tt)
 
-  by_row : (pending : Pending) → IsPendingWithin pending → (params : List (List ℕ)) → AllByRecursion IsCarried params
-      → AllByRecursion IsPlainWord (earlier_pieces params) → (which : Option Command) → IsGood room (pending_row_of room place pending params which)
+  by_row : (pending : Pending) → IsPendingWithin pending → (params : List (List ℕ))
+      → AllByRecursion IsCarried params → AllByRecursion IsPlainWord (earlier_pieces params)
+      → (which : Option Command) → IsGood room (pending_row_of room place pending params which)
   by_row pending within params carried plain (Some command.Pass) = (within, tt)
   by_row pending within params carried plain (Some command.Pong) = (within, tt)
   by_row pending within params carried plain (Some command.Nick) = by_nick pending within params
-  by_row pending within params carried plain (Some command.User) = by_user pending within params carried plain
+  by_row pending within params carried plain (Some command.User) =
+      by_user pending within params carried plain
   by_row pending within params carried plain (Some command.Ping) = pinged pending within params
   by_row pending within params carried plain (Some command.Quit) = (within, tt)
   by_row pending within params carried plain (Some command.Motd) = (within, tt)
@@ -162,6 +192,9 @@ module _ (room : Room) (place : Place) (server : IsServer place.name) where
 pub registering_is_sendable : RegisteringIsSendable
 unfolding register
 registering_is_sendable room place pending line message within server words =
-    by_test (IsGood room) (is_from message.prefix pending.nick) (pending_row_of room place pending message.params (command_of message.command)) (replies pending [])
-    (λ own. by_row room place server pending within message.params (all_words line message.params words.params) words.earlier_params (command_of message.command))
+    by_test (IsGood room) (is_from message.prefix pending.nick)
+    (pending_row_of room place pending message.params (command_of message.command))
+    (replies pending [])
+    (λ own. by_row room place server pending within message.params (all_words line message.params
+    words.params) words.earlier_params (command_of message.command))
     (λ foreign. (within, tt))

@@ -19,7 +19,8 @@ free_or_own : (room : Room) (me : User) (nickname : List ℕ) → is_anothers ro
     → (not (has_user room nickname) || same me.nick nickname) ≡ true
 free_or_own room me nickname = by_tests (has_user room nickname) (same nickname me.nick) refl
   where
-    by_tests : (b c : Bool) → same nickname me.nick ≡ c → (b && not c) ≡ false → (not b || same me.nick nickname) ≡ true
+    by_tests : (b c : Bool) → same nickname me.nick ≡ c → (b && not c) ≡ false
+        → (not b || same me.nick nickname) ≡ true
     by_tests false c is none = refl
     by_tests true true is none = same-equivalence.symm me.nick nickname ∙ is
     by_tests true false is none = cc none
@@ -28,7 +29,8 @@ pub decided_is_possible : DecidedIsPossible
 decided_is_possible room place who message well =
     decided_so room place who message (λ d. ArePossible room d.steps) (record {
       silent = tt;
-      own = λ me steps is own carries. own_are_possible me room steps well (stored_there room well (key who) me is) own;
+      own = λ me steps is own carries. own_are_possible me room steps well
+          (stored_there room well (key who) me is) own;
       renamed = λ me nickname is named free. record {
         now = record {
           users_there = one_there room me.nick (stored_there room well (key who) me is);
@@ -37,9 +39,15 @@ decided_is_possible room place who message well =
         };
         later = tt;
       };
-      leaves_all = λ me is. own_are_possible me room (map (leaves me) (own_channels room me)) well (stored_there room well (key who) me is) (leaving_all_is_own me room well);
+      leaves_all = λ me is. own_are_possible me room (map (leaves me) (own_channels room me)) well
+          (stored_there room well (key who) me is) (leaving_all_is_own me room well);
       quits = λ me reason line is reason_is. record {
-        now = record { users_there = one_there room me.nick (stored_there room well (key who) me is); channel_there = refl; nick_free = refl };
+        now = record {
+          users_there = one_there room me.nick
+              (stored_there room well (key who) me is);
+          channel_there = refl;
+          nick_free = refl;
+        };
         later = tt;
       };
     })
@@ -51,5 +59,12 @@ registering_is_possible room place pending message well =
       answered = λ pending reply. tt;
       told = λ pending line. tt;
       closed = λ pending line. tt;
-      added = λ pending nickname username is free. record { now = record { users_there = refl; channel_there = refl; nick_free = ap not free }; later = tt };
+      added = λ pending nickname username is free. record {
+        now = record {
+          users_there = refl;
+          channel_there = refl;
+          nick_free = ap not free;
+        };
+        later = tt;
+      };
     })

@@ -1,5 +1,6 @@
 -- A text that is said is so short that its line for clients is not cut.
-use Rattle.std.proofs.Common.{◌≡◌, true, lit≤, ℕ, ◌+◌, ◌-◌, ◌≤◌, Option, Some, List, [], ◌∷◌, ◌++◌, length, take, codes, sym, subst, arith}
+use Rattle.std.proofs.Common.{◌≡◌, true, lit≤, ℕ, ◌+◌, ◌-◌, ◌≤◌, Option, Some, List, [], ◌∷◌, ◌++◌}
+use Rattle.std.proofs.Common.{length, take, codes, sym, subst, arith}
 use Rattle.std.proofs.lemmas.List.{length-append, length-take}
 use Rattle.std.specs.Option.{IfSome}
 use Rattle.irc_line.specs.Bytes.{colon, space, exclamation_mark, at_sign}
@@ -23,7 +24,8 @@ use Rattle.irc_commands.specs.declared.say.Verb.TheVariants as verb
 use Rattle.irc_commands.specs.Say.{is_notice, said_text}
 
 abbrev parts_of : List ℕ → List ℕ → List ℕ → List ℕ → List ℕ → List ℕ → Written
-parts_of nick user host command to text = record { sender = full nick user host; command = command; middle = to ∷ []; last = Some text }
+parts_of nick user host command to text =
+    record { sender = full nick user host; command = command; middle = to ∷ []; last = Some text }
 
 line_length : (nick user host command to text : List ℕ)
     → length (joined_text (parts_of nick user host command to text))
@@ -46,42 +48,54 @@ line_length nick user host command to text =
     omega (arith, a, b, c, d, e, f, g, h, i)
 
 -- what is left of a text that is cut, behind so many bytes
-left_fits : (front : ℕ) (words : List ℕ) → front ≤ max_line → front + length (take (max_line - front) words) ≤ max_line
-left_fits front words fits = let taken = length-take (max_line - front) words in omega (arith, taken, fits)
+left_fits : (front : ℕ) (words : List ℕ) → front ≤ max_line
+    → front + length (take (max_line - front) words) ≤ max_line
+left_fits front words fits =
+    let taken = length-take (max_line - front) words in omega (arith, taken, fits)
 
-cut_to_fit : (nick user host command to words : List ℕ) → length nick ≤ max_nick → length user ≤ 10 → length host ≤ 63 → length command ≤ 7 → length to ≤ 50
+cut_to_fit : (nick user host command to words : List ℕ) → length nick ≤ max_nick
+    → length user ≤ 10 → length host ≤ 63 → length command ≤ 7 → length to ≤ 50
     → length (joined_text (parts_of nick user host command to
-    (take (max_line - length (joined_text (parts_of nick user host command to []))) words))) ≤ max_line
+    (take (max_line - length (joined_text (parts_of nick user host command to []))) words)))
+    ≤ max_line
 cut_to_fit nick user host command to words nick_fits user_fits host_fits command_fits to_fits =
     let empty = length (joined_text (parts_of nick user host command to [])) in
     let text = take (max_line - empty) words in
     let without = line_length nick user host command to [] in
     let cut = line_length nick user host command to text in
-    let short : empty ≤ max_line = omega (arith, without, nick_fits, user_fits, host_fits, command_fits, to_fits) in
+    let short : empty ≤ max_line =
+    omega (arith, without, nick_fits, user_fits, host_fits, command_fits, to_fits) in
     let left = left_fits empty words short in
     omega (arith, without, cut, left)
 
-said_fits : (me : User) → IsUserWithin me → (which : Verb) (to : Target) (words : List ℕ) → length (target_word to) ≤ 50
-    → length (joined_text (said_parts me (is_notice which) to (said_text me which (target_word to) words))) ≤ max_line
+said_fits : (me : User) → IsUserWithin me → (which : Verb) (to : Target) (words : List ℕ)
+    → length (target_word to) ≤ 50 → length (joined_text
+    (said_parts me (is_notice which) to (said_text me which (target_word to) words))) ≤ max_line
 said_fits me within verb.Privmsg to words fits =
-    cut_to_fit me.nick me.user me.host (codes "PRIVMSG") (target_word to) words (nick-fits me.nick within.nick) within.name.fits (host-fits me.host within.host)
+    cut_to_fit me.nick me.user me.host (codes "PRIVMSG") (target_word to) words
+    (nick-fits me.nick within.nick) within.name.fits (host-fits me.host within.host)
     (lit≤ tt) fits
 said_fits me within verb.Notice to words fits =
-    cut_to_fit me.nick me.user me.host (codes "NOTICE") (target_word to) words (nick-fits me.nick within.nick) within.name.fits (host-fits me.host within.host)
+    cut_to_fit me.nick me.user me.host (codes "NOTICE") (target_word to) words
+    (nick-fits me.nick within.nick) within.name.fits (host-fits me.host within.host)
     (lit≤ tt) fits
 
 pub nick_is_short : (bytes : List ℕ) → is_nick bytes ≡ true → length bytes ≤ 50
-nick_is_short bytes is = let fits : length bytes ≤ max_nick = nick-fits bytes is in omega (arith, fits)
+nick_is_short bytes is = let fits : length bytes ≤ max_nick = nick-fits bytes is in
+    omega (arith, fits)
 
 pub channel_is_short : (bytes : List ℕ) → is_channel bytes ≡ true → length bytes ≤ 50
 channel_is_short = channel-fits
 
-pub said_is_short : (room : Room) (me : User) → row room.users (key me.nick) ≡ Some me → IsUserWithin me → (which : Verb) (to : Target) (words : List ℕ)
+pub said_is_short : (room : Room) (me : User) → row room.users (key me.nick) ≡ Some me
+    → IsUserWithin me → (which : Verb) (to : Target) (words : List ℕ)
     → length (target_word to) ≤ 50 → IsCarried words
     → IsShortText room me.nick (is_notice which) to (said_text me which (target_word to) words)
 said_is_short room me mine within which to words fits carried = record {
   text_carried = front_carried _ words carried;
   line_fits =
-      subst (λ (found : Option User). IfSome found (λ (user : User). length (joined_text (said_parts user (is_notice which) to (said_text me which (target_word to) words))) ≤ max_line))
+      subst (λ (found : Option User). IfSome found (λ (user : User). length (joined_text
+      (said_parts user (is_notice which) to (said_text me which (target_word to) words)))
+      ≤ max_line))
       (sym mine) (said_fits me within which to words fits);
 }

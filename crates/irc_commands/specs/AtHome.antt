@@ -1,4 +1,5 @@
--- What a line does at its user's server, which keeps the invitations of its own users alone, is what it does in the whole room.
+-- What a line does at its user's server, which keeps the invitations of its own users alone, is
+-- what it does in the whole room.
 use Rattle.std.specs.Prelude.{◌≡◌, ℕ, true, List}
 use Rattle.irc_names.specs.Fold.{key}
 use Rattle.irc_line.specs.Messages.{Parsed}
@@ -22,11 +23,14 @@ DecidedAtHome =
     → IsWellFormed room → is_at home room.users (key who) ≡ true
     → decide (of_home home room) place who message ≡ decide room place who message
 
--- A connection that is not registered is not in the room. What its line does depends on nothing of it but the users.
+-- A connection that is not registered is not in the room. What its line does depends on nothing of
+-- it but the users.
 abbrev pub RegisteringByUsers : Type 0
-RegisteringByUsers = (room other : Room) (place : Place) (pending : Pending) (message : Parsed) → room.users ≡ other.users
+RegisteringByUsers = (room other : Room) (place : Place) (pending : Pending) (message : Parsed)
+    → room.users ≡ other.users
     → register room place pending message ≡ register other place pending message
 
 abbrev pub RegisteringAtHome : Type 0
-RegisteringAtHome = (home : List ℕ) (room : Room) (place : Place) (pending : Pending) (message : Parsed)
+RegisteringAtHome =
+    (home : List ℕ) (room : Room) (place : Place) (pending : Pending) (message : Parsed)
     → register (of_home home room) place pending message ≡ register room place pending message

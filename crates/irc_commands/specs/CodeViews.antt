@@ -33,7 +33,8 @@ say_here context verb params = say_steps context.room.now.room context.me.now ve
 
 -- what is said to these targets
 abbrev pub said_here : Context → Verb → List ℕ → List ℕ → List Act
-said_here context verb targets words = say_to context.room.now.room context.me.now verb targets words
+said_here context verb targets words =
+    say_to context.room.now.room context.me.now verb targets words
 
 -- the steps that answer what a user asks, if it asks something and is there
 unfoldable pub asked_steps : Room → Place → Option User → List (List ℕ) → Option Query → List Act
@@ -41,13 +42,16 @@ asked_steps room place me params None = []
 asked_steps room place None params (Some query) = []
 asked_steps room place (Some me) params (Some query) = query_steps room place me params query
 
--- A decision is this: what the user asks with these parameters is answered first, from the room as it is, and its steps follow.
+-- A decision is this: what the user asks with these parameters is answered first, from the room as
+-- it is, and its steps follow.
 abbrev pub IsDecidedAs : Room → Place → Option User → List (List ℕ) → Decided → Decision → Type 0
-IsDecidedAs room place me params want d = want ≡ record { steps = asked_steps room place me params d.query ++ d.steps.items; close = d.close }
+IsDecidedAs room place me params want d = want
+    ≡ record { steps = asked_steps room place me params d.query ++ d.steps.items; close = d.close }
 
 -- It is this whatever is asked, since nothing is.
 abbrev pub IsWithoutQuery : Decided → Decision → Type 0
-IsWithoutQuery want d = (room : Room) (place : Place) (me : Option User) (params : List (List ℕ)) → IsDecidedAs room place me params want d
+IsWithoutQuery want d = (room : Room) (place : Place) (me : Option User) (params : List (List ℕ))
+    → IsDecidedAs room place me params want d
 
 abbrev pub GivesWithoutQuery : {E : Type 0} → Decided → Result Decision E → Type 0
 GivesWithoutQuery want result =
@@ -62,17 +66,22 @@ IsAsking query d =
 
 -- A command of the context's user, with these parameters, is decided so.
 abbrev pub IsDecidedIn : Context → List (List ℕ) → Decided → Decision → Type 0
-IsDecidedIn context params want = IsDecidedAs context.room.now.room (place_of context.routes.now) (Some context.me.now) params want
+IsDecidedIn context params want = IsDecidedAs context.room.now.room (place_of context.routes.now)
+    (Some context.me.now) params want
 
 -- what a command does with these parameters, which are as many as its row wants
 abbrev pub IsRowOf : Context → Command → List (List ℕ) → Decision → Type 0
 IsRowOf context command params =
-    IsDecidedIn context params (command_row context.room.now.room (place_of context.routes.now) context.me.now params command)
+    IsDecidedIn context params (command_row context.room.now.room
+    (place_of context.routes.now) context.me.now params command)
 
--- The row of the command table that a user's line fits, and what a line of who has this nickname does.
+-- The row of the command table that a user's line fits, and what a line of who has this nickname
+-- does.
 abbrev pub IsRowFor : Context → Parsed → Decision → Type 0
 IsRowFor context message =
-    IsDecidedIn context message.params (row_for context.room.now.room (place_of context.routes.now) context.me.now message)
+    IsDecidedIn context message.params
+    (row_for context.room.now.room (place_of context.routes.now) context.me.now message)
 
 abbrev pub IsDecision : Room → Place → List ℕ → Parsed → Decision → Type 0
-IsDecision room place who message = IsDecidedAs room place (row room.users (key who)) message.params (decide room place who message)
+IsDecision room place who message =
+    IsDecidedAs room place (row room.users (key who)) message.params (decide room place who message)

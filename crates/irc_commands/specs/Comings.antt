@@ -1,4 +1,5 @@
--- Which steps say who is a user, and by which nickname: it is one from when it registers to when it quits.
+-- Which steps say who is a user, and by which nickname: it is one from when it registers to when it
+-- quits.
 use Rattle.std.specs.Prelude.{◌≡◌, ℕ, Bool, true, false, not, Option, Some, List, ◌∷◌}
 use Rattle.std.specs.List.{list_any}
 use Rattle.irc_names.specs.Fold.{key, same}
@@ -36,17 +37,21 @@ is_effect other = false
 
 -- A line of a user makes nobody a user.
 abbrev pub DecidedAddsNobody : Type 0
-DecidedAddsNobody = (room : Room) (place : Place) (who : List ℕ) (message : Parsed) → list_any adds_user (decide room place who message).steps ≡ false
+DecidedAddsNobody = (room : Room) (place : Place) (who : List ℕ) (message : Parsed)
+    → list_any adds_user (decide room place who message).steps ≡ false
 
 -- It gives another nickname to nobody but that user.
 abbrev pub OnlyItselfIsRenamed : Type 0
-OnlyItselfIsRenamed = (room : Room) (place : Place) (who : List ℕ) (message : Parsed) → IsWellFormed room
+OnlyItselfIsRenamed = (room : Room) (place : Place) (who : List ℕ) (message : Parsed)
+    → IsWellFormed room
     → list_any (renames_other who) (decide room place who message).steps ≡ false
 
--- While the client stays, its user does, and nobody else becomes a user or ceases to be one; whoever is kicked from a channel is a user still.
+-- While the client stays, its user does, and nobody else becomes a user or ceases to be one;
+-- whoever is kicked from a channel is a user still.
 abbrev pub WhoStaysIsUser : Type 0
 WhoStaysIsUser = (room : Room) (place : Place) (who : List ℕ) (message : Parsed)
-    → (decide room place who message).close ≡ false → list_any adds_or_ends (decide room place who message).steps ≡ false
+    → (decide room place who message).close ≡ false
+    → list_any adds_or_ends (decide room place who message).steps ≡ false
 
 -- these steps are a Quit of the user of a nickname, and then nothing that changes the room
 pub record QuitFirst (room : Room) (who : List ℕ) (steps : List Act) : Type 0 where
@@ -60,7 +65,8 @@ pub record QuitFirst (room : Room) (who : List ℕ) (steps : List Act) : Type 0 
 -- A client that is closed has quit.
 abbrev pub WhoIsClosedQuits : Type 0
 WhoIsClosedQuits = (room : Room) (place : Place) (who : List ℕ) (message : Parsed)
-    → (decide room place who message).close ≡ true → QuitFirst room who (decide room place who message).steps
+    → (decide room place who message).close ≡ true
+    → QuitFirst room who (decide room place who message).steps
 
 -- these steps add a user of this server whose nickname this is, and then change the room no more
 pub record AddsFirst (place : Place) (nick : Option (List ℕ)) (steps : List Act) : Type 0 where
@@ -75,14 +81,17 @@ pub record AddsFirst (place : Place) (nick : Option (List ℕ)) (steps : List Ac
 abbrev pub RegisteredIsAdded : Type 0
 RegisteredIsAdded = (room : Room) (place : Place) (pending : Pending) (message : Parsed)
     → (register room place pending message).registered ≡ true
-    → AddsFirst place (register room place pending message).pending.nick (register room place pending message).steps
+    → AddsFirst place (register room place pending message).pending.nick
+    (register room place pending message).steps
 
 -- One that is not registered changes nothing of the room.
 abbrev pub UnregisteredChangesNothing : Type 0
 UnregisteredChangesNothing = (room : Room) (place : Place) (pending : Pending) (message : Parsed)
-    → (register room place pending message).registered ≡ false → list_any is_effect (register room place pending message).steps ≡ false
+    → (register room place pending message).registered ≡ false
+    → list_any is_effect (register room place pending message).steps ≡ false
 
 -- One that is registered is not closed.
 abbrev pub RegisteredStays : Type 0
 RegisteredStays = (room : Room) (place : Place) (pending : Pending) (message : Parsed)
-    → (register room place pending message).registered ≡ true → (register room place pending message).close ≡ false
+    → (register room place pending message).registered ≡ true
+    → (register room place pending message).close ≡ false

@@ -17,5 +17,6 @@ IsDoneBy me effect = doer_of effect ≡ Some me.nick
 
 -- under the nickname that it has when the line is read, as it is stored
 abbrev pub DecidedByItself : Type 0
-DecidedByItself = (room : Room) (place : Place) (who : List ℕ) (message : Parsed) (me : User) → row room.users (key who) ≡ Some me
+DecidedByItself = (room : Room) (place : Place) (who : List ℕ) (message : Parsed) (me : User)
+    → row room.users (key who) ≡ Some me
     → AllByRecursion (IsDoneBy me) (effects_among (decide room place who message).steps)

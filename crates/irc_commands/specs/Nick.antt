@@ -4,7 +4,8 @@ use Rattle.std.specs.Cmp.Lexicographic.{pointwise}
 use Rattle.irc_names.specs.Fold.{same}
 use Rattle.irc_names.specs.Names.{is_nick}
 use Rattle.irc_users.specs.declared.user.User.{User}
-use Rattle.irc_numerics.specs.declared.replies.Reply.TheVariants.{NoNicknameGiven, ErroneousNickname, NicknameInUse}
+use Rattle.irc_numerics.specs.declared.replies.Reply.TheVariants.{NoNicknameGiven}
+use Rattle.irc_numerics.specs.declared.replies.Reply.TheVariants.{ErroneousNickname, NicknameInUse}
 use Rattle.irc_room.specs.effect.Effect.TheVariants.{Rename}
 use Rattle.irc_room.specs.Room.{Room}
 use Rattle.irc_room.specs.Effects.{has_user}

@@ -1,4 +1,5 @@
--- A decision looks at its own user's invitations alone: whoever else is invited to channels, it is the same.
+-- A decision looks at its own user's invitations alone: whoever else is invited to channels, it is
+-- the same.
 use Rattle.std.specs.Prelude.{◌≡◌, ℕ, List}
 use Rattle.irc_line.specs.Messages.{Parsed}
 use Rattle.irc_room.specs.Room.{Room, IsWellFormed}
@@ -8,5 +9,6 @@ use Rattle.irc_commands.specs.Decide.{decide}
 
 -- the steps are the same, and so is whether the client stays
 abbrev pub DecidedByOwnInvitations : Type 0
-DecidedByOwnInvitations = (room other : Room) (place : Place) (who : List ℕ) (message : Parsed) → IsWellFormed room → AreAlikeFor who room other
+DecidedByOwnInvitations = (room other : Room) (place : Place) (who : List ℕ) (message : Parsed)
+    → IsWellFormed room → AreAlikeFor who room other
     → decide room place who message ≡ decide other place who message

@@ -16,5 +16,6 @@ DecidedIsPossible =
 
 -- and so it is with a line of a connection that is not registered
 abbrev pub RegisteringIsPossible : Type 0
-RegisteringIsPossible = (room : Room) (place : Place) (pending : Pending) (message : Parsed) → IsWellFormed room
+RegisteringIsPossible = (room : Room) (place : Place) (pending : Pending) (message : Parsed)
+    → IsWellFormed room
     → ArePossible room (register room place pending message).steps

@@ -1,5 +1,7 @@
 -- PRIVMSG and NOTICE.
-use Rattle.std.specs.Prelude.{ℕ, ◌-◌, Bool, true, false, not, ◌&&◌, ◌||◌, Option, Some, None, List, [], ◌∷◌, ◌++◌, codes, length, take, drop, filter, is_some, if◌then◌else◌}
+use Rattle.std.specs.Prelude.{ℕ, ◌-◌, Bool, true, false, not, ◌&&◌, ◌||◌, Option, Some, None, List}
+use Rattle.std.specs.Prelude.{[], ◌∷◌, ◌++◌, codes, length, take, drop, filter, is_some}
+use Rattle.std.specs.Prelude.{if◌then◌else◌}
 use Rattle.std.specs.List.{flat_map}
 use Rattle.irc_names.specs.Fold.{key}
 use Rattle.irc_names.specs.Tables.{row}
@@ -8,7 +10,9 @@ use Rattle.irc_line.specs.Messages.{full, joined_text}
 use Rattle.irc_users.specs.declared.user.User.{User}
 use Rattle.irc_channels.specs.declared.flags.Flags.{Flags}
 use Rattle.irc_channels.specs.declared.channel.Channel.{Channel}
-use Rattle.irc_numerics.specs.declared.replies.Reply.TheVariants.{NoRecipient, NoTextToSend, NoSuchNick, CannotSendToChan, TooManyTargets}
+use Rattle.irc_numerics.specs.declared.replies.Reply.TheVariants.{NoRecipient, NoTextToSend}
+use Rattle.irc_numerics.specs.declared.replies.Reply.TheVariants.{NoSuchNick, CannotSendToChan}
+use Rattle.irc_numerics.specs.declared.replies.Reply.TheVariants.{TooManyTargets}
 use Rattle.irc_room.specs.effect.Target.{Target}
 use Rattle.irc_room.specs.effect.Target.TheVariants as target
 use Rattle.irc_room.specs.effect.Effect.TheVariants.{Say}
@@ -28,8 +32,9 @@ abbrev pub is_raised : Option Flags → Bool
 is_raised None = false
 is_raised (Some flags) = flags.op || flags.voice
 
--- Whether a user may speak in a channel (RFC 2811 sections 4.2.3, 4.2.4 and 4.3.1): a member where outsiders are kept out; an operator or
--- a voiced member where it is moderated; and one of these, or whom no ban matches.
+-- Whether a user may speak in a channel (RFC 2811 sections 4.2.3, 4.2.4 and 4.3.1): a member where
+-- outsiders are kept out; an operator or a voiced member where it is moderated; and one of these,
+-- or whom no ban matches.
 abbrev pub may_speak : User → Channel → Bool
 may_speak user channel =
     let flags = row channel.members (key user.nick) in
@@ -50,12 +55,18 @@ say_command verb.Notice = codes "NOTICE"
 -- the text, cut so that the line for clients is not (our own choice)
 abbrev pub said_text : User → Verb → List ℕ → List ℕ → List ℕ
 said_text me which to words =
-    let empty = joined_text (record { sender = full me.nick me.user me.host; command = say_command which; middle = to ∷ []; last = Some [] }) in
+    let empty = joined_text (record {
+      sender = full me.nick me.user me.host;
+      command = say_command which;
+      middle = to ∷ [];
+      last = Some [];
+    }) in
     take (max_line - length empty) words
 
 -- a text that goes through has its effect alone: who speaks is told nothing
 abbrev pub say_text : User → Verb → Target → List ℕ → List ℕ → List Act
-say_text me which to name words = Do (Say me.nick (is_notice which) to (bytes_kept (said_text me which name words))) ∷ []
+say_text me which to name words =
+    Do (Say me.nick (is_notice which) to (bytes_kept (said_text me which name words))) ∷ []
 
 -- a target that was found is written as stored, one that was not as given
 abbrev pub to_channel : User → Verb → List ℕ → List ℕ → Option Channel → List Act
@@ -92,11 +103,14 @@ unless_notice verb.Notice steps = filter (λ step. not (is_answer step)) steps
 -- the targets in turn, as many as are served; the first that is not is answered
 abbrev pub say_to : Room → User → Verb → List ℕ → List ℕ → List Act
 say_to room me which targets words =
-    flat_map (to_one room me which words) (take max_targets (entries targets)) ++ too_many (drop max_targets (entries targets))
+    flat_map (to_one room me which words) (take max_targets (entries targets))
+    ++ too_many (drop max_targets (entries targets))
 
 -- what a PRIVMSG or a NOTICE does (RFC 2812 section 3.3)
 unfoldable pub say_steps : Room → User → Verb → List (List ℕ) → List Act
-say_steps room me which [] = unless_notice which (Answer (NoRecipient (client_words (say_command which))) ∷ [])
+say_steps room me which [] =
+    unless_notice which (Answer (NoRecipient (client_words (say_command which))) ∷ [])
 say_steps room me which (targets ∷ []) = unless_notice which (Answer NoTextToSend ∷ [])
 say_steps room me which (targets ∷ [] ∷ more) = unless_notice which (Answer NoTextToSend ∷ [])
-say_steps room me which (targets ∷ (b ∷ bytes) ∷ more) = unless_notice which (say_to room me which targets (b ∷ bytes))
+say_steps room me which (targets ∷ (b ∷ bytes) ∷ more) =
+    unless_notice which (say_to room me which targets (b ∷ bytes))

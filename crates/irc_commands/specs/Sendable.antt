@@ -39,4 +39,5 @@ RegisteringIsSendable =
     (room : Room) (place : Place) (pending : Pending) (line : List ℕ) (message : Parsed)
     → IsPendingWithin pending → IsServer place.name
     → AreLineWords line message
-    → IsPendingWithin (register room place pending message).pending × AreSendable room (register room place pending message).steps
+    → IsPendingWithin (register room place pending message).pending
+    × AreSendable room (register room place pending message).steps

@@ -1,11 +1,13 @@
--- The command table: which command a word is, in any case of letters, how many parameters it wants, and what it does for a registered user
--- (RFC 2812 section 3).
-use Rattle.std.specs.Prelude.{ℕ, Option, Some, None, List, [], ◌∷◌, drop, length, nat_lt, if◌then◌else◌}
+-- The command table: which command a word is, in any case of letters, how many parameters it wants,
+-- and what it does for a registered user (RFC 2812 section 3).
+use Rattle.std.specs.Prelude.{ℕ, Option, Some, None, List, [], ◌∷◌, drop, length, nat_lt}
+use Rattle.std.specs.Prelude.{if◌then◌else◌}
 use Rattle.irc_registering.specs.declared.command_names.Command.{Command}
 use Rattle.irc_registering.specs.declared.command_names.Command.TheVariants as command
 use Rattle.irc_line.specs.Messages.{Parsed}
 use Rattle.irc_users.specs.declared.user.User.{User}
-use Rattle.irc_numerics.specs.declared.replies.Reply.TheVariants.{AlreadyRegistered, NeedMoreParams, NoMotd, UnknownCommand}
+use Rattle.irc_numerics.specs.declared.replies.Reply.TheVariants.{AlreadyRegistered, NeedMoreParams}
+use Rattle.irc_numerics.specs.declared.replies.Reply.TheVariants.{NoMotd, UnknownCommand}
 use Rattle.irc_room.specs.Room.{Room}
 use Rattle.irc_routes.specs.Place.{Place}
 use Rattle.irc_acts.specs.declared.act.Act.TheVariants.{Answer}
@@ -50,13 +52,19 @@ command_row room place me params command.Quit = quit_decided me params
 command_row room place me params command.Privmsg = does (say_steps room me verb.Privmsg params)
 command_row room place me params command.Notice = does (say_steps room me verb.Notice params)
 command_row room place me params command.Nick = does (nick_steps room me params)
-command_row room place me params command.Join = does (join_steps room me (word_at params 0) (word_at params 1))
-command_row room place me params command.Part = does (part_steps room me (word_at params 0) (drop 1 params))
-command_row room place me params command.Topic = does (topic_steps room me (word_at params 0) (drop 1 params))
+command_row room place me params command.Join =
+    does (join_steps room me (word_at params 0) (word_at params 1))
+command_row room place me params command.Part =
+    does (part_steps room me (word_at params 0) (drop 1 params))
+command_row room place me params command.Topic =
+    does (topic_steps room me (word_at params 0) (drop 1 params))
 command_row room place me params command.Names = does (names_steps room me params)
-command_row room place me params command.Kick = does (kick_steps room me (word_at params 0) (word_at params 1) (drop 2 params))
-command_row room place me params command.Invite = does (invite_steps room me (word_at params 0) (word_at params 1))
-command_row room place me params command.Mode = does (mode_steps room me (word_at params 0) (drop 1 params))
+command_row room place me params command.Kick =
+    does (kick_steps room me (word_at params 0) (word_at params 1) (drop 2 params))
+command_row room place me params command.Invite =
+    does (invite_steps room me (word_at params 0) (word_at params 1))
+command_row room place me params command.Mode =
+    does (mode_steps room me (word_at params 0) (drop 1 params))
 command_row room place me params command.Ison = does (ison_steps room params)
 command_row room place me params command.Lusers = does (lusers_steps room place)
 command_row room place me params command.List = does (list_steps room me params)
@@ -67,7 +75,8 @@ command_row room place me params command.Who = does (who_steps room place me par
 abbrev pub decided_by : Room → Place → User → Parsed → Option CommandRow → Decided
 decided_by room place me message None = unknown message.command
 decided_by room place me message (Some row) =
-    if nat_lt (length message.params) row.least then too_few row.name else command_row room place me message.params row.command
+    if nat_lt (length message.params) row.least then too_few row.name
+    else command_row room place me message.params row.command
 
 -- what a line does, by the row that its command has
 abbrev pub row_for : Room → Place → User → Parsed → Decided

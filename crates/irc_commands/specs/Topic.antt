@@ -6,7 +6,8 @@ use Rattle.irc_users.specs.declared.user.User.{User}
 use Rattle.irc_channels.specs.declared.flags.Flags.{Flags}
 use Rattle.irc_channels.specs.declared.channel.Channel.{Channel}
 use Rattle.irc_channels.specs.Texts.{cut_words}
-use Rattle.irc_numerics.specs.declared.replies.Reply.TheVariants.{NoSuchChannel, NoTopic, Topic, NotOnChannel, ChanOPrivsNeeded}
+use Rattle.irc_numerics.specs.declared.replies.Reply.TheVariants.{NoSuchChannel, NoTopic, Topic}
+use Rattle.irc_numerics.specs.declared.replies.Reply.TheVariants.{NotOnChannel, ChanOPrivsNeeded}
 use Rattle.irc_room.specs.effect.By.TheVariants as by
 use Rattle.irc_room.specs.effect.Effect.TheVariants.{SetTopic}
 use Rattle.irc_room.specs.Room.{Room}
@@ -20,7 +21,8 @@ abbrev pub topic_told : List ℕ → List ℕ → Act
 topic_told name [] = Answer (NoTopic name)
 topic_told name (b ∷ bytes) = Answer (Topic name (bytes_kept (b ∷ bytes)))
 
--- a member sets the topic, and where mode t is set only an operator does (RFC 2811 section 4.2.8); an empty text clears it
+-- a member sets the topic, and where mode t is set only an operator does (RFC 2811 section 4.2.8);
+-- an empty text clears it
 abbrev pub topic_set : User → Channel → List ℕ → Option Flags → Act
 topic_set me channel text None = Answer (NotOnChannel channel.name)
 topic_set me channel text (Some flags) =
@@ -36,8 +38,10 @@ topic_known me channel (text ∷ more) = topic_set me channel text (row channel.
 abbrev pub topic_of : User → List ℕ → List (List ℕ) → Option Channel → Act
 topic_of me name more None = Answer (NoSuchChannel (client_words name))
 topic_of me name more (Some channel) =
-    if is_known me channel then topic_known me channel more else Answer (NoSuchChannel (client_words name))
+    if is_known me channel then topic_known me channel more
+    else Answer (NoSuchChannel (client_words name))
 
--- what a TOPIC of the channel of a name does (RFC 2812 section 3.2.4); the parameter behind it is the topic that is set
+-- what a TOPIC of the channel of a name does (RFC 2812 section 3.2.4); the parameter behind it is
+-- the topic that is set
 unfoldable pub topic_steps : Room → User → List ℕ → List (List ℕ) → List Act
 topic_steps room me name more = topic_of me name more (row room.channels (key name)) ∷ []

@@ -14,8 +14,8 @@ use irc_room::Room;
 use irc_routes::Routes;
 use std::alloc::{AllocError, Global};
 
-/// What a line of a registered user does (RFC 2812 section 3). Nothing is changed, and nothing put out: what it asks of the room is handed
-/// back.
+/// What a line of a registered user does (RFC 2812 section 3). Nothing is changed, and nothing put
+/// out: what it asks of the room is handed back.
 ///
 /// # Errors
 /// Where memory runs out.

@@ -1,10 +1,11 @@
-//! What holds of all that is decided. Each law is a function that does nothing, and its contract is the law: the check proves it, and
-//! a crate above may cite it.
+//! What holds of all that is decided. Each law is a function that does nothing, and its contract is
+//! the law: the check proves it, and a crate above may cite it.
 ghost use Rattle.irc_commands.specs.Possible.{DecidedIsPossible, RegisteringIsPossible};
 ghost use Rattle.irc_commands.specs.Doing.{DecidedDoes, RegisteringDoes};
 ghost use Rattle.irc_commands.specs.OwnInvitations.{DecidedByOwnInvitations};
 ghost use Rattle.irc_commands.specs.Sendable.{DecidedIsSendable, RegisteringIsSendable};
-ghost use Rattle.irc_commands.specs.AtHome.{DecidedAtHome, HomeIsAlikeForItsOwn, RegisteringAtHome, RegisteringByUsers};
+ghost use Rattle.irc_commands.specs.AtHome.{DecidedAtHome, HomeIsAlikeForItsOwn, RegisteringAtHome};
+ghost use Rattle.irc_commands.specs.AtHome.{RegisteringByUsers};
 ghost use Rattle.irc_commands.specs.Doers.{DecidedByItself};
 ghost use Rattle.irc_commands.specs.Comings.{
   DecidedAddsNobody,
@@ -16,19 +17,20 @@ ghost use Rattle.irc_commands.specs.Comings.{
   WhoStaysIsUser,
 };
 
-/// Each effect that a user's line is decided to have is possible when its turn comes, in any well-formed room: whom and what it
-/// names is there.
+/// Each effect that a user's line is decided to have is possible when its turn comes, in any
+/// well-formed room: whom and what it names is there.
 pub fn decided_is_possible()
     ensures { DecidedIsPossible }
 {}
 
-/// The same of a line of a connection that is not registered: the nickname of a user that is added is free.
+/// The same of a line of a connection that is not registered: the nickname of a user that is added
+/// is free.
 pub fn registering_is_possible()
     ensures { RegisteringIsPossible }
 {}
 
-/// Each effect that a user's line is decided to have does something when its turn comes: nobody joins who is a member, and nobody leaves
-/// or is kicked who is none.
+/// Each effect that a user's line is decided to have does something when its turn comes: nobody
+/// joins who is a member, and nobody leaves or is kicked who is none.
 pub fn decided_does()
     ensures { DecidedDoes }
 {}
@@ -43,14 +45,15 @@ pub fn decided_by_own_invitations()
     ensures { DecidedByOwnInvitations }
 {}
 
-/// Each effect that a user's line is decided to have can be sent when its turn comes, in a well-formed room within limits: a server that
-/// reads the line that tells of it gets just this effect.
+/// Each effect that a user's line is decided to have can be sent when its turn comes, in a
+/// well-formed room within limits: a server that reads the line that tells of it gets just this
+/// effect.
 pub fn decided_is_sendable()
     ensures { DecidedIsSendable }
 {}
 
-/// What a connection that is not registered gives keeps to the limits, line by line, where what it has given did; and the user that it
-/// becomes is one that another server can be told of.
+/// What a connection that is not registered gives keeps to the limits, line by line, where what it
+/// has given did; and the user that it becomes is one that another server can be told of.
 pub fn registering_is_sendable()
     ensures { RegisteringIsSendable }
 {}
@@ -70,13 +73,14 @@ pub fn who_stays_is_user()
     ensures { WhoStaysIsUser }
 {}
 
-/// A line after which its client is closed is a Quit of that client's user, and changes nothing else.
+/// A line after which its client is closed is a Quit of that client's user, and changes nothing
+/// else.
 pub fn who_is_closed_quits()
     ensures { WhoIsClosedQuits }
 {}
 
-/// A connection that is registered by a line becomes a user of its server, with the nickname that it has given, and nothing else
-/// changes.
+/// A connection that is registered by a line becomes a user of its server, with the nickname that
+/// it has given, and nothing else changes.
 pub fn registered_is_added()
     ensures { RegisteredIsAdded }
 {}
@@ -91,12 +95,14 @@ pub fn registered_stays()
     ensures { RegisteredStays }
 {}
 
-/// Each effect that a user's line is decided to have is done by that user: nobody acts in the name of somebody else.
+/// Each effect that a user's line is decided to have is done by that user: nobody acts in the name
+/// of somebody else.
 pub fn decided_by_itself()
     ensures { DecidedByItself }
 {}
 
-/// A room, and what a server has of it, differ for none of that server's users: who is invited of the others is not asked.
+/// A room, and what a server has of it, differ for none of that server's users: who is invited of
+/// the others is not asked.
 pub fn home_is_alike_for_its_own()
     ensures { HomeIsAlikeForItsOwn }
 {
@@ -104,7 +110,8 @@ pub fn home_is_alike_for_its_own()
     irc_room::invitation_laws::home_knows_its_invited();
 }
 
-/// A user's line does at its own server, which knows of no other server's invitations, what it does in the whole room.
+/// A user's line does at its own server, which knows of no other server's invitations, what it does
+/// in the whole room.
 pub fn decided_at_home()
     ensures { DecidedAtHome }
 {
@@ -112,7 +119,8 @@ pub fn decided_at_home()
     home_is_alike_for_its_own();
 }
 
-/// What a line of a connection that is not registered does depends on nothing of the room but its users.
+/// What a line of a connection that is not registered does depends on nothing of the room but its
+/// users.
 pub fn registering_by_users()
     ensures { RegisteringByUsers }
 {}

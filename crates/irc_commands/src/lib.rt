@@ -1,4 +1,5 @@
-//! What a client's line does: the command table, registration, and the commands of users on the server.
+//! What a client's line does: the command table, registration, and the commands of users on the
+//! server.
 #![tactic(auto)]
 
 mod deciding;

@@ -11,7 +11,8 @@ use irc_registering::closing::error;
 use irc_room::Effect;
 use std::alloc::AllocError;
 
-/// What a QUIT does: others see it first, then the client is told and closed (RFC 2812 section 3.1.7).
+/// What a QUIT does: others see it first, then the client is told and closed (RFC 2812 section
+/// 3.1.7).
 #[tactic(auto, unfolding(crate::specs::CodeViews::asked_steps))]
 pub(crate) fn decided(context: &Context<'_>, params: &[&[u8]]) -> Result<Decision, AllocError>
     ensures { IfOk result (IsDecidedIn context.now (words_now params.now)

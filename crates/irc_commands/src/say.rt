@@ -76,7 +76,8 @@ fn said_text(me: &User, verb: Verb, to: &[u8], words: &[u8]) -> Line
     ))
 }
 
-/// The bytes of a line that part its sender, command, target and text: `:`, `!`, `@`, three spaces and `:`.
+/// The bytes of a line that part its sender, command, target and text: `:`, `!`, `@`, three spaces
+/// and `:`.
 const SEPARATORS: usize = 7;
 
 /// What a message to one target does.
@@ -135,8 +136,9 @@ fn missing(name: &[u8]) -> Act
     })
 }
 
-/// Whether a user may speak in a channel (RFC 2811 sections 4.2.3, 4.2.4 and 4.3.1): no outsider where mode n keeps them out; an
-/// operator or a voiced member alone where mode m moderates it; and whom a ban matches only as one of these.
+/// Whether a user may speak in a channel (RFC 2811 sections 4.2.3, 4.2.4 and 4.3.1): no outsider
+/// where mode n keeps them out; an operator or a voiced member alone where mode m moderates it; and
+/// whom a ban matches only as one of these.
 fn may_speak(user: &User, channel: &Channel) -> bool
     ensures { result ≡ may_speak user.now channel.now }
 {

@@ -4,7 +4,8 @@ ghost use Rattle.irc_line.specs.MessageViews.{parsed};
 ghost use Rattle.irc_line.specs.PartViews.{words_now};
 ghost use Rattle.irc_acts.specs.declared.act.Act.{Act};
 ghost use Rattle.irc_acts.specs.declared.act.Act.TheVariants.{Answer};
-ghost use Rattle.irc_commands.specs.CodeViews.{GivesWithoutQuery, IsAsking, IsRowFor, IsRowOf, IsWithoutQuery};
+ghost use Rattle.irc_commands.specs.CodeViews.{GivesWithoutQuery, IsAsking, IsRowFor, IsRowOf};
+ghost use Rattle.irc_commands.specs.CodeViews.{IsWithoutQuery};
 ghost use Rattle.irc_commands.specs.Decisions.{does, nothing};
 ghost use Rattle.irc_commands.specs.Table.{too_few, unknown};
 ghost use Rattle.irc_registering.specs.RegisteringViews.{AreDecided};
@@ -24,7 +25,8 @@ use irc_queries::{Query, ison, lusers, whois};
 use irc_registering::{Command, ping};
 use std::alloc::{AllocError, Global};
 
-/// What a line of a user does, by the row of its command. Too few parameters are answered here, whatever the command.
+/// What a line of a user does, by the row of its command. Too few parameters are answered here,
+/// whatever the command.
 pub(crate) fn decide_for(
     context: &Context<'_>,
     message: &Message<'_>,
@@ -75,7 +77,8 @@ fn obey(context: &Context<'_>, command: Command, params: &[&[u8]]) -> Result<Dec
 /// Whatever the steps are, the client stays.
 #[tactic(auto, unfolding(crate::specs::CodeViews::asked_steps))]
 fn stays(steps: Result<Vec<Act, Global>, AllocError>) -> Result<Decision, AllocError>
-    ensures { (want : List Act) → IfOk steps (AreDecided want) → GivesWithoutQuery (does want) result }
+    ensures { (want : List Act) → IfOk steps (AreDecided want)
+        → GivesWithoutQuery (does want) result }
 {
     let steps = steps?;
     Ok(Decision {

@@ -16,7 +16,8 @@ use irc_room::{By, Effect};
 use irc_users::User;
 use std::alloc::{AllocError, Global};
 
-/// What a TOPIC of the channel of a name does (RFC 2812 section 3.2.4): it shows the topic, or the first parameter behind the name is set.
+/// What a TOPIC of the channel of a name does (RFC 2812 section 3.2.4): it shows the topic, or the
+/// first parameter behind the name is set.
 #[tactic(auto, unfolding(crate::specs::Topic::topic_steps))]
 pub(crate) fn steps(
     context: &Context<'_>,
@@ -29,7 +30,8 @@ pub(crate) fn steps(
     only(context.alloc, step)
 }
 
-/// What a TOPIC does to the channel that was found under a name, if one was. A secret channel is not there for who is no member.
+/// What a TOPIC does to the channel that was found under a name, if one was. A secret channel is
+/// not there for who is no member.
 fn in_channel(found: Option<&Channel>, me: &User, name: &[u8], more: &[&[u8]]) -> Act
     ensures { result ≡ topic_of me.now name.now (words_now more.now) (option_copied found.entry) }
 {
@@ -58,8 +60,8 @@ fn show(channel: &Channel) -> Act
     Act::Answer(Reply::Topic { channel, topic })
 }
 
-/// What comes of setting a channel's topic, by the flags of who sets it, if it is a member. Where mode t is set only an operator does
-/// (RFC 2811 section 4.2.8).
+/// What comes of setting a channel's topic, by the flags of who sets it, if it is a member. Where
+/// mode t is set only an operator does (RFC 2811 section 4.2.8).
 fn set(channel: &Channel, flags: Option<&Flags>, me: &User, text: &[u8]) -> Act
     ensures { result ≡ topic_set me.now channel.now text.now (option_copied flags.entry) }
 {

@@ -4,7 +4,8 @@
 -- is told of that:
 --   b.net puts out that c.net is gone      on the way to a.net; on no way from c.net or to it
 --   bytes come from b.net to a.net         and nothing is on such a way still
-use Rattle.std.proofs.Common.{◌≡◌, ℕ, Bool, true, false, ◌&&◌, is_none, Option, Some, None, List, [], ◌∷◌, ◌++◌, nat_eq, refl, sym, ◌∙◌, ap, take, if◌then◌else◌}
+use Rattle.std.proofs.Common.{◌≡◌, ℕ, Bool, true, false, ◌&&◌, is_none, Option, Some, None, List}
+use Rattle.std.proofs.Common.{[], ◌∷◌, ◌++◌, nat_eq, refl, sym, ◌∙◌, ap, take, if◌then◌else◌}
 use Rattle.std.proofs.lemmas.Bool.{eqb-true}
 use Rattle.std.proofs.Math.Seq.{drop-nil, take-nil}
 use Rattle.std.specs.FinMap.{get}
@@ -21,7 +22,8 @@ use Rattle.irc_sites.specs.Site.{Reply, line_body, reply}
 use Rattle.irc_world.specs.Stepping.{Item}
 use Rattle.irc_network.specs.Network.{begun, site_asked}
 use Rattle.irc_wires.specs.Wires.{Wires, lines_by, new_wire, wire_at}
-use Rattle.irc_byte_network.specs.ByteNetwork.{ByteNetwork, byte_begun, bytes_come, completed_in, queues_written, wires_come}
+use Rattle.irc_byte_network.specs.ByteNetwork.{ByteNetwork, byte_begun, bytes_come, completed_in}
+use Rattle.irc_byte_network.specs.ByteNetwork.{queues_written, wires_come}
 use Rattle.irc_byte_network.specs.Whole.{IsTidy, has_way}
 use Rattle.irc_byte_network.specs.Lemmas.NewFramer.{new_is_real}
 use Rattle.irc_daemons.proofs.Asked.{AllStill}
@@ -41,8 +43,8 @@ pub record IsAside (side : ℕ → Bool) (net : ByteNetwork) : Type 0 where
   pub no_way : (x y : ℕ) → has_way net.network x y ≡ false → wire_at net.wires x y ≡ new_wire
 
 -- nothing is on its way to the other side
-pub nothing_comes : (side : ℕ → Bool) (net : ByteNetwork) → IsAside side net → (to : ℕ) → side to ≡ false → (from : ℕ)
-    → wire_at net.wires from to ≡ new_wire
+pub nothing_comes : (side : ℕ → Bool) (net : ByteNetwork) → IsAside side net → (to : ℕ)
+    → side to ≡ false → (from : ℕ) → wire_at net.wires from to ≡ new_wire
 nothing_comes side net aside to there from = by (has_way net.network from to) refl
   where
     by : (b : Bool) → has_way net.network from to ≡ b → wire_at net.wires from to ≡ new_wire
@@ -52,28 +54,36 @@ nothing_comes side net aside to there from = by (has_way net.network from to) re
 -- ---- a server puts something out
 
 -- one that is on the other side puts out nothing
-module _ (side : ℕ → Bool) (place : ℕ) (next : Reply) (along : Wires) (old new : ByteNetwork) (goes : GoesOn place next along old new)
+module _ (side : ℕ → Bool) (place : ℕ) (next : Reply) (along : Wires) (old new : ByteNetwork)
+    (goes : GoesOn place next along old new)
     (stays : (x y : ℕ) → has_way old.network x y ≡ true → side x ≡ side y)
     (still : (x y : ℕ) → side x ≡ false → wire_at along x y ≡ new_wire)
     (no_way : (x y : ℕ) → has_way old.network x y ≡ false → wire_at along x y ≡ new_wire)
     (silent : side place ≡ false → (y : ℕ) → bodies y next.out ≡ [])
   where
-    still_here : side place ≡ false → (y : ℕ) (b : Bool) → has_way old.network place y ≡ b → wire_at new.wires place y ≡ new_wire
+    still_here : side place ≡ false → (y : ℕ) (b : Bool) → has_way old.network place y ≡ b
+        → wire_at new.wires place y ≡ new_wire
     still_here there y true way =
-        goes.wires_here y way ∙ ap (λ ls. wire_behind (with_ends ls) (wire_at along place y)) (silent there y)
+        goes.wires_here y way
+        ∙ ap (λ ls. wire_behind (with_ends ls) (wire_at along place y)) (silent there y)
         ∙ ap (wire_behind []) (still place y there)
     still_here there y false none = goes.no_way y none ∙ still place y there
 
-    still_at : (x y : ℕ) → side x ≡ false → (b : Bool) → nat_eq x place ≡ b → wire_at new.wires x y ≡ new_wire
+    still_at : (x y : ℕ) → side x ≡ false → (b : Bool) → nat_eq x place ≡ b
+        → wire_at new.wires x y ≡ new_wire
     still_at x y there true one =
         ap (λ v. wire_at new.wires v y) (eqb-true x place one)
-        ∙ still_here (ap side (sym (eqb-true x place one)) ∙ there) y (has_way old.network place y) refl
+        ∙ still_here (ap side (sym (eqb-true x place one)) ∙ there) y
+        (has_way old.network place y) refl
     still_at x y there false two = goes.wires_there x y two ∙ still x y there
 
-    nowhere_at : (x y : ℕ) → has_way old.network x y ≡ false → (b : Bool) → nat_eq x place ≡ b → wire_at new.wires x y ≡ new_wire
+    nowhere_at : (x y : ℕ) → has_way old.network x y ≡ false → (b : Bool) → nat_eq x place ≡ b
+        → wire_at new.wires x y ≡ new_wire
     nowhere_at x y none true one =
-        let none_here : has_way old.network place y ≡ false = ap (λ v. has_way old.network v y) (sym (eqb-true x place one)) ∙ none in
-        ap (λ v. wire_at new.wires v y) (eqb-true x place one) ∙ goes.no_way y none_here ∙ no_way place y none_here
+        let none_here : has_way old.network place y ≡ false =
+        ap (λ v. has_way old.network v y) (sym (eqb-true x place one)) ∙ none in
+        ap (λ v. wire_at new.wires v y) (eqb-true x place one) ∙ goes.no_way y none_here
+        ∙ no_way place y none_here
     nowhere_at x y none false two = goes.wires_there x y two ∙ no_way x y none
 
     aside_then : IsAside side new
@@ -86,19 +96,22 @@ module _ (side : ℕ → Bool) (place : ℕ) (next : Reply) (along : Wires) (old
 -- ---- a server of the near side is asked, where all is still
 
 abbrev written_out : ℕ → Occurrence → ByteNetwork → ByteNetwork
-written_out place occurrence base = queues_written (site_asked place occurrence (begun base.network)).net base.wires
+written_out place occurrence base =
+    queues_written (site_asked place occurrence (begun base.network)).net base.wires
 
-module _ (item : Item) (n : ℕ) (occurrence : Occurrence) (base : ByteNetwork) (view : View) (tidy : IsTidy base) (all : AllStill base)
+module _ (item : Item) (n : ℕ) (occurrence : Occurrence) (base : ByteNetwork) (view : View)
+    (tidy : IsTidy base) (all : AllStill base)
     (at : server_at base.network n ≡ Some (Some view))
   where
     goes : GoesOn n (reply view occurrence) base.wires base (written_out n occurrence base)
     goes = asked_goes_on n occurrence view base tidy at
 
-    pub aside_first : (side : ℕ → Bool) → ((x y : ℕ) → has_way base.network x y ≡ true → side x ≡ side y) → side n ≡ true
-        → IsAside side (one_asked item n occurrence base)
+    pub aside_first : (side : ℕ → Bool) → ((x y : ℕ) → has_way base.network x y ≡ true
+        → side x ≡ side y) → side n ≡ true → IsAside side (one_asked item n occurrence base)
     aside_first side stays near =
         let it =
-        aside_then side n (reply view occurrence) base.wires base (written_out n occurrence base) goes stays (λ x y there. all x y)
+        aside_then side n (reply view occurrence) base.wires base
+        (written_out n occurrence base) goes stays (λ x y there. all x y)
         (λ x y none. all x y) (λ there y. cc (sym near ∙ there)) in record {
           stays = it.stays;
           still = it.still;
@@ -106,17 +119,21 @@ module _ (item : Item) (n : ℕ) (occurrence : Occurrence) (base : ByteNetwork) 
         }
 
     -- all is still then, but for the one way on which it puts something out
-    module _ (f : ℕ) (on_one : (y : ℕ) → nat_eq y f ≡ false → bodies y (reply view occurrence).out ≡ []) where
+    module _ (f : ℕ)
+        (on_one : (y : ℕ) → nat_eq y f ≡ false → bodies y (reply view occurrence).out ≡ []) where
       still_on : (y : ℕ) → nat_eq y f ≡ false → (b : Bool) → has_way base.network n y ≡ b
           → wire_at (one_asked item n occurrence base).wires n y ≡ new_wire
       still_on y two true way =
-          goes.wires_here y way ∙ ap (λ ls. wire_behind (with_ends ls) (wire_at base.wires n y)) (on_one y two) ∙ ap (wire_behind []) (all n y)
+          goes.wires_here y way ∙ ap (λ ls. wire_behind (with_ends ls) (wire_at base.wires n y))
+          (on_one y two) ∙ ap (wire_behind []) (all n y)
       still_on y two false none = goes.no_way y none ∙ all n y
 
-      pub still_but_one : (x y : ℕ) → (x ≡ n → nat_eq y f ≡ false) → wire_at (one_asked item n occurrence base).wires x y ≡ new_wire
+      pub still_but_one : (x y : ℕ) → (x ≡ n → nat_eq y f ≡ false)
+          → wire_at (one_asked item n occurrence base).wires x y ≡ new_wire
       still_but_one x y other = by (nat_eq x n) refl
         where
-          by : (b : Bool) → nat_eq x n ≡ b → wire_at (one_asked item n occurrence base).wires x y ≡ new_wire
+          by : (b : Bool) → nat_eq x n ≡ b
+              → wire_at (one_asked item n occurrence base).wires x y ≡ new_wire
           by true one =
               ap (λ v. wire_at (one_asked item n occurrence base).wires v y) (eqb-true x n one)
               ∙ still_on y (other (eqb-true x n one)) (has_way base.network n y) refl
@@ -139,17 +156,24 @@ none_completed = refl
 no_lines : (count : ℕ) → lines_by count new_wire ≡ []
 no_lines count = ap (completed nothing_begun) (take-nil count) ∙ none_completed
 
-pub aside_still : (side : ℕ → Bool) (from to count : ℕ) (net : ByteNetwork) (view : View) → IsAside side net → IsTidy net
-    → server_at net.network to ≡ Some (Some view) → IsAside side (bytes_come from to count (byte_begun net)).net
+pub aside_still : (side : ℕ → Bool) (from to count : ℕ) (net : ByteNetwork) (view : View)
+    → IsAside side net → IsTidy net → server_at net.network to ≡ Some (Some view)
+    → IsAside side (bytes_come from to count (byte_begun net)).net
 aside_still side from to count net view aside tidy at =
-    aside_then side to (all_replies from view (completed_in net from to count)) (wires_come net from to count) net
-    (bytes_come from to count (byte_begun net)).net (bytes_go_on from to count net view tidy at) aside.stays
-    (λ x y there. still_along x y (aside.still x y there)) (λ x y none. still_along x y (aside.no_way x y none))
-    (λ there y. ap (λ ls. bodies y (all_replies from view ls).out) (ap (lines_by count) (nothing_comes side net aside to there from) ∙ no_lines count))
+    aside_then side to (all_replies from view (completed_in net from to count))
+    (wires_come net from to count) net
+    (bytes_come from to count (byte_begun net)).net
+    (bytes_go_on from to count net view tidy at) aside.stays
+    (λ x y there. still_along x y (aside.still x y there))
+    (λ x y none. still_along x y (aside.no_way x y none))
+    (λ there y. ap (λ ls. bodies y (all_replies from view ls).out)
+    (ap (lines_by count) (nothing_comes side net aside to there from) ∙ no_lines count))
   where
-    still_along : (x y : ℕ) → wire_at net.wires x y ≡ new_wire → wire_at (wires_come net from to count) x y ≡ new_wire
+    still_along : (x y : ℕ) → wire_at net.wires x y ≡ new_wire
+        → wire_at (wires_come net from to count) x y ≡ new_wire
     still_along x y still =
-        come_at from to count net x y ∙ ap (come_if count (nat_eq x from && nat_eq y to)) still ∙ none_comes count (nat_eq x from && nat_eq y to)
+        come_at from to count net x y ∙ ap (come_if count (nat_eq x from && nat_eq y to)) still
+        ∙ none_comes count (nat_eq x from && nat_eq y to)
 
 -- ---- a link is opened
 
@@ -157,7 +181,8 @@ module _ (view : View) (f y : ℕ) (two : nat_eq y f ≡ false) where
   none_else : (parts : List Written) → bodies y (on_link f parts) ≡ []
   none_else [] = refl
   none_else (first ∷ parts) =
-      ap (λ b. (if b then line_body (text first) ∷ [] else []) ++ bodies y (on_link f parts)) (turned f y ∙ two) ∙ none_else parts
+      ap (λ b. (if b then line_body (text first) ∷ [] else []) ++ bodies y (on_link f parts))
+      (turned f y ∙ two) ∙ none_else parts
 
   opened_alone : (called : Option Name) → bodies y (served view (link_up f called)).out ≡ []
   unfolding served
@@ -167,14 +192,18 @@ module _ (view : View) (f y : ℕ) (two : nat_eq y f ≡ false) where
       by : (b : Bool)
           → bodies y
           (if b then with_sent (end_of_link f reason.UnknownPeer ∷ []) (in_silence view)
-          else with_sent (on_link f (opening_parts view name)) (in_silence (with_end f (Some name) view))).out
+          else with_sent (on_link f (opening_parts view name))
+          (in_silence (with_end f (Some name) view))).out
           ≡ []
       by true = refl
       by false = none_else (opening_parts view name)
 
   abbrev replied : Bool → Option Name → Reply
   replied b called =
-      if b then record { view = (served view (link_up f called)).view; out = (served view (link_up f called)).out } else record { view = view; out = [] }
+      if b then record {
+        view = (served view (link_up f called)).view;
+        out = (served view (link_up f called)).out;
+      } else record { view = view; out = [] }
 
   -- what a server puts out as a link is opened goes on no other
   pub link_alone : (called : Option Name) → bodies y (reply view (link_up f called)).out ≡ []

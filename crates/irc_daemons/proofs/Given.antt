@@ -1,5 +1,8 @@
--- What a server of a network whose links carry bytes is asked for when an item is given, beside an engine's server that is alike.
-use Rattle.std.proofs.Common.{◌≡◌, ℕ, zero, suc, Bool, true, false, not, is_some, Option, Some, None, List, [], ◌++◌, append_assoc, append-nil, nat_eq, refl, sym, ◌∙◌, ap, option_map}
+-- What a server of a network whose links carry bytes is asked for when an item is given, beside an
+-- engine's server that is alike.
+use Rattle.std.proofs.Common.{◌≡◌, ℕ, zero, suc, Bool, true, false, not, is_some, Option, Some}
+use Rattle.std.proofs.Common.{None, List, [], ◌++◌, append_assoc, append-nil, nat_eq, refl, sym}
+use Rattle.std.proofs.Common.{◌∙◌, ap, option_map}
 use Rattle.std.proofs.lemmas.Bool.{eqb-true, or_parts}
 use Rattle.std.specs.FinMap.{get}
 use Rattle.std.specs.List.{slice_get}
@@ -10,7 +13,8 @@ use Rattle.irc_stage.specs.View.{View}
 use Rattle.irc_server.specs.Served.{Occurrence}
 use Rattle.irc_server_laws.specs.LineEnds.{ServedLinesEnd}
 use Rattle.irc_server_laws.specs.Own.{ServedGoesToItsOwn}
-use Rattle.irc_network.specs.Network.{Course, Network, Reply, Site, begun, item_kept, reply, site_asked, waiting}
+use Rattle.irc_network.specs.Network.{Course, Network, Reply, Site, begun, item_kept, reply}
+use Rattle.irc_network.specs.Network.{site_asked, waiting}
 use Rattle.irc_wires.specs.Wires.{Wire, wire_at}
 use Rattle.irc_byte_network.specs.Behind.{emptied, emptied_site}
 use Rattle.irc_byte_network.specs.ByteNetwork.{ByteNetwork, all_written, queues_written, waiting_at}
@@ -21,7 +25,8 @@ use Rattle.irc_byte_network.specs.Lemmas.RowsWritten.{is_written}
 use Rattle.irc_byte_network.specs.Lemmas.SitesStay.{asked_stays}
 use Rattle.irc_engine.specs.Carrying.{answers, bytes_owed, is_closed_by}
 use Rattle.irc_engine.specs.Lemmas.CarryingLaws.{is_closed_by-append, owed-append}
-use Rattle.irc_daemons.specs.Alike.{AreServersAlike, AreApart, Numbers, ServeAlike, ServedAlike, client_bytes, happens_at, renumbered}
+use Rattle.irc_daemons.specs.Alike.{AreServersAlike, AreApart, Numbers, ServeAlike, ServedAlike}
+use Rattle.irc_daemons.specs.Alike.{client_bytes, happens_at, renumbered}
 use Rattle.irc_daemons.specs.Receiving.{bytes_received, has_come}
 use Rattle.irc_daemons.proofs.Heard.{reply_ends}
 use Rattle.irc_daemons.proofs.Homes.{KeepsHomes, asked_keeps, keeps_both}
@@ -35,19 +40,25 @@ use Rattle.irc_daemons.proofs.Written.{bodies, bodies_are, written_all}
 -- ---- what was emptied
 
 pub emptied_server : (net : Network) (x : ℕ) → server_at (emptied net) x ≡ server_at net x
-emptied_server net x = ap (option_map (λ (s : Site). s.server)) (get_map emptied_site net.sites x) ∙ by (slice_get net.sites x)
+emptied_server net x = ap (option_map (λ (s : Site). s.server)) (get_map emptied_site net.sites x)
+    ∙ by (slice_get net.sites x)
   where
-    by : (o : Option Site) → option_map (λ (s : Site). s.server) (option_map emptied_site o) ≡ option_map (λ (s : Site). s.server) o
+    by : (o : Option Site) → option_map (λ (s : Site). s.server) (option_map emptied_site o)
+        ≡ option_map (λ (s : Site). s.server) o
     by None = refl
     by (Some site) = refl
 
-pub come_of_sites : (old new : Network) → new.received ≡ old.received → (client : ℕ) → has_come new client ≡ has_come old client
+pub come_of_sites : (old new : Network) → new.received ≡ old.received → (client : ℕ)
+    → has_come new client ≡ has_come old client
 come_of_sites old new same zero = refl
-come_of_sites old new same (suc earlier) = ap (λ (lines : List (List (List ℕ))). is_some (slice_get lines earlier)) same
+come_of_sites old new same (suc earlier) =
+    ap (λ (lines : List (List (List ℕ))). is_some (slice_get lines earlier)) same
 
-pub bytes_of_sites : (old new : Network) → new.received ≡ old.received → (client : ℕ) → bytes_received new client ≡ bytes_received old client
+pub bytes_of_sites : (old new : Network) → new.received ≡ old.received → (client : ℕ)
+    → bytes_received new client ≡ bytes_received old client
 bytes_of_sites old new same zero = refl
-bytes_of_sites old new same (suc earlier) = ap (λ (lines : List (List (List ℕ))). bytes_received (record old { received = lines }) (suc earlier)) same
+bytes_of_sites old new same (suc earlier) = ap (λ (lines : List (List (List ℕ))). bytes_received
+    (record old { received = lines }) (suc earlier)) same
 
 -- ---- where a network has come to by what one server put out
 
@@ -55,14 +66,17 @@ bytes_of_sites old new same (suc earlier) = ap (λ (lines : List (List (List ℕ
 abbrev pub wire_behind : List ℕ → Wire → Wire
 wire_behind bytes wire = record { begun = wire.begun; bytes = wire.bytes ++ bytes }
 
-pub record Went (place : ℕ) (numbers : Numbers) (last : View) (outs : List Sent) (old new : ByteNetwork) : Type 0 where
+pub record Went (place : ℕ) (numbers : Numbers) (last : View) (outs : List Sent)
+    (old new : ByteNetwork) : Type 0 where
   pub view : View
   pub alike : AreServersAlike numbers last view
   pub server : server_at new.network place ≡ Some (Some view)
   pub others : (x : ℕ) → nat_eq x place ≡ false → server_at new.network x ≡ server_at old.network x
   pub ways : (x y : ℕ) → has_way new.network x y ≡ has_way old.network x y
-  pub wires_there : (x y : ℕ) → nat_eq x place ≡ false → wire_at new.wires x y ≡ wire_at old.wires x y
-  pub no_way : (y : ℕ) → numbers.link y ≡ None → wire_at new.wires place y ≡ wire_at old.wires place y
+  pub wires_there : (x y : ℕ) → nat_eq x place ≡ false
+      → wire_at new.wires x y ≡ wire_at old.wires x y
+  pub no_way : (y : ℕ) → numbers.link y ≡ None
+      → wire_at new.wires place y ≡ wire_at old.wires place y
   pub wires_here : (y q : ℕ) → numbers.link y ≡ Some q → is_closed_by q outs ≡ false
       → wire_at new.wires place y ≡ wire_behind (answers q outs) (wire_at old.wires place y)
   pub tidy : IsTidy new
@@ -70,13 +84,14 @@ pub record Went (place : ℕ) (numbers : Numbers) (last : View) (outs : List Sen
   pub come : (client : ℕ) → has_come new.network client ≡ has_come old.network client
   pub gets : (client q : ℕ) → numbers.client client ≡ Some q → has_come old.network client ≡ true
       → bytes_received new.network client ≡ bytes_received old.network client ++ answers q outs
-  pub gets_nothing : (client : ℕ) → numbers.client client ≡ None → has_come old.network client ≡ true
-      → bytes_received new.network client ≡ bytes_received old.network client
+  pub gets_nothing : (client : ℕ) → numbers.client client ≡ None → has_come old.network client
+      ≡ true → bytes_received new.network client ≡ bytes_received old.network client
 
 -- ---- nothing was put out
 
-pub went_nowhere : (place : ℕ) (numbers : Numbers) (own other : View) (net : ByteNetwork) → AreServersAlike numbers own other
-    → server_at net.network place ≡ Some (Some other) → IsTidy net → Went place numbers own [] net net
+pub went_nowhere : (place : ℕ) (numbers : Numbers) (own other : View) (net : ByteNetwork)
+    → AreServersAlike numbers own other → server_at net.network place ≡ Some (Some other)
+    → IsTidy net → Went place numbers own [] net net
 went_nowhere place numbers own other net alike at tidy = record {
   view = other;
   alike = alike;
@@ -98,16 +113,19 @@ went_nowhere place numbers own other net alike at tidy = record {
 
 -- ---- one after another
 
-pub same_answers : (q : ℕ) (a b : List Sent) → (is_closed_by q a ≡ true → answers q b ≡ []) → answers q a ++ answers q b ≡ answers q (a ++ b)
+pub same_answers : (q : ℕ) (a b : List Sent) → (is_closed_by q a ≡ true → answers q b ≡ [])
+    → answers q a ++ answers q b ≡ answers q (a ++ b)
 same_answers q a b quiet = by (is_closed_by q a) refl ∙ sym (owed-append true q a b)
   where
-    by : (c : Bool) → is_closed_by q a ≡ c → answers q a ++ answers q b ≡ answers q a ++ bytes_owed (not (is_closed_by q a)) q b
+    by : (c : Bool) → is_closed_by q a ≡ c
+        → answers q a ++ answers q b ≡ answers q a ++ bytes_owed (not (is_closed_by q a)) q b
     by true is = ap (λ bs. answers q a ++ bs) (quiet is ∙ ap (λ t. bytes_owed (not t) q b) (sym is))
     by false is = ap (λ t. answers q a ++ bytes_owed (not t) q b) (sym is)
 
-pub went_both : (place : ℕ) (numbers : Numbers) (between last : View) (a b : List Sent) (old mid new : ByteNetwork) → Went place numbers between a old mid
-    → Went place numbers last b mid new
-    → ((client q : ℕ) → numbers.client client ≡ Some q → is_closed_by q a ≡ true → answers q b ≡ []) → Went place numbers last (a ++ b) old new
+pub went_both : (place : ℕ) (numbers : Numbers) (between last : View) (a b : List Sent)
+    (old mid new : ByteNetwork) → Went place numbers between a old mid
+    → Went place numbers last b mid new → ((client q : ℕ) → numbers.client client ≡ Some q
+    → is_closed_by q a ≡ true → answers q b ≡ []) → Went place numbers last (a ++ b) old new
 went_both place numbers between last a b old mid new one two quiet = record {
   view = two.view;
   alike = two.alike;
@@ -117,36 +135,47 @@ went_both place numbers between last a b old mid new one two quiet = record {
   wires_there = λ x y other. two.wires_there x y other ∙ one.wires_there x y other;
   no_way = λ y none. two.no_way y none ∙ one.no_way y none;
   wires_here = λ y q link opened.
-      let parts = or_parts (is_closed_by q a) (is_closed_by q b) (sym (is_closed_by-append q a b) ∙ opened) in
-      two.wires_here y q link parts.1 ∙ ap (wire_behind (answers q b)) (one.wires_here y q link parts.0)
+      let parts = or_parts (is_closed_by q a) (is_closed_by q b)
+      (sym (is_closed_by-append q a b) ∙ opened) in
+      two.wires_here y q link parts.1
+      ∙ ap (wire_behind (answers q b)) (one.wires_here y q link parts.0)
       ∙ (λ i. record {
         begun = (wire_at old.wires place y).begun;
         bytes = (append_assoc (wire_at old.wires place y).bytes (answers q a) (answers q b)
-            ∙ ap (λ bs. (wire_at old.wires place y).bytes ++ bs) (same_answers q a b (λ closed. cc (sym parts.0 ∙ closed)))) i;
+            ∙ ap (λ bs. (wire_at old.wires place y).bytes ++ bs)
+            (same_answers q a b (λ closed. cc (sym parts.0 ∙ closed)))) i;
       });
   tidy = two.tidy;
   keeps = keeps_both old.network mid.network new.network one.keeps two.keeps;
   come = λ client. two.come client ∙ one.come client;
   gets = λ client q seat has.
-      two.gets client q seat (one.come client ∙ has) ∙ ap (λ bs. bs ++ answers q b) (one.gets client q seat has)
+      two.gets client q seat (one.come client ∙ has)
+      ∙ ap (λ bs. bs ++ answers q b) (one.gets client q seat has)
       ∙ append_assoc (bytes_received old.network client) (answers q a) (answers q b)
-      ∙ ap (λ bs. bytes_received old.network client ++ bs) (same_answers q a b (quiet client q seat));
-  gets_nothing = λ client none has. two.gets_nothing client none (one.come client ∙ has) ∙ one.gets_nothing client none has;
+      ∙ ap (λ bs. bytes_received old.network client ++ bs)
+      (same_answers q a b (quiet client q seat));
+  gets_nothing = λ client none has. two.gets_nothing client none (one.come client ∙ has)
+      ∙ one.gets_nothing client none has;
 }
 
 -- ---- one server is asked
 
 -- Numbers are these; and then these of links, each of which was one before, and is that of a way.
-pub record AreThen (place : ℕ) (before : Numbers) (own other : View) (old : ByteNetwork) (numbers : Numbers) : Type 0 where
+pub record AreThen (place : ℕ) (before : Numbers) (own other : View) (old : ByteNetwork)
+    (numbers : Numbers) : Type 0 where
   pub links : (y q : ℕ) → numbers.link y ≡ Some q → before.link y ≡ Some q
   pub clients : (client : ℕ) → numbers.client client ≡ before.client client
   pub alike : AreServersAlike before own other → AreServersAlike numbers own other
   pub ways : (y : ℕ) → has_way old.network place y ≡ is_some (numbers.link y)
 
-module _ (lines_end : ServedLinesEnd) (own_law : ServedGoesToItsOwn) (alike_law : ServedAlike) (place : ℕ) (before : Numbers) (apart : AreApart before)
-    (own other : View) (occurrence : Occurrence) (conn : ℕ) (happens : happens_at before occurrence ≡ Some conn) (alike : AreServersAlike before own other)
-    (old : ByteNetwork) (tidy : IsTidy old) (at : server_at old.network place ≡ Some (Some other)) (numbers : Numbers)
-    (then_are : AreThen place before (reply own (renumbered conn occurrence)).view (reply other occurrence).view old numbers) (item : Item)
+module _ (lines_end : ServedLinesEnd) (own_law : ServedGoesToItsOwn) (alike_law : ServedAlike)
+    (place : ℕ) (before : Numbers) (apart : AreApart before)
+    (own other : View) (occurrence : Occurrence) (conn : ℕ) (happens : happens_at before occurrence
+    ≡ Some conn) (alike : AreServersAlike before own other)
+    (old : ByteNetwork) (tidy : IsTidy old) (at : server_at old.network place ≡ Some (Some other))
+    (numbers : Numbers)
+    (then_are : AreThen place before (reply own (renumbered conn occurrence)).view
+    (reply other occurrence).view old numbers) (item : Item)
   where
     abbrev mine : Reply
     mine = reply own (renumbered conn occurrence)
@@ -173,33 +202,41 @@ module _ (lines_end : ServedLinesEnd) (own_law : ServedGoesToItsOwn) (alike_law 
     gets = asked_gets place occurrence other (begun old.network) at
 
     is_so : IsWritten kept old.wires now
-    is_so = is_written kept old.wires tidy.lean (tidy.rows ∙ sym (asked_stays place occurrence (begun old.network)))
+    is_so = is_written kept old.wires tidy.lean
+        (tidy.rows ∙ sym (asked_stays place occurrence (begun old.network)))
 
     waits_there : (x y : ℕ) → nat_eq x place ≡ false → waiting_at kept x y ≡ []
-    waits_there x y two = ap (λ o. option_map_or (λ (site : Site). waiting site y) o []) (here.others x two) ∙ tidy.quiet x y
+    waits_there x y two = ap (λ o. option_map_or (λ (site : Site). waiting site y) o [])
+        (here.others x two) ∙ tidy.quiet x y
 
     waits_here : (y q : ℕ) → numbers.link y ≡ Some q → waiting_at kept place y ≡ bodies y theirs.out
     waits_here y q link =
-        here.waits y (then_are.ways y ∙ ap is_some link) ∙ ap (λ ls. ls ++ bodies y theirs.out) (tidy.quiet place y)
+        here.waits y (then_are.ways y ∙ ap is_some link)
+        ∙ ap (λ ls. ls ++ bodies y theirs.out) (tidy.quiet place y)
 
     ways_at : (x y : ℕ) (b : Bool) → nat_eq x place ≡ b → has_way kept x y ≡ has_way old.network x y
     ways_at x y true one =
-        ap (λ n. has_way kept n y) (eqb-true x place one) ∙ here.ways y ∙ ap (λ n. has_way old.network n y) (sym (eqb-true x place one))
-    ways_at x y false two = ap (λ o. is_some (option_and_then (λ (site : Site). get site.queues y) o)) (here.others x two)
+        ap (λ n. has_way kept n y) (eqb-true x place one) ∙ here.ways y
+        ∙ ap (λ n. has_way old.network n y) (sym (eqb-true x place one))
+    ways_at x y false two = ap
+        (λ o. is_some (option_and_then (λ (site : Site). get site.queues y) o)) (here.others x two)
 
     wire_now : (y q : ℕ) → numbers.link y ≡ Some q → is_closed_by q mine.out ≡ false
         → wire_at now.wires place y ≡ wire_behind (answers q mine.out) (wire_at old.wires place y)
     wire_now y q link opened =
-        is_so.wires_are place y ∙ ap (λ ls. all_written ls (wire_at old.wires place y)) (waits_here y q link)
+        is_so.wires_are place y
+        ∙ ap (λ ls. all_written ls (wire_at old.wires place y)) (waits_here y q link)
         ∙ written_all (bodies y theirs.out) (wire_at old.wires place y)
         ∙ ap (λ bs. wire_behind bs (wire_at old.wires place y))
-        (bodies_are y theirs.out (reply_ends lines_end other occurrence) ∙ sym (said.say.on_links y q (then_are.links y q link) opened))
+        (bodies_are y theirs.out (reply_ends lines_end other occurrence)
+        ∙ sym (said.say.on_links y q (then_are.links y q link) opened))
 
     come_now : (client : ℕ) → has_come now.network client ≡ has_come old.network client
     come_now client = come_of_sites asked.net now.network refl client ∙ gets.come client
 
     bytes_now : (client : ℕ) → has_come old.network client ≡ true
-        → bytes_received now.network client ≡ bytes_received old.network client ++ client_bytes client theirs.out
+        → bytes_received now.network client ≡ bytes_received old.network client
+        ++ client_bytes client theirs.out
     bytes_now client has = bytes_of_sites asked.net now.network refl client ∙ gets.more client has
 
     keeps_now : KeepsHomes old.network now.network
@@ -210,45 +247,63 @@ module _ (lines_end : ServedLinesEnd) (own_law : ServedGoesToItsOwn) (alike_law 
           inboxes = keeps.inboxes;
         }
 
-    no_client : (client : ℕ) → numbers.client client ≡ None → is_some (get other.clients client) ≡ false
+    no_client : (client : ℕ) → numbers.client client ≡ None
+        → is_some (get other.clients client) ≡ false
     no_client client none =
-        ap is_some (alike.alike.clients client ∙ ap (option_and_then (get own.clients)) (sym (then_are.clients client) ∙ none))
+        ap is_some (alike.alike.clients client
+        ∙ ap (option_and_then (get own.clients)) (sym (then_are.clients client) ∙ none))
 
     pub asked_went : Went place numbers mine.view mine.out old now
     asked_went = record {
       view = theirs.view;
       alike = then_are.alike said.views;
       server = emptied_server kept place ∙ here.server;
-      others = λ x two. emptied_server kept x ∙ ap (option_map (λ (s : Site). s.server)) (here.others x two);
+      others = λ x two. emptied_server kept x
+          ∙ ap (option_map (λ (s : Site). s.server)) (here.others x two);
       ways = λ x y. emptied_ways kept x y ∙ ways_at x y (nat_eq x place) refl;
-      wires_there = λ x y two. is_so.wires_are x y ∙ ap (λ ls. all_written ls (wire_at old.wires x y)) (waits_there x y two);
+      wires_there = λ x y two. is_so.wires_are x y
+          ∙ ap (λ ls. all_written ls (wire_at old.wires x y)) (waits_there x y two);
       no_way = λ y none.
           is_so.wires_are place y
-          ∙ ap (λ ls. all_written ls (wire_at old.wires place y)) (no_way_waits kept place y (here.ways y ∙ then_are.ways y ∙ ap is_some none));
+          ∙ ap (λ ls. all_written ls (wire_at old.wires place y))
+          (no_way_waits kept place y (here.ways y ∙ then_are.ways y ∙ ap is_some none));
       wires_here = wire_now;
       tidy = record { quiet = emptied_waits kept; rows = is_so.rows; lean = is_so.lean };
       keeps = keeps_now;
       come = come_now;
       gets = λ client q seat has.
-          bytes_now client has ∙ ap (λ bs. bytes_received old.network client ++ bs) (sym (said.say.to_clients client q (sym (then_are.clients client) ∙ seat)));
+          bytes_now client has ∙ ap (λ bs. bytes_received old.network client ++ bs)
+          (sym (said.say.to_clients client q (sym (then_are.clients client) ∙ seat)));
       gets_nothing = λ client none has.
           bytes_now client has
           ∙ ap (λ bs. bytes_received old.network client ++ bs)
-          (nobody_gets own_law other occurrence (other_ends before own other alike) client (no_client client none))
+          (nobody_gets own_law other occurrence (other_ends before own other alike) client
+          (no_client client none))
           ∙ append-nil (bytes_received old.network client);
     }
 
 -- ---- one item
 
-module _ (lines_end : ServedLinesEnd) (own_law : ServedGoesToItsOwn) (alike_law : ServedAlike) (place : ℕ) (numbers : Numbers) (apart : AreApart numbers)
-    (own other : View) (occurrence : Occurrence) (conn : ℕ) (happens : happens_at numbers occurrence ≡ Some conn) (alike : AreServersAlike numbers own other)
+module _ (lines_end : ServedLinesEnd) (own_law : ServedGoesToItsOwn) (alike_law : ServedAlike)
+    (place : ℕ) (numbers : Numbers) (apart : AreApart numbers)
+    (own other : View) (occurrence : Occurrence) (conn : ℕ) (happens : happens_at numbers occurrence
+    ≡ Some conn) (alike : AreServersAlike numbers own other)
     (old : ByteNetwork) (tidy : IsTidy old) (at : server_at old.network place ≡ Some (Some other))
     (ways_are : (y : ℕ) → has_way old.network place y ≡ is_some (numbers.link y)) (item : Item)
   where
-    same_then : AreThen place numbers (reply own (renumbered conn occurrence)).view (reply other occurrence).view old numbers
-    same_then = record { links = λ y q link. link; clients = λ client. refl; alike = λ is. is; ways = ways_are }
+    same_then : AreThen place numbers (reply own (renumbered conn occurrence)).view
+        (reply other occurrence).view old numbers
+    same_then = record {
+      links = λ y q link. link;
+      clients = λ client. refl;
+      alike = λ is. is;
+      ways = ways_are;
+    }
 
-    pub item_went : Went place numbers (reply own (renumbered conn occurrence)).view (reply own (renumbered conn occurrence)).out old
-        (queues_written (item_kept item (site_asked place occurrence (begun old.network))).net old.wires)
+    pub item_went : Went place numbers (reply own (renumbered conn occurrence)).view
+        (reply own (renumbered conn occurrence)).out old
+        (queues_written
+        (item_kept item (site_asked place occurrence (begun old.network))).net old.wires)
     item_went =
-        asked_went lines_end own_law alike_law place numbers apart own other occurrence conn happens alike old tidy at numbers same_then item
+        asked_went lines_end own_law alike_law place numbers apart own other occurrence conn happens
+        alike old tidy at numbers same_then item

@@ -1,5 +1,8 @@
--- Where a network whose links carry bytes comes to, pointwise, as one of its servers is asked for something, or hears the lines that bytes complete.
-use Rattle.std.proofs.Common.{◌≡◌, ℕ, Bool, true, false, ◌&&◌, is_some, Some, List, [], ◌∷◌, ◌++◌, append_assoc, append-nil, length, take, nat_eq, refl, sym, ◌∙◌, ap, subst, option_map, if◌then◌else◌}
+-- Where a network whose links carry bytes comes to, pointwise, as one of its servers is asked for
+-- something, or hears the lines that bytes complete.
+use Rattle.std.proofs.Common.{◌≡◌, ℕ, Bool, true, false, ◌&&◌, is_some, Some, List, [], ◌∷◌, ◌++◌}
+use Rattle.std.proofs.Common.{append_assoc, append-nil, length, take, nat_eq, refl, sym, ◌∙◌, ap}
+use Rattle.std.proofs.Common.{subst, option_map, if◌then◌else◌}
 use Rattle.std.proofs.lemmas.Bool.{eq-eqb, eqb-true}
 use Rattle.std.proofs.lemmas.Grind.{flat_map-append}
 use Rattle.std.proofs.Math.Seq.{drop-nil, take-nil}
@@ -10,10 +13,13 @@ use Rattle.irc_line.specs.Reading.{read_of}
 use Rattle.irc_server.specs.Served.{Occurrence, link_says}
 use Rattle.irc_sites.specs.Site.{Reply, reply}
 use Rattle.irc_stage.specs.View.{View}
-use Rattle.irc_network.specs.Network.{Course, Network, Site, begun, heard, line_counted, site_asked, waiting}
+use Rattle.irc_network.specs.Network.{Course, Network, Site, begun, heard, line_counted, site_asked}
+use Rattle.irc_network.specs.Network.{waiting}
 use Rattle.irc_wires.specs.Wires.{AreLean, Wire, Wires, advanced, new_wire, wire_at}
 use Rattle.irc_wires.specs.Lemmas.PutWires.{IsSetAt, it, nowhere, other_from, other_to, wire_set}
-use Rattle.irc_byte_network.specs.ByteNetwork.{ByteNetwork, all_heard, all_written, byte_begun, bytes_come, completed_in, queues_written, waiting_at, wires_come}
+use Rattle.irc_byte_network.specs.ByteNetwork.{ByteNetwork, all_heard, all_written, byte_begun}
+use Rattle.irc_byte_network.specs.ByteNetwork.{bytes_come, completed_in, queues_written, waiting_at}
+use Rattle.irc_byte_network.specs.ByteNetwork.{wires_come}
 use Rattle.irc_byte_network.specs.Loops.Writing.{IsWritten}
 use Rattle.irc_byte_network.specs.Whole.{IsTidy, has_way}
 use Rattle.irc_byte_network.specs.Lemmas.Emptied.{emptied_waits, emptied_ways}
@@ -52,29 +58,35 @@ nothing_replied place view net at = record {
   keeps = keeps_same net;
 }
 
-both_replied : (place : ℕ) (first rest : Reply) (old mid new : Network) → HasReplied place first old mid → HasReplied place rest mid new
+both_replied : (place : ℕ) (first rest : Reply) (old mid new : Network)
+    → HasReplied place first old mid → HasReplied place rest mid new
     → HasReplied place (then_reply first rest) old new
 both_replied place first rest old mid new one two = record {
   replies = record {
     server = two.replies.server;
     ways = λ y. two.replies.ways y ∙ one.replies.ways y;
     waits = λ y way.
-        two.replies.waits y (one.replies.ways y ∙ way) ∙ ap (λ ls. ls ++ bodies y rest.out) (one.replies.waits y way)
+        two.replies.waits y (one.replies.ways y ∙ way)
+        ∙ ap (λ ls. ls ++ bodies y rest.out) (one.replies.waits y way)
         ∙ append_assoc (waiting_at old place y) (bodies y first.out) (bodies y rest.out)
-        ∙ ap (λ ls. waiting_at old place y ++ ls) (sym (flat_map-append (body_on y) first.out rest.out));
+        ∙ ap (λ ls. waiting_at old place y ++ ls)
+        (sym (flat_map-append (body_on y) first.out rest.out));
     others = λ x other. two.replies.others x other ∙ one.replies.others x other;
   };
   gets = record {
     come = λ q. two.gets.come q ∙ one.gets.come q;
     more = λ q has.
-        two.gets.more q (one.gets.come q ∙ has) ∙ ap (λ bs. bs ++ client_bytes q rest.out) (one.gets.more q has)
+        two.gets.more q (one.gets.come q ∙ has)
+        ∙ ap (λ bs. bs ++ client_bytes q rest.out) (one.gets.more q has)
         ∙ append_assoc (bytes_received old q) (client_bytes q first.out) (client_bytes q rest.out)
-        ∙ ap (λ bs. bytes_received old q ++ bs) (sym (flat_map-append (bytes_to q) first.out rest.out));
+        ∙ ap (λ bs. bytes_received old q ++ bs)
+        (sym (flat_map-append (bytes_to q) first.out rest.out));
   };
   keeps = keeps_both old mid new one.keeps two.keeps;
 }
 
-asked_replied : (place : ℕ) (occurrence : Occurrence) (view : View) (course : Course) → server_at course.net place ≡ Some (Some view)
+asked_replied : (place : ℕ) (occurrence : Occurrence) (view : View) (course : Course)
+    → server_at course.net place ≡ Some (Some view)
     → HasReplied place (reply view occurrence) course.net (site_asked place occurrence course).net
 asked_replied place occurrence view course at = record {
   replies = asked_replies place occurrence view course at;
@@ -82,41 +94,48 @@ asked_replied place occurrence view course at = record {
   keeps = asked_keeps place occurrence course;
 }
 
-line_replied : (from to : ℕ) (line : List ℕ) (view : View) (course : Course) → server_at course.net to ≡ Some (Some view)
-    → HasReplied to (reply view (link_says from (read_of line))) course.net (heard from to course line).net
+line_replied : (from to : ℕ) (line : List ℕ) (view : View) (course : Course)
+    → server_at course.net to ≡ Some (Some view) → HasReplied to
+    (reply view (link_says from (read_of line))) course.net (heard from to course line).net
 line_replied from to line view course at =
-    let keeps = asked_keeps to (link_says from (read_of line)) (record course { net = line_counted course.net }) in record {
+    let keeps = asked_keeps to (link_says from (read_of line))
+    (record course { net = line_counted course.net }) in record {
       replies = heard_replies from to line view course at;
       gets = heard_gets from to line view course at;
       keeps = record { names = keeps.names; homes = keeps.homes; inboxes = keeps.inboxes };
     }
 
-lines_replied : (from to : ℕ) (lines : List (List ℕ)) (view : View) (course : Course) → server_at course.net to ≡ Some (Some view)
+lines_replied : (from to : ℕ) (lines : List (List ℕ)) (view : View) (course : Course)
+    → server_at course.net to ≡ Some (Some view)
     → HasReplied to (all_replies from view lines) course.net (all_heard from to course lines).net
 lines_replied from to [] view course at = nothing_replied to view course.net at
 lines_replied from to (line ∷ lines) view course at =
     let first : Reply = reply view (link_says from (read_of line)) in
     let one = line_replied from to line view course at in
-    both_replied to first (all_replies from first.view lines) course.net (heard from to course line).net
+    both_replied to first (all_replies from first.view lines) course.net
+    (heard from to course line).net
     (all_heard from to (heard from to course line) lines).net one
     (lines_replied from to lines first.view (heard from to course line) one.replies.server)
 
 -- ---- once it is written
 
--- The server at a place is as this reply has it, and what it put out is on these wires, or has come to clients; all else is as it was.
+-- The server at a place is as this reply has it, and what it put out is on these wires, or has come
+-- to clients; all else is as it was.
 pub record GoesOn (place : ℕ) (next : Reply) (along : Wires) (old new : ByteNetwork) : Type 0 where
   pub server : server_at new.network place ≡ Some (Some next.view)
   pub others : (x : ℕ) → nat_eq x place ≡ false → server_at new.network x ≡ server_at old.network x
   pub ways : (x y : ℕ) → has_way new.network x y ≡ has_way old.network x y
   pub wires_there : (x y : ℕ) → nat_eq x place ≡ false → wire_at new.wires x y ≡ wire_at along x y
-  pub wires_here : (y : ℕ) → has_way old.network place y ≡ true
-      → wire_at new.wires place y ≡ wire_behind (with_ends (bodies y next.out)) (wire_at along place y)
-  pub no_way : (y : ℕ) → has_way old.network place y ≡ false → wire_at new.wires place y ≡ wire_at along place y
+  pub wires_here : (y : ℕ) → has_way old.network place y ≡ true → wire_at new.wires place y
+      ≡ wire_behind (with_ends (bodies y next.out)) (wire_at along place y)
+  pub no_way : (y : ℕ) → has_way old.network place y ≡ false
+      → wire_at new.wires place y ≡ wire_at along place y
   pub keeps : KeepsHomes old.network new.network
   pub gets : Gets (λ q. client_bytes q next.out) old.network new.network
   pub tidy : IsTidy new
 
-module _ (place : ℕ) (next : Reply) (along : Wires) (old : ByteNetwork) (mid : Network) (tidy : IsTidy old) (lean : AreLean along)
+module _ (place : ℕ) (next : Reply) (along : Wires) (old : ByteNetwork) (mid : Network)
+    (tidy : IsTidy old) (lean : AreLean along)
     (rows : length along ≡ length mid.sites) (done : HasReplied place next old.network mid)
   where
     abbrev now : ByteNetwork
@@ -126,28 +145,42 @@ module _ (place : ℕ) (next : Reply) (along : Wires) (old : ByteNetwork) (mid :
     is_so = is_written mid along lean rows
 
     waits_there : (x y : ℕ) → nat_eq x place ≡ false → waiting_at mid x y ≡ []
-    waits_there x y two = ap (λ o. option_map_or (λ (site : Site). waiting site y) o []) (done.replies.others x two) ∙ tidy.quiet x y
+    waits_there x y two = ap (λ o. option_map_or (λ (site : Site). waiting site y) o [])
+        (done.replies.others x two) ∙ tidy.quiet x y
 
-    waits_here : (y : ℕ) → has_way old.network place y ≡ true → waiting_at mid place y ≡ bodies y next.out
-    waits_here y way = done.replies.waits y way ∙ ap (λ ls. ls ++ bodies y next.out) (tidy.quiet place y)
+    waits_here : (y : ℕ) → has_way old.network place y ≡ true
+        → waiting_at mid place y ≡ bodies y next.out
+    waits_here y way =
+        done.replies.waits y way ∙ ap (λ ls. ls ++ bodies y next.out) (tidy.quiet place y)
 
     ways_at : (x y : ℕ) (b : Bool) → nat_eq x place ≡ b → has_way mid x y ≡ has_way old.network x y
     ways_at x y true one =
-        ap (λ n. has_way mid n y) (eqb-true x place one) ∙ done.replies.ways y ∙ ap (λ n. has_way old.network n y) (sym (eqb-true x place one))
-    ways_at x y false two = ap (λ o. is_some (option_and_then (λ (site : Site). get site.queues y) o)) (done.replies.others x two)
+        ap (λ n. has_way mid n y) (eqb-true x place one) ∙ done.replies.ways y
+        ∙ ap (λ n. has_way old.network n y) (sym (eqb-true x place one))
+    ways_at x y false two =
+        ap (λ o. is_some (option_and_then (λ (site : Site). get site.queues y) o))
+        (done.replies.others x two)
 
     goes_on : GoesOn place next along old now
     goes_on = record {
       server = emptied_server mid place ∙ done.replies.server;
-      others = λ x two. emptied_server mid x ∙ ap (option_map (λ (s : Site). s.server)) (done.replies.others x two);
+      others = λ x two. emptied_server mid x
+          ∙ ap (option_map (λ (s : Site). s.server)) (done.replies.others x two);
       ways = λ x y. emptied_ways mid x y ∙ ways_at x y (nat_eq x place) refl;
-      wires_there = λ x y two. is_so.wires_are x y ∙ ap (λ ls. all_written ls (wire_at along x y)) (waits_there x y two);
+      wires_there = λ x y two. is_so.wires_are x y
+          ∙ ap (λ ls. all_written ls (wire_at along x y)) (waits_there x y two);
       wires_here = λ y way.
-          is_so.wires_are place y ∙ ap (λ ls. all_written ls (wire_at along place y)) (waits_here y way)
+          is_so.wires_are place y
+          ∙ ap (λ ls. all_written ls (wire_at along place y)) (waits_here y way)
           ∙ written_all (bodies y next.out) (wire_at along place y);
       no_way = λ y none.
-          is_so.wires_are place y ∙ ap (λ ls. all_written ls (wire_at along place y)) (no_way_waits mid place y (done.replies.ways y ∙ none));
-      keeps = record { names = done.keeps.names; homes = done.keeps.homes; inboxes = done.keeps.inboxes };
+          is_so.wires_are place y ∙ ap (λ ls. all_written ls (wire_at along place y))
+          (no_way_waits mid place y (done.replies.ways y ∙ none));
+      keeps = record {
+        names = done.keeps.names;
+        homes = done.keeps.homes;
+        inboxes = done.keeps.inboxes;
+      };
       gets = record {
         come = λ q. come_of_sites mid now.network refl q ∙ done.gets.come q;
         more = λ q has. bytes_of_sites mid now.network refl q ∙ done.gets.more q has;
@@ -157,12 +190,15 @@ module _ (place : ℕ) (next : Reply) (along : Wires) (old : ByteNetwork) (mid :
 
 -- ---- a server is asked
 
-pub asked_goes_on : (place : ℕ) (occurrence : Occurrence) (view : View) (net : ByteNetwork) → IsTidy net
-    → server_at net.network place ≡ Some (Some view)
-    → GoesOn place (reply view occurrence) net.wires net (queues_written (site_asked place occurrence (begun net.network)).net net.wires)
+pub asked_goes_on : (place : ℕ) (occurrence : Occurrence) (view : View) (net : ByteNetwork)
+    → IsTidy net → server_at net.network place ≡ Some (Some view)
+    → GoesOn place (reply view occurrence) net.wires net
+    (queues_written (site_asked place occurrence (begun net.network)).net net.wires)
 asked_goes_on place occurrence view net tidy at =
-    goes_on place (reply view occurrence) net.wires net (site_asked place occurrence (begun net.network)).net tidy tidy.lean
-    (tidy.rows ∙ sym (asked_stays place occurrence (begun net.network))) (asked_replied place occurrence view (begun net.network) at)
+    goes_on place (reply view occurrence) net.wires net
+    (site_asked place occurrence (begun net.network)).net tidy tidy.lean
+    (tidy.rows ∙ sym (asked_stays place occurrence (begun net.network)))
+    (asked_replied place occurrence view (begun net.network) at)
 
 -- ---- bytes come
 
@@ -181,35 +217,46 @@ module _ (from to count : ℕ) (net : ByteNetwork) where
   none_and false = refl
 
   -- on the way on which they come, and on no other
-  pub come_at : (x y : ℕ) → wire_at (wires_come net from to count) x y ≡ come_if count (nat_eq x from && nat_eq y to) (wire_at net.wires x y)
+  pub come_at : (x y : ℕ) → wire_at (wires_come net from to count) x y
+      ≡ come_if count (nat_eq x from && nat_eq y to) (wire_at net.wires x y)
   come_at x y = by (wire_set from to (advanced count (wire_at net.wires from to)) net.wires x y)
     where
       both : x ≡ from → y ≡ to → (nat_eq x from && nat_eq y to) ≡ true
       both one two = ap (λ b. b && nat_eq y to) (eq-eqb x from one) ∙ eq-eqb y to two
 
-      comes : x ≡ from → y ≡ to → advanced count (wire_at net.wires x y) ≡ come_if count (nat_eq x from && nat_eq y to) (wire_at net.wires x y)
+      comes : x ≡ from → y ≡ to → advanced count (wire_at net.wires x y)
+          ≡ come_if count (nat_eq x from && nat_eq y to) (wire_at net.wires x y)
       comes one two = ap (λ b. come_if count b (wire_at net.wires x y)) (sym (both one two))
 
       by : IsSetAt from to (advanced count (wire_at net.wires from to)) net.wires x y
-          → wire_at (wires_come net from to count) x y ≡ come_if count (nat_eq x from && nat_eq y to) (wire_at net.wires x y)
-      by (it one two is) = is ∙ (λ i. advanced count (wire_at net.wires (sym one i) (sym two i))) ∙ comes one two
-      by (nowhere one two is was) = is ∙ no_byte_comes count ∙ ap (advanced count) (sym was) ∙ comes one two
-      by (other_from two is) = is ∙ ap (λ b. come_if count (b && nat_eq y to) (wire_at net.wires x y)) (sym two)
+          → wire_at (wires_come net from to count) x y ≡ come_if count
+          (nat_eq x from && nat_eq y to) (wire_at net.wires x y)
+      by (it one two is) = is ∙ (λ i. advanced count (wire_at net.wires (sym one i) (sym two i)))
+          ∙ comes one two
+      by (nowhere one two is was) = is ∙ no_byte_comes count ∙ ap (advanced count) (sym was)
+          ∙ comes one two
+      by (other_from two is) =
+          is ∙ ap (λ b. come_if count (b && nat_eq y to) (wire_at net.wires x y)) (sym two)
       by (other_to two is) =
-          is ∙ ap (λ b. come_if count b (wire_at net.wires x y)) (sym (none_and (nat_eq x from)) ∙ ap (λ b. nat_eq x from && b) (sym two))
+          is ∙ ap (λ b. come_if count b (wire_at net.wires x y))
+          (sym (none_and (nat_eq x from)) ∙ ap (λ b. nat_eq x from && b) (sym two))
 
   come_is : (bytes_come from to count (byte_begun net)).net
-      ≡ queues_written (all_heard from to (begun net.network) (completed_in net from to count)).net (wires_come net from to count)
+      ≡ queues_written (all_heard from to (begun net.network) (completed_in net from to count)).net
+      (wires_come net from to count)
   unfolding bytes_come
   come_is = refl
 
   pub bytes_go_on : (view : View) → IsTidy net → server_at net.network to ≡ Some (Some view)
-      → GoesOn to (all_replies from view (completed_in net from to count)) (wires_come net from to count) net (bytes_come from to count (byte_begun net)).net
+      → GoesOn to (all_replies from view (completed_in net from to count))
+      (wires_come net from to count) net (bytes_come from to count (byte_begun net)).net
   bytes_go_on view tidy at =
       let lines : List (List ℕ) = completed_in net from to count in
       let last : Course = all_heard from to (begun net.network) lines in
-      subst (GoesOn to (all_replies from view lines) (wires_come net from to count) net) (sym come_is)
+      subst (GoesOn to (all_replies from view lines) (wires_come net from to count) net)
+      (sym come_is)
       (goes_on to (all_replies from view lines) (wires_come net from to count) net last.net tidy
       (lean_with from to (advanced count (wire_at net.wires from to)) net.wires tidy.lean)
-      (rows_after_lines net from to count lines [] last (wires_come net from to count) tidy.rows refl refl)
+      (rows_after_lines net from to count lines [] last
+      (wires_come net from to count) tidy.rows refl refl)
       (lines_replied from to lines view (begun net.network) at))

@@ -1,6 +1,8 @@
 -- Two servers of a network whose links carry bytes are asked for something at once: that network,
 -- and the ones in which only one of them was asked.
-use Rattle.std.proofs.Common.{◌≡◌, ℕ, Bool, true, false, is_some, Some, List, [], ◌∷◌, ◌++◌, append_assoc, append-nil, length, nat_eq, refl, sym, ◌∙◌, ap, option_map}
+use Rattle.std.proofs.Common.{◌≡◌, ℕ, Bool, true, false, is_some, Some, List, [], ◌∷◌, ◌++◌}
+use Rattle.std.proofs.Common.{append_assoc, append-nil, length, nat_eq, refl, sym, ◌∙◌, ap}
+use Rattle.std.proofs.Common.{option_map}
 use Rattle.std.proofs.lemmas.Bool.{eq-eqb, eqb-true}
 use Rattle.std.specs.FinMap.{get}
 use Rattle.std.specs.Option.{option_and_then, option_map_or}
@@ -37,13 +39,15 @@ Lines = List (List ℕ)
 record IsOut (net : Network) (wires : Wires) (out : ByteNetwork) : Type 0 where
   pub servers : (x : ℕ) → server_at out.network x ≡ server_at net x
   pub ways : (x y : ℕ) → has_way out.network x y ≡ has_way net x y
-  pub wires_are : (x y : ℕ) → wire_at out.wires x y ≡ all_written (waiting_at net x y) (wire_at wires x y)
+  pub wires_are : (x y : ℕ)
+      → wire_at out.wires x y ≡ all_written (waiting_at net x y) (wire_at wires x y)
   pub names : out.network.names ≡ net.names
   pub homes : out.network.homes ≡ net.homes
   pub received : out.network.received ≡ net.received
   pub tidy : IsTidy out
 
-is_out : (item : Item) (course : Course) (wires : Wires) → AreLean wires → length wires ≡ length course.net.sites
+is_out : (item : Item) (course : Course) (wires : Wires)
+    → AreLean wires → length wires ≡ length course.net.sites
     → IsOut course.net wires (queues_written (item_kept item course).net wires)
 is_out item course wires lean long =
     let kept : Network = (item_kept item course).net in
@@ -69,24 +73,28 @@ out_at_once net tidy = record {
   tidy = tidy;
 }
 
-both_written : (one other : Lines) (wire : Wire) → all_written (one ++ other) wire ≡ wire_behind (with_ends other) (all_written one wire)
+both_written : (one other : Lines) (wire : Wire)
+    → all_written (one ++ other) wire ≡ wire_behind (with_ends other) (all_written one wire)
 both_written [] other wire = written_all other wire
 both_written (line ∷ one) other wire = both_written one other (written line wire)
 
 -- ---- a server is asked
 
 -- the server at a place has replied, and what it put out went its way
-record IsAsked (place : ℕ) (occurrence : Occurrence) (view : View) (old new : Network) : Type 0 where
+record IsAsked (place : ℕ) (occurrence : Occurrence) (view : View)
+    (old new : Network) : Type 0 where
   pub here : server_at old place ≡ Some (Some view)
   pub here_then : server_at new place ≡ Some (Some (reply view occurrence).view)
   pub others : (x : ℕ) → nat_eq x place ≡ false → server_at new x ≡ server_at old x
   pub ways : (x y : ℕ) → has_way new x y ≡ has_way old x y
   pub waits_there : (x y : ℕ) → nat_eq x place ≡ false → waiting_at new x y ≡ waiting_at old x y
-  pub waits_here : (y : ℕ) → has_way old place y ≡ true → waiting_at new place y ≡ waiting_at old place y ++ bodies y (reply view occurrence).out
+  pub waits_here : (y : ℕ) → has_way old place y ≡ true
+      → waiting_at new place y ≡ waiting_at old place y ++ bodies y (reply view occurrence).out
   pub keeps : KeepsHomes old new
   pub gets : Gets (λ client. client_bytes client (reply view occurrence).out) old new
 
-is_asked : (place : ℕ) (occurrence : Occurrence) (view : View) (course : Course) → server_at course.net place ≡ Some (Some view)
+is_asked : (place : ℕ) (occurrence : Occurrence) (view : View) (course : Course)
+    → server_at course.net place ≡ Some (Some view)
     → IsAsked place occurrence view course.net (site_asked place occurrence course).net
 is_asked place occurrence view course at =
     let replies = asked_replies place occurrence view course at in record {
@@ -94,22 +102,27 @@ is_asked place occurrence view course at =
       here_then = replies.server;
       others = λ x two. ap (option_map (λ (s : Site). s.server)) (replies.others x two);
       ways = λ x y. way_at x y (nat_eq x place) refl;
-      waits_there = λ x y two. ap (λ o. option_map_or (λ (site : Site). waiting site y) o []) (replies.others x two);
+      waits_there = λ x y two. ap (λ o. option_map_or (λ (site : Site). waiting site y) o [])
+          (replies.others x two);
       waits_here = replies.waits;
       keeps = asked_keeps place occurrence course;
       gets = asked_gets place occurrence view course at;
     }
   where
-    way_at : (x y : ℕ) (b : Bool) → nat_eq x place ≡ b → has_way (site_asked place occurrence course).net x y ≡ has_way course.net x y
+    way_at : (x y : ℕ) (b : Bool) → nat_eq x place ≡ b
+        → has_way (site_asked place occurrence course).net x y ≡ has_way course.net x y
     way_at x y true one =
         ap (λ v. has_way (site_asked place occurrence course).net v y) (eqb-true x place one)
-        ∙ (asked_replies place occurrence view course at).ways y ∙ ap (λ v. has_way course.net v y) (sym (eqb-true x place one))
+        ∙ (asked_replies place occurrence view course at).ways y
+        ∙ ap (λ v. has_way course.net v y) (sym (eqb-true x place one))
     way_at x y false two =
-        ap (λ o. is_some (option_and_then (λ (site : Site). get site.queues y) o)) ((asked_replies place occurrence view course at).others x two)
+        ap (λ o. is_some (option_and_then (λ (site : Site). get site.queues y) o))
+        ((asked_replies place occurrence view course at).others x two)
 
 -- and once all is written, just that is more
-lacks_one : (place : ℕ) (occurrence : Occurrence) (view : View) (old new : Network) (wires : Wires) (less more : ByteNetwork)
-    → IsAsked place occurrence view old new → IsOut old wires less → IsOut new wires more → LacksOne place occurrence less more
+lacks_one : (place : ℕ) (occurrence : Occurrence) (view : View) (old new : Network) (wires : Wires)
+    (less more : ByteNetwork) → IsAsked place occurrence view old new → IsOut old wires less
+    → IsOut new wires more → LacksOne place occurrence less more
 lacks_one place occurrence view old new wires less more asked first second = record {
   view = view;
   here = first.servers place ∙ asked.here;
@@ -117,57 +130,74 @@ lacks_one place occurrence view old new wires less more asked first second = rec
   others = λ x two. second.servers x ∙ asked.others x two ∙ sym (first.servers x);
   ways = λ x y. second.ways x y ∙ asked.ways x y ∙ sym (first.ways x y);
   wires_there = λ x y two.
-      second.wires_are x y ∙ ap (λ ls. all_written ls (wire_at wires x y)) (asked.waits_there x y two) ∙ sym (first.wires_are x y);
+      second.wires_are x y ∙ ap (λ ls. all_written ls (wire_at wires x y))
+      (asked.waits_there x y two) ∙ sym (first.wires_are x y);
   wires_here = λ y way.
       second.wires_are place y
-      ∙ ap (λ ls. all_written ls (wire_at wires place y)) (asked.waits_here y (sym (first.ways place y) ∙ way))
-      ∙ both_written (waiting_at old place y) (bodies y (reply view occurrence).out) (wire_at wires place y)
-      ∙ ap (wire_behind (with_ends (bodies y (reply view occurrence).out))) (sym (first.wires_are place y));
+      ∙ ap (λ ls. all_written ls (wire_at wires place y))
+      (asked.waits_here y (sym (first.ways place y) ∙ way))
+      ∙ both_written (waiting_at old place y) (bodies y (reply view occurrence).out)
+      (wire_at wires place y)
+      ∙ ap (wire_behind (with_ends (bodies y (reply view occurrence).out)))
+      (sym (first.wires_are place y));
   no_way = λ y none.
       let none_before : has_way old place y ≡ false = sym (first.ways place y) ∙ none in
       second.wires_are place y
       ∙ ap (λ ls. all_written ls (wire_at wires place y))
-      (no_way_waits new place y (asked.ways place y ∙ none_before) ∙ sym (no_way_waits old place y none_before))
+      (no_way_waits new place y (asked.ways place y ∙ none_before)
+      ∙ sym (no_way_waits old place y none_before))
       ∙ sym (first.wires_are place y);
   names = second.names ∙ asked.keeps.names ∙ sym first.names;
   homes = second.homes ∙ asked.keeps.homes ∙ sym first.homes;
   come = λ client.
-      come_of_sites new more.network second.received client ∙ asked.gets.come client ∙ sym (come_of_sites old less.network first.received client);
-  inboxes = ap (λ (xs : List Lines). length xs) second.received ∙ asked.keeps.inboxes ∙ sym (ap (λ (xs : List Lines). length xs) first.received);
+      come_of_sites new more.network second.received client ∙ asked.gets.come client
+      ∙ sym (come_of_sites old less.network first.received client);
+  inboxes = ap (λ (xs : List Lines). length xs) second.received ∙ asked.keeps.inboxes
+      ∙ sym (ap (λ (xs : List Lines). length xs) first.received);
   received = λ client has.
       bytes_of_sites new more.network second.received client
       ∙ asked.gets.more client (sym (come_of_sites old less.network first.received client) ∙ has)
-      ∙ ap (λ bs. bs ++ client_bytes client (reply view occurrence).out) (sym (bytes_of_sites old less.network first.received client));
+      ∙ ap (λ bs. bs ++ client_bytes client (reply view occurrence).out)
+      (sym (bytes_of_sites old less.network first.received client));
   tidy_less = first.tidy;
   tidy_more = second.tidy;
 }
 
 -- ---- the other one is asked first
 
-module _ (n f : ℕ) (on off : Occurrence) (vn vf : View) (start mid last turn : Network) (two : nat_eq n f ≡ false) (first : IsAsked n on vn start mid)
+module _ (n f : ℕ) (on off : Occurrence) (vn vf : View) (start mid last turn : Network)
+    (two : nat_eq n f ≡ false) (first : IsAsked n on vn start mid)
     (second : IsAsked f off vf mid last) (other : IsAsked f off vf start turn)
-    (either : (client : ℕ) → client_bytes client (reply vf off).out ++ client_bytes client (reply vn on).out
+    (either : (client : ℕ) → client_bytes client (reply vf off).out
+    ++ client_bytes client (reply vn on).out
     ≡ client_bytes client (reply vn on).out ++ client_bytes client (reply vf off).out)
   where
-    same_server : (x : ℕ) → nat_eq x n ≡ false → (b : Bool) → nat_eq x f ≡ b → server_at last x ≡ server_at turn x
+    same_server : (x : ℕ) → nat_eq x n ≡ false → (b : Bool) → nat_eq x f ≡ b
+        → server_at last x ≡ server_at turn x
     same_server x not_near true one =
-        ap (server_at last) (eqb-true x f one) ∙ second.here_then ∙ sym other.here_then ∙ ap (server_at turn) (sym (eqb-true x f one))
-    same_server x not_near false not_far = second.others x not_far ∙ first.others x not_near ∙ sym (other.others x not_far)
+        ap (server_at last) (eqb-true x f one) ∙ second.here_then ∙ sym other.here_then
+        ∙ ap (server_at turn) (sym (eqb-true x f one))
+    same_server x not_near false not_far = second.others x not_far ∙ first.others x not_near
+        ∙ sym (other.others x not_far)
 
-    same_far : (y : ℕ) (b : Bool) → has_way start f y ≡ b → waiting_at last f y ≡ waiting_at turn f y
+    same_far : (y : ℕ) (b : Bool) → has_way start f y ≡ b
+        → waiting_at last f y ≡ waiting_at turn f y
     same_far y true way =
         second.waits_here y (first.ways f y ∙ way)
         ∙ ap (λ ls. ls ++ bodies y (reply vf off).out) (first.waits_there f y (turned f n ∙ two))
         ∙ sym (other.waits_here y way)
     same_far y false none =
-        no_way_waits last f y (second.ways f y ∙ first.ways f y ∙ none) ∙ sym (no_way_waits turn f y (other.ways f y ∙ none))
+        no_way_waits last f y (second.ways f y ∙ first.ways f y ∙ none)
+        ∙ sym (no_way_waits turn f y (other.ways f y ∙ none))
 
-    same_waits : (x y : ℕ) → nat_eq x n ≡ false → (b : Bool) → nat_eq x f ≡ b → waiting_at last x y ≡ waiting_at turn x y
+    same_waits : (x y : ℕ) → nat_eq x n ≡ false → (b : Bool) → nat_eq x f ≡ b
+        → waiting_at last x y ≡ waiting_at turn x y
     same_waits x y not_near true one =
         ap (λ v. waiting_at last v y) (eqb-true x f one) ∙ same_far y (has_way start f y) refl
         ∙ ap (λ v. waiting_at turn v y) (sym (eqb-true x f one))
     same_waits x y not_near false not_far =
-        second.waits_there x y not_far ∙ first.waits_there x y not_near ∙ sym (other.waits_there x y not_far)
+        second.waits_there x y not_far ∙ first.waits_there x y not_near
+        ∙ sym (other.waits_there x y not_far)
 
     abbrev near_bytes : ℕ → List ℕ
     near_bytes client = client_bytes client (reply vn on).out
@@ -175,7 +205,8 @@ module _ (n f : ℕ) (on off : Occurrence) (vn vf : View) (start mid last turn :
     abbrev far_bytes : ℕ → List ℕ
     far_bytes client = client_bytes client (reply vf off).out
 
-    same_received : (client : ℕ) → has_come start client ≡ true → bytes_received last client ≡ bytes_received turn client ++ near_bytes client
+    same_received : (client : ℕ) → has_come start client ≡ true
+        → bytes_received last client ≡ bytes_received turn client ++ near_bytes client
     same_received client was =
         second.gets.more client (first.gets.come client ∙ was)
         ∙ ap (λ bs. bs ++ far_bytes client) (first.gets.more client was)
@@ -200,7 +231,8 @@ module _ (n f : ℕ) (on off : Occurrence) (vn vf : View) (start mid last turn :
         inboxes = second.keeps.inboxes ∙ first.keeps.inboxes ∙ sym other.keeps.inboxes;
       };
       gets = record {
-        come = λ client. second.gets.come client ∙ first.gets.come client ∙ sym (other.gets.come client);
+        come = λ client. second.gets.come client ∙ first.gets.come client
+            ∙ sym (other.gets.come client);
         more = λ client has. same_received client (sym (other.gets.come client) ∙ has);
       };
     }
@@ -209,7 +241,8 @@ module _ (n f : ℕ) (on off : Occurrence) (vn vf : View) (start mid last turn :
 
 -- The network in which both were asked, beside those in which one of them was, and these beside
 -- the one in which neither was.
-pub record AreHalves (n f : ℕ) (on off : Occurrence) (base half_near half_far full : ByteNetwork) : Type 0 where
+pub record AreHalves (n f : ℕ) (on off : Occurrence)
+    (base half_near half_far full : ByteNetwork) : Type 0 where
   pub near_last : LacksOne n on half_far full
   pub far_last : LacksOne f off half_near full
   pub near_alone : LacksOne n on base half_near
@@ -217,13 +250,17 @@ pub record AreHalves (n f : ℕ) (on off : Occurrence) (base half_near half_far 
 
 -- only the one of n was asked, only that of f, or both
 abbrev pub one_asked : Item → ℕ → Occurrence → ByteNetwork → ByteNetwork
-one_asked item place occurrence base = queues_written (item_kept item (site_asked place occurrence (begun base.network))).net base.wires
+one_asked item place occurrence base = queues_written
+    (item_kept item (site_asked place occurrence (begun base.network))).net base.wires
 
 abbrev pub both_asked : Item → ℕ → ℕ → Occurrence → Occurrence → ByteNetwork → ByteNetwork
-both_asked item n f on off base = queues_written (item_kept item (site_asked f off (site_asked n on (begun base.network)))).net base.wires
+both_asked item n f on off base = queues_written
+    (item_kept item (site_asked f off (site_asked n on (begun base.network)))).net base.wires
 
-module _ (own_law : ServedGoesToItsOwn) (item : Item) (n f : ℕ) (on off : Occurrence) (base : ByteNetwork) (tidy : IsTidy base) (vn vf : View)
-    (two : nat_eq n f ≡ false) (near_there : server_at base.network n ≡ Some (Some vn)) (far_there : server_at base.network f ≡ Some (Some vf))
+module _ (own_law : ServedGoesToItsOwn) (item : Item) (n f : ℕ) (on off : Occurrence)
+    (base : ByteNetwork) (tidy : IsTidy base) (vn vf : View)
+    (two : nat_eq n f ≡ false) (near_there : server_at base.network n ≡ Some (Some vn))
+    (far_there : server_at base.network f ≡ Some (Some vf))
   where
     abbrev near_course : Course
     near_course = site_asked n on (begun base.network)
@@ -244,52 +281,69 @@ module _ (own_law : ServedGoesToItsOwn) (item : Item) (n f : ℕ) (on off : Occu
     far_after = is_asked f off vf near_course (near_asked.others f (turned f n ∙ two) ∙ far_there)
 
     near_out : IsOut near_course.net base.wires (one_asked item n on base)
-    near_out = is_out item near_course base.wires tidy.lean (tidy.rows ∙ sym (asked_stays n on (begun base.network)))
+    near_out = is_out item near_course base.wires tidy.lean
+        (tidy.rows ∙ sym (asked_stays n on (begun base.network)))
 
     far_out : IsOut far_course.net base.wires (one_asked item f off base)
-    far_out = is_out item far_course base.wires tidy.lean (tidy.rows ∙ sym (asked_stays f off (begun base.network)))
+    far_out = is_out item far_course base.wires tidy.lean
+        (tidy.rows ∙ sym (asked_stays f off (begun base.network)))
 
     last_out : IsOut last_course.net base.wires (both_asked item n f on off base)
     last_out =
-        is_out item last_course base.wires tidy.lean (tidy.rows ∙ sym (asked_stays f off near_course ∙ asked_stays n on (begun base.network)))
+        is_out item last_course base.wires tidy.lean (tidy.rows
+        ∙ sym (asked_stays f off near_course ∙ asked_stays n on (begun base.network)))
 
     -- a client is of one of them at most
     module _ (own : AreOwn base.network) (ends : AreAllEnds base.network) where
-      either_first : (client : ℕ) → client_bytes client (reply vf off).out ++ client_bytes client (reply vn on).out
+      either_first : (client : ℕ) → client_bytes client (reply vf off).out
+          ++ client_bytes client (reply vn on).out
           ≡ client_bytes client (reply vn on).out ++ client_bytes client (reply vf off).out
-      either_first client = by (is_some (get vn.clients client)) (is_some (get vf.clients client)) refl refl
+      either_first client =
+          by (is_some (get vn.clients client)) (is_some (get vf.clients client)) refl refl
         where
-          nothing_far : client_bytes client (reply vf off).out ≡ [] → client_bytes client (reply vf off).out ++ client_bytes client (reply vn on).out
+          nothing_far : client_bytes client (reply vf off).out ≡ []
+              → client_bytes client (reply vf off).out ++ client_bytes client (reply vn on).out
               ≡ client_bytes client (reply vn on).out ++ client_bytes client (reply vf off).out
           nothing_far none =
-              ap (λ bs. bs ++ client_bytes client (reply vn on).out) none ∙ sym (append-nil (client_bytes client (reply vn on).out))
+              ap (λ bs. bs ++ client_bytes client (reply vn on).out) none
+              ∙ sym (append-nil (client_bytes client (reply vn on).out))
               ∙ ap (λ bs. client_bytes client (reply vn on).out ++ bs) (sym none)
 
-          nothing_near : client_bytes client (reply vn on).out ≡ [] → client_bytes client (reply vf off).out ++ client_bytes client (reply vn on).out
+          nothing_near : client_bytes client (reply vn on).out ≡ []
+              → client_bytes client (reply vf off).out ++ client_bytes client (reply vn on).out
               ≡ client_bytes client (reply vn on).out ++ client_bytes client (reply vf off).out
           nothing_near none =
-              ap (λ bs. client_bytes client (reply vf off).out ++ bs) none ∙ append-nil (client_bytes client (reply vf off).out)
+              ap (λ bs. client_bytes client (reply vf off).out ++ bs) none
+              ∙ append-nil (client_bytes client (reply vf off).out)
               ∙ ap (λ bs. bs ++ client_bytes client (reply vf off).out) (sym none)
 
-          by : (b c : Bool) → is_some (get vn.clients client) ≡ b → is_some (get vf.clients client) ≡ c
-              → client_bytes client (reply vf off).out ++ client_bytes client (reply vn on).out
+          by : (b c : Bool) → is_some (get vn.clients client) ≡ b → is_some (get vf.clients client)
+              ≡ c → client_bytes client (reply vf off).out ++ client_bytes client (reply vn on).out
               ≡ client_bytes client (reply vn on).out ++ client_bytes client (reply vf off).out
           by true true one other =
               cc (sym two ∙ eq-eqb n f (own n f client vn vf near_there far_there one other))
-          by b false one other = nothing_far (nobody_gets own_law vf off (ends f vf far_there) client other)
-          by false true one other = nothing_near (nobody_gets own_law vn on (ends n vn near_there) client one)
+          by b false one other =
+              nothing_far (nobody_gets own_law vf off (ends f vf far_there) client other)
+          by false true one other =
+              nothing_near (nobody_gets own_law vn on (ends n vn near_there) client one)
 
-      pub half_lacks : AreHalves n f on off base (one_asked item n on base) (one_asked item f off base) (both_asked item n f on off base)
+      pub half_lacks : AreHalves n f on off base (one_asked item n on base)
+          (one_asked item f off base) (both_asked item n f on off base)
       half_lacks = record {
         near_last =
-            lacks_one n on vn far_course.net last_course.net base.wires (one_asked item f off base) (both_asked item n f on off base)
-            (asked_last n f on off vn vf base.network near_course.net last_course.net far_course.net two near_asked far_after far_asked either_first)
+            lacks_one n on vn far_course.net last_course.net base.wires (one_asked item f off base)
+            (both_asked item n f on off base)
+            (asked_last n f on off vn vf base.network near_course.net last_course.net far_course.net
+            two near_asked far_after far_asked either_first)
             far_out last_out;
         far_last =
-            lacks_one f off vf near_course.net last_course.net base.wires (one_asked item n on base) (both_asked item n f on off base)
+            lacks_one f off vf near_course.net last_course.net base.wires (one_asked item n on base)
+            (both_asked item n f on off base)
             far_after near_out last_out;
         near_alone =
-            lacks_one n on vn base.network near_course.net base.wires base (one_asked item n on base) near_asked (out_at_once base tidy) near_out;
+            lacks_one n on vn base.network near_course.net base.wires base
+            (one_asked item n on base) near_asked (out_at_once base tidy) near_out;
         far_alone =
-            lacks_one f off vf base.network far_course.net base.wires base (one_asked item f off base) far_asked (out_at_once base tidy) far_out;
+            lacks_one f off vf base.network far_course.net base.wires base
+            (one_asked item f off base) far_asked (out_at_once base tidy) far_out;
       }

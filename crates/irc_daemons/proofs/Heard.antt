@@ -1,5 +1,7 @@
--- What a server puts out: of one that has failed nothing, of others lines that end; and of one connection, of two lists one behind the other.
-use Rattle.std.proofs.Common.{◌≡◌, ℕ, Bool, true, false, not, ◌&&◌, Option, None, Result, Ok, List, [], ◌∷◌, ◌++◌, refl, ◌∙◌, ap, subst, if◌then◌else◌}
+-- What a server puts out: of one that has failed nothing, of others lines that end; and of one
+-- connection, of two lists one behind the other.
+use Rattle.std.proofs.Common.{◌≡◌, ℕ, Bool, true, false, not, ◌&&◌, Option, None, Result, Ok, List}
+use Rattle.std.proofs.Common.{[], ◌∷◌, ◌++◌, refl, ◌∙◌, ap, subst, if◌then◌else◌}
 use Rattle.std.specs.List.{AllByRecursion}
 use Rattle.irc_batch.specs.Batches.{Sent}
 use Rattle.irc_server.specs.declared.event.Event.{Event}
@@ -15,25 +17,29 @@ use Rattle.irc_engine.specs.Lemmas.CarryingLaws.{owed-append}
 
 abbrev replied : Bool → View → Occurrence → Reply
 replied b view occurrence =
-    if b then record { view = (served view occurrence).view; out = (served view occurrence).out } else record { view = view; out = [] }
+    if b then record { view = (served view occurrence).view; out = (served view occurrence).out }
+    else record { view = view; out = [] }
 
 -- ---- a server for which memory ran out
 
-failed_stays : (event : Event) (result : Result (Unit {0}) ServerFault) (server : Option View) (outs : List Sent) → IsHandled None event [] result server outs
-    → server ≡ None
+failed_stays : (event : Event) (result : Result (Unit {0}) ServerFault) (server : Option View)
+    (outs : List Sent) → IsHandled None event [] result server outs → server ≡ None
 failed_stays event result server outs has_failed = refl
 
-pub none_stays : (events : List Event) (old new : Asked) (outs : List Sent) → old.server ≡ None → AreAsked old events outs new → new.server ≡ None
+pub none_stays : (events : List Event) (old new : Asked) (outs : List Sent) → old.server ≡ None
+    → AreAsked old events outs new → new.server ≡ None
 none_stays [] old new outs none asked = ap (λ (a : Asked). a.server) asked.1 ∙ none
 none_stays (event ∷ events) old new outs none asked =
     none_stays events asked.between new asked.more
     (failed_stays event (Ok tt) asked.between.server asked.first
-    (subst (λ s. IsHandled s event [] (Ok tt) asked.between.server asked.first) none asked.is_handled))
+    (subst (λ s. IsHandled s event [] (Ok tt) asked.between.server asked.first) none
+    asked.is_handled))
     asked.rest_is
 
 -- ---- what a server of a network puts out
 
-pub reply_ends : ServedLinesEnd → (view : View) (occurrence : Occurrence) → AllByRecursion EndsInLineEnd (reply view occurrence).out
+pub reply_ends : ServedLinesEnd → (view : View) (occurrence : Occurrence)
+    → AllByRecursion EndsInLineEnd (reply view occurrence).out
 reply_ends law view occurrence = by (serves_occurrence view occurrence)
   where
     by : (b : Bool) → AllByRecursion EndsInLineEnd (replied b view occurrence).out
@@ -42,6 +48,8 @@ reply_ends law view occurrence = by (serves_occurrence view occurrence)
 
 -- ---- lines one after another
 
-pub answers_both : (conn : ℕ) (one other : List Sent) → is_closed_by conn one ≡ false → answers conn (one ++ other) ≡ answers conn one ++ answers conn other
+pub answers_both : (conn : ℕ) (one other : List Sent) → is_closed_by conn one ≡ false
+    → answers conn (one ++ other) ≡ answers conn one ++ answers conn other
 answers_both conn one other opened =
-    owed-append true conn one other ∙ ap (λ c. answers conn one ++ bytes_owed (true && not c) conn other) opened
+    owed-append true conn one other
+    ∙ ap (λ c. answers conn one ++ bytes_owed (true && not c) conn other) opened

@@ -5,9 +5,11 @@
 -- a.net is linked to b.net and d.net, and its link to c.net comes up: in `more` a.net knows of
 -- that already, in `less` not yet
 --   bytes come from d.net to b.net    b.net does the same in both
---   bytes come from a.net to b.net    the same bytes, for in `more` those that a.net put out on account of c.net are behind them
+-- bytes come from a.net to b.net the same bytes, for in `more` those that a.net put out on account
+-- of c.net are behind them
 --   the link comes up in `less` too   now they are the same
-use Rattle.std.proofs.Common.{◌≡◌, ◌≤◌, ℕ, Bool, true, false, ◌&&◌, is_some, Some, List, [], ◌++◌, append_assoc, append-nil, length, nat_eq, refl, sym, ◌∙◌, ap, subst}
+use Rattle.std.proofs.Common.{◌≡◌, ◌≤◌, ℕ, Bool, true, false, ◌&&◌, is_some, Some, List, [], ◌++◌}
+use Rattle.std.proofs.Common.{append_assoc, append-nil, length, nat_eq, refl, sym, ◌∙◌, ap, subst}
 use Rattle.std.proofs.lemmas.Bool.{eq-eqb, eqb-true}
 use Rattle.std.proofs.lemmas.List.{drop-append-le, take-append-le}
 use Rattle.std.specs.FinMap.{get}
@@ -24,7 +26,8 @@ use Rattle.irc_stage.specs.View.{View}
 use Rattle.irc_world.specs.World.{home_in}
 use Rattle.irc_network.specs.Network.{Network, begun, home_place, server_place, site_asked}
 use Rattle.irc_wires.specs.Wires.{Wire, Wires, advanced, lines_by, wire_at}
-use Rattle.irc_byte_network.specs.ByteNetwork.{ByteNetwork, byte_begun, bytes_come, completed_in, queues_written, wires_come}
+use Rattle.irc_byte_network.specs.ByteNetwork.{ByteNetwork, byte_begun, bytes_come, completed_in}
+use Rattle.irc_byte_network.specs.ByteNetwork.{queues_written, wires_come}
 use Rattle.irc_byte_network.specs.Whole.{has_way}
 use Rattle.irc_daemons.specs.Alike.{client_bytes}
 use Rattle.irc_daemons.specs.Clients.{ClientsStay}
@@ -57,7 +60,8 @@ pub record ArePlacedAlike (less more : Network) : Type 0 where
 -- the same
 record AreBehind (net : Network) (place : ℕ) (outs : List Sent) (one other : Wires) : Type 0 where
   there : (x y : ℕ) → nat_eq x place ≡ false → wire_at other x y ≡ wire_at one x y
-  here : (y : ℕ) → has_way net place y ≡ true → wire_at other place y ≡ wire_behind (with_ends (bodies y outs)) (wire_at one place y)
+  here : (y : ℕ) → has_way net place y ≡ true
+      → wire_at other place y ≡ wire_behind (with_ends (bodies y outs)) (wire_at one place y)
   no_way : (y : ℕ) → has_way net place y ≡ false → wire_at other place y ≡ wire_at one place y
 
 -- bytes that come are not those behind
@@ -70,7 +74,8 @@ front_advances count wire bytes enough = λ i. record {
 
 front_completes : (count : ℕ) (wire : Wire) (bytes : List ℕ) → count ≤ length wire.bytes
     → lines_by count (wire_behind bytes wire) ≡ lines_by count wire
-front_completes count wire bytes enough = ap (completed wire.begun) (take-append-le count wire.bytes bytes enough)
+front_completes count wire bytes enough =
+    ap (completed wire.begun) (take-append-le count wire.bytes bytes enough)
 
 both_are : (x from y to : ℕ) → (nat_eq x from && nat_eq y to) ≡ true → (x ≡ from) × (y ≡ to)
 both_are x from y to is = by (nat_eq x from) refl is
@@ -79,7 +84,8 @@ both_are x from y to is = by (nat_eq x from) refl is
     by true one two = (eqb-true x from one, eqb-true y to two)
     by false one two = cc two
 
-module _ (place : ℕ) (occurrence : Occurrence) (less more : ByteNetwork) (lacks : LacksOne place occurrence less more) (from to count : ℕ)
+module _ (place : ℕ) (occurrence : Occurrence) (less more : ByteNetwork)
+    (lacks : LacksOne place occurrence less more) (from to count : ℕ)
     (enough : count ≤ length (wire_at less.wires from to).bytes)
   where
     abbrev asked : Reply
@@ -89,45 +95,61 @@ module _ (place : ℕ) (occurrence : Occurrence) (less more : ByteNetwork) (lack
     same_lines = by (nat_eq from place) refl (has_way less.network place to) refl
       where
         by : (b : Bool) → nat_eq from place ≡ b → (c : Bool) → has_way less.network place to ≡ c
-            → lines_by count (wire_at more.wires from to) ≡ lines_by count (wire_at less.wires from to)
+            → lines_by count (wire_at more.wires from to) ≡ lines_by count
+            (wire_at less.wires from to)
         by false two c way = ap (lines_by count) (lacks.wires_there from to two)
         by true one false none =
-            ap (λ n. lines_by count (wire_at more.wires n to)) (eqb-true from place one) ∙ ap (lines_by count) (lacks.no_way to none)
+            ap (λ n. lines_by count (wire_at more.wires n to)) (eqb-true from place one)
+            ∙ ap (lines_by count) (lacks.no_way to none)
             ∙ ap (λ n. lines_by count (wire_at less.wires n to)) (sym (eqb-true from place one))
         by true one true way =
-            ap (λ n. lines_by count (wire_at more.wires n to)) (eqb-true from place one) ∙ ap (lines_by count) (lacks.wires_here to way)
-            ∙ ap (λ n. lines_by count (wire_behind (with_ends (bodies to asked.out)) (wire_at less.wires n to))) (sym (eqb-true from place one))
-            ∙ front_completes count (wire_at less.wires from to) (with_ends (bodies to asked.out)) enough
+            ap (λ n. lines_by count (wire_at more.wires n to)) (eqb-true from place one)
+            ∙ ap (lines_by count) (lacks.wires_here to way)
+            ∙ ap (λ n. lines_by count (wire_behind (with_ends (bodies to asked.out))
+            (wire_at less.wires n to))) (sym (eqb-true from place one))
+            ∙ front_completes count (wire_at less.wires from to)
+            (with_ends (bodies to asked.out)) enough
 
     comes_behind : (y : ℕ) (bytes : List ℕ) (b : Bool) → (nat_eq place from && nat_eq y to) ≡ b
-        → come_if count b (wire_behind bytes (wire_at less.wires place y)) ≡ wire_behind bytes (come_if count b (wire_at less.wires place y))
+        → come_if count b (wire_behind bytes (wire_at less.wires place y))
+        ≡ wire_behind bytes (come_if count b (wire_at less.wires place y))
     comes_behind y bytes true is =
         let there = both_are place from y to is in
         front_advances count (wire_at less.wires place y) bytes
-        (subst (λ (w : Wire). count ≤ length w.bytes) (λ i. wire_at less.wires (sym there.0 i) (sym there.1 i)) enough)
+        (subst (λ (w : Wire). count ≤ length w.bytes)
+        (λ i. wire_at less.wires (sym there.0 i) (sym there.1 i)) enough)
     comes_behind y bytes false is = refl
 
-    still_behind : AreBehind less.network place asked.out (wires_come less from to count) (wires_come more from to count)
+    still_behind : AreBehind less.network place asked.out (wires_come less from to count)
+        (wires_come more from to count)
     still_behind = record {
       there = λ x y two.
-          come_at from to count more x y ∙ ap (come_if count (nat_eq x from && nat_eq y to)) (lacks.wires_there x y two)
+          come_at from to count more x y
+          ∙ ap (come_if count (nat_eq x from && nat_eq y to)) (lacks.wires_there x y two)
           ∙ sym (come_at from to count less x y);
       here = λ y way.
-          come_at from to count more place y ∙ ap (come_if count (nat_eq place from && nat_eq y to)) (lacks.wires_here y way)
+          come_at from to count more place y
+          ∙ ap (come_if count (nat_eq place from && nat_eq y to)) (lacks.wires_here y way)
           ∙ comes_behind y (with_ends (bodies y asked.out)) (nat_eq place from && nat_eq y to) refl
-          ∙ ap (wire_behind (with_ends (bodies y asked.out))) (sym (come_at from to count less place y));
+          ∙ ap (wire_behind (with_ends (bodies y asked.out)))
+          (sym (come_at from to count less place y));
       no_way = λ y none.
-          come_at from to count more place y ∙ ap (come_if count (nat_eq place from && nat_eq y to)) (lacks.no_way y none)
+          come_at from to count more place y
+          ∙ ap (come_if count (nat_eq place from && nat_eq y to)) (lacks.no_way y none)
           ∙ sym (come_at from to count less place y);
     }
 
 -- ---- another server does something in both
 
-module _ (place to : ℕ) (occurrence : Occurrence) (less more : ByteNetwork) (lacks : LacksOne place occurrence less more)
+module _ (place to : ℕ) (occurrence : Occurrence) (less more : ByteNetwork)
+    (lacks : LacksOne place occurrence less more)
     (away : nat_eq to place ≡ false) (next : Reply) (one other : Wires)
-    (behind : AreBehind less.network place (reply lacks.view occurrence).out one other) (less_then more_then : ByteNetwork)
-    (goes_less : GoesOn to next one less less_then) (goes_more : GoesOn to next other more more_then)
-    (turns : (client : ℕ) → client_bytes client (reply lacks.view occurrence).out ++ client_bytes client next.out
+    (behind : AreBehind less.network place (reply lacks.view occurrence).out one other)
+    (less_then more_then : ByteNetwork)
+    (goes_less : GoesOn to next one less less_then)
+    (goes_more : GoesOn to next other more more_then)
+    (turns : (client : ℕ) → client_bytes client (reply lacks.view occurrence).out
+    ++ client_bytes client next.out
     ≡ client_bytes client next.out ++ client_bytes client (reply lacks.view occurrence).out)
   where
     abbrev out : List Sent
@@ -136,31 +158,44 @@ module _ (place to : ℕ) (occurrence : Occurrence) (less more : ByteNetwork) (l
     apart : nat_eq place to ≡ false
     apart = turned place to ∙ away
 
-    servers_then : (x : ℕ) → nat_eq x place ≡ false → (b : Bool) → nat_eq x to ≡ b → server_at more_then.network x ≡ server_at less_then.network x
+    servers_then : (x : ℕ) → nat_eq x place ≡ false → (b : Bool) → nat_eq x to ≡ b
+        → server_at more_then.network x ≡ server_at less_then.network x
     servers_then x two true same =
-        ap (server_at more_then.network) (eqb-true x to same) ∙ goes_more.server ∙ sym goes_less.server
+        ap (server_at more_then.network) (eqb-true x to same) ∙ goes_more.server
+        ∙ sym goes_less.server
         ∙ ap (server_at less_then.network) (sym (eqb-true x to same))
-    servers_then x two false there = goes_more.others x there ∙ lacks.others x two ∙ sym (goes_less.others x there)
+    servers_then x two false there =
+        goes_more.others x there ∙ lacks.others x two ∙ sym (goes_less.others x there)
 
-    wires_to : (y : ℕ) (b : Bool) → has_way less.network to y ≡ b → wire_at more_then.wires to y ≡ wire_at less_then.wires to y
+    wires_to : (y : ℕ) (b : Bool) → has_way less.network to y ≡ b
+        → wire_at more_then.wires to y ≡ wire_at less_then.wires to y
     wires_to y true way =
-        goes_more.wires_here y (lacks.ways to y ∙ way) ∙ ap (wire_behind (with_ends (bodies y next.out))) (behind.there to y away)
+        goes_more.wires_here y (lacks.ways to y ∙ way)
+        ∙ ap (wire_behind (with_ends (bodies y next.out))) (behind.there to y away)
         ∙ sym (goes_less.wires_here y way)
-    wires_to y false none = goes_more.no_way y (lacks.ways to y ∙ none) ∙ behind.there to y away ∙ sym (goes_less.no_way y none)
+    wires_to y false none = goes_more.no_way y (lacks.ways to y ∙ none) ∙ behind.there to y away
+        ∙ sym (goes_less.no_way y none)
 
-    wires_then : (x y : ℕ) → nat_eq x place ≡ false → (b : Bool) → nat_eq x to ≡ b → wire_at more_then.wires x y ≡ wire_at less_then.wires x y
+    wires_then : (x y : ℕ) → nat_eq x place ≡ false → (b : Bool) → nat_eq x to ≡ b
+        → wire_at more_then.wires x y ≡ wire_at less_then.wires x y
     wires_then x y two true same =
-        ap (λ n. wire_at more_then.wires n y) (eqb-true x to same) ∙ wires_to y (has_way less.network to y) refl
+        ap (λ n. wire_at more_then.wires n y) (eqb-true x to same)
+        ∙ wires_to y (has_way less.network to y) refl
         ∙ ap (λ n. wire_at less_then.wires n y) (sym (eqb-true x to same))
-    wires_then x y two false there = goes_more.wires_there x y there ∙ behind.there x y two ∙ sym (goes_less.wires_there x y there)
+    wires_then x y two false there = goes_more.wires_there x y there ∙ behind.there x y two
+        ∙ sym (goes_less.wires_there x y there)
 
     received_then : (client : ℕ) → has_come less.network client ≡ true
-        → bytes_received more_then.network client ≡ bytes_received less_then.network client ++ client_bytes client out
+        → bytes_received more_then.network client ≡ bytes_received less_then.network client
+        ++ client_bytes client out
     received_then client has =
-        goes_more.gets.more client (lacks.come client ∙ has) ∙ ap (λ bs. bs ++ client_bytes client next.out) (lacks.received client has)
-        ∙ append_assoc (bytes_received less.network client) (client_bytes client out) (client_bytes client next.out)
+        goes_more.gets.more client (lacks.come client ∙ has)
+        ∙ ap (λ bs. bs ++ client_bytes client next.out) (lacks.received client has)
+        ∙ append_assoc (bytes_received less.network client) (client_bytes client out)
+        (client_bytes client next.out)
         ∙ ap (λ bs. bytes_received less.network client ++ bs) (turns client)
-        ∙ sym (append_assoc (bytes_received less.network client) (client_bytes client next.out) (client_bytes client out))
+        ∙ sym (append_assoc (bytes_received less.network client) (client_bytes client next.out)
+        (client_bytes client out))
         ∙ ap (λ bs. bs ++ client_bytes client out) (sym (goes_less.gets.more client has))
 
     lacks_then : LacksOne place occurrence less_then more_then
@@ -175,10 +210,12 @@ module _ (place to : ℕ) (occurrence : Occurrence) (less more : ByteNetwork) (l
           goes_more.wires_there place y apart ∙ behind.here y (sym (goes_less.ways place y) ∙ way)
           ∙ ap (wire_behind (with_ends (bodies y out))) (sym (goes_less.wires_there place y apart));
       no_way = λ y none.
-          goes_more.wires_there place y apart ∙ behind.no_way y (sym (goes_less.ways place y) ∙ none) ∙ sym (goes_less.wires_there place y apart);
+          goes_more.wires_there place y apart ∙ behind.no_way y
+          (sym (goes_less.ways place y) ∙ none) ∙ sym (goes_less.wires_there place y apart);
       names = goes_more.keeps.names ∙ lacks.names ∙ sym goes_less.keeps.names;
       homes = goes_more.keeps.homes ∙ lacks.homes ∙ sym goes_less.keeps.homes;
-      come = λ client. goes_more.gets.come client ∙ lacks.come client ∙ sym (goes_less.gets.come client);
+      come = λ client. goes_more.gets.come client ∙ lacks.come client
+          ∙ sym (goes_less.gets.come client);
       inboxes = goes_more.keeps.inboxes ∙ lacks.inboxes ∙ sym goes_less.keeps.inboxes;
       received = λ client has. received_then client (sym (goes_less.gets.come client) ∙ has);
       tidy_less = goes_less.tidy;
@@ -188,9 +225,12 @@ module _ (place to : ℕ) (occurrence : Occurrence) (less more : ByteNetwork) (l
 -- ---- bytes come to another server
 
 module _ (own_law : ServedGoesToItsOwn) (stay : ClientsStay) (keeps : ServedKeepsEnds) where
-  module _ (place from to count : ℕ) (occurrence : Occurrence) (less more : ByteNetwork) (lacks : LacksOne place occurrence less more)
-      (away : nat_eq to place ≡ false) (own : AreOwn less.network) (ends : AreAllEnds less.network) (other : View)
-      (at : server_at less.network to ≡ Some (Some other)) (enough : count ≤ length (wire_at less.wires from to).bytes)
+  module _ (place from to count : ℕ) (occurrence : Occurrence) (less more : ByteNetwork)
+      (lacks : LacksOne place occurrence less more)
+      (away : nat_eq to place ≡ false) (own : AreOwn less.network) (ends : AreAllEnds less.network)
+      (other : View)
+      (at : server_at less.network to ≡ Some (Some other))
+      (enough : count ≤ length (wire_at less.wires from to).bytes)
     where
       abbrev lines : List (List ℕ)
       lines = completed_in less from to count
@@ -199,49 +239,62 @@ module _ (own_law : ServedGoesToItsOwn) (stay : ClientsStay) (keeps : ServedKeep
       next = all_replies from other lines
 
       -- who is a client there is none here
-      not_here : (client : ℕ) → is_some (get other.clients client) ≡ true → (b : Bool) → is_some (get lacks.view.clients client) ≡ b → b ≡ false
+      not_here : (client : ℕ) → is_some (get other.clients client) ≡ true → (b : Bool)
+          → is_some (get lacks.view.clients client) ≡ b → b ≡ false
       not_here client there true is =
-          cc (sym (eq-eqb to place (sym (own place to client lacks.view other lacks.here at is there))) ∙ away)
+          cc (sym (eq-eqb to place
+          (sym (own place to client lacks.view other lacks.here at is there))) ∙ away)
       not_here client there false is = refl
 
       turns : (client : ℕ) (b : Bool) → is_some (get other.clients client) ≡ b
           → client_bytes client (reply lacks.view occurrence).out ++ client_bytes client next.out
           ≡ client_bytes client next.out ++ client_bytes client (reply lacks.view occurrence).out
       turns client true there =
-          let none = nobody_gets own_law lacks.view occurrence (ends place lacks.view lacks.here) client
+          let none =
+          nobody_gets own_law lacks.view occurrence (ends place lacks.view lacks.here) client
           (not_here client there (is_some (get lacks.view.clients client)) refl) in
-          ap (λ bs. bs ++ client_bytes client next.out) none ∙ sym (append-nil (client_bytes client next.out))
+          ap (λ bs. bs ++ client_bytes client next.out) none
+          ∙ sym (append-nil (client_bytes client next.out))
           ∙ ap (λ bs. client_bytes client next.out ++ bs) (sym none)
       turns client false not_there =
-          let none = all_to_own own_law stay keeps from other lines client (ends to other at) not_there in
+          let none =
+          all_to_own own_law stay keeps from other lines client (ends to other at) not_there in
           ap (λ bs. client_bytes client (reply lacks.view occurrence).out ++ bs) none
           ∙ append-nil (client_bytes client (reply lacks.view occurrence).out)
           ∙ ap (λ bs. bs ++ client_bytes client (reply lacks.view occurrence).out) (sym none)
 
-      goes_more : GoesOn to next (wires_come more from to count) more (bytes_come from to count (byte_begun more)).net
+      goes_more : GoesOn to next (wires_come more from to count) more
+          (bytes_come from to count (byte_begun more)).net
       goes_more =
           subst
-          (λ ls. GoesOn to (all_replies from other ls) (wires_come more from to count) more (bytes_come from to count (byte_begun more)).net)
+          (λ ls. GoesOn to (all_replies from other ls) (wires_come more from to count) more
+          (bytes_come from to count (byte_begun more)).net)
           (same_lines place occurrence less more lacks from to count enough)
           (bytes_go_on from to count more other lacks.tidy_more (lacks.others to away ∙ at))
 
-      pub lacks_still : LacksOne place occurrence (bytes_come from to count (byte_begun less)).net (bytes_come from to count (byte_begun more)).net
+      pub lacks_still : LacksOne place occurrence (bytes_come from to count (byte_begun less)).net
+          (bytes_come from to count (byte_begun more)).net
       lacks_still =
-          lacks_then place to occurrence less more lacks away next (wires_come less from to count) (wires_come more from to count)
-          (still_behind place occurrence less more lacks from to count enough) (bytes_come from to count (byte_begun less)).net
-          (bytes_come from to count (byte_begun more)).net (bytes_go_on from to count less other lacks.tidy_less at) goes_more
+          lacks_then place to occurrence less more lacks away next (wires_come less from to count)
+          (wires_come more from to count)
+          (still_behind place occurrence less more lacks from to count enough)
+          (bytes_come from to count (byte_begun less)).net
+          (bytes_come from to count (byte_begun more)).net
+          (bytes_go_on from to count less other lacks.tidy_less at) goes_more
           (λ client. turns client (is_some (get other.clients client)) refl)
 
 -- ---- the server is asked in both
 
-module _ (place : ℕ) (occurrence : Occurrence) (less more : ByteNetwork) (lacks : LacksOne place occurrence less more) where
+module _ (place : ℕ) (occurrence : Occurrence) (less more : ByteNetwork)
+    (lacks : LacksOne place occurrence less more) where
   abbrev asked_too : ByteNetwork
   asked_too = queues_written (site_asked place occurrence (begun less.network)).net less.wires
 
   goes : GoesOn place (reply lacks.view occurrence) less.wires less asked_too
   goes = asked_goes_on place occurrence lacks.view less lacks.tidy_less lacks.here
 
-  pub lacks_nothing : IsSameAs (queues_written (site_asked place occurrence (begun less.network)).net less.wires) more
+  pub lacks_nothing : IsSameAs
+      (queues_written (site_asked place occurrence (begun less.network)).net less.wires) more
   lacks_nothing = record {
     servers = λ x. same_server x (nat_eq x place) refl;
     ways = λ x y. lacks.ways x y ∙ sym (goes.ways x y);
@@ -254,19 +307,23 @@ module _ (place : ℕ) (occurrence : Occurrence) (less more : ByteNetwork) (lack
     tidy = lacks.tidy_more;
   }
     where
-      same_server : (x : ℕ) (b : Bool) → nat_eq x place ≡ b → server_at more.network x ≡ server_at asked_too.network x
+      same_server : (x : ℕ) (b : Bool) → nat_eq x place ≡ b
+          → server_at more.network x ≡ server_at asked_too.network x
       same_server x true same =
           ap (server_at more.network) (eqb-true x place same) ∙ lacks.here_then ∙ sym goes.server
           ∙ ap (server_at asked_too.network) (sym (eqb-true x place same))
       same_server x false two = lacks.others x two ∙ sym (goes.others x two)
 
-      wire_here : (y : ℕ) (b : Bool) → has_way less.network place y ≡ b → wire_at more.wires place y ≡ wire_at asked_too.wires place y
+      wire_here : (y : ℕ) (b : Bool) → has_way less.network place y ≡ b
+          → wire_at more.wires place y ≡ wire_at asked_too.wires place y
       wire_here y true way = lacks.wires_here y way ∙ sym (goes.wires_here y way)
       wire_here y false none = lacks.no_way y none ∙ sym (goes.no_way y none)
 
-      same_wire : (x y : ℕ) (b : Bool) → nat_eq x place ≡ b → wire_at more.wires x y ≡ wire_at asked_too.wires x y
+      same_wire : (x y : ℕ) (b : Bool) → nat_eq x place ≡ b
+          → wire_at more.wires x y ≡ wire_at asked_too.wires x y
       same_wire x y true same =
-          ap (λ n. wire_at more.wires n y) (eqb-true x place same) ∙ wire_here y (has_way less.network place y) refl
+          ap (λ n. wire_at more.wires n y) (eqb-true x place same)
+          ∙ wire_here y (has_way less.network place y) refl
           ∙ ap (λ n. wire_at asked_too.wires n y) (sym (eqb-true x place same))
       same_wire x y false two = lacks.wires_there x y two ∙ sym (goes.wires_there x y two)
 
@@ -279,11 +336,14 @@ module _ (place : ℕ) (occurrence : Occurrence) (less more : ByteNetwork) (lack
 
   -- ---- what clients have received
 
-  pub front_of_more : (client : ℕ) → IsFront (bytes_received less.network client) (bytes_received more.network client)
+  pub front_of_more : (client : ℕ)
+      → IsFront (bytes_received less.network client) (bytes_received more.network client)
   front_of_more client = by (has_come less.network client) refl
     where
-      by : (b : Bool) → has_come less.network client ≡ b → IsFront (bytes_received less.network client) (bytes_received more.network client)
-      by true has = (client_bytes client (reply lacks.view occurrence).out, sym (lacks.received client has))
+      by : (b : Bool) → has_come less.network client ≡ b
+          → IsFront (bytes_received less.network client) (bytes_received more.network client)
+      by true has =
+          (client_bytes client (reply lacks.view occurrence).out, sym (lacks.received client has))
       by false none = (
         [],
         append-nil (bytes_received less.network client) ∙ none_received less.network client none
@@ -301,11 +361,14 @@ module _ (place : ℕ) (occurrence : Occurrence) (less more : ByteNetwork) (lack
     ways = lacks.ways;
     there = λ x. is_there x (nat_eq x place) refl;
     server_places = λ name. ap (λ names. place_in names name) lacks.names;
-    home_places = λ client. λ i. option_and_then (place_in (lacks.names i)) (home_in (lacks.homes i) client);
+    home_places =
+        λ client. λ i. option_and_then (place_in (lacks.names i)) (home_in (lacks.homes i) client);
   }
     where
-      is_there : (x : ℕ) (b : Bool) → nat_eq x place ≡ b → is_some (server_at more.network x) ≡ is_some (server_at less.network x)
+      is_there : (x : ℕ) (b : Bool) → nat_eq x place ≡ b
+          → is_some (server_at more.network x) ≡ is_some (server_at less.network x)
       is_there x true same =
-          ap (λ n. is_some (server_at more.network n)) (eqb-true x place same) ∙ ap is_some lacks.here_then ∙ ap is_some (sym lacks.here)
+          ap (λ n. is_some (server_at more.network n)) (eqb-true x place same)
+          ∙ ap is_some lacks.here_then ∙ ap is_some (sym lacks.here)
           ∙ ap (λ n. is_some (server_at less.network n)) (sym (eqb-true x place same))
       is_there x false two = ap is_some (lacks.others x two)

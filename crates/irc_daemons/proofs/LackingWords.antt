@@ -1,4 +1,5 @@
--- Two networks whose links carry bytes, that are the same but for one thing that a server was asked for in the second alone.
+-- Two networks whose links carry bytes, that are the same but for one thing that a server was asked
+-- for in the second alone.
 use Rattle.std.specs.Prelude.{◌≡◌, ℕ, ◌++◌, true, false, is_some, Some, length, nat_eq}
 use Rattle.std.specs.FinMap.{get}
 use Rattle.irc_links.specs.Ways.{AreEnds}
@@ -15,31 +16,38 @@ use Rattle.irc_daemons.proofs.Given.{wire_behind}
 use Rattle.irc_daemons.proofs.Sent.{server_at}
 use Rattle.irc_daemons.proofs.Written.{bodies, with_ends}
 
--- The two are the same but that in the second the server at a place has been asked for something more.
+-- The two are the same but that in the second the server at a place has been asked for something
+-- more.
 pub record LacksOne (place : ℕ) (occurrence : Occurrence) (less more : ByteNetwork) : Type 0 where
   pub view : View
   pub here : server_at less.network place ≡ Some (Some view)
   pub here_then : server_at more.network place ≡ Some (Some (reply view occurrence).view)
-  pub others : (x : ℕ) → nat_eq x place ≡ false → server_at more.network x ≡ server_at less.network x
+  pub others : (x : ℕ) → nat_eq x place ≡ false
+      → server_at more.network x ≡ server_at less.network x
   pub ways : (x y : ℕ) → has_way more.network x y ≡ has_way less.network x y
-  pub wires_there : (x y : ℕ) → nat_eq x place ≡ false → wire_at more.wires x y ≡ wire_at less.wires x y
-  pub wires_here : (y : ℕ) → has_way less.network place y ≡ true
-      → wire_at more.wires place y ≡ wire_behind (with_ends (bodies y (reply view occurrence).out)) (wire_at less.wires place y)
-  pub no_way : (y : ℕ) → has_way less.network place y ≡ false → wire_at more.wires place y ≡ wire_at less.wires place y
+  pub wires_there : (x y : ℕ) → nat_eq x place ≡ false
+      → wire_at more.wires x y ≡ wire_at less.wires x y
+  pub wires_here : (y : ℕ) → has_way less.network place y ≡ true → wire_at more.wires place y
+      ≡ wire_behind (with_ends (bodies y (reply view occurrence).out)) (wire_at less.wires place y)
+  pub no_way : (y : ℕ) → has_way less.network place y ≡ false
+      → wire_at more.wires place y ≡ wire_at less.wires place y
   pub names : more.network.names ≡ less.network.names
   pub homes : more.network.homes ≡ less.network.homes
   pub come : (client : ℕ) → has_come more.network client ≡ has_come less.network client
   pub inboxes : length more.network.received ≡ length less.network.received
   pub received : (client : ℕ) → has_come less.network client ≡ true
-      → bytes_received more.network client ≡ bytes_received less.network client ++ client_bytes client (reply view occurrence).out
+      → bytes_received more.network client ≡ bytes_received less.network client
+      ++ client_bytes client (reply view occurrence).out
   pub tidy_less : IsTidy less
   pub tidy_more : IsTidy more
 
 -- no client is connected to two servers
 abbrev pub AreOwn : Network → Type 0
-AreOwn net = (x y client : ℕ) (one other : View) → server_at net x ≡ Some (Some one) → server_at net y ≡ Some (Some other)
+AreOwn net = (x y client : ℕ) (one other : View) → server_at net x ≡ Some (Some one)
+    → server_at net y ≡ Some (Some other)
     → is_some (get one.clients client) ≡ true → is_some (get other.clients client) ≡ true → x ≡ y
 
 -- each server that one knows is behind a link that counts
 abbrev pub AreAllEnds : Network → Type 0
-AreAllEnds net = (x : ℕ) (view : View) → server_at net x ≡ Some (Some view) → AreEnds view.ends view.routes
+AreAllEnds net = (x : ℕ) (view : View) → server_at net x ≡ Some (Some view)
+    → AreEnds view.ends view.routes

@@ -1,5 +1,7 @@
 -- Daemons that are new are as a network that was given nothing.
-use Rattle.std.proofs.Common.{◌≡◌, ℕ, zero, suc, false, is_some, Option, Some, None, List, [], ◌∷◌, ◌++◌, length, replicate, refl, sym, ◌∙◌, ap, subst, map, option_map, unwrap_or}
+use Rattle.std.proofs.Common.{◌≡◌, ℕ, zero, suc, false, is_some, Option, Some, None, List, [], ◌∷◌}
+use Rattle.std.proofs.Common.{◌++◌, length, replicate, refl, sym, ◌∙◌, ap, subst, map, option_map}
+use Rattle.std.proofs.Common.{unwrap_or}
 use Rattle.std.specs.FinMap.{empty, get, get-empty}
 use Rattle.std.specs.List.{AllByRecursion, filter_map, slice_get}
 use Rattle.std.specs.Option.{option_and_then}
@@ -26,7 +28,8 @@ use Rattle.irc_daemons.specs.Alike.{AreAlike, AreServersAlikeIf, AreRowsAlike, N
 use Rattle.irc_daemons.specs.AsBytes.{IsAsBytes, IsServerIf, IsServerOf, numbers_at}
 use Rattle.irc_relay.specs.Relay.{IsFront}
 use Rattle.irc_daemons.specs.AsNetwork.{AreClientsOpen, IsAsNetwork}
-use Rattle.irc_daemons.specs.Daemons.{AreJoined, Daemons, IsToldOfLinks, connection_at, end_at, unsent, wire_between}
+use Rattle.irc_daemons.specs.Daemons.{AreJoined, Daemons, IsToldOfLinks, connection_at, end_at}
+use Rattle.irc_daemons.specs.Daemons.{unsent, wire_between}
 use Rattle.irc_daemons.specs.NewDaemons.{AreNew, IsNewIf, IsNewOf, names_in, settings_in}
 use Rattle.irc_daemons.specs.Receiving.{bytes_received}
 use Rattle.irc_daemons.proofs.Going.{IsGoing}
@@ -49,7 +52,8 @@ module _ (config : Config) where
   no_client : (conn : ℕ) → get view.clients conn ≡ None
   no_client conn = get-empty {X = Client} nat_cmp conn
 
-  module _ (numbers : Numbers) (no_links : (y : ℕ) → numbers.link y ≡ None) (no_seats : (client : ℕ) → numbers.client client ≡ None) where
+  module _ (numbers : Numbers) (no_links : (y : ℕ) → numbers.link y ≡ None)
+      (no_seats : (client : ℕ) → numbers.client client ≡ None) where
     new_alike : AreAlike numbers view view
     new_alike = record {
       name = refl;
@@ -59,32 +63,38 @@ module _ (config : Config) where
       peers = refl;
       ends = λ y. no_end y ∙ sym (ap (option_and_then (get view.ends)) (no_links y));
       no_other_end = λ conn is. cc (sym (ap is_some (no_end conn)) ∙ is);
-      clients = λ client. no_client client ∙ sym (ap (option_and_then (get view.clients)) (no_seats client));
+      clients = λ client. no_client client
+          ∙ sym (ap (option_and_then (get view.clients)) (no_seats client));
       no_other_client = λ conn is. cc (sym (ap is_some (no_client conn)) ∙ is);
       room = refl;
     }
 
-    new_server : {W : Type 0} (engine : EngineView W) → IsNewOf config engine → IsServerOf numbers engine (new_site config)
+    new_server : {W : Type 0} (engine : EngineView W) → IsNewOf config engine
+        → IsServerOf numbers engine (new_site config)
     new_server engine new = record {
       in_order = new.is_new.in_order;
       framers = λ conn begun is. cc (sym (ap begun_at (new.is_new.no_connections conn)) ∙ is);
       servers =
           subst (λ o. AreServersAlikeIf numbers o (Some view)) (sym new.is_new.server_is) (record {
             alike = new_alike;
-            ends_count = λ name link is. cc (sym (ap (option_map (λ (r : ServerRow). r.link)) (no_row name)) ∙ is);
+            ends_count = λ name link is.
+                cc (sym (ap (option_map (λ (r : ServerRow). r.link)) (no_row name)) ∙ is);
           });
     }
 
-new_servers : {W : Type 0} (numbers : Numbers) → ((y : ℕ) → numbers.link y ≡ None) → ((client : ℕ) → numbers.client client ≡ None)
-    → (config : Option Config) (engine : Option (EngineView W)) → IsNewIf config engine → IsServerIf numbers engine (option_map new_site config)
+new_servers : {W : Type 0} (numbers : Numbers) → ((y : ℕ) → numbers.link y ≡ None) → ((client : ℕ)
+    → numbers.client client ≡ None) → (config : Option Config) (engine : Option (EngineView W))
+    → IsNewIf config engine → IsServerIf numbers engine (option_map new_site config)
 new_servers numbers no_links no_seats None None is = tt
-new_servers numbers no_links no_seats (Some config) (Some engine) is = new_server config numbers no_links no_seats engine is
+new_servers numbers no_links no_seats (Some config) (Some engine) is =
+    new_server config numbers no_links no_seats engine is
 new_servers numbers no_links no_seats None (Some engine) is = absurd is
 new_servers numbers no_links no_seats (Some config) None is = absurd is
 
 -- ---- a new network
 
-no_queues : (configs : List Config) → AllByRecursion (λ (site : Site). site.queues ≡ empty) (map new_site configs)
+no_queues : (configs : List Config)
+    → AllByRecursion (λ (site : Site). site.queues ≡ empty) (map new_site configs)
 no_queues [] = tt
 no_queues (config ∷ configs) = (refl, no_queues configs)
 
@@ -95,13 +105,16 @@ no_wire (suc servers) (suc from) to = no_wire servers from to
 
 no_way : (configs : List Config) (from to : ℕ) → has_way (made_of configs) from to ≡ false
 no_way configs from to =
-    ap (λ o. is_some (option_and_then (λ (site : Site). get site.queues to) o)) (get_map new_site configs from) ∙ by (slice_get configs from)
+    ap (λ o. is_some (option_and_then (λ (site : Site). get site.queues to) o))
+    (get_map new_site configs from) ∙ by (slice_get configs from)
   where
-    by : (o : Option Config) → is_some (option_and_then (λ (site : Site). get site.queues to) (option_map new_site o)) ≡ false
+    by : (o : Option Config) → is_some
+        (option_and_then (λ (site : Site). get site.queues to) (option_map new_site o)) ≡ false
     by None = refl
     by (Some config) = ap is_some (get-empty {X = List (List ℕ)} nat_cmp to)
 
-module _ {W : Type 0} (whole : NewIsWhole) (configs : List Config) (daemons : Daemons W) (new : AreNew configs daemons) where
+module _ {W : Type 0} (whole : NewIsWhole) (configs : List Config) (daemons : Daemons W)
+    (new : AreNew configs daemons) where
   abbrev pub net : ByteNetwork
   net = no_wires (made_of new.ordered)
 
@@ -126,18 +139,23 @@ module _ {W : Type 0} (whole : NewIsWhole) (configs : List Config) (daemons : Da
 
   nothing_between : (from to : ℕ) → wire_between daemons from to ≡ new_wire
   nothing_between from to =
-      same_wire (begun_or_none (begun_at (end_at daemons to from))) (begun_or_none None) (daemons.transit from to ++ unsent (end_at daemons from to)) []
+      same_wire (begun_or_none (begun_at (end_at daemons to from))) (begun_or_none None)
+      (daemons.transit from to ++ unsent (end_at daemons from to)) []
       (ap (λ o. begun_or_none (begun_at o)) (no_end_at to from))
-      (ap (λ bs. bs ++ unsent (end_at daemons from to)) (new.nothing_moves from to) ∙ ap unsent (no_end_at from to))
+      (ap (λ bs. bs ++ unsent (end_at daemons from to)) (new.nothing_moves from to)
+      ∙ ap unsent (no_end_at from to))
 
   new_as_bytes : IsAsBytes daemons net
   new_as_bytes = record {
     servers = λ place.
-        subst (IsServerIf (numbers_at daemons place) (slice_get daemons.engines place)) (sym (get_map new_site new.ordered place))
-        (new_servers (numbers_at daemons place) (λ y. new.no_link place y) (λ client. new.no_seat place client) (slice_get new.ordered place)
+        subst (IsServerIf (numbers_at daemons place) (slice_get daemons.engines place))
+        (sym (get_map new_site new.ordered place))
+        (new_servers (numbers_at daemons place) (λ y. new.no_link place y)
+        (λ client. new.no_seat place client) (slice_get new.ordered place)
         (slice_get daemons.engines place) (new.engines place));
     ways = λ from to. no_way new.ordered from to ∙ sym (new.no_way from to);
-    wires = λ from to. no_wire (length (made_of new.ordered).sites) from to ∙ sym (nothing_between from to);
+    wires = λ from to. no_wire (length (made_of new.ordered).sites) from to
+        ∙ sym (nothing_between from to);
     tidy = is_as_new.whole.tidy;
   }
 
@@ -155,24 +173,33 @@ module _ {W : Type 0} (whole : NewIsWhole) (configs : List Config) (daemons : Da
     },
   )
 
-  settings_made : (configs : List Config) → filter_map setting_at (map new_site configs) ≡ map setting_given configs
+  settings_made : (configs : List Config)
+      → filter_map setting_at (map new_site configs) ≡ map setting_given configs
   settings_made [] = refl
-  settings_made (config ∷ configs) = ap (λ settings. setting_given config ∷ settings) (settings_made configs)
+  settings_made (config ∷ configs) =
+      ap (λ settings. setting_given config ∷ settings) (settings_made configs)
 
   pub new_going : EveryRunIsKept → IsGoing (settings_in new) [] net
-  new_going kept = record { kept = kept configs [] (standing net) new_run; settings_are = settings_made new.ordered; items_are = refl }
+  new_going kept = record {
+    kept = kept configs [] (standing net) new_run;
+    settings_are = settings_made new.ordered;
+    items_are = refl;
+  }
 
   -- nobody has come
   nobody_sits : {X : Type 0} (place client conn : ℕ) → daemons.seats place client ≡ Some conn → X
   nobody_sits place client conn seat = cc (sym (new.no_seat place client) ∙ seat)
 
-  no_client_there : (place : ℕ) (engine : EngineView W) → slice_get daemons.engines place ≡ Some engine → AreClientsOpen engine.now
+  no_client_there : (place : ℕ) (engine : EngineView W)
+      → slice_get daemons.engines place ≡ Some engine → AreClientsOpen engine.now
   no_client_there place engine at view conn is there =
       let numbers = numbers_at daemons place in
       let found = has_server numbers engine (site_at net.network place)
-      (subst (λ o. IsServerIf numbers o (site_at net.network place)) at (new_as_bytes.servers place)) in
+      (subst (λ o. IsServerIf numbers o (site_at net.network place)) at
+      (new_as_bytes.servers place)) in
       let views = have_views numbers engine.now.server found.site.server view is found.of.servers in
-      let one = views.alike.alike.no_other_client conn there in nobody_sits place one.number conn one.is
+      let one =
+      views.alike.alike.no_other_client conn there in nobody_sits place one.number conn one.is
 
   pub new_same : IsAsNetwork (names_in new) daemons net
   new_same = record {
@@ -188,7 +215,8 @@ module _ {W : Type 0} (whole : NewIsWhole) (configs : List Config) (daemons : Da
     };
     are_received = record {
       there = λ place client conn seat is. nobody_sits place client conn seat;
-      front = λ client. subst (λ bytes. IsFront bytes (bytes_received net.network client)) (sym (new.nothing_written client)) (bytes_received net.network client, refl);
+      front = λ client. subst (λ bytes. IsFront bytes (bytes_received net.network client))
+          (sym (new.nothing_written client)) (bytes_received net.network client, refl);
     };
   }
 

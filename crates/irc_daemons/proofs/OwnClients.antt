@@ -1,6 +1,7 @@
--- What a server puts out comes to its own clients alone, whatever happens; and so does all that it puts out as it hears lines of a link, one after
--- another.
-use Rattle.std.proofs.Common.{◌≡◌, ℕ, Bool, true, false, is_some, List, [], ◌∷◌, ◌||◌, ◌++◌, refl, sym, ◌∙◌, ap, if◌then◌else◌}
+-- What a server puts out comes to its own clients alone, whatever happens; and so does all that it
+-- puts out as it hears lines of a link, one after another.
+use Rattle.std.proofs.Common.{◌≡◌, ℕ, Bool, true, false, is_some, List, [], ◌∷◌, ◌||◌, ◌++◌, refl}
+use Rattle.std.proofs.Common.{sym, ◌∙◌, ap, if◌then◌else◌}
 use Rattle.std.proofs.lemmas.Grind.{flat_map-append}
 use Rattle.std.specs.FinMap.{get}
 use Rattle.irc_line.specs.Reading.{read_of}
@@ -17,7 +18,8 @@ use Rattle.irc_daemons.proofs.WhoStays.{is_new}
 
 abbrev replied : Bool → View → Occurrence → Reply
 replied b view occurrence =
-    if b then record { view = (served view occurrence).view; out = (served view occurrence).out } else record { view = view; out = [] }
+    if b then record { view = (served view occurrence).view; out = (served view occurrence).out }
+    else record { view = view; out = [] }
 
 either : (b c : Bool) → c ≡ false → (b || c) ≡ true → b ≡ true
 either true c none is = refl
@@ -26,11 +28,13 @@ either false c none is = cc (sym none ∙ is)
 -- ---- upon one occurrence
 
 -- each server that it knows stays behind a link that counts
-pub reply_keeps_ends : ServedKeepsEnds → (view : View) (occurrence : Occurrence) → AreEnds view.ends view.routes
+pub reply_keeps_ends : ServedKeepsEnds
+    → (view : View) (occurrence : Occurrence) → AreEnds view.ends view.routes
     → AreEnds (reply view occurrence).view.ends (reply view occurrence).view.routes
 reply_keeps_ends keeps view occurrence ends = by (serves_occurrence view occurrence) refl
   where
-    by : (b : Bool) → serves_occurrence view occurrence ≡ b → AreEnds (replied b view occurrence).view.ends (replied b view occurrence).view.routes
+    by : (b : Bool) → serves_occurrence view occurrence ≡ b
+        → AreEnds (replied b view occurrence).view.ends (replied b view occurrence).view.routes
     by true serves = keeps view occurrence ends (is_new view occurrence serves)
     by false serves = ends
 
@@ -43,45 +47,57 @@ then_reply first rest = record { view = rest.view; out = first.out ++ rest.out }
 abbrev pub all_replies : ℕ → View → List (List ℕ) → Reply
 all_replies from view [] = record { view = view; out = [] }
 all_replies from view (line ∷ lines) =
-    then_reply (reply view (link_says from (read_of line))) (all_replies from (reply view (link_says from (read_of line))).view lines)
+    then_reply (reply view (link_says from (read_of line)))
+    (all_replies from (reply view (link_says from (read_of line))).view lines)
 
-pub all_keep_ends : ServedKeepsEnds → (from : ℕ) (view : View) (lines : List (List ℕ)) → AreEnds view.ends view.routes
+pub all_keep_ends : ServedKeepsEnds
+    → (from : ℕ) (view : View) (lines : List (List ℕ)) → AreEnds view.ends view.routes
     → AreEnds (all_replies from view lines).view.ends (all_replies from view lines).view.routes
 all_keep_ends keeps from view [] ends = ends
 all_keep_ends keeps from view (line ∷ lines) ends =
-    all_keep_ends keeps from (reply view (link_says from (read_of line))).view lines (reply_keeps_ends keeps view (link_says from (read_of line)) ends)
+    all_keep_ends keeps from (reply view (link_says from (read_of line))).view lines
+    (reply_keeps_ends keeps view (link_says from (read_of line)) ends)
 
 -- no client comes by a line of a link
-nobody_comes : ClientsStay → (from : ℕ) (view : View) (line : List ℕ) (client : ℕ) → is_some (get view.clients client) ≡ false
+nobody_comes : ClientsStay → (from : ℕ) (view : View) (line : List ℕ) (client : ℕ)
+    → is_some (get view.clients client) ≡ false
     → is_some (get (reply view (link_says from (read_of line))).view.clients client) ≡ false
 nobody_comes stay from view line client none = by (serves_occurrence view it) refl
   where
     it : Occurrence
     it = link_says from (read_of line)
 
-    there : (b : Bool) → serves_occurrence view it ≡ true → is_some (get (served view it).view.clients client) ≡ b → b ≡ false
+    there : (b : Bool) → serves_occurrence view it ≡ true
+        → is_some (get (served view it).view.clients client) ≡ b → b ≡ false
     there true serves is =
         let known = stay view it client serves is in
-        cc (sym none ∙ either (is_some (get view.clients client)) (client_comes client it) refl known.was)
+        cc (sym none ∙ either (is_some (get view.clients client))
+        (client_comes client it) refl known.was)
     there false serves is = refl
 
-    by : (b : Bool) → serves_occurrence view it ≡ b → is_some (get (replied b view it).view.clients client) ≡ false
+    by : (b : Bool) → serves_occurrence view it ≡ b
+        → is_some (get (replied b view it).view.clients client) ≡ false
     by true serves = there (is_some (get (served view it).view.clients client)) serves refl
     by false serves = none
 
-pub all_bring_nobody : ClientsStay → (from : ℕ) (view : View) (lines : List (List ℕ)) (client : ℕ) → is_some (get view.clients client) ≡ false
+pub all_bring_nobody : ClientsStay → (from : ℕ) (view : View) (lines : List (List ℕ)) (client : ℕ)
+    → is_some (get view.clients client) ≡ false
     → is_some (get (all_replies from view lines).view.clients client) ≡ false
 all_bring_nobody stay from view [] client none = none
 all_bring_nobody stay from view (line ∷ lines) client none =
-    all_bring_nobody stay from (reply view (link_says from (read_of line))).view lines client (nobody_comes stay from view line client none)
+    all_bring_nobody stay from (reply view (link_says from (read_of line))).view lines client
+    (nobody_comes stay from view line client none)
 
 -- who was no client gets nothing of it
-pub all_to_own : ServedGoesToItsOwn → ClientsStay → ServedKeepsEnds → (from : ℕ) (view : View) (lines : List (List ℕ)) (client : ℕ)
-    → AreEnds view.ends view.routes → is_some (get view.clients client) ≡ false → client_bytes client (all_replies from view lines).out ≡ []
+pub all_to_own : ServedGoesToItsOwn → ClientsStay → ServedKeepsEnds → (from : ℕ) (view : View)
+    (lines : List (List ℕ)) (client : ℕ) → AreEnds view.ends view.routes → is_some
+    (get view.clients client) ≡ false → client_bytes client (all_replies from view lines).out ≡ []
 all_to_own own_law stay keeps from view [] client ends none = refl
 all_to_own own_law stay keeps from view (line ∷ lines) client ends none =
     let it : Occurrence = link_says from (read_of line) in
     let first : Reply = reply view it in
     flat_map-append (bytes_to client) first.out (all_replies from first.view lines).out
-    ∙ ap (λ bs. bs ++ client_bytes client (all_replies from first.view lines).out) (nobody_gets own_law view it ends client none)
-    ∙ all_to_own own_law stay keeps from first.view lines client (reply_keeps_ends keeps view it ends) (nobody_comes stay from view line client none)
+    ∙ ap (λ bs. bs ++ client_bytes client (all_replies from first.view lines).out)
+    (nobody_gets own_law view it ends client none)
+    ∙ all_to_own own_law stay keeps from first.view lines client
+    (reply_keeps_ends keeps view it ends) (nobody_comes stay from view line client none)

@@ -1,5 +1,7 @@
 -- Which links a still network lets be made and cut, and who is there.
-use Rattle.std.proofs.Common.{◌≡◌, ℕ, zero, suc, Bool, true, false, not, ◌&&◌, ◌||◌, ◌⊎◌, inl, inr, is_some, Some, None, List, [], ◌∷◌, nat_eq, refl, sym, ◌∙◌, ap, subst, option_map, if◌then◌else◌}
+use Rattle.std.proofs.Common.{◌≡◌, ℕ, zero, suc, Bool, true, false, not, ◌&&◌, ◌||◌, ◌⊎◌, inl, inr}
+use Rattle.std.proofs.Common.{is_some, Some, None, List, [], ◌∷◌, nat_eq, refl, sym, ◌∙◌, ap, subst}
+use Rattle.std.proofs.Common.{option_map, if◌then◌else◌}
 use Rattle.std.proofs.lemmas.Bool.{and_parts, eqb-true}
 use Rattle.std.specs.FinMap.{get}
 use Rattle.std.specs.List.{slice_get}
@@ -29,10 +31,12 @@ use Rattle.irc_daemons.proofs.Sent.{server_at}
 -- ---- places
 
 -- a server is at the place of its name
-pub placed_by : (net : Network) → IsSetUp net → (x : ℕ) (name : Name) → slice_get net.names x ≡ Some name → server_place net name ≡ Some x
+pub placed_by : (net : Network) → IsSetUp net → (x : ℕ) (name : Name)
+    → slice_get net.names x ≡ Some name → server_place net name ≡ Some x
 placed_by net set_up x name is =
     let among = among_at net.names name x is in
-    (there net set_up name among).place ∙ ap Some (only_place net.names name x (set_up.once name among) is)
+    (there net set_up name among).place
+    ∙ ap Some (only_place net.names name x (set_up.once name among) is)
 
 -- ---- each server is there
 
@@ -42,16 +46,19 @@ pub record IsServing (net : Network) (x : ℕ) : Type 0 where
   pub at : server_at net x ≡ Some (Some view)
 
 server_behind : (ahead : Ahead) (sites : List Site) (x : ℕ)
-    → option_map (λ (s : Site). s.server) (slice_get (sites_behind ahead sites) x) ≡ option_map (λ (s : Site). s.server) (slice_get sites x)
+    → option_map (λ (s : Site). s.server) (slice_get (sites_behind ahead sites) x)
+    ≡ option_map (λ (s : Site). s.server) (slice_get sites x)
 server_behind ahead [] x = refl
 server_behind ahead (site ∷ sites) zero = refl
 server_behind ahead (site ∷ sites) (suc x) = server_behind (λ place. ahead (suc place)) sites x
 
-pub serves_there : (net : ByteNetwork) → IsKeptSound net → (x : ℕ) (name : Name) → slice_get net.network.names x ≡ Some name → IsServing net.network x
+pub serves_there : (net : ByteNetwork) → IsKeptSound net → (x : ℕ) (name : Name)
+    → slice_get net.network.names x ≡ Some name → IsServing net.network x
 serves_there net kept x name is =
     let among = among_at net.network.names name x is in
     let here = there (net_in_lines net) kept.sound.set_up name among in
-    let place = only_place net.network.names name x (kept.sound.set_up.once name among) is in record {
+    let place = only_place net.network.names name x (kept.sound.set_up.once name among) is in
+    record {
       view = view_at (net_in_lines net) name;
       at =
           sym (server_behind (lines_ahead net.wires) net.network.sites x)
@@ -73,13 +80,15 @@ ends_joined : (l : Link) (links : List Link) → AreJoined (l ∷ links) l.near 
 unfolding part
 ends_joined l links =
     by (same (part links l.near) (part links l.far))
-    ∙ ap (λ b. if b then part links l.near else part links l.far) (sym (same_when (part links l.far) (part links l.far) refl))
+    ∙ ap (λ b. if b then part links l.near else part links l.far)
+    (sym (same_when (part links l.far) (part links l.far) refl))
   where
     by : (b : Bool) → (if b then part links l.near else part links l.near) ≡ part links l.near
     by true = refl
     by false = refl
 
-joined_then : (l : Link) (links : List Link) (s t : Name) → AreJoined links s t → AreJoined (l ∷ links) s t
+joined_then : (l : Link) (links : List Link) (s t : Name) → AreJoined links s t
+    → AreJoined (l ∷ links) s t
 unfolding part
 joined_then l links s t is = ap (λ p. if same p (part links l.far) then part links l.near else p) is
 
@@ -87,26 +96,36 @@ one_of : (b c : Bool) → (b || c) ≡ true → (b ≡ true) ⊎ (c ≡ true)
 one_of true c is = inl refl
 one_of false c is = inr is
 
-joined_by : (l : Link) (links : List Link) (s t : Name) → has_ends l s t ≡ true → AreJoined (l ∷ links) s t
-joined_by l links s t is = by (one_of (same l.near s && same l.far t) (same l.near t && same l.far s) is)
+joined_by : (l : Link) (links : List Link) (s t : Name) → has_ends l s t ≡ true
+    → AreJoined (l ∷ links) s t
+joined_by l links s t is =
+    by (one_of (same l.near s && same l.far t) (same l.near t && same l.far s) is)
   where
     forth : same l.near s ≡ true → same l.far t ≡ true → AreJoined (l ∷ links) s t
     forth one other =
-        ap (part (l ∷ links)) (sym (names_same l.near s one)) ∙ ends_joined l links ∙ ap (part (l ∷ links)) (names_same l.far t other)
+        ap (part (l ∷ links)) (sym (names_same l.near s one)) ∙ ends_joined l links
+        ∙ ap (part (l ∷ links)) (names_same l.far t other)
 
     back : same l.near t ≡ true → same l.far s ≡ true → AreJoined (l ∷ links) s t
     back one other =
-        ap (part (l ∷ links)) (sym (names_same l.far s other)) ∙ sym (ends_joined l links) ∙ ap (part (l ∷ links)) (names_same l.near t one)
+        ap (part (l ∷ links)) (sym (names_same l.far s other)) ∙ sym (ends_joined l links)
+        ∙ ap (part (l ∷ links)) (names_same l.near t one)
 
-    by : ((same l.near s && same l.far t) ≡ true) ⊎ ((same l.near t && same l.far s) ≡ true) → AreJoined (l ∷ links) s t
-    by (inl both) = let parts = and_parts (same l.near s) (same l.far t) both in forth parts.0 parts.1
-    by (inr both) = let parts = and_parts (same l.near t) (same l.far s) both in back parts.0 parts.1
+    by : ((same l.near s && same l.far t) ≡ true) ⊎ ((same l.near t && same l.far s) ≡ true)
+        → AreJoined (l ∷ links) s t
+    by (inl both) =
+        let parts = and_parts (same l.near s) (same l.far t) both in forth parts.0 parts.1
+    by (inr both) =
+        let parts = and_parts (same l.near t) (same l.far s) both in back parts.0 parts.1
 
-pub linked_joins : (links : List Link) (s t : Name) → are_linked links s t ≡ true → AreJoined links s t
+pub linked_joins : (links : List Link) (s t : Name) → are_linked links s t ≡ true
+    → AreJoined links s t
 linked_joins [] s t is = cc is
-linked_joins (l ∷ links) s t is = by (one_of (has_ends l s t) (are_linked links s t) is) (linked_joins links s t)
+linked_joins (l ∷ links) s t is =
+    by (one_of (has_ends l s t) (are_linked links s t) is) (linked_joins links s t)
   where
-    by : (has_ends l s t ≡ true) ⊎ (are_linked links s t ≡ true) → (are_linked links s t ≡ true → AreJoined links s t) → AreJoined (l ∷ links) s t
+    by : (has_ends l s t ≡ true) ⊎ (are_linked links s t ≡ true)
+        → (are_linked links s t ≡ true → AreJoined links s t) → AreJoined (l ∷ links) s t
     by (inl ends) rest = joined_by l links s t ends
     by (inr later) rest = joined_then l links s t (rest later)
 
@@ -119,25 +138,31 @@ pub record MayLink (net : ByteNetwork) (near far : Name) (n f : ℕ) : Type 0 wh
   pub no_way_back : has_way net.network f n ≡ false
   pub apart : nat_eq n f ≡ false
 
-module _ (rest_law : RestAsLines) (net : ByteNetwork) (kept : IsKeptSound net) (rest : is_byte_rest net ≡ true) where
+module _ (rest_law : RestAsLines) (net : ByteNetwork) (kept : IsKeptSound net)
+    (rest : is_byte_rest net ≡ true) where
   -- it is as one whose links carry lines
   pub sound_at_rest : IsSound net.network
   sound_at_rest = subst IsSound (rest_law net kept.whole rest).as_lines kept.sound
 
   pub no_line_waits : is_at_rest net.network ≡ true
-  no_line_waits = let as_lines = rest_law net kept.whole rest in sym (ap is_at_rest as_lines.as_lines) ∙ as_lines.at_rest
+  no_line_waits = let as_lines =
+      rest_law net kept.whole rest in sym (ap is_at_rest as_lines.as_lines) ∙ as_lines.at_rest
 
-  pub way_is : (near far : Name) (n f : ℕ) → slice_get net.network.names n ≡ Some near → slice_get net.network.names f ≡ Some far
+  pub way_is : (near far : Name) (n f : ℕ) → slice_get net.network.names n ≡ Some near
+      → slice_get net.network.names f ≡ Some far
       → has_way net.network n f ≡ are_linked net.network.links near far
   way_is near far n f near_at far_at =
       sym
       (ap (λ k. is_some (way_at net.network near k))
-      (only_place net.network.names far f (sound_at_rest.set_up.once far (among_at net.network.names far f far_at)) far_at)
-      ∙ ap (λ o. is_some (option_and_then (λ (s : Site). get s.queues f) (option_and_then (site_at net.network) o)))
+      (only_place net.network.names far f
+      (sound_at_rest.set_up.once far (among_at net.network.names far f far_at)) far_at)
+      ∙ ap (λ o. is_some (option_and_then (λ (s : Site). get s.queues f)
+      (option_and_then (site_at net.network) o)))
       (placed_by net.network sound_at_rest.set_up n near near_at))
       ∙ sound_at_rest.ways near far
 
-  module _ (near far : Name) (n f : ℕ) (near_at : slice_get net.network.names n ≡ Some near) (far_at : slice_get net.network.names f ≡ Some far) where
+  module _ (near far : Name) (n f : ℕ) (near_at : slice_get net.network.names n ≡ Some near)
+      (far_at : slice_get net.network.names f ≡ Some far) where
     near_place : server_place net.network near ≡ Some n
     near_place = placed_by net.network sound_at_rest.set_up n near near_at
 
@@ -147,15 +172,18 @@ module _ (rest_law : RestAsLines) (net : ByteNetwork) (kept : IsKeptSound net) (
     -- what is linked may be cut
     pub may_cut : has_way net.network n f ≡ true → item_fault net (cut near far) ≡ None
     may_cut way =
-        let is_linked : are_linked net.network.links near far ≡ true = sym (way_is near far n f near_at far_at) ∙ way in
+        let is_linked : are_linked net.network.links near far ≡ true =
+        sym (way_is near far n f near_at far_at) ∙ way in
         none_refused net (cut near far) rest
-        (λ i. if not (is_some (near_place i)) || not (is_some (far_place i)) then Some no_such_server
+        (λ i. if not (is_some (near_place i)) || not (is_some (far_place i))
+        then Some no_such_server
         else (if is_linked i then None else Some not_linked))
 
-    not_joined : meeting_fault net.network near far (view_at net.network near) (view_at net.network far) ≡ None
-        → joined net.network.links near far ≡ false
+    not_joined : meeting_fault net.network near far (view_at net.network near)
+        (view_at net.network far) ≡ None → joined net.network.links near far ≡ false
     not_joined none =
-        by (joined net.network.links near far) (not (are_peers near far (view_at net.network near) (view_at net.network far))) none
+        by (joined net.network.links near far)
+        (not (are_peers near far (view_at net.network near) (view_at net.network far))) none
       where
         by : (b c : Bool) → (if b || c then Some link_refused else None) ≡ None → b ≡ false
         by true c is = cc is
@@ -166,8 +194,10 @@ module _ (rest_law : RestAsLines) (net : ByteNetwork) (kept : IsKeptSound net) (
       where
         by : (b : Bool) → nat_eq n f ≡ b → b ≡ false
         by true one =
-            let is : near ≡ far = inside near far (sym near_at ∙ ap (slice_get net.network.names) (eqb-true n f one) ∙ far_at) in
-            cc (sym parted ∙ same_when (part net.network.links near) (part net.network.links far) (ap (part net.network.links) is))
+            let is : near ≡ far = inside near far
+            (sym near_at ∙ ap (slice_get net.network.names) (eqb-true n f one) ∙ far_at) in
+            cc (sym parted ∙ same_when (part net.network.links near) (part net.network.links far)
+            (ap (part net.network.links) is))
         by false two = refl
 
     -- between parts no way is
@@ -178,7 +208,8 @@ module _ (rest_law : RestAsLines) (net : ByteNetwork) (kept : IsKeptSound net) (
         by true way =
             cc (sym parted
             ∙ same_when (part net.network.links near) (part net.network.links far)
-            (linked_joins net.network.links near far (sym (way_is near far n f near_at far_at) ∙ way)))
+            (linked_joins net.network.links near far (sym (way_is near far n f near_at far_at)
+            ∙ way)))
         by false none = refl
 
     no_way_back_of : joined net.network.links near far ≡ false → has_way net.network f n ≡ false
@@ -188,17 +219,23 @@ module _ (rest_law : RestAsLines) (net : ByteNetwork) (kept : IsKeptSound net) (
         by true way =
             cc (sym parted
             ∙ same_when (part net.network.links near) (part net.network.links far)
-            (sym (linked_joins net.network.links far near (sym (way_is far near f n far_at near_at) ∙ way))))
+            (sym (linked_joins net.network.links far near (sym (way_is far near f n far_at near_at)
+            ∙ way))))
         by false none = refl
 
     -- what the world of the items does not refuse
-    pub may_link : RefusalsAreTheWorlds → refused (settings_of net.network) (world_now net.network) (link near far) ≡ None → MayLink net near far n f
+    pub may_link : RefusalsAreTheWorlds → refused (settings_of net.network) (world_now net.network)
+        (link near far) ≡ None → MayLink net near far n f
     may_link refusals_law none =
         let set_up = sound_at_rest.set_up in
-        let fault : fault_at_rest net.network (link near far) ≡ None = refusals_law net.network (link near far) sound_at_rest no_line_waits ∙ none in
-        let near_view = viewed net.network set_up near (among_at net.network.names near n near_at) in
+        let fault : fault_at_rest net.network (link near far) ≡ None =
+        refusals_law net.network (link near far) sound_at_rest no_line_waits ∙ none in
+        let near_view =
+        viewed net.network set_up near (among_at net.network.names near n near_at) in
         let far_view = viewed net.network set_up far (among_at net.network.names far f far_at) in
-        let parted = not_joined (sym (λ i. link_fault net.network near far (near_view i) (far_view i)) ∙ fault) in record {
+        let parted =
+        not_joined (sym (λ i. link_fault net.network near far (near_view i) (far_view i))
+        ∙ fault) in record {
           taken = none_refused net (link near far) rest fault;
           no_way = no_way_of parted;
           no_way_back = no_way_back_of parted;

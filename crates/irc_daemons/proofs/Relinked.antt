@@ -1,5 +1,7 @@
 -- A network in which two servers are linked, or parted, and neither has been asked about it yet.
-use Rattle.std.proofs.Common.{◌≡◌, ℕ, Bool, true, false, cond, ◌&&◌, ◌||◌, is_some, Option, Some, None, List, [], ◌∷◌, length, nat_eq, refl, sym, ◌∙◌, ap, option_map, unwrap_or, if◌then◌else◌}
+use Rattle.std.proofs.Common.{◌≡◌, ℕ, Bool, true, false, cond, ◌&&◌, ◌||◌, is_some, Option, Some}
+use Rattle.std.proofs.Common.{None, List, [], ◌∷◌, length, nat_eq, refl, sym, ◌∙◌, ap, option_map}
+use Rattle.std.proofs.Common.{unwrap_or, if◌then◌else◌}
 use Rattle.std.proofs.lemmas.Bool.{eqb-true}
 use Rattle.std.specs.Cmp.{nat_cmp_total, unsigned_tied}
 use Rattle.std.specs.FinMap.{FinMap, get, get-insert, get-remove, insert, remove}
@@ -10,10 +12,14 @@ use Rattle.irc_relay.specs.Links.{Link, Name, links_without}
 use Rattle.irc_stage.specs.View.{View}
 use Rattle.irc_server.specs.Served.{link_down, link_up}
 use Rattle.irc_world.specs.Stepping.{cut, link}
-use Rattle.irc_network.specs.Network.{LinkPlaces, Network, Site, begun, given, item_kept, link_places, server_place, servers_linked, servers_parted, site_asked, site_at, site_changed_at, waiting, with_site, with_way, without_way}
+use Rattle.irc_network.specs.Network.{LinkPlaces, Network, Site, begun, given, item_kept}
+use Rattle.irc_network.specs.Network.{link_places, server_place, servers_linked, servers_parted}
+use Rattle.irc_network.specs.Network.{site_asked, site_at, site_changed_at, waiting, with_site}
+use Rattle.irc_network.specs.Network.{with_way, without_way}
 use Rattle.irc_wires.specs.Wires.{AreLean, Wire, Wires, new_wire, wire_at, wire_in, without_wire}
 use Rattle.irc_wires.specs.Lemmas.PutWires.{get-without}
-use Rattle.irc_byte_network.specs.ByteNetwork.{ByteNetwork, item_given, lost_along, queues_written, waiting_at}
+use Rattle.irc_byte_network.specs.ByteNetwork.{ByteNetwork, item_given, lost_along, queues_written}
+use Rattle.irc_byte_network.specs.ByteNetwork.{waiting_at}
 use Rattle.irc_byte_network.specs.Whole.{IsTidy, has_way}
 use Rattle.irc_byte_network.specs.Lemmas.Rows.{length_set}
 use Rattle.irc_byte_network.specs.Lemmas.RowsWritten.{lean_along}
@@ -46,32 +52,37 @@ parted_net near far n f net = record {
 abbrev both_places : ℕ → ℕ → LinkPlaces
 both_places n f = record { near = n; far = f }
 
-places_are : (net : Network) (near far : Name) (n f : ℕ) → server_place net near ≡ Some n → server_place net far ≡ Some f
-    → link_places net near far ≡ Some (both_places n f)
+places_are : (net : Network) (near far : Name) (n f : ℕ) → server_place net near ≡ Some n
+    → server_place net far ≡ Some f → link_places net near far ≡ Some (both_places n f)
 places_are net near far n f near_at far_at =
-    ap (λ o. option_and_then (λ one. option_map (λ other. both_places one other) (server_place net far)) o) near_at
+    ap (λ o. option_and_then
+    (λ one. option_map (λ other. both_places one other) (server_place net far)) o) near_at
     ∙ ap (option_map (λ other. both_places n other)) far_at
 
-pub given_link : (net : ByteNetwork) (near far : Name) (n f : ℕ) → server_place net.network near ≡ Some n → server_place net.network far ≡ Some f
-    → (item_given (link near far) net).net
+pub given_link : (net : ByteNetwork) (near far : Name) (n f : ℕ) → server_place net.network near
+    ≡ Some n → server_place net.network far ≡ Some f → (item_given (link near far) net).net
     ≡ queues_written
-    (item_kept (link near far) (site_asked f (link_up n None) (site_asked n (link_up f (Some far)) (begun (linked_net near far n f net).network)))).net
+    (item_kept (link near far) (site_asked f (link_up n None) (site_asked n (link_up f (Some far))
+    (begun (linked_net near far n f net).network)))).net
     (linked_net near far n f net).wires
 unfolding item_given given
 given_link net near far n f near_at far_at =
     ap
-    (λ o. queues_written (item_kept (link near far) (option_map_or (servers_linked near far net.network) o (begun net.network))).net net.wires)
+    (λ o. queues_written (item_kept (link near far) (option_map_or
+    (servers_linked near far net.network) o (begun net.network))).net net.wires)
     (places_are net.network near far n f near_at far_at)
 
-pub given_cut : (net : ByteNetwork) (near far : Name) (n f : ℕ) → server_place net.network near ≡ Some n → server_place net.network far ≡ Some f
-    → (item_given (cut near far) net).net
+pub given_cut : (net : ByteNetwork) (near far : Name) (n f : ℕ) → server_place net.network near
+    ≡ Some n → server_place net.network far ≡ Some f → (item_given (cut near far) net).net
     ≡ queues_written
-    (item_kept (cut near far) (site_asked f (link_down n) (site_asked n (link_down f) (begun (parted_net near far n f net).network)))).net
+    (item_kept (cut near far) (site_asked f (link_down n)
+    (site_asked n (link_down f) (begun (parted_net near far n f net).network)))).net
     (parted_net near far n f net).wires
 unfolding item_given given
 given_cut net near far n f near_at far_at =
     ap
-    (λ o. queues_written (item_kept (cut near far) (option_map_or (servers_parted near far net.network) o (begun net.network))).net
+    (λ o. queues_written (item_kept (cut near far)
+    (option_map_or (servers_parted near far net.network) o (begun net.network))).net
     (lost_along o net.wires))
     (places_are net.network near far n f near_at far_at)
 
@@ -80,38 +91,51 @@ given_cut net near far n f near_at far_at =
 -- a site's way to a place is there from now on, or is not, and no line waits on it
 record ChangesWay (to : ℕ) (is : Bool) (change : Site → Site) : Type 0 where
   pub server : (site : Site) → (change site).server ≡ site.server
-  pub way : (site : Site) (y : ℕ) → is_some (get (change site).queues y) ≡ (if nat_eq y to then is else is_some (get site.queues y))
-  pub quiet : (site : Site) → ((y : ℕ) → waiting site y ≡ []) → (y : ℕ) → waiting (change site) y ≡ []
+  pub way : (site : Site) (y : ℕ) → is_some (get (change site).queues y)
+      ≡ (if nat_eq y to then is else is_some (get site.queues y))
+  pub quiet : (site : Site) → ((y : ℕ) → waiting site y ≡ []) → (y : ℕ)
+      → waiting (change site) y ≡ []
 
-get-opened : (queues : FinMap nat_cmp Lines) (to y : ℕ) → get (insert queues to []) y ≡ cond (nat_eq y to) (Some []) (get queues y)
-get-opened queues to y = get-insert nat_cmp_total queues to [] y ∙ ap (λ b. cond b (Some []) (get queues y)) (unsigned_tied y to)
+get-opened : (queues : FinMap nat_cmp Lines) (to y : ℕ)
+    → get (insert queues to []) y ≡ cond (nat_eq y to) (Some []) (get queues y)
+get-opened queues to y = get-insert nat_cmp_total queues to [] y
+    ∙ ap (λ b. cond b (Some []) (get queues y)) (unsigned_tied y to)
 
-get-closed : (queues : FinMap nat_cmp Lines) (to y : ℕ) → get (remove queues to) y ≡ cond (nat_eq y to) None (get queues y)
-get-closed queues to y = get-remove nat_cmp_total queues to y ∙ ap (λ b. cond b None (get queues y)) (unsigned_tied y to)
+get-closed : (queues : FinMap nat_cmp Lines) (to y : ℕ)
+    → get (remove queues to) y ≡ cond (nat_eq y to) None (get queues y)
+get-closed queues to y =
+    get-remove nat_cmp_total queues to y ∙ ap (λ b. cond b None (get queues y)) (unsigned_tied y to)
 
 opens_way : (to : ℕ) → ChangesWay to true (with_way to)
 opens_way to = record {
   server = λ site. refl;
-  way = λ site y. ap is_some (get-opened site.queues to y) ∙ by_way (nat_eq y to) (get site.queues y);
-  quiet = λ site all y. ap (λ o. unwrap_or o []) (get-opened site.queues to y) ∙ by (nat_eq y to) (get site.queues y) (all y);
+  way =
+      λ site y. ap is_some (get-opened site.queues to y) ∙ by_way (nat_eq y to) (get site.queues y);
+  quiet = λ site all y. ap (λ o. unwrap_or o []) (get-opened site.queues to y)
+      ∙ by (nat_eq y to) (get site.queues y) (all y);
 }
   where
-    by_way : (b : Bool) (o : Option Lines) → is_some (cond b (Some []) o) ≡ (if b then true else is_some o)
+    by_way : (b : Bool) (o : Option Lines)
+        → is_some (cond b (Some []) o) ≡ (if b then true else is_some o)
     by_way true o = refl
     by_way false o = refl
 
-    by : (b : Bool) (o : Option Lines) → unwrap_or o [] ≡ [] → unwrap_or (cond b (Some []) o) [] ≡ []
+    by : (b : Bool) (o : Option Lines) → unwrap_or o [] ≡ []
+        → unwrap_or (cond b (Some []) o) [] ≡ []
     by true o none = refl
     by false o none = none
 
 closes_way : (to : ℕ) → ChangesWay to false (without_way to)
 closes_way to = record {
   server = λ site. refl;
-  way = λ site y. ap is_some (get-closed site.queues to y) ∙ by_way (nat_eq y to) (get site.queues y);
-  quiet = λ site all y. ap (λ o. unwrap_or o []) (get-closed site.queues to y) ∙ by (nat_eq y to) (get site.queues y) (all y);
+  way =
+      λ site y. ap is_some (get-closed site.queues to y) ∙ by_way (nat_eq y to) (get site.queues y);
+  quiet = λ site all y. ap (λ o. unwrap_or o []) (get-closed site.queues to y)
+      ∙ by (nat_eq y to) (get site.queues y) (all y);
 }
   where
-    by_way : (b : Bool) (o : Option Lines) → is_some (cond b None o) ≡ (if b then false else is_some o)
+    by_way : (b : Bool) (o : Option Lines)
+        → is_some (cond b None o) ≡ (if b then false else is_some o)
     by_way true o = refl
     by_way false o = refl
 
@@ -122,14 +146,16 @@ closes_way to = record {
 -- a network in which one end of a way was changed so
 record IsWayChanged (from to : ℕ) (is : Bool) (old new : Network) : Type 0 where
   pub servers : (x : ℕ) → server_at new x ≡ server_at old x
-  pub ways : (x y : ℕ) → has_way new x y ≡ (if nat_eq x from && nat_eq y to then is else has_way old x y)
+  pub ways : (x y : ℕ)
+      → has_way new x y ≡ (if nat_eq x from && nat_eq y to then is else has_way old x y)
   pub quiet : ((x y : ℕ) → waiting_at old x y ≡ []) → (x y : ℕ) → waiting_at new x y ≡ []
   pub rows : length new.sites ≡ length old.sites
   pub names : new.names ≡ old.names
   pub homes : new.homes ≡ old.homes
   pub received : new.received ≡ old.received
 
-module _ (from to : ℕ) (is : Bool) (change : Site → Site) (changes : ChangesWay to is change) (net : Network) where
+module _ (from to : ℕ) (is : Bool) (change : Site → Site) (changes : ChangesWay to is change)
+    (net : Network) where
   module _ (site : Site) (at : site_at net from ≡ Some site) where
     abbrev now : Network
     now = with_site from (change site) net
@@ -151,17 +177,21 @@ module _ (from to : ℕ) (is : Bool) (change : Site → Site) (changes : Changes
 
     same_server : (x : ℕ) (b : Bool) → nat_eq x from ≡ b → server_at now x ≡ server_at net x
     same_server x true one =
-        ap (server_at now) (eqb-true x from one) ∙ ap server_in here ∙ ap Some (changes.server site) ∙ sym (ap server_in at)
+        ap (server_at now) (eqb-true x from one) ∙ ap server_in here ∙ ap Some (changes.server site)
+        ∙ sym (ap server_in at)
         ∙ ap (server_at net) (sym (eqb-true x from one))
     same_server x false two = ap server_in (there x two)
 
-    way_now : (x y : ℕ) (b : Bool) → nat_eq x from ≡ b → has_way now x y ≡ (if b && nat_eq y to then is else has_way net x y)
+    way_now : (x y : ℕ) (b : Bool) → nat_eq x from ≡ b
+        → has_way now x y ≡ (if b && nat_eq y to then is else has_way net x y)
     way_now x y true one =
         ap (λ v. has_way now v y) (eqb-true x from one) ∙ ap (way_in y) here ∙ changes.way site y
-        ∙ ap (λ b. if nat_eq y to then is else b) (sym (ap (way_in y) at) ∙ ap (λ v. has_way net v y) (sym (eqb-true x from one)))
+        ∙ ap (λ b. if nat_eq y to then is else b) (sym (ap (way_in y) at)
+        ∙ ap (λ v. has_way net v y) (sym (eqb-true x from one)))
     way_now x y false two = ap (way_in y) (there x two)
 
-    quiet_now : ((x y : ℕ) → waiting_at net x y ≡ []) → (x y : ℕ) (b : Bool) → nat_eq x from ≡ b → waiting_at now x y ≡ []
+    quiet_now : ((x y : ℕ) → waiting_at net x y ≡ []) → (x y : ℕ) (b : Bool) → nat_eq x from ≡ b
+        → waiting_at now x y ≡ []
     quiet_now all x y true one =
         ap (λ v. waiting_at now v y) (eqb-true x from one) ∙ ap (waiting_in y) here
         ∙ changes.quiet site (λ q. sym (ap (waiting_in q) at) ∙ all from q) y
@@ -178,11 +208,13 @@ module _ (from to : ℕ) (is : Bool) (change : Site → Site) (changes : Changes
       received = refl;
     }
 
-  way_changed : (view : View) → server_at net from ≡ Some (Some view) → IsWayChanged from to is net (site_changed_at from change net)
+  way_changed : (view : View) → server_at net from ≡ Some (Some view)
+      → IsWayChanged from to is net (site_changed_at from change net)
   way_changed view is_there = by (site_at net from) refl is_there
     where
-      by : (o : Option Site) → site_at net from ≡ o → option_map (λ (s : Site). s.server) o ≡ Some (Some view)
-          → IsWayChanged from to is net (option_map_or (λ site. with_site from (change site) net) o net)
+      by : (o : Option Site) → site_at net from ≡ o
+          → option_map (λ (s : Site). s.server) o ≡ Some (Some view) → IsWayChanged from to is net
+          (option_map_or (λ site. with_site from (change site) net) o net)
       by None at none = cc none
       by (Some site) at some = site_now site at
 
@@ -194,7 +226,8 @@ Row = FinMap nat_cmp Wire
 row_lost : (from to : ℕ) (wires : Wires) → length (without_wire from to wires) ≡ length wires
 row_lost from to wires = by (slice_get wires from)
   where
-    by : (o : Option Row) → length (option_map_or (λ row. slice_set wires from (remove row to)) o wires) ≡ length wires
+    by : (o : Option Row) → length
+        (option_map_or (λ row. slice_set wires from (remove row to)) o wires) ≡ length wires
     by None = refl
     by (Some row) = length_set wires from (remove row to)
 
@@ -202,7 +235,8 @@ still_lost : (from to : ℕ) (wires : Wires) → ((x y : ℕ) → wire_at wires 
     → wire_at (without_wire from to wires) x y ≡ new_wire
 still_lost from to wires all x y = by (slice_get wires from) refl
   where
-    by_to : (row : Row) (b : Bool) → wire_in y row ≡ new_wire → unwrap_or (cond b None (get row y)) new_wire ≡ new_wire
+    by_to : (row : Row) (b : Bool) → wire_in y row ≡ new_wire
+        → unwrap_or (cond b None (get row y)) new_wire ≡ new_wire
     by_to row true still = refl
     by_to row false still = still
 
@@ -210,12 +244,16 @@ still_lost from to wires all x y = by (slice_get wires from) refl
         → wire_at (slice_set wires from (remove row to)) x y ≡ new_wire
     by_from row at true one =
         ap (λ v. wire_at (slice_set wires from (remove row to)) v y) (eqb-true x from one)
-        ∙ ap (λ o. option_map_or (wire_in y) o new_wire) (set_here wires from row (remove row to) at)
+        ∙ ap (λ o. option_map_or (wire_in y) o new_wire)
+        (set_here wires from row (remove row to) at)
         ∙ ap (λ o. unwrap_or o new_wire) (get-without row to y)
-        ∙ by_to row (nat_eq y to) (sym (ap (λ o. option_map_or (wire_in y) o new_wire) at) ∙ all from y)
-    by_from row at false two = ap (λ o. option_map_or (wire_in y) o new_wire) (set_elsewhere wires from x (remove row to) two) ∙ all x y
+        ∙ by_to row (nat_eq y to) (sym (ap (λ o. option_map_or (wire_in y) o new_wire) at)
+        ∙ all from y)
+    by_from row at false two = ap (λ o. option_map_or (wire_in y) o new_wire)
+        (set_elsewhere wires from x (remove row to) two) ∙ all x y
 
-    by : (o : Option Row) → slice_get wires from ≡ o → wire_at (option_map_or (λ row. slice_set wires from (remove row to)) o wires) x y ≡ new_wire
+    by : (o : Option Row) → slice_get wires from ≡ o → wire_at
+        (option_map_or (λ row. slice_set wires from (remove row to)) o wires) x y ≡ new_wire
     by None at = all x y
     by (Some row) at = by_from row at (nat_eq x from) refl
 
@@ -224,22 +262,24 @@ still_lost from to wires all x y = by (slice_get wires from) refl
 -- The two servers have a way to each other, or none; all else is the same.
 pub record IsRelinked (n f : ℕ) (is : Bool) (old new : ByteNetwork) : Type 0 where
   pub servers : (x : ℕ) → server_at new.network x ≡ server_at old.network x
-  pub ways : (x y : ℕ) → has_way new.network x y ≡ (if (nat_eq x n && nat_eq y f) || (nat_eq x f && nat_eq y n) then is else has_way old.network x y)
+  pub ways : (x y : ℕ) → has_way new.network x y ≡ (if (nat_eq x n && nat_eq y f)
+      || (nat_eq x f && nat_eq y n) then is else has_way old.network x y)
   pub wires : (x y : ℕ) → wire_at new.wires x y ≡ wire_at old.wires x y
   pub names : new.network.names ≡ old.network.names
   pub homes : new.network.homes ≡ old.network.homes
   pub received : new.network.received ≡ old.network.received
   pub tidy : IsTidy new
 
-either_end : (one other is was : Bool) → (if other then is else (if one then is else was)) ≡ (if one || other then is else was)
+either_end : (one other is was : Bool)
+    → (if other then is else (if one then is else was)) ≡ (if one || other then is else was)
 either_end true true is was = refl
 either_end true false is was = refl
 either_end false true is was = refl
 either_end false false is was = refl
 
 -- who is linked plays no part in it
-of_links : (from to : ℕ) (is : Bool) (net new : Network) (links : List Link) → IsWayChanged from to is (record net { links = links }) new
-    → IsWayChanged from to is net new
+of_links : (from to : ℕ) (is : Bool) (net new : Network) (links : List Link)
+    → IsWayChanged from to is (record net { links = links }) new → IsWayChanged from to is net new
 of_links from to is net new links changed = record {
   servers = λ x. changed.servers x;
   ways = λ x y. changed.ways x y;
@@ -250,23 +290,31 @@ of_links from to is net new links changed = record {
   received = changed.received;
 }
 
-both_changed : (n f : ℕ) (is : Bool) (old new : ByteNetwork) (mid : Network) → IsTidy old → IsWayChanged n f is old.network mid
-    → IsWayChanged f n is mid new.network → ((x y : ℕ) → wire_at new.wires x y ≡ wire_at old.wires x y) → length new.wires ≡ length old.wires
-    → AreLean new.wires → IsRelinked n f is old new
+both_changed : (n f : ℕ) (is : Bool) (old new : ByteNetwork) (mid : Network) → IsTidy old
+    → IsWayChanged n f is old.network mid → IsWayChanged f n is mid new.network
+    → ((x y : ℕ) → wire_at new.wires x y ≡ wire_at old.wires x y)
+    → length new.wires ≡ length old.wires → AreLean new.wires → IsRelinked n f is old new
 both_changed n f is old new mid tidy first second wires rows lean = record {
   servers = λ x. second.servers x ∙ first.servers x;
   ways = λ x y.
       second.ways x y ∙ ap (λ b. if nat_eq x f && nat_eq y n then is else b) (first.ways x y)
-      ∙ either_end (nat_eq x n && nat_eq y f) (nat_eq x f && nat_eq y n) is (has_way old.network x y);
+      ∙ either_end (nat_eq x n && nat_eq y f) (nat_eq x f && nat_eq y n) is
+      (has_way old.network x y);
   wires = wires;
   names = second.names ∙ first.names;
   homes = second.homes ∙ first.homes;
   received = second.received ∙ first.received;
-  tidy = record { quiet = second.quiet (first.quiet tidy.quiet); rows = rows ∙ tidy.rows ∙ sym (second.rows ∙ first.rows); lean = lean };
+  tidy = record {
+    quiet = second.quiet (first.quiet tidy.quiet);
+    rows = rows ∙ tidy.rows
+        ∙ sym (second.rows ∙ first.rows);
+    lean = lean;
+  };
 }
 
 module _ (near far : Name) (n f : ℕ) (net : ByteNetwork) (tidy : IsTidy net) (one other : View)
-    (near_there : server_at net.network n ≡ Some (Some one)) (far_there : server_at net.network f ≡ Some (Some other))
+    (near_there : server_at net.network n ≡ Some (Some one))
+    (far_there : server_at net.network f ≡ Some (Some other))
   where
     pub is_linked : IsRelinked n f true net (linked_net near far n f net)
     is_linked =
@@ -274,8 +322,10 @@ module _ (near far : Name) (n f : ℕ) (net : ByteNetwork) (tidy : IsTidy net) (
         let told : Network = record net.network { links = links } in
         let first = way_changed n f true (with_way f) (opens_way f) told one near_there in
         let mid : Network = site_changed_at n (with_way f) told in
-        let second = way_changed f n true (with_way n) (opens_way n) mid other (first.servers f ∙ far_there) in
-        both_changed n f true net (linked_net near far n f net) mid tidy (of_links n f true net.network mid links first) second
+        let second = way_changed f n true (with_way n) (opens_way n) mid other
+        (first.servers f ∙ far_there) in
+        both_changed n f true net (linked_net near far n f net) mid tidy
+        (of_links n f true net.network mid links first) second
         (λ x y. refl) refl tidy.lean
 
     pub is_parted : AllStill net → IsRelinked n f false net (parted_net near far n f net)
@@ -284,15 +334,21 @@ module _ (near far : Name) (n f : ℕ) (net : ByteNetwork) (tidy : IsTidy net) (
         let told : Network = record net.network { links = links } in
         let first = way_changed n f false (without_way f) (closes_way f) told one near_there in
         let mid : Network = site_changed_at n (without_way f) told in
-        let second = way_changed f n false (without_way n) (closes_way n) mid other (first.servers f ∙ far_there) in
-        both_changed n f false net (parted_net near far n f net) mid tidy (of_links n f false net.network mid links first) second
-        (λ x y. still_lost f n (without_wire n f net.wires) (still_lost n f net.wires still) x y ∙ sym (still x y))
+        let second = way_changed f n false (without_way n) (closes_way n) mid other
+        (first.servers f ∙ far_there) in
+        both_changed n f false net (parted_net near far n f net) mid tidy
+        (of_links n f false net.network mid links first) second
+        (λ x y. still_lost f n (without_wire n f net.wires) (still_lost n f net.wires still) x y
+        ∙ sym (still x y))
         (row_lost f n (without_wire n f net.wires) ∙ row_lost n f net.wires)
         (lean_along (Some (both_places n f)) net.wires tidy.lean)
 
 -- what is so of its servers is so then, too
-pub own_then : (old new : Network) → ((x : ℕ) → server_at new x ≡ server_at old x) → AreOwn old → AreOwn new
-own_then old new same own x y client one other at too = own x y client one other (sym (same x) ∙ at) (sym (same y) ∙ too)
+pub own_then : (old new : Network) → ((x : ℕ) → server_at new x ≡ server_at old x) → AreOwn old
+    → AreOwn new
+own_then old new same own x y client one other at too =
+    own x y client one other (sym (same x) ∙ at) (sym (same y) ∙ too)
 
-pub ends_then : (old new : Network) → ((x : ℕ) → server_at new x ≡ server_at old x) → AreAllEnds old → AreAllEnds new
+pub ends_then : (old new : Network) → ((x : ℕ) → server_at new x ≡ server_at old x) → AreAllEnds old
+    → AreAllEnds new
 ends_then old new same ends x view at = ends x view (sym (same x) ∙ at)

@@ -1,5 +1,7 @@
--- Networks whose links carry bytes and that agree at each place: daemons that are as the one are as the other.
-use Rattle.std.proofs.Common.{◌≡◌, ℕ, zero, suc, false, is_some, Option, Some, None, List, [], length, refl, sym, ◌∙◌, ap, subst, option_map, unwrap_or}
+-- Networks whose links carry bytes and that agree at each place: daemons that are as the one are as
+-- the other.
+use Rattle.std.proofs.Common.{◌≡◌, ℕ, zero, suc, false, is_some, Option, Some, None, List, []}
+use Rattle.std.proofs.Common.{length, refl, sym, ◌∙◌, ap, subst, option_map, unwrap_or}
 use Rattle.std.specs.List.{flat_map, slice_get}
 use Rattle.irc_relay.specs.Links.{Name}
 use Rattle.irc_relay.specs.Relay.{IsFront}
@@ -30,18 +32,21 @@ pub record IsSameAs (one other : ByteNetwork) : Type 0 where
   pub tidy : IsTidy other
 
 -- who has not come has received nothing
-pub none_received : (net : Network) (client : ℕ) → has_come net client ≡ false → bytes_received net client ≡ []
+pub none_received : (net : Network) (client : ℕ) → has_come net client ≡ false
+    → bytes_received net client ≡ []
 none_received net zero none = refl
 none_received net (suc earlier) none = by (slice_get net.received earlier) refl
   where
-    by : (o : Option Lines) → slice_get net.received earlier ≡ o → bytes_received net (suc earlier) ≡ []
+    by : (o : Option Lines) → slice_get net.received earlier ≡ o
+        → bytes_received net (suc earlier) ≡ []
     by None is = ap (λ p. flat_map (λ text. text) (unwrap_or p [])) is
     by (Some lines) is = cc (sym (ap is_some is) ∙ none)
 
 -- ---- daemons that are as one of them
 
-server_if : {W : Type 0} (numbers : Numbers) (engine : Option (EngineView W)) (one other : Option Site)
-    → option_map (λ (site : Site). site.server) other ≡ option_map (λ (site : Site). site.server) one → IsServerIf numbers engine one
+server_if : {W : Type 0} (numbers : Numbers) (engine : Option (EngineView W))
+    (one other : Option Site) → option_map (λ (site : Site). site.server) other
+    ≡ option_map (λ (site : Site). site.server) one → IsServerIf numbers engine one
     → IsServerIf numbers engine other
 server_if numbers None None None same is = tt
 server_if numbers None None (Some other) same is = cc same
@@ -51,16 +56,19 @@ server_if numbers (Some engine) (Some one) None same is = cc same
 server_if numbers (Some engine) (Some one) (Some other) same is = record {
   in_order = is.in_order;
   framers = is.framers;
-  servers = subst (λ server. AreServersAlikeIf numbers engine.now.server server) (sym (inside other.server one.server same)) is.servers;
+  servers = subst (λ server. AreServersAlikeIf numbers engine.now.server server)
+      (sym (inside other.server one.server same)) is.servers;
 }
 
-module _ {W : Type 0} (names : List Name) (daemons : Daemons W) (one other : ByteNetwork) (same : IsSameAs one other)
+module _ {W : Type 0} (names : List Name) (daemons : Daemons W) (one other : ByteNetwork)
+    (same : IsSameAs one other)
     (is : IsAsNetwork names daemons one)
   where
     bytes_then : IsAsBytes daemons other
     bytes_then = record {
       servers = λ place.
-          server_if (numbers_at daemons place) (slice_get daemons.engines place) (site_at one.network place) (site_at other.network place)
+          server_if (numbers_at daemons place) (slice_get daemons.engines place)
+          (site_at one.network place) (site_at other.network place)
           (same.servers place) (is.as_bytes.servers place);
       ways = λ from to. same.ways from to ∙ is.as_bytes.ways from to;
       wires = λ from to. same.wires from to ∙ is.as_bytes.wires from to;
@@ -71,15 +79,20 @@ module _ {W : Type 0} (names : List Name) (daemons : Daemons W) (one other : Byt
     seated_then = record {
       names_are = is.are_seated.names_are ∙ sym same.names;
       came = is.are_seated.came ∙ ap (λ (homes : List Name). length homes) (sym same.homes);
-      inboxes = same.inboxes ∙ is.are_seated.inboxes ∙ ap (λ (homes : List Name). length homes) (sym same.homes);
-      home = λ place client conn seat. is.are_seated.home place client conn seat ∙ ap (λ homes. home_in homes client) (sym same.homes);
-      seat = λ place client conn seat. ap (λ homes. is_some (home_in homes client)) same.homes ∙ is.are_seated.seat place client conn seat;
+      inboxes = same.inboxes ∙ is.are_seated.inboxes
+          ∙ ap (λ (homes : List Name). length homes) (sym same.homes);
+      home = λ place client conn seat. is.are_seated.home place client conn seat
+          ∙ ap (λ homes. home_in homes client) (sym same.homes);
+      seat = λ place client conn seat. ap (λ homes. is_some (home_in homes client)) same.homes
+          ∙ is.are_seated.seat place client conn seat;
     }
 
     received_then : AreReceived daemons other
     received_then = record {
-      there = λ place client conn seat there. same.bytes client ∙ is.are_received.there place client conn seat there;
-      front = λ client. subst (IsFront (daemons.written client)) (sym (same.bytes client)) (is.are_received.front client);
+      there = λ place client conn seat there. same.bytes client
+          ∙ is.are_received.there place client conn seat there;
+      front = λ client. subst (IsFront (daemons.written client)) (sym (same.bytes client))
+          (is.are_received.front client);
     }
 
     pub as_network_of : IsAsNetwork names daemons other

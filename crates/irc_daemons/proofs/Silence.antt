@@ -1,5 +1,7 @@
 -- Who is no client of a server gets nothing of what it puts out.
-use Rattle.std.proofs.Common.{◌≡◌, ℕ, Bool, true, false, ◌||◌, is_some, nat_eq, Option, Some, None, List, [], ◌∷◌, ◌++◌, refl, sym, ◌∙◌, ap, subst, option_map, if◌then◌else◌}
+use Rattle.std.proofs.Common.{◌≡◌, ℕ, Bool, true, false, ◌||◌, is_some, nat_eq, Option, Some, None}
+use Rattle.std.proofs.Common.{List, [], ◌∷◌, ◌++◌, refl, sym, ◌∙◌, ap, subst, option_map}
+use Rattle.std.proofs.Common.{if◌then◌else◌}
 use Rattle.std.proofs.lemmas.Bool.{and_parts, eqb-true}
 use Rattle.std.specs.FinMap.{get}
 use Rattle.std.specs.List.{list_all, list_any}
@@ -24,24 +26,29 @@ use Rattle.irc_daemons.proofs.Lists.{inside, turned}
 -- ---- ends that are alike
 
 -- the other server's known servers are behind links that count as well
-pub other_ends : (numbers : Numbers) (own other : View) → AreServersAlike numbers own other → AreEnds other.ends other.routes
-other_ends numbers own other alike name link is = by (row_of own.routes name) (row_of other.routes name) refl refl (alike.alike.rows name)
+pub other_ends : (numbers : Numbers) (own other : View) → AreServersAlike numbers own other
+    → AreEnds other.ends other.routes
+other_ends numbers own other alike name link is =
+    by (row_of own.routes name) (row_of other.routes name) refl refl (alike.alike.rows name)
   where
-    by : (mine theirs : Option ServerRow) → row_of own.routes name ≡ mine → row_of other.routes name ≡ theirs → AreRowsAlike numbers mine theirs
-        → IsMetEnd (get other.ends link)
+    by : (mine theirs : Option ServerRow) → row_of own.routes name ≡ mine → row_of other.routes name
+        ≡ theirs → AreRowsAlike numbers mine theirs → IsMetEnd (get other.ends link)
     by None None one two rows = cc (sym (ap (option_map (λ (r : ServerRow). r.link)) two) ∙ is)
     by None (Some theirs) one two rows = absurd rows
     by (Some mine) None one two rows = absurd rows
     by (Some mine) (Some theirs) one two rows =
-        let here : theirs.link ≡ link = inside theirs.link link (sym (ap (option_map (λ (r : ServerRow). r.link)) two) ∙ is) in
+        let here : theirs.link ≡ link =
+        inside theirs.link link (sym (ap (option_map (λ (r : ServerRow). r.link)) two) ∙ is) in
         subst IsMetEnd
-        (sym (ap (get other.ends) (sym here) ∙ alike.alike.ends theirs.link ∙ ap (option_and_then (get own.ends)) rows.1))
+        (sym (ap (get other.ends) (sym here) ∙ alike.alike.ends theirs.link
+        ∙ ap (option_and_then (get own.ends)) rows.1))
         (alike.ends_count name mine.link (ap (option_map (λ (r : ServerRow). r.link)) one))
 
 -- ---- nothing for others
 
 -- nothing for a client goes on a link that is being opened
-no_new_client : (occurrence : Occurrence) (conn : ℕ) (text : List ℕ) → is_on_new occurrence (line_to conn text) ≡ false
+no_new_client : (occurrence : Occurrence) (conn : ℕ) (text : List ℕ)
+    → is_on_new occurrence (line_to conn text) ≡ false
 no_new_client (link_up link starts) conn text = refl
 no_new_client (of_client happening) conn text = refl
 no_new_client (link_says link read) conn text = refl
@@ -54,13 +61,15 @@ no_new_end (link_says link read) conn = refl
 no_new_end (link_down link) conn = refl
 
 -- the link that is being opened is one that comes
-new_line : (occurrence : Occurrence) (number : ℕ) (text : List ℕ) → is_on_new occurrence (line_on number text) ≡ link_comes number occurrence
+new_line : (occurrence : Occurrence) (number : ℕ) (text : List ℕ)
+    → is_on_new occurrence (line_on number text) ≡ link_comes number occurrence
 new_line (link_up link starts) number text = turned number link
 new_line (of_client happening) number text = refl
 new_line (link_says link read) number text = refl
 new_line (link_down link) number text = refl
 
-new_end : (occurrence : Occurrence) (number : ℕ) (reason : CloseReason) → is_on_new occurrence (end_of_link number reason) ≡ link_comes number occurrence
+new_end : (occurrence : Occurrence) (number : ℕ) (reason : CloseReason)
+    → is_on_new occurrence (end_of_link number reason) ≡ link_comes number occurrence
 new_end (link_up link starts) number reason = turned number link
 new_end (of_client happening) number reason = refl
 new_end (link_says link read) number reason = refl
@@ -71,30 +80,35 @@ none_or true c none is = refl
 none_or false c none is = cc (sym none ∙ is)
 
 -- a client that is there does not go by what is refused
-not_going : (view : View) (occurrence : Occurrence) (q : ℕ) → serves_occurrence view occurrence ≡ false → is_some (get view.clients q) ≡ true
-    → client_goes q occurrence ≡ false
+not_going : (view : View) (occurrence : Occurrence) (q : ℕ) → serves_occurrence view occurrence
+    ≡ false → is_some (get view.clients q) ≡ true → client_goes q occurrence ≡ false
 not_going view (of_client (connects which host)) q refused there = refl
 not_going view (of_client (says which read)) q refused there = refl
 not_going view (of_client (goes which)) q refused there = by (nat_eq which q) refl
   where
     by : (b : Bool) → nat_eq which q ≡ b → b ≡ false
-    by true same = cc (sym refused ∙ ap (λ n. is_some (get view.clients n)) (eqb-true which q same) ∙ there)
+    by true same =
+        cc (sym refused ∙ ap (λ n. is_some (get view.clients n)) (eqb-true which q same) ∙ there)
     by false two = refl
 not_going view (link_up link starts) q refused there = refl
 not_going view (link_says link read) q refused there = refl
 not_going view (link_down link) q refused there = refl
 
-module _ (own_law : ServedGoesToItsOwn) (view : View) (occurrence : Occurrence) (ends : AreEnds view.ends view.routes) where
+module _ (own_law : ServedGoesToItsOwn) (view : View) (occurrence : Occurrence)
+    (ends : AreEnds view.ends view.routes) where
   abbrev IsOwn : List Sent → Type 0
   IsOwn outs = list_all (λ sent. is_its_own view sent || is_on_new occurrence sent) outs ≡ true
 
-  abbrev first_own : (sent : Sent) (outs : List Sent) → IsOwn (sent ∷ outs) → (is_its_own view sent || is_on_new occurrence sent) ≡ true
+  abbrev first_own : (sent : Sent) (outs : List Sent) → IsOwn (sent ∷ outs)
+      → (is_its_own view sent || is_on_new occurrence sent) ≡ true
   first_own sent outs own =
-      (and_parts (is_its_own view sent || is_on_new occurrence sent) (list_all (λ s. is_its_own view s || is_on_new occurrence s) outs) own).0
+      (and_parts (is_its_own view sent || is_on_new occurrence sent)
+      (list_all (λ s. is_its_own view s || is_on_new occurrence s) outs) own).0
 
   rest_own : (sent : Sent) (outs : List Sent) → IsOwn (sent ∷ outs) → IsOwn outs
   rest_own sent outs own =
-      (and_parts (is_its_own view sent || is_on_new occurrence sent) (list_all (λ s. is_its_own view s || is_on_new occurrence s) outs) own).1
+      (and_parts (is_its_own view sent || is_on_new occurrence sent)
+      (list_all (λ s. is_its_own view s || is_on_new occurrence s) outs) own).1
 
   -- what is not there has no other number
   not_there : (one q : ℕ) (got : ℕ → Bool) → got q ≡ false → got one ≡ true → nat_eq one q ≡ false
@@ -111,77 +125,103 @@ module _ (own_law : ServedGoesToItsOwn) (view : View) (occurrence : Occurrence) 
   has_end q = is_some (get view.ends q)
 
   -- what goes to a client goes to one that is there
-  client_there : (conn : ℕ) (text : List ℕ) (outs : List Sent) → IsOwn (line_to conn text ∷ outs) → has_client conn ≡ true
+  client_there : (conn : ℕ) (text : List ℕ) (outs : List Sent) → IsOwn (line_to conn text ∷ outs)
+      → has_client conn ≡ true
   client_there conn text outs own =
-      none_or (has_client conn) (is_on_new occurrence (line_to conn text)) (no_new_client occurrence conn text) (first_own (line_to conn text) outs own)
+      none_or (has_client conn) (is_on_new occurrence (line_to conn text))
+      (no_new_client occurrence conn text) (first_own (line_to conn text) outs own)
 
   client_ends : (conn : ℕ) (outs : List Sent) → IsOwn (end_of conn ∷ outs) → has_client conn ≡ true
   client_ends conn outs own =
-      none_or (has_client conn) (is_on_new occurrence (end_of conn)) (no_new_end occurrence conn) (first_own (end_of conn) outs own)
+      none_or (has_client conn) (is_on_new occurrence (end_of conn)) (no_new_end occurrence conn)
+      (first_own (end_of conn) outs own)
 
   -- what goes on a link goes on one that is there or comes
   abbrev has_link : ℕ → Bool
   has_link q = has_end q || link_comes q occurrence
 
-  link_there : (link : ℕ) (text : List ℕ) (outs : List Sent) → IsOwn (line_on link text ∷ outs) → has_link link ≡ true
-  link_there link text outs own = ap (λ b. has_end link || b) (sym (new_line occurrence link text)) ∙ first_own (line_on link text) outs own
+  link_there : (link : ℕ) (text : List ℕ) (outs : List Sent) → IsOwn (line_on link text ∷ outs)
+      → has_link link ≡ true
+  link_there link text outs own = ap (λ b. has_end link || b) (sym (new_line occurrence link text))
+      ∙ first_own (line_on link text) outs own
 
-  link_ends : (link : ℕ) (reason : CloseReason) (outs : List Sent) → IsOwn (end_of_link link reason ∷ outs) → has_link link ≡ true
+  link_ends : (link : ℕ) (reason : CloseReason) (outs : List Sent)
+      → IsOwn (end_of_link link reason ∷ outs) → has_link link ≡ true
   link_ends link reason outs own =
-      ap (λ b. has_end link || b) (sym (new_end occurrence link reason)) ∙ first_own (end_of_link link reason) outs own
+      ap (λ b. has_end link || b) (sym (new_end occurrence link reason))
+      ∙ first_own (end_of_link link reason) outs own
 
-  none_for : (client : ℕ) (outs : List Sent) → has_client client ≡ false → IsOwn outs → client_bytes client outs ≡ []
+  none_for : (client : ℕ) (outs : List Sent) → has_client client ≡ false → IsOwn outs
+      → client_bytes client outs ≡ []
   none_for client [] none own = refl
   none_for client (line_to conn text ∷ outs) none own =
       ap (λ b. (if b then text else []) ++ client_bytes client outs)
-      (not_there conn client has_client none (client_there conn text outs own)) ∙ none_for client outs none (rest_own (line_to conn text) outs own)
-  none_for client (end_of conn ∷ outs) none own = none_for client outs none (rest_own (end_of conn) outs own)
-  none_for client (line_on link text ∷ outs) none own = none_for client outs none (rest_own (line_on link text) outs own)
-  none_for client (end_of_link link reason ∷ outs) none own = none_for client outs none (rest_own (end_of_link link reason) outs own)
+      (not_there conn client has_client none (client_there conn text outs own))
+      ∙ none_for client outs none (rest_own (line_to conn text) outs own)
+  none_for client (end_of conn ∷ outs) none own =
+      none_for client outs none (rest_own (end_of conn) outs own)
+  none_for client (line_on link text ∷ outs) none own =
+      none_for client outs none (rest_own (line_on link text) outs own)
+  none_for client (end_of_link link reason ∷ outs) none own =
+      none_for client outs none (rest_own (end_of_link link reason) outs own)
 
-  none_answered : (q : ℕ) (outs : List Sent) → has_client q ≡ false → has_link q ≡ false → IsOwn outs → answers q outs ≡ []
+  none_answered : (q : ℕ) (outs : List Sent) → has_client q ≡ false → has_link q ≡ false
+      → IsOwn outs → answers q outs ≡ []
   none_answered q [] none no_end own = refl
   none_answered q (line_to conn text ∷ outs) none no_end own =
-      ap (λ b. (if b then text else []) ++ answers q outs) (not_there conn q has_client none (client_there conn text outs own))
+      ap (λ b. (if b then text else []) ++ answers q outs)
+      (not_there conn q has_client none (client_there conn text outs own))
       ∙ none_answered q outs none no_end (rest_own (line_to conn text) outs own)
   none_answered q (end_of conn ∷ outs) none no_end own =
-      ap (λ b. if b then [] else answers q outs) (not_there conn q has_client none (client_ends conn outs own))
+      ap (λ b. if b then [] else answers q outs)
+      (not_there conn q has_client none (client_ends conn outs own))
       ∙ none_answered q outs none no_end (rest_own (end_of conn) outs own)
   none_answered q (line_on link text ∷ outs) none no_end own =
-      ap (λ b. (if b then text else []) ++ answers q outs) (not_there link q has_link no_end (link_there link text outs own))
+      ap (λ b. (if b then text else []) ++ answers q outs)
+      (not_there link q has_link no_end (link_there link text outs own))
       ∙ none_answered q outs none no_end (rest_own (line_on link text) outs own)
   none_answered q (end_of_link link reason ∷ outs) none no_end own =
-      ap (λ b. if b then [] else answers q outs) (not_there link q has_link no_end (link_ends link reason outs own))
+      ap (λ b. if b then [] else answers q outs)
+      (not_there link q has_link no_end (link_ends link reason outs own))
       ∙ none_answered q outs none no_end (rest_own (end_of_link link reason) outs own)
 
   -- who has no link's number is closed by its own end alone
-  none_closed : (q : ℕ) (outs : List Sent) → has_link q ≡ false → list_any (ends_client q) outs ≡ false → IsOwn outs → is_closed_by q outs ≡ false
+  none_closed : (q : ℕ) (outs : List Sent) → has_link q ≡ false
+      → list_any (ends_client q) outs ≡ false → IsOwn outs → is_closed_by q outs ≡ false
   none_closed q [] no_end none own = refl
-  none_closed q (line_to conn text ∷ outs) no_end none own = none_closed q outs no_end none (rest_own (line_to conn text) outs own)
-  none_closed q (line_on link text ∷ outs) no_end none own = none_closed q outs no_end none (rest_own (line_on link text) outs own)
+  none_closed q (line_to conn text ∷ outs) no_end none own =
+      none_closed q outs no_end none (rest_own (line_to conn text) outs own)
+  none_closed q (line_on link text ∷ outs) no_end none own =
+      none_closed q outs no_end none (rest_own (line_on link text) outs own)
   none_closed q (end_of conn ∷ outs) no_end none own =
       by (nat_eq conn q) none (λ is. none_closed q outs no_end is (rest_own (end_of conn) outs own))
     where
-      by : (b : Bool) → (b || list_any (ends_client q) outs) ≡ false → (list_any (ends_client q) outs ≡ false → is_closed_by q outs ≡ false)
+      by : (b : Bool) → (b || list_any (ends_client q) outs) ≡ false
+          → (list_any (ends_client q) outs ≡ false → is_closed_by q outs ≡ false)
           → (b || is_closed_by q outs) ≡ false
       by true is rest = cc is
       by false is rest = rest is
   none_closed q (end_of_link link reason ∷ outs) no_end none own =
-      ap (λ b. b || is_closed_by q outs) (not_there link q has_link no_end (link_ends link reason outs own))
+      ap (λ b. b || is_closed_by q outs)
+      (not_there link q has_link no_end (link_ends link reason outs own))
       ∙ none_closed q outs no_end none (rest_own (end_of_link link reason) outs own)
 
   -- a link gets nothing where nothing goes on any
-  none_linked : (q : ℕ) (outs : List Sent) → has_client q ≡ false → list_any is_on_link outs ≡ false → IsOwn outs → answers q outs ≡ []
+  none_linked : (q : ℕ) (outs : List Sent) → has_client q ≡ false → list_any is_on_link outs ≡ false
+      → IsOwn outs → answers q outs ≡ []
   none_linked q [] no_client none own = refl
   none_linked q (line_to conn text ∷ outs) no_client none own =
-      ap (λ b. (if b then text else []) ++ answers q outs) (not_there conn q has_client no_client (client_there conn text outs own))
+      ap (λ b. (if b then text else []) ++ answers q outs)
+      (not_there conn q has_client no_client (client_there conn text outs own))
       ∙ none_linked q outs no_client none (rest_own (line_to conn text) outs own)
   none_linked q (end_of conn ∷ outs) no_client none own =
-      ap (λ b. if b then [] else answers q outs) (not_there conn q has_client no_client (client_ends conn outs own))
+      ap (λ b. if b then [] else answers q outs)
+      (not_there conn q has_client no_client (client_ends conn outs own))
       ∙ none_linked q outs no_client none (rest_own (end_of conn) outs own)
   none_linked q (line_on link text ∷ outs) no_client none own = cc none
   none_linked q (end_of_link link reason ∷ outs) no_client none own =
-      by (nat_eq link q) (none_linked q outs no_client none (rest_own (end_of_link link reason) outs own))
+      by (nat_eq link q)
+      (none_linked q outs no_client none (rest_own (end_of_link link reason) outs own))
     where
       by : (b : Bool) → answers q outs ≡ [] → (if b then [] else answers q outs) ≡ []
       by true rest = refl
@@ -191,9 +231,11 @@ module _ (own_law : ServedGoesToItsOwn) (view : View) (occurrence : Occurrence) 
 
   abbrev replied : Bool → Reply
   replied b =
-      if b then record { view = (served view occurrence).view; out = (served view occurrence).out } else record { view = view; out = [] }
+      if b then record { view = (served view occurrence).view; out = (served view occurrence).out }
+      else record { view = view; out = [] }
 
-  pub nobody_gets : (client : ℕ) → is_some (get view.clients client) ≡ false → client_bytes client (reply view occurrence).out ≡ []
+  pub nobody_gets : (client : ℕ) → is_some (get view.clients client) ≡ false
+      → client_bytes client (reply view occurrence).out ≡ []
   nobody_gets client none = by (serves_occurrence view occurrence)
     where
       by : (b : Bool) → client_bytes client (replied b).out ≡ []
@@ -204,24 +246,27 @@ module _ (own_law : ServedGoesToItsOwn) (view : View) (occurrence : Occurrence) 
   no_link true c one other = cc one
   no_link false c one other = other
 
-  pub nothing_answered : (q : ℕ) → link_comes q occurrence ≡ false → is_some (get view.clients q) ≡ false → is_some (get view.ends q) ≡ false
-      → answers q (reply view occurrence).out ≡ []
+  pub nothing_answered : (q : ℕ) → link_comes q occurrence ≡ false → is_some (get view.clients q)
+      ≡ false → is_some (get view.ends q) ≡ false → answers q (reply view occurrence).out ≡ []
   nothing_answered q not_new none no_end = by (serves_occurrence view occurrence)
     where
       by : (b : Bool) → answers q (replied b).out ≡ []
-      by true = none_answered q (served view occurrence).out none (no_link (has_end q) (link_comes q occurrence) no_end not_new) (own_law view occurrence ends)
+      by true = none_answered q (served view occurrence).out none (no_link (has_end q)
+          (link_comes q occurrence) no_end not_new) (own_law view occurrence ends)
       by false = refl
 
-  pub never_closed : (q : ℕ) → link_comes q occurrence ≡ false → is_some (get view.ends q) ≡ false → list_any (ends_client q) (served view occurrence).out ≡ false
+  pub never_closed : (q : ℕ) → link_comes q occurrence ≡ false → is_some (get view.ends q) ≡ false
+      → list_any (ends_client q) (served view occurrence).out ≡ false
       → is_closed_by q (reply view occurrence).out ≡ false
   never_closed q not_new no_end none = by (serves_occurrence view occurrence)
     where
       by : (b : Bool) → is_closed_by q (replied b).out ≡ false
-      by true = none_closed q (served view occurrence).out (no_link (has_end q) (link_comes q occurrence) no_end not_new) none (own_law view occurrence ends)
+      by true = none_closed q (served view occurrence).out (no_link (has_end q)
+          (link_comes q occurrence) no_end not_new) none (own_law view occurrence ends)
       by false = refl
 
-  pub nothing_linked : (q : ℕ) → is_some (get view.clients q) ≡ false → list_any is_on_link (reply view occurrence).out ≡ false
-      → answers q (reply view occurrence).out ≡ []
+  pub nothing_linked : (q : ℕ) → is_some (get view.clients q) ≡ false → list_any is_on_link
+      (reply view occurrence).out ≡ false → answers q (reply view occurrence).out ≡ []
   nothing_linked q none no_line = by (serves_occurrence view occurrence) no_line
     where
       by : (b : Bool) → list_any is_on_link (replied b).out ≡ false → answers q (replied b).out ≡ []
@@ -236,17 +281,24 @@ module _ (own_law : ServedGoesToItsOwn) (view : View) (occurrence : Occurrence) 
     pub not_closed : is_closed_by q (reply view occurrence).out ≡ false
     pub not_gone : client_goes q occurrence ≡ false
 
-  pub still_there : ClientsStay → (q : ℕ) → link_comes q occurrence ≡ false → is_some (get view.ends q) ≡ false → is_some (get (reply view occurrence).view.clients q) ≡ true → StillThere q
+  pub still_there : ClientsStay → (q : ℕ)
+      → link_comes q occurrence ≡ false → is_some (get view.ends q) ≡ false
+      → is_some (get (reply view occurrence).view.clients q) ≡ true → StillThere q
   still_there stay q not_new no_end there = by (serves_occurrence view occurrence) refl there
     where
       either : (b c : Bool) → b ≡ true → (b || c) ≡ true
       either true c is = refl
       either false c is = cc is
 
-      by : (b : Bool) → serves_occurrence view occurrence ≡ b → is_some (get (replied b).view.clients q) ≡ true → StillThere q
+      by : (b : Bool) → serves_occurrence view occurrence ≡ b
+          → is_some (get (replied b).view.clients q) ≡ true → StillThere q
       by true is has =
           let known = stay view occurrence q is has in
-          record { was = known.was; not_closed = never_closed q not_new no_end known.not_ended; not_gone = known.not_gone }
+          record {
+            was = known.was;
+            not_closed = never_closed q not_new no_end known.not_ended;
+            not_gone = known.not_gone;
+          }
       by false is has = record {
         was = either (is_some (get view.clients q)) (client_comes q occurrence) has;
         not_closed = ap (λ b. is_closed_by q (replied b).out) is;

@@ -1,5 +1,7 @@
--- As bytes come to a server, no client comes to be at two servers, and each server that is known stays behind a link that counts.
-use Rattle.std.proofs.Common.{◌≡◌, ◌+◌, ◌≤◌, ℕ, Bool, true, false, is_some, Some, List, ◌++◌, length, nat_eq, refl, sym, ◌∙◌, ap, arith, subst}
+-- As bytes come to a server, no client comes to be at two servers, and each server that is known
+-- stays behind a link that counts.
+use Rattle.std.proofs.Common.{◌≡◌, ◌+◌, ◌≤◌, ℕ, Bool, true, false, is_some, Some, List, ◌++◌}
+use Rattle.std.proofs.Common.{length, nat_eq, refl, sym, ◌∙◌, ap, arith, subst}
 use Rattle.std.proofs.lemmas.Bool.{eqb-true}
 use Rattle.std.proofs.lemmas.List.{length-append}
 use Rattle.std.specs.FinMap.{get}
@@ -8,7 +10,8 @@ use Rattle.irc_server_laws.specs.Own.{ServedKeepsEnds}
 use Rattle.irc_sites.specs.Site.{Reply}
 use Rattle.irc_stage.specs.View.{View}
 use Rattle.irc_wires.specs.Wires.{Wires}
-use Rattle.irc_byte_network.specs.ByteNetwork.{ByteNetwork, byte_begun, bytes_come, completed_in, wires_come}
+use Rattle.irc_byte_network.specs.ByteNetwork.{ByteNetwork, byte_begun, bytes_come, completed_in}
+use Rattle.irc_byte_network.specs.ByteNetwork.{wires_come}
 use Rattle.irc_byte_network.specs.Whole.{IsTidy}
 use Rattle.irc_daemons.specs.Clients.{ClientsStay}
 use Rattle.irc_daemons.proofs.GoesOn.{GoesOn, bytes_go_on}
@@ -20,24 +23,29 @@ use Rattle.irc_daemons.proofs.Sent.{server_at}
 -- as many bytes as are in front
 pub front_enough : (front rest bytes : List ℕ) → bytes ≡ front ++ rest → length front ≤ length bytes
 front_enough front rest bytes is =
-    subst (λ n. length front ≤ n) (sym (ap (λ bs. length bs) is ∙ length-append front rest)) (most (length front) (length rest))
+    subst (λ n. length front ≤ n) (sym (ap (λ bs. length bs) is ∙ length-append front rest))
+    (most (length front) (length rest))
   where
     most : (a b : ℕ) → a ≤ a + b
     most a b = omega arith
 
 -- ---- one server does something by which no client comes to it
 
-module _ (place : ℕ) (next : Reply) (along : Wires) (old new : ByteNetwork) (goes : GoesOn place next along old new) (view : View)
+module _ (place : ℕ) (next : Reply) (along : Wires) (old new : ByteNetwork)
+    (goes : GoesOn place next along old new) (view : View)
     (at : server_at old.network place ≡ Some (Some view))
   where
     -- the server at this place is the one that replied
-    is_next : (x : ℕ) (one : View) → server_at new.network x ≡ Some (Some one) → nat_eq x place ≡ true → next.view ≡ one
+    is_next : (x : ℕ) (one : View) → server_at new.network x ≡ Some (Some one)
+        → nat_eq x place ≡ true → next.view ≡ one
     is_next x one is same =
         let found : Some next.view ≡ Some one =
-        inside (Some next.view) (Some one) (sym goes.server ∙ ap (server_at new.network) (sym (eqb-true x place same)) ∙ is) in
+        inside (Some next.view) (Some one) (sym goes.server
+        ∙ ap (server_at new.network) (sym (eqb-true x place same)) ∙ is) in
         inside next.view one found
 
-    pub ends_then : AreEnds next.view.ends next.view.routes → AreAllEnds old.network → AreAllEnds new.network
+    pub ends_then : AreEnds next.view.ends next.view.routes → AreAllEnds old.network
+        → AreAllEnds new.network
     ends_then ends all x one is = by (nat_eq x place) refl
       where
         by : (b : Bool) → nat_eq x place ≡ b → AreEnds one.ends one.routes
@@ -50,14 +58,18 @@ module _ (place : ℕ) (next : Reply) (along : Wires) (old new : ByteNetwork) (g
       is : server_at old.network x ≡ Some (Some server)
       has : is_some (get server.clients client) ≡ true
 
-    module _ (nobody : (client : ℕ) → is_some (get view.clients client) ≡ false → is_some (get next.view.clients client) ≡ false) where
-      was : (x client : ℕ) (one : View) → server_at new.network x ≡ Some (Some one) → is_some (get one.clients client) ≡ true → Was x client
+    module _ (nobody : (client : ℕ) → is_some (get view.clients client) ≡ false
+        → is_some (get next.view.clients client) ≡ false) where
+      was : (x client : ℕ) (one : View) → server_at new.network x ≡ Some (Some one)
+          → is_some (get one.clients client) ≡ true → Was x client
       was x client one is has = by (nat_eq x place) refl
         where
-          had : nat_eq x place ≡ true → (b : Bool) → is_some (get view.clients client) ≡ b → b ≡ true
+          had : nat_eq x place ≡ true → (b : Bool) → is_some (get view.clients client) ≡ b
+              → b ≡ true
           had same true there = refl
           had same false none =
-              cc (sym (nobody client none) ∙ ap (λ (v : View). is_some (get v.clients client)) (is_next x one is same) ∙ has)
+              cc (sym (nobody client none) ∙ ap (λ (v : View). is_some (get v.clients client))
+              (is_next x one is same) ∙ has)
 
           by : (b : Bool) → nat_eq x place ≡ b → Was x client
           by true same = record {
@@ -75,7 +87,8 @@ module _ (place : ℕ) (next : Reply) (along : Wires) (old new : ByteNetwork) (g
 
 -- ---- bytes come
 
-module _ (from to count : ℕ) (net : ByteNetwork) (tidy : IsTidy net) (view : View) (at : server_at net.network to ≡ Some (Some view))
+module _ (from to count : ℕ) (net : ByteNetwork) (tidy : IsTidy net) (view : View)
+    (at : server_at net.network to ≡ Some (Some view))
   where
     abbrev next : Reply
     next = all_replies from view (completed_in net from to count)
@@ -86,12 +99,14 @@ module _ (from to count : ℕ) (net : ByteNetwork) (tidy : IsTidy net) (view : V
     goes_on_so : GoesOn to next (wires_come net from to count) net last
     goes_on_so = bytes_go_on from to count net view tidy at
 
-    pub ends_still : ServedKeepsEnds → AreAllEnds net.network → AreAllEnds (bytes_come from to count (byte_begun net)).net.network
+    pub ends_still : ServedKeepsEnds → AreAllEnds net.network
+        → AreAllEnds (bytes_come from to count (byte_begun net)).net.network
     ends_still keeps ends =
         ends_then to next (wires_come net from to count) net last goes_on_so view at
         (all_keep_ends keeps from view (completed_in net from to count) (ends to view at)) ends
 
-    pub own_still : ClientsStay → AreOwn net.network → AreOwn (bytes_come from to count (byte_begun net)).net.network
+    pub own_still : ClientsStay → AreOwn net.network
+        → AreOwn (bytes_come from to count (byte_begun net)).net.network
     own_still stay own =
         own_then to next (wires_come net from to count) net last goes_on_so view at
         (all_bring_nobody stay from view (completed_in net from to count)) own

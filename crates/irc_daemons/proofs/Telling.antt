@@ -1,6 +1,8 @@
 -- A server is told of one of its links, and of nothing else in a turn: a network of which one is
 -- asked the same is as these daemons.
-use Rattle.std.proofs.Common.{◌≡◌, ℕ, Bool, true, false, not, ◌||◌, ◌&&◌, nat_eq, is_some, Option, Some, None, List, [], ◌∷◌, ◌++◌, append-nil, refl, sym, ◌∙◌, ap, subst, option_map, length, if◌then◌else◌}
+use Rattle.std.proofs.Common.{◌≡◌, ℕ, Bool, true, false, not, ◌||◌, ◌&&◌, nat_eq, is_some, Option}
+use Rattle.std.proofs.Common.{Some, None, List, [], ◌∷◌, ◌++◌, append-nil, refl, sym, ◌∙◌, ap}
+use Rattle.std.proofs.Common.{subst, option_map, length, if◌then◌else◌}
 use Rattle.std.proofs.Math.Path.{fun_ext}
 use Rattle.std.proofs.lemmas.Bool.{eq-eqb, eqb-true}
 use Rattle.std.specs.FinMap.{get}
@@ -31,36 +33,47 @@ use Rattle.irc_engine.specs.declared.kind.Kind.TheVariants as kinds
 use Rattle.irc_engine.specs.Carrying.{fresh_connection, is_open_at, open_kind_at}
 use Rattle.irc_engine.specs.Hearing.{begun_at}
 use Rattle.irc_engine.specs.Running.{AreAsked, Asked, IsNews, Moment, a_line, an_end, asked_at}
-use Rattle.irc_daemons.specs.Alike.{AreApart, AreServersAlike, AreServersAlikeIf, Numbers, ServedAlike, happens_at, renumbered}
+use Rattle.irc_daemons.specs.Alike.{AreApart, AreServersAlike, AreServersAlikeIf, Numbers}
+use Rattle.irc_daemons.specs.Alike.{ServedAlike, happens_at, renumbered}
 use Rattle.irc_engine.specs.Turning.{EngineView}
 use Rattle.irc_daemons.specs.AsBytes.{IsServerIf, numbers_at}
 use Rattle.irc_daemons.specs.AsNetwork.{AreReceived, AreSeated, IsAsNetwork}
 use Rattle.irc_daemons.specs.Clients.{ClientsStay}
-use Rattle.irc_daemons.specs.Daemons.{AreJoined, Daemons, connection_at, connection_in, end_at, unsent, wire_between}
+use Rattle.irc_daemons.specs.Daemons.{AreJoined, Daemons, connection_at, connection_in, end_at}
+use Rattle.irc_daemons.specs.Daemons.{unsent, wire_between}
 use Rattle.irc_daemons.specs.Doings.{Doings, taken_at}
 use Rattle.irc_daemons.specs.Receiving.{bytes_received}
 use Rattle.irc_daemons.specs.Steps.{came_after, seats_after}
-use Rattle.irc_daemons.specs.Tellings.{TellsEnd, Tidings, end_before, end_by, end_set, event_of, is_lost, is_up, is_way_by, linked_by, occurrence_by}
+use Rattle.irc_daemons.specs.Tellings.{TellsEnd, Tidings, end_before, end_by, end_set, event_of}
+use Rattle.irc_daemons.specs.Tellings.{is_lost, is_up, is_way_by, linked_by, occurrence_by}
 use Rattle.irc_daemons.proofs.Asked.{ServesClients, is_left, took}
-use Rattle.irc_daemons.proofs.Assembly.{IsEndBegun, assembled, begin, begins_same, begun_before, did_all, first, incoming_stays, mid_moment, newcomer, outs, part, second, start, taken_is}
+use Rattle.irc_daemons.proofs.Assembly.{IsEndBegun, assembled, begin, begins_same, begun_before}
+use Rattle.irc_daemons.proofs.Assembly.{did_all, first, incoming_stays, mid_moment, newcomer, outs}
+use Rattle.irc_daemons.proofs.Assembly.{part, second, start, taken_is}
 use Rattle.irc_daemons.proofs.Given.{AreThen, Went, asked_went, bytes_of_sites}
 use Rattle.irc_daemons.proofs.Heard.{none_stays}
-use Rattle.irc_daemons.proofs.Linking.{IsFree, SeatBefore, alike_lost, alike_up, end_elsewhere, end_then, end_told, end_to_others, EndThen, is_old, is_told, joined_by, numbers_by, seat_before, seat_elsewhere}
+use Rattle.irc_daemons.proofs.Linking.{IsFree, SeatBefore, alike_lost, alike_up, end_elsewhere}
+use Rattle.irc_daemons.proofs.Linking.{end_then, end_told, end_to_others, EndThen, is_old, is_told}
+use Rattle.irc_daemons.proofs.Linking.{joined_by, numbers_by, seat_before, seat_elsewhere}
 use Rattle.irc_daemons.proofs.Lists.{front_none, inside, rest_none, turned}
 use Rattle.irc_daemons.proofs.Open.{IsOpenOf, open_of}
 use Rattle.irc_daemons.proofs.ReadParts.{part_reads}
 use Rattle.irc_daemons.proofs.Sent.{server_at}
 use Rattle.irc_daemons.proofs.Silence.{nothing_answered, still_there}
-use Rattle.irc_daemons.proofs.Single.{HasServer, HasView, HaveViews, has_server, has_view, have_views, same_wire}
+use Rattle.irc_daemons.proofs.Single.{HasServer, HasView, HaveViews, has_server, has_view}
+use Rattle.irc_daemons.proofs.Single.{have_views, same_wire}
 use Rattle.irc_daemons.proofs.Told.{begun_or_none}
-use Rattle.irc_daemons.proofs.Turn.{BeginsWith, IsMade, came_of, client_comes as newcomer_comes, link_comes as link_begins, nobody_comes}
+use Rattle.irc_daemons.proofs.Turn.{BeginsWith, IsMade, came_of, client_comes as newcomer_comes}
+use Rattle.irc_daemons.proofs.Turn.{link_comes as link_begins, nobody_comes}
 
 -- ---- one event
 
-pub asked_both : (events more : List Event) (old mid new : Asked) (a b : List Sent) → AreAsked old events a mid → AreAsked mid more b new
+pub asked_both : (events more : List Event) (old mid new : Asked) (a b : List Sent)
+    → AreAsked old events a mid → AreAsked mid more b new
     → AreAsked old (events ++ more) (a ++ b) new
 asked_both [] more old mid new a b one two =
-    subst (λ (o : Asked). AreAsked o more (a ++ b) new) one.1 (subst (λ (os : List Sent). AreAsked mid more (os ++ b) new) (sym one.0) two)
+    subst (λ (o : Asked). AreAsked o more (a ++ b) new) one.1
+    (subst (λ (os : List Sent). AreAsked mid more (os ++ b) new) (sym one.0) two)
 asked_both (event ∷ events) more old mid new a b one two = record {
   between = one.between;
   first = one.first;
@@ -81,20 +94,23 @@ pub record TookOne (own : View) (event : Event) (new : Asked) (outs : List Sent)
   pub server_is : new.server ≡ Some (reply own (occurrence_of event)).view
   pub outs_are : outs ≡ (reply own (occurrence_of event)).out
 
-pub took_one : (own : View) (event : Event) (old new : Asked) (sent : List Sent) → old.server ≡ Some own → AreAsked old (event ∷ []) sent new
-    → TookOne own event new sent
+pub took_one : (own : View) (event : Event) (old new : Asked) (sent : List Sent)
+    → old.server ≡ Some own → AreAsked old (event ∷ []) sent new → TookOne own event new sent
 took_one own event old new sent was asked =
-    let it = took own event old.server asked.between.server asked.first was asked.is_handled in record {
+    let it = took own event old.server asked.between.server asked.first was asked.is_handled in
+    record {
       none = it.none;
       server_is = ap (λ (a : Asked). a.server) asked.rest_is.1 ∙ it.server_is;
       outs_are =
-          asked.outs_are ∙ ap (λ os. asked.first ++ os) asked.rest_is.0 ∙ append-nil asked.first ∙ it.first_is;
+          asked.outs_are ∙ ap (λ os. asked.first ++ os) asked.rest_is.0 ∙ append-nil asked.first
+          ∙ it.first_is;
     }
 
 -- ---- a server that is the same at both
 
-server_of : {W : Type 0} (numbers : Numbers) (engine : Option (EngineView W)) (was now : Option Site)
-    → option_map (λ (s : Site). s.server) now ≡ option_map (λ (s : Site). s.server) was → IsServerIf numbers engine was → IsServerIf numbers engine now
+server_of : {W : Type 0} (numbers : Numbers) (engine : Option (EngineView W))
+    (was now : Option Site) → option_map (λ (s : Site). s.server) now ≡ option_map
+    (λ (s : Site). s.server) was → IsServerIf numbers engine was → IsServerIf numbers engine now
 server_of numbers None None None same is = is
 server_of numbers None None (Some site) same is = cc same
 server_of numbers None (Some site) now same is = absurd is
@@ -103,7 +119,8 @@ server_of numbers (Some engine) (Some site) None same is = cc same
 server_of numbers (Some engine) (Some site) (Some now) same is = record {
   in_order = is.in_order;
   framers = is.framers;
-  servers = subst (λ o. AreServersAlikeIf numbers engine.now.server o) (sym (inside now.server site.server same)) is.servers;
+  servers = subst (λ o. AreServersAlikeIf numbers engine.now.server o)
+      (sym (inside now.server site.server same)) is.servers;
 }
 
 -- ---- no line, and no end of a connection, tells that a link is up
@@ -112,7 +129,8 @@ abbrev is_up_event : Event → Bool
 is_up_event (LinkUp link called) = true
 is_up_event other = false
 
-news_is_not_up : {W : Type 0} (now : Moment W) (event : Event) → IsNews now event → is_up_event event ≡ false
+news_is_not_up : {W : Type 0} (now : Moment W) (event : Event) → IsNews now event
+    → is_up_event event ≡ false
 news_is_not_up now event (a_line kinds.Client conn text is_of is) = ap is_up_event is
 news_is_not_up now event (a_line kinds.Link conn text is_of is) = ap is_up_event is
 news_is_not_up now event (an_end kinds.Client conn is_of is) = ap is_up_event is
@@ -136,10 +154,14 @@ no_link (Some end) is = cc is
 
 -- ---- the turn
 
-module _ {W : Type 0} (is_after : W → List Call → Type 0) (pieces : PiecesCompleteTheSame) (lines_end : ServedLinesEnd) (own_law : ServedGoesToItsOwn)
-    (stay : ClientsStay) (connected : WhoIsConnected) (alike_law : ServedAlike) (names : List Name) (tidings : Tidings) (place other : ℕ)
-    (old new : Daemons W) (telling : TellsEnd is_after tidings place other old new) (two : nat_eq place other ≡ false) (old_net : ByteNetwork)
-    (same : IsAsNetwork names old old_net) (placed : (x y : ℕ) (name : Name) → slice_get names x ≡ Some name → slice_get names y ≡ Some name → x ≡ y)
+module _ {W : Type 0} (is_after : W → List Call → Type 0) (pieces : PiecesCompleteTheSame)
+    (lines_end : ServedLinesEnd) (own_law : ServedGoesToItsOwn)
+    (stay : ClientsStay) (connected : WhoIsConnected) (alike_law : ServedAlike) (names : List Name)
+    (tidings : Tidings) (place other : ℕ)
+    (old new : Daemons W) (telling : TellsEnd is_after tidings place other old new)
+    (two : nat_eq place other ≡ false) (old_net : ByteNetwork)
+    (same : IsAsNetwork names old old_net) (placed : (x y : ℕ) (name : Name)
+    → slice_get names x ≡ Some name → slice_get names y ≡ Some name → x ≡ y)
   where
     abbrev conn : ℕ
     conn = telling.conn
@@ -150,7 +172,8 @@ module _ {W : Type 0} (is_after : W → List Call → Type 0) (pieces : PiecesCo
     here : HasServer (numbers_at old place) telling.step.engine (site_at old_net.network place)
     here =
         has_server (numbers_at old place) telling.step.engine (site_at old_net.network place)
-        (subst (λ o. IsServerIf (numbers_at old place) o (site_at old_net.network place)) telling.step.at (same.as_bytes.servers place))
+        (subst (λ o. IsServerIf (numbers_at old place) o (site_at old_net.network place))
+        telling.step.at (same.as_bytes.servers place))
 
     not_itself : (x : ℕ) → base.ends x x ≡ None
     not_itself x = by (base.ends x x) refl
@@ -166,56 +189,74 @@ module _ {W : Type 0} (is_after : W → List Call → Type 0) (pieces : PiecesCo
     -- ---- the moments of the turn
 
     abbrev started : Moment W
-    started = start is_after pieces names place base new telling.step not_itself same.clients_open here.of.in_order here.of.framers
+    started = start is_after pieces names place base new telling.step not_itself same.clients_open
+        here.of.in_order here.of.framers
 
     abbrev begun_now : Moment W
-    begun_now = begin is_after pieces names place base new telling.step not_itself same.clients_open here.of.in_order here.of.framers
+    begun_now = begin is_after pieces names place base new telling.step not_itself same.clients_open
+        here.of.in_order here.of.framers
 
     abbrev mid : Moment W
-    mid = mid_moment is_after pieces names place base new telling.step not_itself same.clients_open here.of.in_order here.of.framers
+    mid = mid_moment is_after pieces names place base new telling.step not_itself same.clients_open
+        here.of.in_order here.of.framers
 
     abbrev end : Moment W
     end = telling.step.after.now
 
     abbrev comes : Option ℕ
-    comes = newcomer is_after pieces names place base new telling.step not_itself same.clients_open here.of.in_order here.of.framers
+    comes = newcomer is_after pieces names place base new telling.step not_itself same.clients_open
+        here.of.in_order here.of.framers
 
     abbrev given : List Event
-    given = (part is_after pieces names place base new telling.step not_itself same.clients_open here.of.in_order here.of.framers).given
+    given = (part is_after pieces names place base new telling.step not_itself same.clients_open
+        here.of.in_order here.of.framers).given
 
     abbrev came : ℕ → List ℕ
-    came = (part is_after pieces names place base new telling.step not_itself same.clients_open here.of.in_order here.of.framers).came
+    came = (part is_after pieces names place base new telling.step not_itself same.clients_open
+        here.of.in_order here.of.framers).came
 
     abbrev begins : BeginsWith started begun_now given comes
-    begins = (part is_after pieces names place base new telling.step not_itself same.clients_open here.of.in_order here.of.framers).begins
+    begins = (part is_after pieces names place base new telling.step not_itself same.clients_open
+        here.of.in_order here.of.framers).begins
 
     abbrev first_events : List Event
-    first_events = (first is_after pieces names place base new telling.step not_itself same.clients_open here.of.in_order here.of.framers).events
+    first_events = (first is_after pieces names place base new telling.step not_itself
+        same.clients_open here.of.in_order here.of.framers).events
 
     abbrev second_events : List Event
-    second_events = (second is_after pieces names place base new telling.step not_itself same.clients_open here.of.in_order here.of.framers).events
+    second_events = (second is_after pieces names place base new telling.step not_itself
+        same.clients_open here.of.in_order here.of.framers).events
 
     abbrev all_outs : List Sent
-    all_outs = outs is_after pieces names place base new telling.step not_itself same.clients_open here.of.in_order here.of.framers
+    all_outs = outs is_after pieces names place base new telling.step not_itself same.clients_open
+        here.of.in_order here.of.framers
 
     abbrev event : Event
     event = event_of tidings conn
 
     events_are : (given ++ first_events) ++ second_events ≡ event ∷ []
     events_are =
-        sym (ap (λ (d : Doings). d.events) (did_all is_after pieces names place base new telling.step not_itself same.clients_open here.of.in_order here.of.framers))
+        sym (ap (λ (d : Doings). d.events) (did_all is_after pieces names place base new
+        telling.step not_itself same.clients_open here.of.in_order here.of.framers))
         ∙ telling.told
 
-    asked_all : AreAsked (asked_at begun_now) ((given ++ first_events) ++ second_events) all_outs (asked_at end)
+    asked_all : AreAsked (asked_at begun_now) ((given ++ first_events) ++ second_events) all_outs
+        (asked_at end)
     asked_all =
-        asked_both (given ++ first_events) second_events (asked_at begun_now) (asked_at mid) (asked_at end)
-        (first is_after pieces names place base new telling.step not_itself same.clients_open here.of.in_order here.of.framers).outs
-        (second is_after pieces names place base new telling.step not_itself same.clients_open here.of.in_order here.of.framers).outs
-        (first is_after pieces names place base new telling.step not_itself same.clients_open here.of.in_order here.of.framers).are_asked
-        (second is_after pieces names place base new telling.step not_itself same.clients_open here.of.in_order here.of.framers).are_asked
+        asked_both (given ++ first_events) second_events (asked_at begun_now) (asked_at mid)
+        (asked_at end)
+        (first is_after pieces names place base new telling.step not_itself same.clients_open
+        here.of.in_order here.of.framers).outs
+        (second is_after pieces names place base new telling.step not_itself same.clients_open
+        here.of.in_order here.of.framers).outs
+        (first is_after pieces names place base new telling.step not_itself same.clients_open
+        here.of.in_order here.of.framers).are_asked
+        (second is_after pieces names place base new telling.step not_itself same.clients_open
+        here.of.in_order here.of.framers).are_asked
 
     asked_one : AreAsked (asked_at begun_now) (event ∷ []) all_outs (asked_at end)
-    asked_one = subst (λ es. AreAsked (asked_at begun_now) es all_outs (asked_at end)) events_are asked_all
+    asked_one =
+        subst (λ es. AreAsked (asked_at begun_now) es all_outs (asked_at end)) events_are asked_all
 
     -- ---- the servers
 
@@ -226,19 +267,22 @@ module _ {W : Type 0} (is_after : W → List Call → Type 0) (pieces : PiecesCo
     own = by begun_now.server refl
       where
         by : (o : Option View) → begun_now.server ≡ o → HasView begun_now.server
-        by None is = cc (sym last.is ∙ none_stays (event ∷ []) (asked_at begun_now) (asked_at end) all_outs is asked_one)
+        by None is = cc (sym last.is
+            ∙ none_stays (event ∷ []) (asked_at begun_now) (asked_at end) all_outs is asked_one)
         by (Some view) is = record { view = view; is = is }
 
     own_start : started.server ≡ Some own.view
     own_start = by begins
       where
         by : BeginsWith started begun_now given comes → started.server ≡ Some own.view
-        by (nobody_comes as_it_was none is) = ap (λ (m : Moment W). m.server) (sym as_it_was) ∙ own.is
+        by (nobody_comes as_it_was none is) = ap (λ (m : Moment W). m.server) (sym as_it_was)
+            ∙ own.is
         by (newcomer_comes room which host made is it) = sym made.server ∙ own.is
         by (link_begins room which called made is it) = sym made.server ∙ own.is
 
     views : HaveViews (numbers_at old place) started.server here.site.server own.view
-    views = have_views (numbers_at old place) started.server here.site.server own.view own_start here.of.servers
+    views = have_views
+        (numbers_at old place) started.server here.site.server own.view own_start here.of.servers
 
     abbrev theirs : View
     theirs = views.theirs
@@ -255,33 +299,42 @@ module _ {W : Type 0} (is_after : W → List Call → Type 0) (pieces : PiecesCo
     abbrev mine : Reply
     mine = reply own.view (occurrence_of event)
 
-    is_it : (t : Tidings) → occurrence_of (event_of t conn) ≡ renumbered conn (occurrence_by t other)
+    is_it : (t : Tidings)
+        → occurrence_of (event_of t conn) ≡ renumbered conn (occurrence_by t other)
     is_it (is_up called) = refl
     is_it is_lost = refl
 
     last_is : last.view ≡ mine.view
     last_is = inside last.view mine.view (sym last.is ∙ it_took.server_is)
 
-    own_clients : (q : ℕ) → is_some (get own.view.clients q) ≡ true → open_kind_at (started.connections q) ≡ Some kinds.Client
-    own_clients q there = same.clients_open place telling.step.engine telling.step.at own.view q own_start there
+    own_clients : (q : ℕ) → is_some (get own.view.clients q) ≡ true
+        → open_kind_at (started.connections q) ≡ Some kinds.Client
+    own_clients q there =
+        same.clients_open place telling.step.engine telling.step.at own.view q own_start there
 
-    some_of_open : (connection : Option Connection) → is_open_at connection ≡ true → is_some connection ≡ true
+    some_of_open : (connection : Option Connection) → is_open_at connection ≡ true
+        → is_some connection ≡ true
     some_of_open None opened = cc opened
     some_of_open (Some connection) opened = refl
 
     old_link : (y q : ℕ) → old.ends place y ≡ Some q → IsOpenOf kinds.Link (started.connections q)
     old_link y q is =
         open_of kinds.Link (started.connections q)
-        (ap (λ o. open_kind_at (connection_in o q)) (sym telling.step.at) ∙ same.are_joined.are_open place y q is)
+        (ap (λ o. open_kind_at (connection_in o q)) (sym telling.step.at)
+        ∙ same.are_joined.are_open place y q is)
 
-    begins_as : (q : ℕ) → is_some (started.connections q) ≡ true → begun_now.connections q ≡ started.connections q
-    begins_as = begins_same is_after pieces names place base new telling.step not_itself same.clients_open here.of.in_order here.of.framers
+    begins_as : (q : ℕ) → is_some (started.connections q) ≡ true
+        → begun_now.connections q ≡ started.connections q
+    begins_as = begins_same is_after pieces names place base new telling.step not_itself
+        same.clients_open here.of.in_order here.of.framers
 
     abbrev IsBegun : ℕ → Type 0
-    IsBegun q = IsEndBegun is_after pieces names place base new telling.step not_itself same.clients_open here.of.in_order here.of.framers q
+    IsBegun q = IsEndBegun is_after pieces names place base new telling.step not_itself
+        same.clients_open here.of.in_order here.of.framers q
 
     old_begun : (q : ℕ) → IsOpenOf kinds.Link (started.connections q) → IsBegun q
-    old_begun q link = begun_before is_after pieces names place base new telling.step not_itself same.clients_open here.of.in_order here.of.framers q link
+    old_begun q link = begun_before is_after pieces names place base new telling.step not_itself
+        same.clients_open here.of.in_order here.of.framers q link
 
     -- ---- who has begun
 
@@ -293,30 +346,41 @@ module _ {W : Type 0} (is_after : W → List Call → Type 0) (pieces : PiecesCo
       nobody : comes ≡ None
       unread : (q : ℕ) → came q ≡ []
 
-    not_up : (one more : List Event) → AllNews begun_now one → AllNews mid more → is_first_up (one ++ more) ≡ false
+    not_up : (one more : List Event) → AllNews begun_now one → AllNews mid more
+        → is_first_up (one ++ more) ≡ false
     not_up [] [] news others = refl
     not_up [] (e ∷ more) news others = news_is_not_up mid e others.0
     not_up (e ∷ one) more news others = news_is_not_up begun_now e news.0
 
     first_news : AllNews begun_now first_events
-    first_news = (first is_after pieces names place base new telling.step not_itself same.clients_open here.of.in_order here.of.framers).are_news
+    first_news = (first is_after pieces names place base new telling.step not_itself
+        same.clients_open here.of.in_order here.of.framers).are_news
 
     second_news : AllNews mid second_events
-    second_news = (second is_after pieces names place base new telling.step not_itself same.clients_open here.of.in_order here.of.framers).are_news
+    second_news = (second is_after pieces names place base new telling.step not_itself
+        same.clients_open here.of.in_order here.of.framers).are_news
 
-    given_front : (given_is : List Event) → given ≡ given_is → is_first_up ((given_is ++ first_events) ++ second_events) ≡ is_first_up (event ∷ [])
-    given_front given_is is = ap (λ g. is_first_up ((g ++ first_events) ++ second_events)) (sym is) ∙ ap is_first_up events_are
+    given_front : (given_is : List Event) → given ≡ given_is
+        → is_first_up ((given_is ++ first_events) ++ second_events) ≡ is_first_up (event ∷ [])
+    given_front given_is is = ap (λ g. is_first_up ((g ++ first_events) ++ second_events)) (sym is)
+        ∙ ap is_first_up events_are
 
     fresh : (called : Option Name) → tidings ≡ is_up called → IsFresh
     fresh called up = by begins
       where
-        first_is_up : (given_is : List Event) → given ≡ given_is → is_first_up ((given_is ++ first_events) ++ second_events) ≡ true
-        first_is_up given_is is = given_front given_is is ∙ ap (λ t. is_up_event (event_of t conn)) up
+        first_is_up : (given_is : List Event) → given ≡ given_is
+            → is_first_up ((given_is ++ first_events) ++ second_events) ≡ true
+        first_is_up given_is is =
+            given_front given_is is ∙ ap (λ t. is_up_event (event_of t conn)) up
 
-        nothing_read : (q : ℕ) (link : ℕ) (name : Option Name) → given ≡ LinkUp link name ∷ [] → came q ≡ []
+        nothing_read : (q : ℕ) (link : ℕ) (name : Option Name) → given ≡ LinkUp link name ∷ []
+            → came q ≡ []
         nothing_read q link name is =
-            came_of is_after telling.step.engine.rooms telling.step.turn.report started mid telling.step.turn.does.answers q
-            (λ report. none_given (part_reads is_after telling.step.engine.rooms telling.step.turn.report started mid telling.step.turn.does.answers q report).given_is)
+            came_of is_after telling.step.engine.rooms telling.step.turn.report started mid
+            telling.step.turn.does.answers q
+            (λ report. none_given
+            (part_reads is_after telling.step.engine.rooms telling.step.turn.report started
+            mid telling.step.turn.does.answers q report).given_is)
           where
             none_given : given ≡ [] → ⊥
             none_given none = cc (sym none ∙ is)
@@ -325,11 +389,14 @@ module _ {W : Type 0} (is_after : W → List Call → Type 0) (pieces : PiecesCo
         link_of (LinkUp link name) = link
         link_of other = conn
 
-        its : (room link : ℕ) (name : Option Name) → IsMade kinds.Link room link started begun_now → given ≡ LinkUp link name ∷ [] → comes ≡ None → IsFresh
+        its : (room link : ℕ) (name : Option Name) → IsMade kinds.Link room link started begun_now
+            → given ≡ LinkUp link name ∷ [] → comes ≡ None → IsFresh
         its room link name made is none =
             let same_event : LinkUp link name ≡ event =
-            ap (λ es. first_or event es) (ap (λ g. (g ++ first_events) ++ second_events) (sym is) ∙ events_are) in
-            let same_link : link ≡ conn = ap link_of same_event ∙ ap (λ t. link_of (event_of t conn)) up in record {
+            ap (λ es. first_or event es) (ap (λ g. (g ++ first_events) ++ second_events) (sym is)
+            ∙ events_are) in
+            let same_link : link ≡ conn =
+            ap link_of same_event ∙ ap (λ t. link_of (event_of t conn)) up in record {
               room = room;
               called = name;
               made = subst (λ n. IsMade kinds.Link room n started begun_now) same_link made;
@@ -343,8 +410,10 @@ module _ {W : Type 0} (is_after : W → List Call → Type 0) (pieces : PiecesCo
 
         by : BeginsWith started begun_now given comes → IsFresh
         by (nobody_comes as_it_was none is) =
-            cc (sym (not_up first_events second_events first_news second_news) ∙ first_is_up [] none)
-        by (newcomer_comes room which host made is it) = cc (first_is_up (Connect which host ∷ []) is)
+            cc (sym (not_up first_events second_events first_news second_news)
+            ∙ first_is_up [] none)
+        by (newcomer_comes room which host made is it) =
+            cc (first_is_up (Connect which host ∷ []) is)
         by (link_begins room link name made is it) = its room link name made is it
 
     -- where it is lost nobody comes
@@ -359,9 +428,11 @@ module _ {W : Type 0} (is_after : W → List Call → Type 0) (pieces : PiecesCo
         is_end (LinkDown link) = true
         is_end other = false
 
-        first_end : (given_is : List Event) → given ≡ given_is → list_first is_end ((given_is ++ first_events) ++ second_events) ≡ true
+        first_end : (given_is : List Event) → given ≡ given_is
+            → list_first is_end ((given_is ++ first_events) ++ second_events) ≡ true
         first_end given_is is =
-            ap (λ g. list_first is_end ((g ++ first_events) ++ second_events)) (sym is) ∙ ap (list_first is_end) events_are
+            ap (λ g. list_first is_end ((g ++ first_events) ++ second_events)) (sym is)
+            ∙ ap (list_first is_end) events_are
             ∙ ap (λ t. is_end (event_of t conn)) lost
 
         by : BeginsWith started begun_now given comes → IsNobody
@@ -374,7 +445,8 @@ module _ {W : Type 0} (is_after : W → List Call → Type 0) (pieces : PiecesCo
     fault_none : fault_of own.view event ≡ None
     fault_none = it_took.none
 
-    no_end_up : (t : Tidings) → is_way_by t ≡ true → fault_of own.view (event_of t conn) ≡ None → is_some (get own.view.ends conn) ≡ false
+    no_end_up : (t : Tidings) → is_way_by t ≡ true → fault_of own.view (event_of t conn) ≡ None
+        → is_some (get own.view.ends conn) ≡ false
     no_end_up (is_up called) up none = no_link (get own.view.ends conn) none
     no_end_up is_lost up none = cc up
 
@@ -388,7 +460,8 @@ module _ {W : Type 0} (is_after : W → List Call → Type 0) (pieces : PiecesCo
     no_client_up it = by (is_some (get own.view.clients conn)) refl
       where
         by : (b : Bool) → is_some (get own.view.clients conn) ≡ b → b ≡ false
-        by true is = absurd (not_both (started.connections conn) it.made.free (open_of kinds.Client (started.connections conn) (own_clients conn is)).is_open)
+        by true is = absurd (not_both (started.connections conn) it.made.free
+            (open_of kinds.Client (started.connections conn) (own_clients conn is)).is_open)
         by false is = refl
 
     -- no link has the number of one that is made
@@ -399,7 +472,8 @@ module _ {W : Type 0} (is_after : W → List Call → Type 0) (pieces : PiecesCo
         by : (b : Bool) → nat_eq q conn ≡ b → b ≡ false
         by true one =
             absurd (not_both (started.connections conn) (fresh called is).made.free
-            (ap (λ n. is_open_at (started.connections n)) (sym (eqb-true q conn one)) ∙ (old_link y q link).is_open))
+            (ap (λ n. is_open_at (started.connections n)) (sym (eqb-true q conn one))
+            ∙ (old_link y q link).is_open))
         by false apart = refl
 
     seats_then : new.seats ≡ base.seats
@@ -411,7 +485,8 @@ module _ {W : Type 0} (is_after : W → List Call → Type 0) (pieces : PiecesCo
 
     joined_now : AreJoined new
     joined_now =
-        joined_by old place other conn two same.are_joined tidings new (free_of tidings refl) telling.step.same_ends telling.step.same_ways seats_then
+        joined_by old place other conn two same.are_joined tidings new
+        (free_of tidings refl) telling.step.same_ends telling.step.same_ways seats_then
         telling.stay
 
     abbrev numbers_old : Numbers
@@ -421,7 +496,8 @@ module _ {W : Type 0} (is_after : W → List Call → Type 0) (pieces : PiecesCo
     numbers_base = numbers_by old place other conn own.view theirs tidings
 
     base_is_new : numbers_base ≡ numbers_at new place
-    base_is_new = λ i. record { link = sym telling.step.same_ends i place; client = sym seats_then i place }
+    base_is_new =
+        λ i. record { link = sym telling.step.same_ends i place; client = sym seats_then i place }
 
     -- the numbers under which the server is asked: those before where a link is lost, those behind
     -- where one is made
@@ -429,10 +505,14 @@ module _ {W : Type 0} (is_after : W → List Call → Type 0) (pieces : PiecesCo
       apart : AreApart by
       alike : AreServersAlike by own.view theirs
       happens : happens_at by (occurrence_by t other) ≡ Some conn
-      links : (y q : ℕ) → (numbers_by old place other conn own.view theirs t).link y ≡ Some q → by.link y ≡ Some q
-      clients : (client : ℕ) → (numbers_by old place other conn own.view theirs t).client client ≡ by.client client
-      alike_then : AreServersAlike by (reply own.view (renumbered conn (occurrence_by t other))).view (reply theirs (occurrence_by t other)).view
-          → AreServersAlike (numbers_by old place other conn own.view theirs t) (reply own.view (renumbered conn (occurrence_by t other))).view
+      links : (y q : ℕ) → (numbers_by old place other conn own.view theirs t).link y ≡ Some q
+          → by.link y ≡ Some q
+      clients : (client : ℕ) → (numbers_by old place other conn own.view theirs t).client client
+          ≡ by.client client
+      alike_then : AreServersAlike by (reply own.view (renumbered conn
+          (occurrence_by t other))).view (reply theirs (occurrence_by t other)).view
+          → AreServersAlike (numbers_by old place other conn own.view theirs t)
+          (reply own.view (renumbered conn (occurrence_by t other))).view
           (reply theirs (occurrence_by t other)).view
 
     record AskedBy (t : Tidings) : Type 0 where
@@ -440,13 +520,22 @@ module _ {W : Type 0} (is_after : W → List Call → Type 0) (pieces : PiecesCo
       is : IsAskedBy t numbers
 
     apart_old : AreApart numbers_old
-    apart_old = record { links = same.are_joined.apart place; clients = same.are_joined.one_seat place; kinds = same.are_joined.no_client place }
+    apart_old = record {
+      links = same.are_joined.apart place;
+      clients = same.are_joined.one_seat place;
+      kinds = same.are_joined.no_client place;
+    }
 
     apart_new : AreApart (numbers_at new place)
-    apart_new = record { links = joined_now.apart place; clients = joined_now.one_seat place; kinds = joined_now.no_client place }
+    apart_new = record {
+      links = joined_now.apart place;
+      clients = joined_now.one_seat place;
+      kinds = joined_now.no_client place;
+    }
 
     -- whose link is lost has no end for it any more
-    lost_end : WhoIsConnected → (view : View) → is_some (get (reply view (link_down conn)).view.ends conn) ≡ false
+    lost_end : WhoIsConnected → (view : View)
+        → is_some (get (reply view (link_down conn)).view.ends conn) ≡ false
     lost_end law view = by (serves_occurrence view (link_down conn)) refl
       where
         gone : (was new closed : Bool) → ((was || new) && not (true || closed)) ≡ false
@@ -456,24 +545,33 @@ module _ {W : Type 0} (is_after : W → List Call → Type 0) (pieces : PiecesCo
 
         replied : Bool → Reply
         replied b =
-            if b then record { view = (served view (link_down conn)).view; out = (served view (link_down conn)).out } else record { view = view; out = [] }
+            if b then record {
+              view = (served view (link_down conn)).view;
+              out = (served view (link_down conn)).out;
+            } else record { view = view; out = [] }
 
-        by : (b : Bool) → serves_occurrence view (link_down conn) ≡ b → is_some (get (replied b).view.ends conn) ≡ false
+        by : (b : Bool) → serves_occurrence view (link_down conn) ≡ b
+            → is_some (get (replied b).view.ends conn) ≡ false
         by true is =
             (law view (link_down conn) tt).links conn
-            ∙ ap (λ b. (is_some (get view.ends conn) || false) && not (b || is_link_ended conn (served view (link_down conn)).out)) (eq-eqb conn conn refl)
-            ∙ gone (is_some (get view.ends conn)) false (is_link_ended conn (served view (link_down conn)).out)
+            ∙ ap (λ b. (is_some (get view.ends conn) || false) && not (b || is_link_ended conn
+            (served view (link_down conn)).out)) (eq-eqb conn conn refl)
+            ∙ gone (is_some (get view.ends conn)) false
+            (is_link_ended conn (served view (link_down conn)).out)
         by false is = is
 
     asked_by : (t : Tidings) → tidings ≡ t → AskedBy t
     asked_by (is_up called) is =
         let was : old.ends place other ≡ None = telling.was ∙ ap (λ t. end_before t conn) is in
-        let no_end = no_end_up (is_up called) refl (ap (λ t. fault_of own.view (event_of t conn)) (sym is) ∙ fault_none) in
+        let no_end = no_end_up (is_up called) refl
+        (ap (λ t. fault_of own.view (event_of t conn)) (sym is) ∙ fault_none) in
         let no_client = no_client_up (fresh called is) in
-        let up = alike_up old place other conn own.view theirs called was no_end no_client in record {
+        let up = alike_up old place other conn own.view theirs called was no_end no_client in
+        record {
           numbers = numbers_by old place other conn own.view theirs (is_up called);
           is = record {
-            apart = subst AreApart (sym base_is_new ∙ ap (numbers_by old place other conn own.view theirs) is) apart_new;
+            apart = subst AreApart (sym base_is_new
+                ∙ ap (numbers_by old place other conn own.view theirs) is) apart_new;
             alike = up views.alike;
             happens = end_told old place other (Some conn);
             links = λ y q link. link;
@@ -482,7 +580,8 @@ module _ {W : Type 0} (is_after : W → List Call → Type 0) (pieces : PiecesCo
           };
         }
     asked_by is_lost is =
-        let was : old.ends place other ≡ Some conn = telling.was ∙ ap (λ t. end_before t conn) is in record {
+        let was : old.ends place other ≡ Some conn = telling.was ∙ ap (λ t. end_before t conn) is in
+        record {
           numbers = numbers_old;
           is = record {
             apart = apart_old;
@@ -491,12 +590,14 @@ module _ {W : Type 0} (is_after : W → List Call → Type 0) (pieces : PiecesCo
             links = λ y q link. lost_was y q link;
             clients = λ client. refl;
             alike_then = λ alike.
-                alike_lost old place other conn (reply own.view (link_down conn)).view (reply theirs (link_down other)).view was
+                alike_lost old place other conn (reply own.view (link_down conn)).view
+                (reply theirs (link_down other)).view was
                 (lost_end connected own.view) alike;
           };
         }
       where
-        lost_was : (y q : ℕ) → end_set old place other None place y ≡ Some q → old.ends place y ≡ Some q
+        lost_was : (y q : ℕ) → end_set old place other None place y ≡ Some q
+            → old.ends place y ≡ Some q
         lost_was y q link = of (end_then old place other None place y q link)
           where
             of : EndThen old place other None place y q → old.ends place y ≡ Some q
@@ -508,17 +609,21 @@ module _ {W : Type 0} (is_after : W → List Call → Type 0) (pieces : PiecesCo
 
     -- ---- a network in which the two are linked, or no more, and nobody was asked yet
 
-    module _ (mid_net : ByteNetwork) (servers_same : (x : ℕ) → server_at mid_net.network x ≡ server_at old_net.network x)
-        (names_same : mid_net.network.names ≡ old_net.network.names) (homes_same : mid_net.network.homes ≡ old_net.network.homes)
+    module _ (mid_net : ByteNetwork)
+        (servers_same : (x : ℕ) → server_at mid_net.network x ≡ server_at old_net.network x)
+        (names_same : mid_net.network.names ≡ old_net.network.names)
+        (homes_same : mid_net.network.homes ≡ old_net.network.homes)
         (received_same : mid_net.network.received ≡ old_net.network.received)
         (ways_mid : (x y : ℕ) → has_way mid_net.network x y ≡ base.ways x y)
-        (wires_same : (x y : ℕ) → wire_at mid_net.wires x y ≡ wire_at old_net.wires x y) (tidy_mid : IsTidy mid_net)
+        (wires_same : (x y : ℕ) → wire_at mid_net.wires x y ≡ wire_at old_net.wires x y)
+        (tidy_mid : IsTidy mid_net)
         (told_now : (y : ℕ) → base.ways place y ≡ is_some (base.ends place y))
         (still_in : tidings ≡ is_lost → (y : ℕ) → wire_at old_net.wires y place ≡ new_wire)
         (still_out : tidings ≡ is_lost → wire_at old_net.wires place other ≡ new_wire) (item : Item)
       where
         abbrev asked_net : ByteNetwork
-        asked_net = queues_written (item_kept item (site_asked place occurrence (begun mid_net.network))).net mid_net.wires
+        asked_net = queues_written
+            (item_kept item (site_asked place occurrence (begun mid_net.network))).net mid_net.wires
 
         -- ---- wires
 
@@ -529,31 +634,40 @@ module _ {W : Type 0} (is_after : W → List Call → Type 0) (pieces : PiecesCo
 
         record IsSameEnd : Type 0 where
           same_unsent : unsent (end_at old place other) ≡ unsent (end_at base place other)
-          same_begun : begun_or_none (begun_at (end_at old place other)) ≡ begun_or_none (begun_at (end_at base place other))
+          same_begun : begun_or_none (begun_at (end_at old place other))
+              ≡ begun_or_none (begun_at (end_at base place other))
 
-        end_base : end_at base place other ≡ option_and_then (connection_at old place) (end_by tidings conn)
-        end_base = ap (option_and_then (connection_at old place)) (end_told old place other (end_by tidings conn))
+        end_base : end_at base place other ≡ option_and_then (connection_at old place)
+            (end_by tidings conn)
+        end_base = ap (option_and_then (connection_at old place))
+            (end_told old place other (end_by tidings conn))
 
-        end_old : end_at old place other ≡ option_and_then (connection_at old place) (end_before tidings conn)
+        end_old : end_at old place other ≡ option_and_then (connection_at old place)
+            (end_before tidings conn)
         end_old = ap (option_and_then (connection_at old place)) telling.was
 
         same_end_by : (t : Tidings) → tidings ≡ t → IsSameEnd
         same_end_by (is_up called) is =
-            let none : end_at old place other ≡ None = end_old ∙ ap (λ t. option_and_then (connection_at old place) (end_before t conn)) is in
+            let none : end_at old place other ≡ None = end_old
+            ∙ ap (λ t. option_and_then (connection_at old place) (end_before t conn)) is in
             let free : end_at base place other ≡ None =
-            end_base ∙ ap (λ t. option_and_then (connection_at old place) (end_by t conn)) is ∙ ap (λ o. connection_in o conn) telling.step.at
+            end_base ∙ ap (λ t. option_and_then (connection_at old place) (end_by t conn)) is
+            ∙ ap (λ o. connection_in o conn) telling.step.at
             ∙ (fresh called is).made.free in record {
               same_unsent = ap unsent (none ∙ sym free);
               same_begun = ap (λ o. begun_or_none (begun_at o)) (none ∙ sym free);
             }
         same_end_by is_lost is =
-            let gone : end_at base place other ≡ None = end_base ∙ ap (λ t. option_and_then (connection_at old place) (end_by t conn)) is in record {
+            let gone : end_at base place other ≡ None = end_base
+            ∙ ap (λ t. option_and_then (connection_at old place) (end_by t conn)) is in record {
               same_unsent =
                   rest_none (old.transit place other) (unsent (end_at old place other))
-                  (ap (λ (w : Wire). w.bytes) (sym (same.as_bytes.wires place other) ∙ still_out is))
+                  (ap (λ (w : Wire). w.bytes) (sym (same.as_bytes.wires place other)
+                  ∙ still_out is))
                   ∙ sym (ap unsent gone);
               same_begun =
-                  ap (λ (w : Wire). w.begun) (sym (same.as_bytes.wires other place) ∙ still_in is other)
+                  ap (λ (w : Wire). w.begun) (sym (same.as_bytes.wires other place)
+                  ∙ still_in is other)
                   ∙ sym (ap (λ o. begun_or_none (begun_at o)) gone);
             }
 
@@ -561,45 +675,59 @@ module _ {W : Type 0} (is_after : W → List Call → Type 0) (pieces : PiecesCo
         same_end = same_end_by tidings refl
 
         -- other ends are the same
-        other_end : (x y : ℕ) → (x ≡ place → nat_eq y other ≡ false) → end_at base x y ≡ end_at old x y
+        other_end : (x y : ℕ) → (x ≡ place → nat_eq y other ≡ false)
+            → end_at base x y ≡ end_at old x y
         other_end x y apart = by (nat_eq x place) refl
           where
             by : (b : Bool) → nat_eq x place ≡ b → end_at base x y ≡ end_at old x y
             by true one =
                 ap (option_and_then (connection_at old x))
                 (ap (λ n. end_set old place other (end_by tidings conn) n y) (eqb-true x place one)
-                ∙ end_to_others old place other (end_by tidings conn) y (apart (eqb-true x place one))
+                ∙ end_to_others old place other (end_by tidings conn) y
+                (apart (eqb-true x place one))
                 ∙ ap (λ n. old.ends n y) (sym (eqb-true x place one)))
-            by false away = ap (option_and_then (connection_at old x)) (end_elsewhere old place other (end_by tidings conn) x y away)
+            by false away = ap (option_and_then (connection_at old x))
+                (end_elsewhere old place other (end_by tidings conn) x y away)
 
         unsent_same : (x y : ℕ) → unsent (end_at old x y) ≡ unsent (end_at base x y)
         unsent_same x y = by (nat_eq x place) (nat_eq y other) refl refl
           where
-            by : (a b : Bool) → nat_eq x place ≡ a → nat_eq y other ≡ b → unsent (end_at old x y) ≡ unsent (end_at base x y)
+            by : (a b : Bool) → nat_eq x place ≡ a → nat_eq y other ≡ b
+                → unsent (end_at old x y) ≡ unsent (end_at base x y)
             by true true one there =
-                subst (λ n. unsent (end_at old n y) ≡ unsent (end_at base n y)) (sym (eqb-true x place one))
-                (subst (λ n. unsent (end_at old place n) ≡ unsent (end_at base place n)) (sym (eqb-true y other there)) same_end.same_unsent)
+                subst (λ n. unsent (end_at old n y) ≡ unsent (end_at base n y))
+                (sym (eqb-true x place one))
+                (subst (λ n. unsent (end_at old place n) ≡ unsent (end_at base place n))
+                (sym (eqb-true y other there)) same_end.same_unsent)
             by true false one there = sym (ap unsent (other_end x y (λ is. there)))
-            by false b away there = sym (ap unsent (other_end x y (λ is. cc (sym (eq-eqb x place is) ∙ away))))
+            by false b away there =
+                sym (ap unsent (other_end x y (λ is. cc (sym (eq-eqb x place is) ∙ away))))
 
-        begun_same : (x y : ℕ) → begun_or_none (begun_at (end_at old x y)) ≡ begun_or_none (begun_at (end_at base x y))
+        begun_same : (x y : ℕ)
+            → begun_or_none (begun_at (end_at old x y)) ≡ begun_or_none (begun_at (end_at base x y))
         begun_same x y = by (nat_eq x place) (nat_eq y other) refl refl
           where
-            by : (a b : Bool) → nat_eq x place ≡ a → nat_eq y other ≡ b
-                → begun_or_none (begun_at (end_at old x y)) ≡ begun_or_none (begun_at (end_at base x y))
+            by : (a b : Bool) → nat_eq x place ≡ a → nat_eq y other ≡ b → begun_or_none
+                (begun_at (end_at old x y)) ≡ begun_or_none (begun_at (end_at base x y))
             by true true one there =
-                subst (λ n. begun_or_none (begun_at (end_at old n y)) ≡ begun_or_none (begun_at (end_at base n y))) (sym (eqb-true x place one))
-                (subst (λ n. begun_or_none (begun_at (end_at old place n)) ≡ begun_or_none (begun_at (end_at base place n))) (sym (eqb-true y other there))
+                subst (λ n. begun_or_none (begun_at (end_at old n y))
+                ≡ begun_or_none (begun_at (end_at base n y))) (sym (eqb-true x place one))
+                (subst (λ n. begun_or_none (begun_at (end_at old place n)) ≡ begun_or_none
+                (begun_at (end_at base place n))) (sym (eqb-true y other there))
                 same_end.same_begun)
-            by true false one there = sym (ap (λ o. begun_or_none (begun_at o)) (other_end x y (λ is. there)))
+            by true false one there =
+                sym (ap (λ o. begun_or_none (begun_at o)) (other_end x y (λ is. there)))
             by false b away there =
-                sym (ap (λ o. begun_or_none (begun_at o)) (other_end x y (λ is. cc (sym (eq-eqb x place is) ∙ away))))
+                sym (ap (λ o. begun_or_none (begun_at o))
+                (other_end x y (λ is. cc (sym (eq-eqb x place is) ∙ away))))
 
         wires_mid : (x y : ℕ) → wire_at mid_net.wires x y ≡ wire_between base x y
         wires_mid x y =
             wires_same x y ∙ same.as_bytes.wires x y
-            ∙ same_wire (begun_or_none (begun_at (end_at old y x))) (begun_or_none (begun_at (end_at base y x))) (old.transit x y ++ unsent (end_at old x y))
-            (old.transit x y ++ unsent (end_at base x y)) (begun_same y x) (ap (λ bs. old.transit x y ++ bs) (unsent_same x y))
+            ∙ same_wire (begun_or_none (begun_at (end_at old y x))) (begun_or_none
+            (begun_at (end_at base y x))) (old.transit x y ++ unsent (end_at old x y))
+            (old.transit x y ++ unsent (end_at base x y)) (begun_same y x)
+            (ap (λ bs. old.transit x y ++ bs) (unsent_same x y))
 
         -- ---- what is asked
 
@@ -612,7 +740,8 @@ module _ {W : Type 0} (is_after : W → List Call → Type 0) (pieces : PiecesCo
         mine_is : reply own.view (renumbered conn occurrence) ≡ mine
         mine_is = ap (reply own.view) (sym (is_it tidings))
 
-        numbers_are : AreThen place it_is_asked.numbers (reply own.view (renumbered conn occurrence)).view (reply theirs occurrence).view mid_net numbers_base
+        numbers_are : AreThen place it_is_asked.numbers (reply own.view
+            (renumbered conn occurrence)).view (reply theirs occurrence).view mid_net numbers_base
         numbers_are = record {
           links = as_asked.links;
           clients = as_asked.clients;
@@ -620,41 +749,52 @@ module _ {W : Type 0} (is_after : W → List Call → Type 0) (pieces : PiecesCo
           ways = λ y. ways_mid place y ∙ told_now y;
         }
 
-        went_base : Went place numbers_base (reply own.view (renumbered conn occurrence)).view (reply own.view (renumbered conn occurrence)).out mid_net asked_net
+        went_base : Went place numbers_base (reply own.view (renumbered conn occurrence)).view
+            (reply own.view (renumbered conn occurrence)).out mid_net asked_net
         went_base =
-            asked_went lines_end own_law alike_law place it_is_asked.numbers as_asked.apart own.view theirs occurrence conn as_asked.happens as_asked.alike mid_net
+            asked_went lines_end own_law alike_law place it_is_asked.numbers as_asked.apart own.view
+            theirs occurrence conn as_asked.happens as_asked.alike mid_net
             tidy_mid at_mid numbers_base numbers_are item
 
         went : Went place (numbers_at new place) last.view all_outs mid_net asked_net
         went =
             subst (λ n. Went place n last.view all_outs mid_net asked_net) base_is_new
-            (subst (λ os. Went place numbers_base last.view os mid_net asked_net) (sym it_took.outs_are)
+            (subst (λ os. Went place numbers_base last.view os mid_net asked_net)
+            (sym it_took.outs_are)
             (subst (λ v. Went place numbers_base v mine.out mid_net asked_net) (sym last_is)
-            (subst (λ (r : Reply). Went place numbers_base r.view r.out mid_net asked_net) mine_is went_base)))
+            (subst (λ (r : Reply). Went place numbers_base r.view r.out mid_net asked_net) mine_is
+            went_base)))
 
         -- ---- whom it serves
 
-        seat_was : (client q : ℕ) → new.seats place client ≡ Some q → SeatBefore old place other tidings conn place client q
+        seat_was : (client q : ℕ) → new.seats place client ≡ Some q
+            → SeatBefore old place other tidings conn place client q
         seat_was client q seat =
-            seat_before old place other tidings conn place client q (ap (λ (f : ℕ → ℕ → Option ℕ). f place client) (sym seats_then) ∙ seat)
+            seat_before old place other tidings conn place client q
+            (ap (λ (f : ℕ → ℕ → Option ℕ). f place client) (sym seats_then) ∙ seat)
 
-        not_new : (t : Tidings) → tidings ≡ t → (client q : ℕ) → new.seats place client ≡ Some q → link_comes q (occurrence_of (event_of t conn)) ≡ false
+        not_new : (t : Tidings) → tidings ≡ t → (client q : ℕ) → new.seats place client ≡ Some q
+            → link_comes q (occurrence_of (event_of t conn)) ≡ false
         not_new is_lost is client q seat = refl
-        not_new (is_up called) is client q seat = turned conn q ∙ (seat_was client q seat).free refl (ap is_way_by is)
+        not_new (is_up called) is client q seat =
+            turned conn q ∙ (seat_was client q seat).free refl (ap is_way_by is)
 
-        no_end : (client q : ℕ) → new.seats place client ≡ Some q → is_some (get own.view.ends q) ≡ false
+        no_end : (client q : ℕ) → new.seats place client ≡ Some q
+            → is_some (get own.view.ends q) ≡ false
         no_end client q seat = by (is_some (get own.view.ends q)) refl
           where
             by : (b : Bool) → is_some (get own.view.ends q) ≡ b → b ≡ false
             by true is =
                 let among = views.alike.alike.no_other_end q is in
-                absurd (same.are_joined.no_client place among.number client q among.is (seat_was client q seat).was)
+                absurd (same.are_joined.no_client place among.number client q among.is
+                (seat_was client q seat).was)
             by false is = refl
 
         abbrev ends_count : AreEnds own.view.ends own.view.routes
         ends_count = views.alike.ends_count
 
-        comes_none : (t : Tidings) (q : ℕ) → client_comes q (occurrence_of (event_of t conn)) ≡ false
+        comes_none : (t : Tidings) (q : ℕ)
+            → client_comes q (occurrence_of (event_of t conn)) ≡ false
         comes_none (is_up called) q = refl
         comes_none is_lost q = refl
 
@@ -669,26 +809,35 @@ module _ {W : Type 0} (is_after : W → List Call → Type 0) (pieces : PiecesCo
         serves_mine : ServesClients (numbers_at new place) own.view mine.view (event ∷ []) mine.out
         serves_mine = record {
           silent = λ client q seat none.
-              nothing_answered own_law own.view (occurrence_of event) ends_count q (not_new tidings refl client q seat) none (no_end client q seat);
+              nothing_answered own_law own.view (occurrence_of event) ends_count q
+              (not_new tidings refl client q seat) none (no_end client q seat);
           still = λ client q seat there.
-              let known = still_there own_law own.view (occurrence_of event) ends_count stay q (not_new tidings refl client q seat) (no_end client q seat) there
+              let known = still_there own_law own.view (occurrence_of event) ends_count stay q
+              (not_new tidings refl client q seat) (no_end client q seat) there
               in record {
-                was = none_or (is_some (get own.view.clients q)) (client_comes q (occurrence_of event)) (comes_none tidings q) known.was;
+                was = none_or (is_some (get own.view.clients q))
+                    (client_comes q (occurrence_of event)) (comes_none tidings q) known.was;
                 not_closed = known.not_closed;
                 not_gone = ap (λ b. b || false) (left_none tidings q);
               };
         }
 
-        serves_all : ServesClients (numbers_at new place) own.view last.view ((given ++ first_events) ++ second_events) all_outs
+        serves_all : ServesClients (numbers_at new place) own.view last.view
+            ((given ++ first_events) ++ second_events) all_outs
         serves_all =
-            subst (λ es. ServesClients (numbers_at new place) own.view last.view es all_outs) (sym events_are)
-            (subst (λ os. ServesClients (numbers_at new place) own.view last.view (event ∷ []) os) (sym it_took.outs_are)
-            (subst (λ v. ServesClients (numbers_at new place) own.view v (event ∷ []) mine.out) (sym last_is) serves_mine))
+            subst (λ es. ServesClients (numbers_at new place) own.view last.view es all_outs)
+            (sym events_are)
+            (subst (λ os. ServesClients (numbers_at new place) own.view last.view (event ∷ []) os)
+            (sym it_took.outs_are)
+            (subst (λ v. ServesClients (numbers_at new place) own.view v (event ∷ []) mine.out)
+            (sym last_is) serves_mine))
 
-        own_open : (q : ℕ) → is_some (get own.view.clients q) ≡ true → open_kind_at (begun_now.connections q) ≡ Some kinds.Client
+        own_open : (q : ℕ) → is_some (get own.view.clients q) ≡ true
+            → open_kind_at (begun_now.connections q) ≡ Some kinds.Client
         own_open q there =
             let client = own_clients q there in
-            ap open_kind_at (begins_as q (some_of_open (started.connections q) (open_of kinds.Client (started.connections q) client).is_open)) ∙ client
+            ap open_kind_at (begins_as q (some_of_open (started.connections q)
+            (open_of kinds.Client (started.connections q) client).is_open)) ∙ client
 
         -- ---- ends of links
 
@@ -698,11 +847,15 @@ module _ {W : Type 0} (is_after : W → List Call → Type 0) (pieces : PiecesCo
             let it = fresh called is in
             let here_now : begun_now.connections q ≡ Some (fresh_connection kinds.Link it.room) =
             it.made.connections q
-            ∙ ap (λ b. if b then Some (fresh_connection kinds.Link it.room) else started.connections q) (eq-eqb conn q (inside conn q end)) in
-            let nobody : started.connections q ≡ None = ap started.connections (sym (inside conn q end)) ∙ it.made.free in record {
-              is_link = subst (IsOpenOf kinds.Link) (sym here_now) (record { is_open = refl; kind = refl });
+            ∙ ap (λ b. if b then Some (fresh_connection kinds.Link it.room)
+            else started.connections q) (eq-eqb conn q (inside conn q end)) in
+            let nobody : started.connections q ≡ None =
+            ap started.connections (sym (inside conn q end)) ∙ it.made.free in record {
+              is_link = subst (IsOpenOf kinds.Link) (sym here_now)
+                  (record { is_open = refl; kind = refl });
               same_unsent = ap unsent nobody ∙ sym (ap unsent here_now);
-              same_begun = ap (λ o. begun_or_none (begun_at o)) nobody ∙ sym (ap (λ o. begun_or_none (begun_at o)) here_now);
+              same_begun = ap (λ o. begun_or_none (begun_at o)) nobody
+                  ∙ sym (ap (λ o. begun_or_none (begun_at o)) here_now);
             }
 
         ends_begin : (y q : ℕ) → base.ends place y ≡ Some q → IsBegun q
@@ -715,46 +868,58 @@ module _ {W : Type 0} (is_after : W → List Call → Type 0) (pieces : PiecesCo
         unread : (t : Tidings) → tidings ≡ t → (y q : ℕ) → base.ends place y ≡ Some q → came q ≡ []
         unread (is_up called) is y q link = (fresh called is).unread q
         unread is_lost is y q link =
-            sym (taken_is is_after pieces names place base new telling.step not_itself same.clients_open here.of.in_order here.of.framers q)
+            sym (taken_is is_after pieces names place base new telling.step not_itself
+            same.clients_open here.of.in_order here.of.framers q)
             ∙ front_none (taken_at (Some q) telling.step.did.calls) (new.transit y place)
-            (ap (λ o. taken_at o telling.step.did.calls ++ new.transit y place) (sym link) ∙ sym (telling.step.reads y) ∙ transit_still is y)
+            (ap (λ o. taken_at o telling.step.did.calls ++ new.transit y place) (sym link)
+            ∙ sym (telling.step.reads y) ∙ transit_still is y)
 
         -- ---- clients
 
         seats_base : (x client q : ℕ) → new.seats x client ≡ Some q → old.seats x client ≡ Some q
         seats_base x client q seat =
-            (seat_before old place other tidings conn x client q (ap (λ (f : ℕ → ℕ → Option ℕ). f x client) (sym seats_then) ∙ seat)).was
+            (seat_before old place other tidings conn x client q
+            (ap (λ (f : ℕ → ℕ → Option ℕ). f x client) (sym seats_then) ∙ seat)).was
 
-        same_received : (client : ℕ) → bytes_received mid_net.network client ≡ bytes_received old_net.network client
+        same_received : (client : ℕ)
+            → bytes_received mid_net.network client ≡ bytes_received old_net.network client
         same_received client = bytes_of_sites old_net.network mid_net.network received_same client
 
-        not_made : (t : Tidings) → tidings ≡ t → (client q : ℕ) → new.seats place client ≡ Some q → is_some (begun_now.connections q) ≡ true
+        not_made : (t : Tidings) → tidings ≡ t → (client q : ℕ)
+            → new.seats place client ≡ Some q → is_some (begun_now.connections q) ≡ true
             → begun_now.connections q ≡ started.connections q
-        not_made is_lost is client q seat there = ap (λ (m : Moment W). m.connections q) (nobody_new is).as_it_was
+        not_made is_lost is client q seat there =
+            ap (λ (m : Moment W). m.connections q) (nobody_new is).as_it_was
         not_made (is_up called) is client q seat there =
             let it = fresh called is in
             it.made.connections q
-            ∙ ap (λ b. if b then Some (fresh_connection kinds.Link it.room) else started.connections q)
+            ∙ ap (λ b. if b then Some (fresh_connection kinds.Link it.room)
+            else started.connections q)
             (turned conn q ∙ (seat_was client q seat).free refl (ap is_way_by is))
 
-        seats_here : (client q : ℕ) → new.seats place client ≡ Some q → is_some (begun_now.connections q) ≡ true
-            → bytes_received mid_net.network client ≡ old.written client ++ unsent (begun_now.connections q)
+        seats_here : (client q : ℕ) → new.seats place client ≡ Some q
+            → is_some (begun_now.connections q) ≡ true → bytes_received mid_net.network client
+            ≡ old.written client ++ unsent (begun_now.connections q)
         seats_here client q seat there =
             let as_before = not_made tidings refl client q seat there in
             let at_place : connection_at old place q ≡ begun_now.connections q =
             ap (λ o. connection_in o q) telling.step.at ∙ sym as_before in
             same_received client
-            ∙ same.are_received.there place client q (seats_base place client q seat) (ap is_some at_place ∙ there)
+            ∙ same.are_received.there place client q (seats_base place client q seat)
+            (ap is_some at_place ∙ there)
             ∙ ap (λ o. old.written client ++ unsent o) at_place
 
         seated_mid : AreSeated names new mid_net
         seated_mid = record {
           names_are = same.are_seated.names_are ∙ sym names_same;
-          came = telling.step.came_is ∙ ap (came_after old.came) nobody_at_all ∙ same.are_seated.came ∙ ap length (sym homes_same);
+          came = telling.step.came_is ∙ ap (came_after old.came) nobody_at_all
+              ∙ same.are_seated.came ∙ ap length (sym homes_same);
           inboxes = ap length received_same ∙ same.are_seated.inboxes ∙ ap length (sym homes_same);
-          home = λ x client q seat. same.are_seated.home x client q (seats_base x client q seat) ∙ ap (λ homes. home_in homes client) (sym homes_same);
+          home = λ x client q seat. same.are_seated.home x client q (seats_base x client q seat)
+              ∙ ap (λ homes. home_in homes client) (sym homes_same);
           seat = λ x client q seat.
-              ap (λ homes. is_some (home_in homes client)) homes_same ∙ same.are_seated.seat x client q (seats_base x client q seat);
+              ap (λ homes. is_some (home_in homes client)) homes_same
+              ∙ same.are_seated.seat x client q (seats_base x client q seat);
         }
           where
             nobody_at_all : comes ≡ None
@@ -768,33 +933,45 @@ module _ {W : Type 0} (is_after : W → List Call → Type 0) (pieces : PiecesCo
         received_base = record {
           there = λ x client q seat there.
               same_received client
-              ∙ same.are_received.there x client q (seat_before old place other tidings conn x client q seat).was there;
+              ∙ same.are_received.there x client q
+              (seat_before old place other tidings conn x client q seat).was there;
           front = λ client.
-              let before = same.are_received.front client in (before.0, before.1 ∙ sym (same_received client));
+              let before = same.are_received.front client in
+              (before.0, before.1 ∙ sym (same_received client));
         }
 
         -- ---- the other servers
 
         numbers_there : (x : ℕ) → nat_eq x place ≡ false → numbers_at old x ≡ numbers_at base x
         numbers_there x apart =
-            let links : old.ends x ≡ base.ends x = fun_ext (λ y. sym (end_elsewhere old place other (end_by tidings conn) x y apart)) in
-            let clients : old.seats x ≡ base.seats x = fun_ext (λ client. sym (seat_elsewhere old place other tidings conn x client apart)) in
+            let links : old.ends x ≡ base.ends x = fun_ext
+            (λ y. sym (end_elsewhere old place other (end_by tidings conn) x y apart)) in
+            let clients : old.seats x ≡ base.seats x = fun_ext
+            (λ client. sym (seat_elsewhere old place other tidings conn x client apart)) in
             λ i. record { link = links i; client = clients i }
 
-        servers_mid : (x : ℕ) → nat_eq x place ≡ false → IsServerIf (numbers_at base x) (slice_get base.engines x) (site_at mid_net.network x)
+        servers_mid : (x : ℕ) → nat_eq x place ≡ false
+            → IsServerIf (numbers_at base x) (slice_get base.engines x) (site_at mid_net.network x)
         servers_mid x apart =
-            subst (λ n. IsServerIf n (slice_get old.engines x) (site_at mid_net.network x)) (numbers_there x apart)
-            (server_of (numbers_at old x) (slice_get old.engines x) (site_at old_net.network x) (site_at mid_net.network x) (servers_same x)
+            subst (λ n. IsServerIf n (slice_get old.engines x) (site_at mid_net.network x))
+            (numbers_there x apart)
+            (server_of (numbers_at old x) (slice_get old.engines x) (site_at old_net.network x)
+            (site_at mid_net.network x) (servers_same x)
             (same.as_bytes.servers x))
 
         pub told_followed : IsAsNetwork names new
-            (queues_written (item_kept item (site_asked place (occurrence_by tidings other) (begun mid_net.network))).net mid_net.wires)
+            (queues_written (item_kept item (site_asked place (occurrence_by tidings other)
+            (begun mid_net.network))).net mid_net.wires)
         told_followed =
-            assembled is_after pieces names place base new telling.step not_itself same.clients_open here.of.in_order here.of.framers joined_now ends_begin mid_net
-            asked_net own.view last.view went last.is serves_all own_open servers_mid ways_mid (λ y. wires_mid place y)
+            assembled is_after pieces names place base new telling.step not_itself same.clients_open
+            here.of.in_order here.of.framers joined_now ends_begin mid_net
+            asked_net own.view last.view went last.is serves_all own_open servers_mid ways_mid
+            (λ y. wires_mid place y)
             (λ x y apart there. wires_mid x y)
             (λ x apart.
             wires_mid x place
-            ∙ incoming_stays is_after pieces names place base new telling.step not_itself same.clients_open here.of.in_order here.of.framers joined_now ends_begin
+            ∙ incoming_stays is_after pieces names place base new telling.step not_itself
+            same.clients_open here.of.in_order here.of.framers joined_now ends_begin
             (unread tidings refl) x apart)
-            placed (λ x client apart. ap (λ (f : ℕ → ℕ → Option ℕ). f x client) seats_then) seats_here seated_mid received_base
+            placed (λ x client apart. ap (λ (f : ℕ → ℕ → Option ℕ). f x client) seats_then)
+            seats_here seated_mid received_base

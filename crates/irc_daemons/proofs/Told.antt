@@ -1,9 +1,11 @@
 -- What came of a connection, and the lines by which the server is told of that.
-use Rattle.std.proofs.Common.{◌≡◌, ℕ, true, is_some, Option, Some, None, List, [], ◌∷◌, ◌++◌, refl, sym, ◌∙◌, ap, subst, unwrap_or, if◌then◌else◌}
+use Rattle.std.proofs.Common.{◌≡◌, ℕ, true, is_some, Option, Some, None, List, [], ◌∷◌, ◌++◌, refl}
+use Rattle.std.proofs.Common.{sym, ◌∙◌, ap, subst, unwrap_or, if◌then◌else◌}
 use Rattle.std.proofs.lemmas.Bool.{eq-eqb}
 use Rattle.arrayvec.specs.ArrayVec.{ArrayVec}
 use Rattle.irc_line.specs.Laws.{PiecesCompleteTheSame}
-use Rattle.irc_line.specs.Lines.{Begun, HasTaken, begun_behind, completed, nothing_begun, stream_for}
+use Rattle.irc_line.specs.Lines.{Begun, HasTaken, begun_behind, completed, nothing_begun}
+use Rattle.irc_line.specs.Lines.{stream_for}
 use Rattle.irc_server.specs.declared.event.Event.{Event}
 use Rattle.irc_engine.specs.declared.kind.Kind.{Kind}
 use Rattle.irc_engine.specs.declared.kind.Kind.TheVariants.{Client, Link}
@@ -28,35 +30,43 @@ pub record IsFramed (old new : Option Begun) (came : List ℕ) (heard : List (Li
   pub begun : begun_or_none new ≡ begun_behind (begun_or_none old) came
 
 module _ (pieces : PiecesCompleteTheSame) where
-  pub nothing_heard : (old new : Option Begun) (heard : List (List ℕ)) → IsRealIf old → Hears old [] heard new → heard ≡ []
+  pub nothing_heard : (old new : Option Begun) (heard : List (List ℕ)) → IsRealIf old
+      → Hears old [] heard new → heard ≡ []
   nothing_heard None None heard real hears = hears
   nothing_heard None (Some new) heard real hears = absurd hears
   nothing_heard (Some old) (Some new) heard real hears =
       let known = pieces old (real old refl) in (known.takes [] heard new hears).0 ∙ known.none
   nothing_heard (Some old) None heard real hears =
       let known = pieces old (real old refl) in
-      (known.takes hears.front heard hears.new hears.takes).0 ∙ ap (completed old) (front_none hears.front hears.rest (sym hears.came_is)) ∙ known.none
+      (known.takes hears.front heard hears.new hears.takes).0
+      ∙ ap (completed old) (front_none hears.front hears.rest (sym hears.came_is)) ∙ known.none
 
-  pub stays_real : (old new : Option Begun) (came : List ℕ) (heard : List (List ℕ)) → IsRealIf old → Hears old came heard new → IsRealIf new
+  pub stays_real : (old new : Option Begun) (came : List ℕ) (heard : List (List ℕ)) → IsRealIf old
+      → Hears old came heard new → IsRealIf new
   stays_real old None came heard real hears begun is = cc is
   stays_real None (Some new) came heard real hears begun is = absurd hears
   stays_real (Some old) (Some new) came heard real hears begun is =
       let known = pieces old (real old refl) in
-      subst IsRealBegun (sym (known.takes came heard new hears).1 ∙ inside new begun is) (known.taken came)
+      subst IsRealBegun (sym (known.takes came heard new hears).1 ∙ inside new begun is)
+      (known.taken came)
 
-  pub framed : (old new : Option Begun) (came : List ℕ) (heard : List (List ℕ)) → IsRealIf old → Hears old came heard new → is_some new ≡ true
-      → IsFramed old new came heard
+  pub framed : (old new : Option Begun) (came : List ℕ) (heard : List (List ℕ)) → IsRealIf old
+      → Hears old came heard new → is_some new ≡ true → IsFramed old new came heard
   framed old None came heard real hears opened = cc opened
   framed None (Some new) came heard real hears opened = absurd hears
   framed (Some old) (Some new) came heard real hears opened =
-      let takes = (pieces old (real old refl)).takes came heard new hears in record { lines = takes.0; begun = takes.1 }
+      let takes = (pieces old (real old refl)).takes came heard new hears in
+      record { lines = takes.0; begun = takes.1 }
 
 -- ---- events
 
-line_there : (kind : Kind) (conn : ℕ) (line : ArrayVec ℕ) → line_by conn (line_event_of kind conn line) ≡ line.items ∷ []
+line_there : (kind : Kind) (conn : ℕ) (line : ArrayVec ℕ)
+    → line_by conn (line_event_of kind conn line) ≡ line.items ∷ []
 line_there Client conn line = ap (λ b. if b then line.items ∷ [] else []) (eq-eqb conn conn refl)
 line_there Link conn line = ap (λ b. if b then line.items ∷ [] else []) (eq-eqb conn conn refl)
 
-pub heard_first : (kind : Kind) (conn : ℕ) (line : ArrayVec ℕ) (event : Event) (events : List Event) → event ≡ line_event_of kind conn line
+pub heard_first : (kind : Kind) (conn : ℕ) (line : ArrayVec ℕ) (event : Event)
+    (events : List Event) → event ≡ line_event_of kind conn line
     → lines_by conn (event ∷ events) ≡ line.items ∷ lines_by conn events
-heard_first kind conn line event events is = ap (λ e. line_by conn e ++ lines_by conn events) is ∙ ap (λ ls. ls ++ lines_by conn events) (line_there kind conn line)
+heard_first kind conn line event events is = ap (λ e. line_by conn e ++ lines_by conn events) is
+    ∙ ap (λ ls. ls ++ lines_by conn events) (line_there kind conn line)

@@ -1,5 +1,6 @@
 -- Lines that are written along a wire, and the bytes that they are.
-use Rattle.std.proofs.Common.{◌≡◌, ℕ, Bool, true, false, List, [], ◌∷◌, ◌++◌, append_assoc, append-nil, nat_eq, refl, sym, ◌∙◌, ap, if◌then◌else◌}
+use Rattle.std.proofs.Common.{◌≡◌, ℕ, Bool, true, false, List, [], ◌∷◌, ◌++◌, append_assoc}
+use Rattle.std.proofs.Common.{append-nil, nat_eq, refl, sym, ◌∙◌, ap, if◌then◌else◌}
 use Rattle.std.specs.List.{AllByRecursion, flat_map}
 use Rattle.irc_line.specs.Bytes.{crlf}
 use Rattle.irc_batch.specs.Batches.{Sent, end_of, end_of_link, line_on, line_to}
@@ -16,14 +17,20 @@ with_end line = line ++ crlf
 abbrev pub with_ends : List (List ℕ) → List ℕ
 with_ends lines = flat_map with_end lines
 
-pub ends_both : (one other : List (List ℕ)) → with_ends (one ++ other) ≡ with_ends one ++ with_ends other
+pub ends_both : (one other : List (List ℕ))
+    → with_ends (one ++ other) ≡ with_ends one ++ with_ends other
 ends_both [] other = refl
-ends_both (line ∷ one) other = ap (λ bytes. with_end line ++ bytes) (ends_both one other) ∙ sym (append_assoc (with_end line) (with_ends one) (with_ends other))
+ends_both (line ∷ one) other = ap (λ bytes. with_end line ++ bytes) (ends_both one other)
+    ∙ sym (append_assoc (with_end line) (with_ends one) (with_ends other))
 
-pub written_all : (lines : List (List ℕ)) (wire : Wire) → all_written lines wire ≡ record { begun = wire.begun; bytes = wire.bytes ++ with_ends lines }
+pub written_all : (lines : List (List ℕ)) (wire : Wire)
+    → all_written lines wire ≡ record { begun = wire.begun; bytes = wire.bytes ++ with_ends lines }
 written_all [] wire = λ i. record { begun = wire.begun; bytes = sym (append-nil wire.bytes) i }
 written_all (line ∷ lines) wire =
-    written_all lines (written line wire) ∙ (λ i. record { begun = wire.begun; bytes = append_assoc wire.bytes (line ++ crlf) (with_ends lines) i })
+    written_all lines (written line wire) ∙ (λ i. record {
+      begun = wire.begun;
+      bytes = append_assoc wire.bytes (line ++ crlf) (with_ends lines) i;
+    })
 
 -- ---- what is put out on a link
 
@@ -34,14 +41,18 @@ body_on link other = []
 abbrev pub bodies : ℕ → List Sent → List (List ℕ)
 bodies link outs = flat_map (body_on link) outs
 
-pub bodies_are : (link : ℕ) (outs : List Sent) → AllByRecursion EndsInLineEnd outs → with_ends (bodies link outs) ≡ link_bytes link outs
+pub bodies_are : (link : ℕ) (outs : List Sent) → AllByRecursion EndsInLineEnd outs
+    → with_ends (bodies link outs) ≡ link_bytes link outs
 bodies_are link [] all = refl
 bodies_are link (line_to conn text ∷ outs) all = bodies_are link outs all.1
 bodies_are link (end_of conn ∷ outs) all = bodies_are link outs all.1
 bodies_are link (end_of_link number reason ∷ outs) all = bodies_are link outs all.1
-bodies_are link (line_on number text ∷ outs) all = by (nat_eq number link) (bodies_are link outs all.1)
+bodies_are link (line_on number text ∷ outs) all =
+    by (nat_eq number link) (bodies_are link outs all.1)
   where
     by : (b : Bool) → with_ends (bodies link outs) ≡ link_bytes link outs
-        → with_ends ((if b then line_body text ∷ [] else []) ++ bodies link outs) ≡ (if b then text else []) ++ link_bytes link outs
-    by true rest = ap (λ t. t ++ with_ends (bodies link outs)) (sym all.0) ∙ ap (λ bytes. text ++ bytes) rest
+        → with_ends ((if b then line_body text ∷ [] else []) ++ bodies link outs)
+        ≡ (if b then text else []) ++ link_bytes link outs
+    by true rest =
+        ap (λ t. t ++ with_ends (bodies link outs)) (sym all.0) ∙ ap (λ bytes. text ++ bytes) rest
     by false rest = rest

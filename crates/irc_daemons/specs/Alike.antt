@@ -1,7 +1,10 @@
--- A server of an engine and a server of a network that are alike but for numbers (`irc_numbers`): what they put out, in bytes, and what it is to serve alike.
+-- A server of an engine and a server of a network that are alike but for numbers (`irc_numbers`):
+-- what they put out, in bytes, and what it is to serve alike.
 --
--- a.net (place 0) has the link 7 to b.net (place 1) and the link 5 to c.net (place 2), and al as connection 9, client 1 of the network:
---   al says hi     the engine's server puts the line out on 5 and then on 7, the network's on 1 and then on 2: the same on each link, in another order
+-- a.net (place 0) has the link 7 to b.net (place 1) and the link 5 to c.net (place 2), and al as
+-- connection 9, client 1 of the network:
+-- al says hi the engine's server puts the line out on 5 and then on 7, the network's on 1 and then
+-- on 2: the same on each link, in another order
 use Rattle.std.specs.Prelude.{◌≡◌, ℕ, ⊤, false, nat_eq, Option, Some, None, List, [], if◌then◌else◌}
 use Rattle.std.specs.List.{flat_map}
 use Rattle.irc_line.specs.Reading.{read_of}
@@ -14,7 +17,8 @@ use Rattle.irc_engine.specs.Carrying.{answers, is_closed_by}
 pub use Rattle.irc_numbers.specs.Alike.{AreAlike, AreApart, AreRowsAlike, IsAmong, Numbers}
 pub use Rattle.irc_numbers.specs.ServedAlike.{happens_at, renumbered}
 
--- An engine's server is as one of a network: they are alike but for numbers, and each server that it knows is behind a link that counts.
+-- An engine's server is as one of a network: they are alike but for numbers, and each server that
+-- it knows is behind a link that counts.
 pub record AreServersAlike (numbers : Numbers) (own other : View) : Type 0 where
   pub alike : AreAlike numbers own other
   pub ends_count : AreEnds own.ends own.routes
@@ -46,13 +50,16 @@ client_bytes client outs = flat_map (bytes_to client) outs
 
 -- on each link that stays open the same, and to each client
 pub record SayAlike (numbers : Numbers) (own other : List Sent) : Type 0 where
-  pub on_links : (place conn : ℕ) → numbers.link place ≡ Some conn → is_closed_by conn own ≡ false → answers conn own ≡ link_bytes place other
-  pub to_clients : (client conn : ℕ) → numbers.client client ≡ Some conn → answers conn own ≡ client_bytes client other
+  pub on_links : (place conn : ℕ) → numbers.link place ≡ Some conn → is_closed_by conn own ≡ false
+      → answers conn own ≡ link_bytes place other
+  pub to_clients : (client conn : ℕ) → numbers.client client ≡ Some conn
+      → answers conn own ≡ client_bytes client other
 
 -- ---- numbers are nothing to a server
 
 -- of the two something is asked
-pub record ServeAlike (numbers : Numbers) (own : View) (own_is : Occurrence) (other : View) (other_is : Occurrence) : Type 0 where
+pub record ServeAlike (numbers : Numbers) (own : View) (own_is : Occurrence) (other : View)
+    (other_is : Occurrence) : Type 0 where
   pub views : AreServersAlike numbers (reply own own_is).view (reply other other_is).view
   pub say : SayAlike numbers (reply own own_is).out (reply other other_is).out
 
@@ -63,12 +70,16 @@ IsServedAlike numbers place conn line = (own other : View) → AreServersAlike n
 
 -- Upon any they do.
 abbrev pub LinesAreServedAlike : Type 0
-LinesAreServedAlike = (numbers : Numbers) (place conn : ℕ) (line : List ℕ) → AreApart numbers → numbers.link place ≡ Some conn
+LinesAreServedAlike = (numbers : Numbers) (place conn : ℕ) (line : List ℕ) → AreApart numbers
+    → numbers.link place ≡ Some conn
     → IsServedAlike numbers place conn line
 
 -- ---- whatever happens to both
 
--- Whatever happens to both, they do the same. Who connects, and a link that is made, have their numbers already.
+-- Whatever happens to both, they do the same. Who connects, and a link that is made, have their
+-- numbers already.
 abbrev pub ServedAlike : Type 0
-ServedAlike = (numbers : Numbers) (own other : View) (occurrence : Occurrence) (conn : ℕ) → AreApart numbers → AreServersAlike numbers own other
-    → happens_at numbers occurrence ≡ Some conn → ServeAlike numbers own (renumbered conn occurrence) other occurrence
+ServedAlike = (numbers : Numbers) (own other : View) (occurrence : Occurrence) (conn : ℕ)
+    → AreApart numbers → AreServersAlike numbers own other
+    → happens_at numbers occurrence ≡ Some conn
+    → ServeAlike numbers own (renumbered conn occurrence) other occurrence

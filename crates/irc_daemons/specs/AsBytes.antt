@@ -18,10 +18,12 @@ numbers_at daemons place = record { link = daemons.ends place; client = daemons.
 
 -- Each framer is one to which some stream led. A framer's laws speak of no other.
 abbrev pub AreFramersReal : {W : Type 0} → Moment W → Type 0
-AreFramersReal now = (conn : ℕ) (begun : Begun) → begun_at (now.connections conn) ≡ Some begun → HasTaken begun (stream_for begun)
+AreFramersReal now = (conn : ℕ) (begun : Begun) → begun_at (now.connections conn) ≡ Some begun
+    → HasTaken begun (stream_for begun)
 
 -- an engine between two turns, and a server of a network
-pub record IsServerOf {W : Type 0} (numbers : Numbers) (engine : EngineView W) (site : Site) : Type 0 where
+pub record IsServerOf {W : Type 0} (numbers : Numbers) (engine : EngineView W)
+    (site : Site) : Type 0 where
   pub in_order : IsInOrder engine.now
   pub framers : AreFramersReal engine.now
   pub servers : AreServersAlikeIf numbers engine.now.server site.server
@@ -33,9 +35,11 @@ IsServerIf numbers (Some engine) (Some site) = IsServerOf numbers engine site
 IsServerIf numbers None (Some site) = ⊥
 IsServerIf numbers (Some engine) None = ⊥
 
--- Servers are the same but for numbers; and on each way is what the near engine has put out by that link and the far one has not read.
+-- Servers are the same but for numbers; and on each way is what the near engine has put out by that
+-- link and the far one has not read.
 pub record IsAsBytes {W : Type 0} (daemons : Daemons W) (net : ByteNetwork) : Type 0 where
-  pub servers : (place : ℕ) → IsServerIf (numbers_at daemons place) (slice_get daemons.engines place) (site_at net.network place)
+  pub servers : (place : ℕ) → IsServerIf (numbers_at daemons place)
+      (slice_get daemons.engines place) (site_at net.network place)
   pub ways : (from to : ℕ) → has_way net.network from to ≡ daemons.ways from to
   pub wires : (from to : ℕ) → wire_at net.wires from to ≡ wire_between daemons from to
   pub tidy : IsTidy net

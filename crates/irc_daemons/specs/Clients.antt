@@ -1,4 +1,5 @@
--- Who is a client of a server still, once something has happened to it: the half of `WhoIsConnected` that runs of engines ask for.
+-- Who is a client of a server still, once something has happened to it: the half of
+-- `WhoIsConnected` that runs of engines ask for.
 use Rattle.std.specs.Prelude.{◌≡◌, ℕ, true, false, ◌||◌}
 use Rattle.irc_stage.specs.View.{View}
 use Rattle.irc_server.specs.Served.{Occurrence, served}
@@ -13,5 +14,6 @@ pub record IsStillClient (view : View) (occurrence : Occurrence) (conn : ℕ) : 
 
 -- Whatever is served and not refused, each client is so.
 abbrev pub ClientsStay : Type 0
-ClientsStay = (view : View) (occurrence : Occurrence) (conn : ℕ) → serves_occurrence view occurrence ≡ true
+ClientsStay =
+    (view : View) (occurrence : Occurrence) (conn : ℕ) → serves_occurrence view occurrence ≡ true
     → has_client (served view occurrence).view conn ≡ true → IsStillClient view occurrence conn

@@ -4,9 +4,11 @@
 -- a.net (place 0) and b.net (place 1) are linked: at a.net the link is connection 7, at b.net
 -- connection 4; al is client 1, connection 9 at a.net.
 --   ends 0 1       7, and ends 1 0 is 4
---   ways 0 1       true, from when the first of the two is told of the link until the first of them is told that it is lost
+-- ways 0 1 true, from when the first of the two is told of the link until the first of them is told
+-- that it is lost
 --   seats 0 1      9
---   transit 0 1    what the wire took of a.net by its connection 7, and b.net has not read by its connection 4
+-- transit 0 1 what the wire took of a.net by its connection 7, and b.net has not read by its
+-- connection 4
 use Rattle.std.specs.Prelude.{◌≡◌, ℕ, ◌++◌, Bool, Option, Some, None, is_some, List, [], unwrap_or}
 use Rattle.std.specs.List.{slice_get}
 use Rattle.std.specs.Option.{option_and_then}
@@ -66,7 +68,8 @@ wire_between daemons from to = record {
 
 -- each end of a link is there, is one, and is open
 abbrev pub AreLinksOpen : {W : Type 0} → Daemons W → Type 0
-AreLinksOpen daemons = (x y conn : ℕ) → daemons.ends x y ≡ Some conn → open_kind_at (connection_at daemons x conn) ≡ Some kinds.Link
+AreLinksOpen daemons = (x y conn : ℕ) → daemons.ends x y ≡ Some conn
+    → open_kind_at (connection_at daemons x conn) ≡ Some kinds.Link
 
 -- Two are linked both ways. Each end of a link is there, is a link, and is open. At one place no
 -- two links have one number, nor has a link that of a client.
@@ -75,9 +78,12 @@ pub record AreJoined {W : Type 0} (daemons : Daemons W) : Type 0 where
   pub not_itself : (x : ℕ) → daemons.ends x x ≡ None
   pub are_open : AreLinksOpen daemons
   pub apart : (x y z conn : ℕ) → daemons.ends x y ≡ Some conn → daemons.ends x z ≡ Some conn → y ≡ z
-  pub no_client : (x y client conn : ℕ) → daemons.ends x y ≡ Some conn → daemons.seats x client ≡ Some conn → ⊥
-  pub one_seat : (x client other conn : ℕ) → daemons.seats x client ≡ Some conn → daemons.seats x other ≡ Some conn → client ≡ other
+  pub no_client : (x y client conn : ℕ) → daemons.ends x y ≡ Some conn
+      → daemons.seats x client ≡ Some conn → ⊥
+  pub one_seat : (x client other conn : ℕ) → daemons.seats x client ≡ Some conn
+      → daemons.seats x other ≡ Some conn → client ≡ other
 
 -- The server at a place was told of each of its links, and that each other one is lost.
 abbrev pub IsToldOfLinks : {W : Type 0} → Daemons W → ℕ → Type 0
-IsToldOfLinks daemons place = (other : ℕ) → daemons.ways place other ≡ is_some (daemons.ends place other)
+IsToldOfLinks daemons place =
+    (other : ℕ) → daemons.ways place other ≡ is_some (daemons.ends place other)

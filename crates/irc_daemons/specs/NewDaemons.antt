@@ -42,8 +42,10 @@ pub record AreNew {W : Type 0} (configs : List Config) (daemons : Daemons W) : T
   pub nothing_written : (client : ℕ) → daemons.written client ≡ []
 
 -- their names, and how they are set up
-abbrev pub names_in : {W : Type 0} {configs : List Config} {daemons : Daemons W} → AreNew configs daemons → List Name
+abbrev pub names_in : {W : Type 0} {configs : List Config} {daemons : Daemons W}
+    → AreNew configs daemons → List Name
 names_in new = map config_name new.ordered
 
-abbrev pub settings_in : {W : Type 0} {configs : List Config} {daemons : Daemons W} → AreNew configs daemons → List Setting
+abbrev pub settings_in : {W : Type 0} {configs : List Config} {daemons : Daemons W}
+    → AreNew configs daemons → List Setting
 settings_in new = map setting_given new.ordered

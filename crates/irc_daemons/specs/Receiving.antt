@@ -18,4 +18,5 @@ bytes_received net client = flat_map (λ text. text) (received_by net client)
 -- received in the network.
 abbrev pub IsReceived : {W : Type 0} → Daemons W → ByteNetwork → ℕ → ℕ → ℕ → Type 0
 IsReceived daemons net place client conn =
-    bytes_received net.network client ≡ daemons.written client ++ unsent (connection_at daemons place conn)
+    bytes_received net.network client
+    ≡ daemons.written client ++ unsent (connection_at daemons place conn)

@@ -23,7 +23,8 @@ use Rattle.irc_daemons.specs.Tellings.{IsOfItem, Owing, TellsEnd, Tidings}
 -- Two servers that are linked are peers of each other with one password, and not joined yet,
 -- directly or by others.
 abbrev pub MayBe : List Setting → List Item → Item → Type 0
-MayBe settings before (link near far) = refused settings (world_of settings before) (link near far) ≡ None
+MayBe settings before (link near far) =
+    refused settings (world_of settings before) (link near far) ≡ None
 MayBe settings before (connect server host) = ⊤
 MayBe settings before (line client bytes) = ⊤
 MayBe settings before (gone client) = ⊤
@@ -35,16 +36,21 @@ NoneMeanwhile None items = ⊤
 NoneMeanwhile (Some owing) items = items ≡ []
 
 -- Links stay open until their server is told that they are lost, and items do not overlap.
-pub data Runs {W : Type 0} (is_after : W → List Call → Type 0) (names : List Name) (settings : List Setting) (begin : Daemons W)
+pub data Runs {W : Type 0} (is_after : W → List Call → Type 0) (names : List Name)
+    (settings : List Setting) (begin : Daemons W)
     : List Item → Option Owing → Daemons W → Type 0 where
   no_step : Runs is_after names settings begin [] None begin
   one_more : (place : ℕ) (items more : List Item) (owing : Option Owing) (between new : Daemons W)
-      → Runs is_after names settings begin items owing between → (step : Steps is_after place between new) → AreLinksOpen new
+      → Runs is_after names settings begin items owing between
+      → (step : Steps is_after place between new) → AreLinksOpen new
       → AreItems names new place step.did.events more → IsApartStep step → NoneMeanwhile owing more
       → Runs is_after names settings begin (items ++ more) owing new
-  first_told : (place other : ℕ) (mine theirs : Tidings) (items : List Item) (item : Item) (between new : Daemons W)
-      → Runs is_after names settings begin items None between → IsQuiet between → IsOfItem names place other item mine theirs
-      → MayBe settings items item → TellsEnd is_after mine place other between new
-      → Runs is_after names settings begin (items ++ item ∷ []) (Some (record { place = other; other = place; tidings = theirs })) new
-  second_told : (owing : Owing) (items : List Item) (between new : Daemons W) → Runs is_after names settings begin items (Some owing) between
-      → TellsEnd is_after owing.tidings owing.place owing.other between new → Runs is_after names settings begin items None new
+  first_told : (place other : ℕ) (mine theirs : Tidings) (items : List Item) (item : Item)
+      (between new : Daemons W) → Runs is_after names settings begin items None between
+      → IsQuiet between → IsOfItem names place other item mine theirs → MayBe settings items item
+      → TellsEnd is_after mine place other between new → Runs is_after names settings begin
+      (items ++ item ∷ []) (Some (record { place = other; other = place; tidings = theirs })) new
+  second_told : (owing : Owing) (items : List Item) (between new : Daemons W)
+      → Runs is_after names settings begin items (Some owing) between
+      → TellsEnd is_after owing.tidings owing.place owing.other between new
+      → Runs is_after names settings begin items None new

@@ -8,7 +8,8 @@
 --   b.net is told    `LinkDown 4`, since its read has ended: ends 1 0 is nothing, and the two are
 --                    linked no more; a.net is still to be told
 --   a.net is told    `LinkDown 7`
-use Rattle.std.specs.Prelude.{◌≡◌, ℕ, Bool, true, false, ◌&&◌, ◌||◌, nat_eq, Option, Some, None, List, [], ◌∷◌, if◌then◌else◌}
+use Rattle.std.specs.Prelude.{◌≡◌, ℕ, Bool, true, false, ◌&&◌, ◌||◌, nat_eq, Option, Some, None}
+use Rattle.std.specs.Prelude.{List, [], ◌∷◌, if◌then◌else◌}
 use Rattle.std.specs.List.{slice_get}
 use Rattle.irc_outbox.specs.Calls.{Call}
 use Rattle.irc_relay.specs.Links.{Name}
@@ -51,11 +52,13 @@ end_set old place other end x y = if nat_eq x place && nat_eq y other then end e
 -- both ways
 abbrev pub way_set : {W : Type 0} → Daemons W → (place other : ℕ) → Bool → ℕ → ℕ → Bool
 way_set old place other is x y =
-    if (nat_eq x place && nat_eq y other) || (nat_eq x other && nat_eq y place) then is else old.ways x y
+    if (nat_eq x place && nat_eq y other) || (nat_eq x other && nat_eq y place)
+    then is else old.ways x y
 
 -- a seat is nobody's any more whose number a link has taken
 abbrev pub seats_by : {W : Type 0} → Tidings → ℕ → ℕ → Daemons W → ℕ → ℕ → Option ℕ
-seats_by (is_up called) place conn old x client = if nat_eq x place then unless_taken conn (old.seats x client) else old.seats x client
+seats_by (is_up called) place conn old x client =
+    if nat_eq x place then unless_taken conn (old.seats x client) else old.seats x client
 seats_by is_lost place conn old x client = old.seats x client
 
 abbrev pub linked_by : {W : Type 0} → Tidings → (place other conn : ℕ) → Daemons W → Daemons W
@@ -74,7 +77,8 @@ end_before is_lost conn = Some conn
 
 -- The server at a place is told of its link with another, and of nothing else in this turn. What
 -- it puts out on the link goes on its way from there on.
-pub record TellsEnd {W : Type 0} (is_after : W → List Call → Type 0) (tidings : Tidings) (place other : ℕ) (old new : Daemons W) : Type 0 where
+pub record TellsEnd {W : Type 0} (is_after : W → List Call → Type 0) (tidings : Tidings)
+    (place other : ℕ) (old new : Daemons W) : Type 0 where
   pub conn : ℕ
   pub was : old.ends place other ≡ end_before tidings conn
   pub step : Steps is_after place (linked_by tidings place other conn old) new
@@ -85,13 +89,17 @@ pub record TellsEnd {W : Type 0} (is_after : W → List Call → Type 0) (tiding
 
 -- What both ends are told by one item: this one, and the other. The server that calls is the first
 -- in the item.
-pub data IsOfItem (names : List Name) (place other : ℕ) (item : Item) (mine theirs : Tidings) : Type 0 where
-  has_called : (near far : Name) → slice_get names place ≡ Some near → slice_get names other ≡ Some far → item ≡ link near far
-      → mine ≡ is_up (Some far) → theirs ≡ is_up None → IsOfItem names place other item mine theirs
-  was_called : (near far : Name) → slice_get names place ≡ Some far → slice_get names other ≡ Some near → item ≡ link near far
-      → mine ≡ is_up None → theirs ≡ is_up (Some far) → IsOfItem names place other item mine theirs
-  has_lost : (near far : Name) → slice_get names place ≡ Some near → slice_get names other ≡ Some far → item ≡ cut near far
-      → mine ≡ is_lost → theirs ≡ is_lost → IsOfItem names place other item mine theirs
+pub data IsOfItem (names : List Name) (place other : ℕ) (item : Item)
+    (mine theirs : Tidings) : Type 0 where
+  has_called : (near far : Name) → slice_get names place ≡ Some near
+      → slice_get names other ≡ Some far → item ≡ link near far → mine ≡ is_up (Some far)
+      → theirs ≡ is_up None → IsOfItem names place other item mine theirs
+  was_called : (near far : Name) → slice_get names place ≡ Some far
+      → slice_get names other ≡ Some near → item ≡ link near far → mine ≡ is_up None
+      → theirs ≡ is_up (Some far) → IsOfItem names place other item mine theirs
+  has_lost : (near far : Name) → slice_get names place ≡ Some near
+      → slice_get names other ≡ Some far → item ≡ cut near far → mine ≡ is_lost → theirs ≡ is_lost
+      → IsOfItem names place other item mine theirs
 
 -- the server at a place is still to be told of its link with another
 pub record Owing : Type 0 where

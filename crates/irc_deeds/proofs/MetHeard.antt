@@ -13,7 +13,8 @@ use Rattle.irc_deeds.specs.declared.heard.Heard.{Heard as Code}
 use Rattle.irc_deeds.specs.Heard.{of_met}
 use Rattle.irc_deeds.specs.Loops.Hearing.{IsHeard, IsHeardOf}
 
-pub met_heard : (message : Parsed) (meant : Result (List Told) CloseReason) (read : Result (Vec BurstAct) BurstFault) (result : Result Code AllocError)
+pub met_heard : (message : Parsed) (meant : Result (List Told) CloseReason)
+    (read : Result (Vec BurstAct) BurstFault) (result : Result Code AllocError)
     → IsBurstMeant message meant read → IsHeardOf read result → IsHeard result (of_met meant)
 met_heard message meant (Ok acts) (Ok code) is heard = heard ∙ sym (ap of_met is)
 met_heard message meant (Ok acts) (Err given) is heard = tt

@@ -1,4 +1,5 @@
--- What a line of a link is to the server, by what the end of that link knows (RFC 2813 sections 4.1 and 5).
+-- What a line of a link is to the server, by what the end of that link knows (RFC 2813 sections 4.1
+-- and 5).
 --
 -- a.net has the peer b.net with password pw. By a link that was opened to it:
 --   `PASS pw 0210010001 TREE|`     the password is kept
@@ -6,8 +7,10 @@
 --   ` `                            nothing: a line of spaces alone
 --   `FOO`                          UnknownCommand, before SERVER and afterwards
 --   `NICK al 1 u h 1 + :Al`        Order before SERVER; afterwards al comes
---   `SERVER x.net 1 1 :X`          UnknownPeer; of a peer with another password Password; of one that is known AlreadyKnown
-use Rattle.std.specs.Prelude.{ℕ, is_some, Option, Some, None, Result, Ok, Err, List, unwrap_or, [], if◌then◌else◌}
+-- `SERVER x.net 1 1 :X` UnknownPeer; of a peer with another password Password; of one that is known
+-- AlreadyKnown
+use Rattle.std.specs.Prelude.{ℕ, is_some, Option, Some, None, Result, Ok, Err, List, unwrap_or, []}
+use Rattle.std.specs.Prelude.{if◌then◌else◌}
 use Rattle.irc_line.specs.declared.reading.LineFault.{LineFault}
 use Rattle.irc_line.specs.declared.reading.LineFault.TheVariants as fault
 use Rattle.irc_line.specs.Messages.{Parsed}
@@ -21,7 +24,8 @@ use Rattle.irc_burst.specs.HandshakeMeant.{handshake_meant}
 use Rattle.irc_stage.specs.View.{End, View, password_for}
 use Rattle.irc_links.specs.Ends.{is_met}
 
--- nothing; why the link is closed; the password that came; the server at the other end names itself; what it tells of
+-- nothing; why the link is closed; the password that came; the server at the other end names
+-- itself; what it tells of
 pub data Heard : Type 0 where
   ignored : Heard
   closes : (why : CloseReason) → Heard
@@ -44,7 +48,8 @@ abbrev pub opened : View → End → Result Opening CloseReason → Heard
 opened view end (Err why) = closes why
 opened view end (Ok (opening.Password word)) = password word
 opened view end (Ok (opening.Greeting name info)) =
-    met_unless (refusal (password_for view name) (unwrap_or end.password []) view.routes name) name info
+    met_unless
+    (refusal (password_for view name) (unwrap_or end.password []) view.routes name) name info
 
 -- until the server at the other end has named itself, a line is of the handshake
 abbrev pub message_heard : View → ℕ → End → Parsed → Heard

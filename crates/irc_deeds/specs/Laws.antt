@@ -21,8 +21,10 @@ pub record PutsOutElsewhere (link : ℕ) (before after : List Sent) : Type 0 whe
 
 -- A deed that came by a link never goes back on it.
 abbrev pub NeverBack : Type 0
-NeverBack = (link : ℕ) (deed : Deed) (s : Served) → PutsOutElsewhere link s.out (deed_told (Some link) deed s).out
+NeverBack = (link : ℕ) (deed : Deed) (s : Served)
+    → PutsOutElsewhere link s.out (deed_told (Some link) deed s).out
 
 -- nor do deeds one after another
 abbrev pub NeverBackOfAll : Type 0
-NeverBackOfAll = (link : ℕ) (deeds : List Deed) (s : Served) → PutsOutElsewhere link s.out (deeds_told (Some link) deeds s).out
+NeverBackOfAll = (link : ℕ) (deeds : List Deed) (s : Served)
+    → PutsOutElsewhere link s.out (deeds_told (Some link) deeds s).out

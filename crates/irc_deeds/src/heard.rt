@@ -6,7 +6,8 @@ use irc_names::ServerName;
 use irc_routes::Info;
 use std::alloc::Global;
 
-/// What a line of a link is to the server, by what the end of that link knows (RFC 2813 sections 4.1 and 5).
+/// What a line of a link is to the server, by what the end of that link knows (RFC 2813 sections
+/// 4.1 and 5).
 #[derive(Drop)]
 pub enum Heard {
     /// It says nothing.

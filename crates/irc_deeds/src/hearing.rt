@@ -4,7 +4,8 @@ ghost use Rattle.irc_line.specs.MessageViews.{parsed};
 ghost use Rattle.irc_line.specs.Reading.{read_of};
 ghost use Rattle.irc_stage.specs.Loops.Stage.{view_of};
 ghost use Rattle.irc_deeds.specs.Heard.{heard, message_heard};
-ghost use Rattle.irc_deeds.specs.Loops.Hearing.{given_of, greeted, heard_of, opened_as, IsHeard, IsHeardOf};
+ghost use Rattle.irc_deeds.specs.Loops.Hearing.{given_of, greeted, heard_of, opened_as, IsHeard};
+ghost use Rattle.irc_deeds.specs.Loops.Hearing.{IsHeardOf};
 
 use crate::heard::Heard;
 use irc_batch::CloseReason;
@@ -18,7 +19,8 @@ use irc_routes::Info;
 use irc_stage::Stage;
 use std::alloc::{AllocError, Global};
 
-/// What a line is that came by a link. Before the server at the other end has named itself, its two lines of the handshake are taken; afterwards what it tells.
+/// What a line is that came by a link. Before the server at the other end has named itself, its two
+/// lines of the handshake are taken; afterwards what it tells.
 ///
 /// # Errors
 /// Where memory runs out.
@@ -78,7 +80,8 @@ fn open(stage: &Stage, end: &LinkEnd, opening: Opening) -> Heard
     }
 }
 
-/// The server at the other end names itself: it is to be a peer that gave its password, and one server more.
+/// The server at the other end names itself: it is to be a peer that gave its password, and one
+/// server more.
 fn greet(stage: &Stage, end: &LinkEnd, name: ServerName, info: Info) -> Heard
     ensures { heard_of result ≡ greeted (view_of stage.now) end.now name info }
 {

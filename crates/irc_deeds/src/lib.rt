@@ -1,4 +1,5 @@
-//! What comes by a link: what a line is to the server, and what the deeds do of which it tells. Definitions are in `specs/`.
+//! What comes by a link: what a line is to the server, and what the deeds do of which it tells.
+//! Definitions are in `specs/`.
 #![tactic(auto)]
 
 mod heard;

@@ -7,7 +7,8 @@ ghost use Rattle.irc_burst_lines.specs.Loops.Telling.{told_members};
 ghost use Rattle.irc_merge.specs.Deeds.{brings, member_comes};
 ghost use Rattle.irc_stage.specs.Loops.Linking.{IsMetAt};
 ghost use Rattle.irc_stage.specs.Loops.Stage.{IsServing, Keeps};
-ghost use Rattle.irc_deeds.specs.Loops.Telling.{brings_of, coming_of, flag_of, given_by, ChangesAll, DoesDeed};
+ghost use Rattle.irc_deeds.specs.Loops.Telling.{brings_of, coming_of, flag_of, given_by};
+ghost use Rattle.irc_deeds.specs.Loops.Telling.{ChangesAll, DoesDeed};
 
 use irc_batch::Batch;
 use irc_burst::NewMember;
@@ -46,7 +47,8 @@ impl<'a> Arrivals<'a> {
     }
 }
 
-/// Users become members of a channel, which takes the spelling of the line first, where that is the greater; each has its flags, and the others are told.
+/// Users become members of a channel, which takes the spelling of the line first, where that is the
+/// greater; each has its flags, and the others are told.
 ///
 /// # Errors
 /// Where memory runs out.
@@ -58,7 +60,8 @@ pub(crate) fn bring_all(
 ) -> Result<(), AllocError>
     requires serving { IsServing stage.old }
     requires met { IsMetAt link stage.old }
-    ensures ok { OnOk result (DoesDeed (Some link) (brings_of arrivals.entry) stage.old out.old stage.new out.new) }
+    ensures ok { OnOk result
+        (DoesDeed (Some link) (brings_of arrivals.entry) stage.old out.old stage.new out.new) }
     ensures serving { OnOk result (IsServing stage.new) }
     ensures met { OnOk result (IsMetAt link stage.new) }
     ensures grew { Grew out.old.outs out.new.outs }
@@ -96,7 +99,8 @@ fn come_all(
 ) -> Result<(), AllocError>
     requires serving { IsServing stage.old }
     ensures ok { OnOk result
-        (ChangesAll (flat_map (member_comes arrivals.entry.channel.now) (members_told arrivals.entry.members.now)) stage.old out.old stage.new out.new) }
+        (ChangesAll (flat_map (member_comes arrivals.entry.channel.now)
+        (members_told arrivals.entry.members.now)) stage.old out.old stage.new out.new) }
     ensures serving { OnOk result (IsServing stage.new) }
     ensures keeps { Keeps stage.old stage.new }
     ensures grew { Grew out.old.outs out.new.outs }
@@ -116,7 +120,8 @@ fn come(
     out: &mut Batch,
 ) -> Result<(), AllocError>
     requires serving { IsServing stage.old }
-    ensures ok { OnOk result (ChangesAll (coming_of channel.now member.now) stage.old out.old stage.new out.new) }
+    ensures ok { OnOk result
+        (ChangesAll (coming_of channel.now member.now) stage.old out.old stage.new out.new) }
     ensures serving { OnOk result (IsServing stage.new) }
     ensures keeps { Keeps stage.old stage.new }
     ensures grew { Grew out.old.outs out.new.outs }
@@ -155,7 +160,8 @@ pub(crate) struct Gift<'a> {
 /// A member is given a flag, if it has it.
 fn give(stage: &mut Stage, link: u64, gift: Gift<'_>, out: &mut Batch) -> Result<(), AllocError>
     requires serving { IsServing stage.old }
-    ensures ok { OnOk result (ChangesAll (given_by gift.entry) stage.old out.old stage.new out.new) }
+    ensures ok { OnOk result
+        (ChangesAll (given_by gift.entry) stage.old out.old stage.new out.new) }
     ensures serving { OnOk result (IsServing stage.new) }
     ensures keeps { Keeps stage.old stage.new }
     ensures grew { Grew out.old.outs out.new.outs }

@@ -26,7 +26,8 @@ pub(crate) fn quit_all(
 ) -> Result<(), AllocError>
     requires serving { IsServing stage.old }
     ensures ok { OnOk result
-        (ChangesAll (quits_of loss.entry.text.now (users_at loss.entry.name.now (view_of stage.old).room)) stage.old out.old stage.new out.new) }
+        (ChangesAll (quits_of loss.entry.text.now (users_at loss.entry.name.now
+        (view_of stage.old).room)) stage.old out.old stage.new out.new) }
     ensures serving { OnOk result (IsServing stage.new) }
     ensures keeps { Keeps stage.old stage.new }
     ensures grew { Grew out.old.outs out.new.outs }
@@ -40,7 +41,8 @@ pub(crate) fn quit_all(
 
 /// The nicknames of the users of a server, in folded order.
 fn nicks_at(alloc: Global, room: &Room, home: &ServerName) -> Result<Vec<Nick, Global>, AllocError>
-    ensures { IfOk result (λ nicks. nicks.items ≡ map (λ user. user.nick) (users_at home.now room.now.room)) }
+    ensures { IfOk result
+        (λ nicks. nicks.items ≡ map (λ user. user.nick) (users_at home.now room.now.room)) }
 {
     let mut nicks = Vec::new(alloc);
     let users = room.users_at(home)?;
@@ -59,7 +61,8 @@ fn quit(
     out: &mut Batch,
 ) -> Result<(), AllocError>
     requires serving { IsServing stage.old }
-    ensures ok { OnOk result (ChangesAll (Quit nick.now text.now ∷ []) stage.old out.old stage.new out.new) }
+    ensures ok { OnOk result
+        (ChangesAll (Quit nick.now text.now ∷ []) stage.old out.old stage.new out.new) }
     ensures serving { OnOk result (IsServing stage.new) }
     ensures keeps { Keeps stage.old stage.new }
     ensures grew { Grew out.old.outs out.new.outs }

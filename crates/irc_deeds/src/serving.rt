@@ -1,4 +1,5 @@
-//! What happens by a link: it is opened, a line comes by it, it is lost (RFC 2813 sections 4.1 and 5).
+//! What happens by a link: it is opened, a line comes by it, it is lost (RFC 2813 sections 4.1 and
+//! 5).
 ghost use Rattle.std.specs.Prelude.{◌≡◌, None, OnOk};
 ghost use Rattle.std.specs.FinMap.{get};
 ghost use Rattle.irc_batch.specs.Growing.{Grew};
@@ -7,7 +8,8 @@ ghost use Rattle.irc_burst_lines.specs.Loops.Telling.{lines_now};
 ghost use Rattle.irc_stage.specs.Loops.Stage.{view_of, IsServing};
 ghost use Rattle.irc_deeds.specs.LinkServed.{opening_parts, owes};
 ghost use Rattle.irc_deeds.specs.Loops.Hearing.{heard_of};
-ghost use Rattle.irc_deeds.specs.Loops.Serving.{greeting_of, Follows, Hears, IsHearable, IsOpenAt, Meets, Opens, PutsLines, PutsOn};
+ghost use Rattle.irc_deeds.specs.Loops.Serving.{greeting_of, Follows, Hears, IsHearable, IsOpenAt};
+ghost use Rattle.irc_deeds.specs.Loops.Serving.{Meets, Opens, PutsLines, PutsOn};
 
 use crate::heard::Heard;
 use crate::hearing::hear;
@@ -23,7 +25,8 @@ use irc_routes::Info;
 use irc_stage::{Newcomer, Stage};
 use std::alloc::AllocError;
 
-/// A link is opened: this end calls the server of this name, and begins, or it is called, and waits. A server that is no peer is not called.
+/// A link is opened: this end calls the server of this name, and begins, or it is called, and
+/// waits. A server that is no peer is not called.
 ///
 /// # Errors
 /// Where memory runs out.
@@ -51,7 +54,8 @@ pub fn open_link(
 
 /// The two lines with which an end begins, to a peer of this name.
 fn begin(stage: &Stage, link: u64, name: &ServerName, out: &mut Batch) -> Result<(), AllocError>
-    ensures ok { OnOk result (PutsOn link (opening_parts (view_of stage.now) name.now) out.old out.new) }
+    ensures ok { OnOk result
+        (PutsOn link (opening_parts (view_of stage.now) name.now) out.old out.new) }
     ensures grew { Grew out.old.outs out.new.outs }
 {
     let password = match stage.password_for(name.as_bytes()) {
@@ -135,9 +139,11 @@ fn meet(
     gain(stage, newcomer, out)
 }
 
-/// What an end owes a server that has named itself: the end that is called begins now, and both tell what their side holds.
+/// What an end owes a server that has named itself: the end that is called begins now, and both
+/// tell what their side holds.
 fn answer(stage: &Stage, link: u64, name: &ServerName, out: &mut Batch) -> Result<(), AllocError>
-    ensures ok { OnOk result (PutsOn link (owes (view_of stage.now) link name.now) out.old out.new) }
+    ensures ok { OnOk result
+        (PutsOn link (owes (view_of stage.now) link name.now) out.old out.new) }
     ensures grew { Grew out.old.outs out.new.outs }
 {
     let Some(end) = stage.end(link) else {
@@ -156,7 +162,8 @@ fn greet(
     name: &ServerName,
     out: &mut Batch,
 ) -> Result<(), AllocError>
-    ensures ok { OnOk result (PutsOn link (greeting_of (view_of stage.now) end.now name.now) out.old out.new) }
+    ensures ok { OnOk result
+        (PutsOn link (greeting_of (view_of stage.now) end.now name.now) out.old out.new) }
     ensures grew { Grew out.old.outs out.new.outs }
 {
     if end.starts().is_some() {

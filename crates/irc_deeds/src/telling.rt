@@ -58,7 +58,8 @@ pub(crate) fn tell_all(
 ) -> Result<(), AllocError>
     requires serving { IsServing stage.old }
     requires met { IsMetAt link stage.old }
-    ensures ok { OnOk result (DoesAllTold link (acts_told acts.now) stage.old out.old stage.new out.new) }
+    ensures ok { OnOk result
+        (DoesAllTold link (acts_told acts.now) stage.old out.old stage.new out.new) }
     ensures serving { OnOk result (IsServing stage.new) }
     ensures grew { Grew out.old.outs out.new.outs }
 {
@@ -72,7 +73,8 @@ pub(crate) fn tell_all(
 fn tell(stage: &mut Stage, link: u64, act: &BurstAct, out: &mut Batch) -> Result<(), AllocError>
     requires serving { IsServing stage.old }
     requires met { IsMetAt link stage.old }
-    ensures ok { OnOk result (DoesTold link (act_told act.now) stage.old out.old stage.new out.new) }
+    ensures ok { OnOk result
+        (DoesTold link (act_told act.now) stage.old out.old stage.new out.new) }
     ensures serving { OnOk result (IsServing stage.new) }
     ensures met { OnOk result (IsMetAt link stage.new) }
     ensures grew { Grew out.old.outs out.new.outs }
@@ -95,7 +97,8 @@ fn tell_server(
     requires serving { IsServing stage.old }
     requires met { IsMetAt link stage.old }
     requires of_servers { IsOfServers act.now }
-    ensures ok { OnOk result (DoesTold link (act_told act.now) stage.old out.old stage.new out.new) }
+    ensures ok { OnOk result
+        (DoesTold link (act_told act.now) stage.old out.old stage.new out.new) }
     ensures serving { OnOk result (IsServing stage.new) }
     ensures met { OnOk result (IsMetAt link stage.new) }
     ensures grew { Grew out.old.outs out.new.outs }
@@ -136,7 +139,8 @@ fn tell_channel(
     requires serving { IsServing stage.old }
     requires met { IsMetAt link stage.old }
     requires of_channels { IsOfChannels act.now }
-    ensures ok { OnOk result (DoesTold link (act_told act.now) stage.old out.old stage.new out.new) }
+    ensures ok { OnOk result
+        (DoesTold link (act_told act.now) stage.old out.old stage.new out.new) }
     ensures serving { OnOk result (IsServing stage.new) }
     ensures met { OnOk result (IsMetAt link stage.new) }
     ensures grew { Grew out.old.outs out.new.outs }
@@ -198,7 +202,8 @@ pub(crate) fn lose(
 ) -> Result<(), AllocError>
     requires serving { IsServing stage.old }
     requires met { IsMetAt link stage.old }
-    ensures ok { OnOk result (DoesDeed (Some link) (loses_of loss.entry) stage.old out.old stage.new out.new) }
+    ensures ok { OnOk result
+        (DoesDeed (Some link) (loses_of loss.entry) stage.old out.old stage.new out.new) }
     ensures serving { OnOk result (IsServing stage.new) }
     ensures met { OnOk result (IsMetAt link stage.new) }
     ensures grew { Grew out.old.outs out.new.outs }
@@ -209,8 +214,8 @@ pub(crate) fn lose(
     stage.tell_all(Some(link), &line, out)
 }
 
-/// The user of a nickname is taken out that another has too. The KILL goes on to the others; one of our own goes back as well, for the server there has
-/// the other user.
+/// The user of a nickname is taken out that another has too. The KILL goes on to the others; one of
+/// our own goes back as well, for the server there has the other user.
 fn kill(
     stage: &mut Stage,
     link: u64,
@@ -253,7 +258,8 @@ impl<'a> Setting<'a> {
     }
 }
 
-/// A server sets modes of a channel: of its changes those are made that raise something, and all go on as they came.
+/// A server sets modes of a channel: of its changes those are made that raise something, and all go
+/// on as they came.
 fn set(
     stage: &mut Stage,
     link: u64,
@@ -262,7 +268,8 @@ fn set(
 ) -> Result<(), AllocError>
     requires serving { IsServing stage.old }
     requires met { IsMetAt link stage.old }
-    ensures ok { OnOk result (DoesDeed (Some link) (sets_of setting.entry) stage.old out.old stage.new out.new) }
+    ensures ok { OnOk result
+        (DoesDeed (Some link) (sets_of setting.entry) stage.old out.old stage.new out.new) }
     ensures serving { OnOk result (IsServing stage.new) }
     ensures met { OnOk result (IsMetAt link stage.new) }
     ensures grew { Grew out.old.outs out.new.outs }
@@ -281,7 +288,8 @@ fn raised(
     channel: &ChannelName,
     changes: &[ModeChange],
 ) -> Result<Vec<ModeChange, Global>, AllocError>
-    ensures { IfOk result (λ raised. raised.items ≡ raised_in room.now.room channel.now changes.now) }
+    ensures { IfOk result
+        (λ raised. raised.items ≡ raised_in room.now.room channel.now changes.now) }
 {
     match room.channel(channel.as_bytes()) {
         Some(channel) => channel.modes.raising(changes),
@@ -298,7 +306,8 @@ fn make(
     out: &mut Batch,
 ) -> Result<(), AllocError>
     requires serving { IsServing stage.old }
-    ensures ok { OnOk result (ChangesAll (changes_made channel.now changes.items) stage.old out.old stage.new out.new) }
+    ensures ok { OnOk result (ChangesAll
+        (changes_made channel.now changes.items) stage.old out.old stage.new out.new) }
     ensures serving { OnOk result (IsServing stage.new) }
     ensures keeps { Keeps stage.old stage.new }
     ensures grew { Grew out.old.outs out.new.outs }
@@ -335,11 +344,13 @@ impl<'a> Topic<'a> {
     }
 }
 
-/// A server sets a channel's topic: it is set where it is greater than the one that is there, and goes on as it came.
+/// A server sets a channel's topic: it is set where it is greater than the one that is there, and
+/// goes on as it came.
 fn top(stage: &mut Stage, link: u64, topic: Topic<'_>, out: &mut Batch) -> Result<(), AllocError>
     requires serving { IsServing stage.old }
     requires met { IsMetAt link stage.old }
-    ensures ok { OnOk result (DoesDeed (Some link) (tops_of topic.entry) stage.old out.old stage.new out.new) }
+    ensures ok { OnOk result
+        (DoesDeed (Some link) (tops_of topic.entry) stage.old out.old stage.new out.new) }
     ensures serving { OnOk result (IsServing stage.new) }
     ensures met { OnOk result (IsMetAt link stage.new) }
     ensures grew { Grew out.old.outs out.new.outs }
@@ -357,7 +368,8 @@ fn raise_topic(
     out: &mut Batch,
 ) -> Result<(), AllocError>
     requires serving { IsServing stage.old }
-    ensures ok { OnOk result (ChangesAll (topped_by topic.entry stage.old) stage.old out.old stage.new out.new) }
+    ensures ok { OnOk result
+        (ChangesAll (topped_by topic.entry stage.old) stage.old out.old stage.new out.new) }
     ensures serving { OnOk result (IsServing stage.new) }
     ensures keeps { Keeps stage.old stage.new }
     ensures grew { Grew out.old.outs out.new.outs }

@@ -1,4 +1,5 @@
--- The room after an effect (RFC 2811 sections 2 to 4; RFC 2812 section 3). Each effect alters one row or each row of a table.
+-- The room after an effect (RFC 2811 sections 2 to 4; RFC 2812 section 3). Each effect alters one
+-- row or each row of a table.
 use Rattle.std.specs.Prelude.{ℕ, Option, Some, None, List, unwrap_or}
 use Rattle.std.specs.Option.{option_and_then, option_map}
 use Rattle.irc_names.specs.Fold.{key}
@@ -6,9 +7,12 @@ use Rattle.irc_names.specs.Tables.{alter, each, moved}
 use Rattle.irc_users.specs.declared.user.User.{User}
 use Rattle.irc_users.specs.UserTable.{with_nick, with_invisible}
 use Rattle.irc_channels.specs.declared.channel.Channel.{Channel}
-use Rattle.irc_channels.specs.Channels.{new_channel, joined, left, without_user, renamed, invited_too, with_topic, respelled, all_changed}
+use Rattle.irc_channels.specs.Channels.{new_channel, joined, left, without_user, renamed}
+use Rattle.irc_channels.specs.Channels.{invited_too, with_topic, respelled, all_changed}
 use Rattle.irc_effects.specs.declared.effect.Effect.{Effect}
-use Rattle.irc_effects.specs.declared.effect.Effect.TheVariants.{AddUser, Rename, Quit, Join, Part, Kick, ChangeModes, SetTopic, Say, Invite, UserMode}
+use Rattle.irc_effects.specs.declared.effect.Effect.TheVariants.{AddUser, Rename, Quit, Join, Part}
+use Rattle.irc_effects.specs.declared.effect.Effect.TheVariants.{Kick, ChangeModes, SetTopic, Say}
+use Rattle.irc_effects.specs.declared.effect.Effect.TheVariants.{Invite, UserMode}
 use Rattle.irc_effects.specs.Room.{Room}
 
 -- one user, or one channel, made, changed or taken out
@@ -31,14 +35,18 @@ after room (Quit nick text) = record {
   channels = each (without_user (key nick)) room.channels;
 }
 -- a channel that is not there is made, with the spelling given
-after room (Join nick channel op) = alter_channel channel (λ c. Some (joined (key nick) op (unwrap_or c (new_channel channel)))) room
+after room (Join nick channel op) = alter_channel channel
+    (λ c. Some (joined (key nick) op (unwrap_or c (new_channel channel)))) room
 after room (Part nick channel text) = alter_channel channel (option_and_then (left (key nick))) room
-after room (Kick by channel nick text) = alter_channel channel (option_and_then (left (key nick))) room
-after room (ChangeModes by channel changes) = alter_channel channel (option_map (all_changed changes)) room
+after room (Kick by channel nick text) =
+    alter_channel channel (option_and_then (left (key nick))) room
+after room (ChangeModes by channel changes) =
+    alter_channel channel (option_map (all_changed changes)) room
 after room (SetTopic by channel text) = alter_channel channel (option_map (with_topic text)) room
 after room (Say by notice target text) = room
 -- an invitation to a channel that is not there is not kept (our own choice)
-after room (Invite by nick channel) = alter_channel channel (option_map (invited_too (key nick))) room
+after room (Invite by nick channel) =
+    alter_channel channel (option_map (invited_too (key nick))) room
 after room (UserMode nick invisible) = alter_user nick (option_map (with_invisible invisible)) room
 
 -- The name of a channel is spelled as given, where that is greater by bytes. It is a step of a

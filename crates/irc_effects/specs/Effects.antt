@@ -1,5 +1,6 @@
 -- What can be asked of a room, and when it does nothing.
-use Rattle.std.specs.Prelude.{◌≡◌, ℕ, Bool, true, false, not, ◌&&◌, ◌||◌, is_some, Option, Some, None, List, [], ◌∷◌, option_to_list}
+use Rattle.std.specs.Prelude.{◌≡◌, ℕ, Bool, true, false, not, ◌&&◌, ◌||◌, is_some, Option, Some}
+use Rattle.std.specs.Prelude.{None, List, [], ◌∷◌, option_to_list}
 use Rattle.std.specs.List.{list_all}
 use Rattle.std.specs.Option.{option_map_or}
 use Rattle.irc_names.specs.Fold.{key, same}
@@ -10,7 +11,9 @@ use Rattle.irc_effects.specs.declared.effect.By.TheVariants as by
 use Rattle.irc_effects.specs.declared.effect.Target.{Target}
 use Rattle.irc_effects.specs.declared.effect.Target.TheVariants as target
 use Rattle.irc_effects.specs.declared.effect.Effect.{Effect}
-use Rattle.irc_effects.specs.declared.effect.Effect.TheVariants.{AddUser, Rename, Quit, Join, Part, Kick, ChangeModes, SetTopic, Say, Invite, UserMode}
+use Rattle.irc_effects.specs.declared.effect.Effect.TheVariants.{AddUser, Rename, Quit, Join, Part}
+use Rattle.irc_effects.specs.declared.effect.Effect.TheVariants.{Kick, ChangeModes, SetTopic, Say}
+use Rattle.irc_effects.specs.declared.effect.Effect.TheVariants.{Invite, UserMode}
 use Rattle.irc_effects.specs.Room.{Room}
 
 -- whether a table has a row under a name, as spelled
@@ -26,13 +29,17 @@ has_channel room channel = has_row room.channels channel
 
 -- whether the user of a nickname is a member of the channel of a name
 abbrev pub is_member : Room → List ℕ → List ℕ → Bool
-is_member room nick channel = option_map_or (has_member (key nick)) (row room.channels (key channel)) false
+is_member room nick channel =
+    option_map_or (has_member (key nick)) (row room.channels (key channel)) false
 
--- A Part or a Kick of one who is no member of a channel that is there does nothing, nor does a Join of one who is a member.
+-- A Part or a Kick of one who is no member of a channel that is there does nothing, nor does a Join
+-- of one who is a member.
 abbrev pub is_idle : Room → Effect → Bool
 is_idle room (Join nick channel op) = is_member room nick channel
-is_idle room (Part nick channel text) = has_channel room channel && not (is_member room nick channel)
-is_idle room (Kick by channel nick text) = has_channel room channel && not (is_member room nick channel)
+is_idle room (Part nick channel text) =
+    has_channel room channel && not (is_member room nick channel)
+is_idle room (Kick by channel nick text) =
+    has_channel room channel && not (is_member room nick channel)
 is_idle room other = false
 
 -- the nickname of whoever does it; a server has none
@@ -49,7 +56,8 @@ abbrev pub target_users : Target → List (List ℕ)
 target_users (target.User nick) = nick ∷ []
 target_users (target.Channel channel) = []
 
--- the nickname of the user that does an effect; a server has none, and who is only now a user has done nothing yet
+-- the nickname of the user that does an effect; a server has none, and who is only now a user has
+-- done nothing yet
 abbrev pub doer_of : Effect → Option (List ℕ)
 doer_of (AddUser user) = None
 doer_of (Rename nick new) = Some nick

@@ -1,5 +1,6 @@
 -- Small rooms, and what is so in them.
-use Rattle.std.specs.Prelude.{◌≡◌, ℕ, Bool, true, false, Option, Some, None, List, [], ◌∷◌, ◌++◌, codes, map, fold}
+use Rattle.std.specs.Prelude.{◌≡◌, ℕ, Bool, true, false, Option, Some, None, List, [], ◌∷◌, ◌++◌}
+use Rattle.std.specs.Prelude.{codes, map, fold}
 use Rattle.std.specs.Option.{option_and_then, option_map, option_map_or}
 use Rattle.arrayvec.specs.ArrayVec.{ArrayVec}
 use Rattle.irc_names.specs.Fold.{key}
@@ -17,7 +18,9 @@ use Rattle.irc_modes.specs.Modes.{no_modes}
 use Rattle.irc_effects.specs.declared.effect.By.TheVariants as by
 use Rattle.irc_effects.specs.declared.effect.Target.TheVariants as target
 use Rattle.irc_effects.specs.declared.effect.Effect.{Effect}
-use Rattle.irc_effects.specs.declared.effect.Effect.TheVariants.{AddUser, Rename, Quit, Join, Part, Kick, ChangeModes, SetTopic, Say, Invite}
+use Rattle.irc_effects.specs.declared.effect.Effect.TheVariants.{AddUser, Rename, Quit, Join, Part}
+use Rattle.irc_effects.specs.declared.effect.Effect.TheVariants.{Kick, ChangeModes, SetTopic, Say}
+use Rattle.irc_effects.specs.declared.effect.Effect.TheVariants.{Invite}
 use Rattle.irc_effects.specs.Room.{Room}
 use Rattle.irc_effects.specs.Effects.{has_user, has_channel, is_member, brings_free}
 use Rattle.irc_effects.specs.After.{after, titled_by}
@@ -30,21 +33,30 @@ room_after effects = fold after no_room effects
 
 -- a user with this nickname, who came from this host to this server
 abbrev pub somebody : List ℕ → List ℕ → List ℕ → User
-somebody nick host home = record { nick = nick; user = codes "u"; host = host; real = codes "r"; home = home; invisible = false }
+somebody nick host home = record {
+  nick = nick;
+  user = codes "u";
+  host = host;
+  real = codes "r";
+  home = home;
+  invisible = false;
+}
 
 abbrev pub comes : List ℕ → Effect
 comes nick = AddUser (somebody nick (codes "h") (codes "s.net"))
 
 -- the flags of a member
 abbrev pub flags_of : Room → List ℕ → List ℕ → Option Flags
-flags_of room nick channel = option_and_then (λ (c : Channel). row c.members (key nick)) (row room.channels (key channel))
+flags_of room nick channel =
+    option_and_then (λ (c : Channel). row c.members (key nick)) (row room.channels (key channel))
 
 -- something of a channel
 abbrev pub of_channel : {X : Type 0} → (Channel → X) → Room → List ℕ → Option X
 of_channel part room channel = option_map part (row room.channels (key channel))
 
 abbrev pub invited_to : Room → List ℕ → List ℕ → Bool
-invited_to room nick channel = option_map_or (is_invited (key nick)) (row room.channels (key channel)) false
+invited_to room nick channel =
+    option_map_or (is_invited (key nick)) (row room.channels (key channel)) false
 
 abbrev pub viewers_of : List Showing → List (List ℕ)
 viewers_of showings = map (λ (s : Showing). s.viewer) showings
@@ -63,13 +75,16 @@ two_members =
 
 -- `{` is the lower case of `[`
 abbrev pub NickTakenByFold : Type 0
-NickTakenByFold = brings_free (room_after (comes (codes "foo[") ∷ [])) (comes (codes "FOO{")) ≡ false
+NickTakenByFold =
+    brings_free (room_after (comes (codes "foo[") ∷ [])) (comes (codes "FOO{")) ≡ false
 
 -- but a user may take its own nickname in another spelling
 abbrev pub OwnSpellingIsFree : Type 0
-OwnSpellingIsFree = brings_free (room_after (comes (codes "foo[") ∷ [])) (Rename (codes "foo[") (codes "FOO{")) ≡ true
+OwnSpellingIsFree = brings_free (room_after (comes (codes "foo[") ∷ []))
+    (Rename (codes "foo[") (codes "FOO{")) ≡ true
 
--- one with a new nickname is a member as before, with the flags that it had, and its old nickname is nobody's
+-- one with a new nickname is a member as before, with the flags that it had, and its old nickname
+-- is nobody's
 abbrev pub RenameCarriesMembership : Type 0
 RenameCarriesMembership =
     let room = room_after (two_members ++ Rename (codes "FOO") (codes "qux") ∷ []) in
@@ -96,22 +111,27 @@ InvitationGoneWithChannel =
     (codes "bar") (codes "#c")
     ≡ false)
 
--- a Quit is not shown to who quits, nor to one who shares no channel; to one who shares two channels it is shown once
+-- a Quit is not shown to who quits, nor to one who shares no channel; to one who shares two
+-- channels it is shown once
 abbrev pub QuitHiddenFromDoer : Type 0
 QuitHiddenFromDoer =
-    seen (room_after (two_members ++ Join (codes "bar") (codes "#c") true ∷ Join (codes "foo") (codes "#c") false ∷ [])) (Quit (codes "foo") (codes "bye"))
+    seen (room_after (two_members ++ Join (codes "bar") (codes "#c") true ∷ Join (codes "foo")
+    (codes "#c") false ∷ [])) (Quit (codes "foo") (codes "bye"))
     ≡ record { viewer = codes "bar"; line = codes ":Foo!u@h QUIT :bye" ++ crlf } ∷ []
 
 -- what one says in a channel is not shown to it, but to the other member
 abbrev pub SayShownToOthers : Type 0
 SayShownToOthers = (words : ArrayVec ℕ) (notice : Bool)
-    → viewers_of (seen (room_after two_members) (Say (codes "foo") notice (target.Channel (codes "#rust")) words)) ≡ codes "bar" ∷ []
+    → viewers_of (seen (room_after two_members)
+    (Say (codes "foo") notice (target.Channel (codes "#rust")) words)) ≡ codes "bar" ∷ []
 
 -- the second member of a channel is no operator, and the first stays one
 abbrev pub SecondMemberIsNoOperator : Type 0
 SecondMemberIsNoOperator =
-    (flags_of (room_after two_members) (codes "bar") (codes "#rust") ≡ Some (record { op = false; voice = false }))
-    × (flags_of (room_after two_members) (codes "foo") (codes "#rust") ≡ Some (record { op = true; voice = false }))
+    (flags_of (room_after two_members) (codes "bar") (codes "#rust")
+    ≡ Some (record { op = false; voice = false }))
+    × (flags_of (room_after two_members) (codes "foo") (codes "#rust")
+    ≡ Some (record { op = true; voice = false }))
 
 -- where s is set, p is neither set nor cleared
 abbrev pub SecretStaysSecret : Type 0
@@ -121,16 +141,19 @@ SecretStaysSecret =
     (room_after (two_members
     ++ ChangeModes by.Home (codes "#rust") (set letter.Secret None ∷ last ∷ []) ∷ []))
     (codes "#rust") in
-    (privacy_after (set letter.Private None) ≡ Some Secret) × (privacy_after (clear letter.Private None) ≡ Some Secret)
+    (privacy_after (set letter.Private None) ≡ Some Secret)
+    × (privacy_after (clear letter.Private None) ≡ Some Secret)
 
--- changes are written with a sign where it differs from the one before, and their parameters behind: a user's nickname as it is stored,
--- that of nobody as it was given
+-- changes are written with a sign where it differs from the one before, and their parameters
+-- behind: a user's nickname as it is stored, that of nobody as it was given
 abbrev pub ChangesWritten : Type 0
 ChangesWritten =
-    let changes = set letter.Operator (Some (codes "BAR")) ∷ clear letter.Voice (Some (codes "Cy")) ∷ set letter.Limit (Some (codes "5")) ∷ [] in
+    let changes = set letter.Operator (Some (codes "BAR")) ∷ clear letter.Voice (Some (codes "Cy"))
+    ∷ set letter.Limit (Some (codes "5")) ∷ [] in
     (seen (room_after two_members) (ChangeModes (by.User (codes "foo")) (codes "#rust") changes)
     ≡ record { viewer = codes "bar"; line = codes ":Foo!u@h MODE #Rust +o-v+l bar Cy 5" ++ crlf }
-    ∷ record { viewer = codes "Foo"; line = codes ":Foo!u@h MODE #Rust +o-v+l bar Cy 5" ++ crlf } ∷ [])
+    ∷ record { viewer = codes "Foo"; line = codes ":Foo!u@h MODE #Rust +o-v+l bar Cy 5" ++ crlf }
+    ∷ [])
     × ((room : Room)
     → changes_words room
     (clear letter.Secret None ∷ clear letter.Ban (Some (codes "x!*@*"))
@@ -148,7 +171,8 @@ BanStandsOnce =
     (codes "#rust")
     ≡ Some (codes "A{!*@*" ∷ [])
 
--- a channel that ended begins anew, as its new maker spells it: with no topic and no mode, and its maker for its operator
+-- a channel that ended begins anew, as its new maker spells it: with no topic and no mode, and its
+-- maker for its operator
 abbrev pub ChannelMadeAnew : Type 0
 ChannelMadeAnew =
     let ended =
@@ -183,18 +207,21 @@ PartWrittenAsStored =
 
 -- a member who joins once more shows nothing
 abbrev pub JoinOnceMoreShowsNothing : Type 0
-JoinOnceMoreShowsNothing = seen (room_after two_members) (Join (codes "BAR") (codes "#rust") true) ≡ []
+JoinOnceMoreShowsNothing =
+    seen (room_after two_members) (Join (codes "BAR") (codes "#rust") true) ≡ []
 
 -- what a server does is shown to each viewer as done by its own server
 abbrev pub EachSeesItsOwnServer : Type 0
 EachSeesItsOwnServer =
-    seen (room_after (AddUser (somebody (codes "foo") (codes "h") (codes "a.net")) ∷ AddUser (somebody (codes "bar") (codes "h") (codes "b.net"))
+    seen (room_after (AddUser (somebody (codes "foo") (codes "h") (codes "a.net")) ∷ AddUser
+    (somebody (codes "bar") (codes "h") (codes "b.net"))
     ∷ Join (codes "foo") (codes "#c") true ∷ Join (codes "bar") (codes "#c") false ∷ []))
     (ChangeModes by.Home (codes "#c") (set letter.Operator (Some (codes "bar")) ∷ []))
     ≡ record { viewer = codes "bar"; line = codes ":b.net MODE #c +o bar" ++ crlf }
     ∷ record { viewer = codes "foo"; line = codes ":a.net MODE #c +o bar" ++ crlf } ∷ []
 
--- a Rename is shown to its doer and, once, to whoever shares a channel with it, with the new nickname as spelled
+-- a Rename is shown to its doer and, once, to whoever shares a channel with it, with the new
+-- nickname as spelled
 abbrev pub RenameShownOnce : Type 0
 RenameShownOnce =
     seen (room_after two_members) (Rename (codes "foo") (codes "Qux"))
@@ -213,5 +240,8 @@ JoinShownToAll =
 abbrev pub InviteToNoChannelIsToldOnly : Type 0
 InviteToNoChannelIsToldOnly =
     let invite = Invite (codes "foo") (codes "bar") (codes "#none") in
-    (seen (room_after two_members) invite ≡ record { viewer = codes "bar"; line = codes ":Foo!u@h INVITE bar #none" ++ crlf } ∷ [])
+    (seen (room_after two_members) invite ≡ record {
+      viewer = codes "bar";
+      line = codes ":Foo!u@h INVITE bar #none" ++ crlf;
+    } ∷ [])
     × (has_channel (room_after (two_members ++ invite ∷ [])) (codes "#none") ≡ false)

@@ -17,4 +17,5 @@ pub record IsSoFirst (first left : Type 0) : Type 0 where
 -- each of these effects is so in the room that those before it have left
 abbrev pub EachInTurn : (Room → Effect → Type 0) → Room → List Effect → Type 0
 EachInTurn Q room [] = ⊤
-EachInTurn Q room (effect ∷ effects) = IsSoFirst (Q room effect) (EachInTurn Q (after room effect) effects)
+EachInTurn Q room (effect ∷ effects) =
+    IsSoFirst (Q room effect) (EachInTurn Q (after room effect) effects)

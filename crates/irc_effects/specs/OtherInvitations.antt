@@ -1,4 +1,5 @@
--- Rooms that are alike but for who is invited. Nothing else in them, and nothing that an effect shows or does, differs.
+-- Rooms that are alike but for who is invited. Nothing else in them, and nothing that an effect
+-- shows or does, differs.
 use Rattle.std.specs.Prelude.{◌≡◌, ◌↔◌, ℕ, Bool, List}
 use Rattle.std.specs.Option.{option_map}
 use Rattle.std.specs.FinMap.{empty}
@@ -6,7 +7,8 @@ use Rattle.irc_names.specs.Tables.{row}
 use Rattle.irc_channels.specs.declared.channel.Channel.{Channel}
 use Rattle.irc_effects.specs.declared.effect.Effect.{Effect}
 use Rattle.irc_effects.specs.Room.{Room}
-use Rattle.irc_effects.specs.Effects.{has_user, has_channel, is_member, is_idle, brings_free, IsPossible}
+use Rattle.irc_effects.specs.Effects.{has_user, has_channel, is_member, is_idle, brings_free}
+use Rattle.irc_effects.specs.Effects.{IsPossible}
 use Rattle.irc_effects.specs.After.{after}
 use Rattle.irc_effects.specs.Seen.{seen}
 use Rattle.irc_effects.specs.Applying.{missing_fault, room_fault, does}
@@ -19,7 +21,8 @@ uninviting channel = record channel { invited = empty }
 
 pub record AreAlike (room other : Room) : Type 0 where
   pub users : room.users ≡ other.users
-  pub channels : (fold : List ℕ) → option_map uninviting (row room.channels fold) ≡ option_map uninviting (row other.channels fold)
+  pub channels : (fold : List ℕ) → option_map uninviting (row room.channels fold)
+      ≡ option_map uninviting (row other.channels fold)
 
 -- a room is such with the invitations of one server's users alone
 abbrev pub HomeIsAlike : Type 0
@@ -41,14 +44,17 @@ pub record IsTakenAlike (room other : Room) (effect : Effect) : Type 0 where
   pub idle : is_idle room effect ≡ is_idle other effect
   pub missing : missing_fault room effect ≡ missing_fault other effect
   pub fault : (own : List ℕ) (failed : Bool)
-      → room_fault (record { own = own; failed = failed; room = room }) effect ≡ room_fault (record { own = own; failed = failed; room = other }) effect
+      → room_fault (record { own = own; failed = failed; room = room }) effect
+      ≡ room_fault (record { own = own; failed = failed; room = other }) effect
   pub does : does room effect ≡ does other effect
   pub seen : seen room effect ≡ seen other effect
   pub shows : (nick : List ℕ) → shows_to room effect nick ≡ shows_to other effect nick
 
 abbrev pub AlikeTakeAlike : Type 0
-AlikeTakeAlike = (room other : Room) (effect : Effect) → AreAlike room other → IsTakenAlike room other effect
+AlikeTakeAlike = (room other : Room) (effect : Effect) → AreAlike room other
+    → IsTakenAlike room other effect
 
 -- whatever an effect makes of two such rooms, they are alike then
 abbrev pub AlikeStayAlike : Type 0
-AlikeStayAlike = (room other : Room) (effect : Effect) → AreAlike room other → AreAlike (after room effect) (after other effect)
+AlikeStayAlike = (room other : Room) (effect : Effect) → AreAlike room other
+    → AreAlike (after room effect) (after other effect)

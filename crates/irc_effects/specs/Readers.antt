@@ -1,4 +1,5 @@
--- A room as four tables: users, channels, members and invitations, each by the folds of the names in it.
+-- A room as four tables: users, channels, members and invitations, each by the folds of the names
+-- in it.
 use Rattle.std.specs.Prelude.{ℕ, Bool, false, not, Option, List, map, filter}
 use Rattle.std.specs.Option.{option_and_then, option_map, option_map_or}
 use Rattle.std.specs.Borrow.{Bor}
@@ -61,7 +62,8 @@ channel_at room channel = row room.channels channel
 
 -- the flags of a member of a channel
 abbrev pub flags_at : Room → List ℕ → List ℕ → Option Flags
-flags_at room nick channel = option_and_then (λ (c : Channel). row c.members nick) (row room.channels channel)
+flags_at room nick channel =
+    option_and_then (λ (c : Channel). row c.members nick) (row room.channels channel)
 
 -- whether a user is invited to a channel
 abbrev pub is_invited_at : Room → List ℕ → List ℕ → Bool
@@ -69,4 +71,5 @@ is_invited_at room nick channel = option_map_or (is_invited nick) (row room.chan
 
 -- the nicknames of the members of a channel, in folded order
 abbrev pub nicks_in : Room → List ℕ → List (List ℕ)
-nicks_in room channel = map (λ (user : User). user.nick) (filter (λ (user : User). is_member room user.nick channel) (values room.users))
+nicks_in room channel = map (λ (user : User). user.nick)
+    (filter (λ (user : User). is_member room user.nick channel) (values room.users))

@@ -1,5 +1,7 @@
--- Who is shown which line by an effect (RFC 2812 section 3). Viewers are the users before the effect, each at most once, in folded order.
-use Rattle.std.specs.Prelude.{ℕ, Bool, false, not, ◌&&◌, ◌||◌, Option, Some, None, List, [], ◌∷◌, ◌++◌, codes, if◌then◌else◌}
+-- Who is shown which line by an effect (RFC 2812 section 3). Viewers are the users before the
+-- effect, each at most once, in folded order.
+use Rattle.std.specs.Prelude.{ℕ, Bool, false, not, ◌&&◌, ◌||◌, Option, Some, None, List, [], ◌∷◌}
+use Rattle.std.specs.Prelude.{◌++◌, codes, if◌then◌else◌}
 use Rattle.std.specs.List.{list_any, filter_map}
 use Rattle.std.specs.Option.{option_map, option_map_or}
 use Rattle.std.specs.FinMap.{values}
@@ -17,13 +19,16 @@ use Rattle.irc_effects.specs.declared.effect.By.TheVariants as by
 use Rattle.irc_effects.specs.declared.effect.Target.{Target}
 use Rattle.irc_effects.specs.declared.effect.Target.TheVariants as target
 use Rattle.irc_effects.specs.declared.effect.Effect.{Effect}
-use Rattle.irc_effects.specs.declared.effect.Effect.TheVariants.{AddUser, Rename, Quit, Join, Part, Kick, ChangeModes, SetTopic, Say, Invite, UserMode}
+use Rattle.irc_effects.specs.declared.effect.Effect.TheVariants.{AddUser, Rename, Quit, Join, Part}
+use Rattle.irc_effects.specs.declared.effect.Effect.TheVariants.{Kick, ChangeModes, SetTopic, Say}
+use Rattle.irc_effects.specs.declared.effect.Effect.TheVariants.{Invite, UserMode}
 use Rattle.irc_effects.specs.Room.{Room}
 use Rattle.irc_effects.specs.Effects.{is_idle, is_member}
 
 -- whether two users are members of one channel
 abbrev pub share_channel : Room → List ℕ → List ℕ → Bool
-share_channel room one other = list_any (λ channel. has_member (key one) channel && has_member (key other) channel) (values room.channels)
+share_channel room one other = list_any (λ channel. has_member (key one) channel
+    && has_member (key other) channel) (values room.channels)
 
 -- Whether a viewer sees the effect. Members are those before it; for a Join the joiner is one too.
 abbrev pub sees : Room → Effect → List ℕ → Bool
@@ -36,7 +41,8 @@ sees room (Kick by channel nick text) viewer = is_member room viewer channel
 sees room (ChangeModes by channel changes) viewer = is_member room viewer channel
 sees room (SetTopic by channel text) viewer = is_member room viewer channel
 sees room (Say by notice (target.User nick) text) viewer = same nick viewer
-sees room (Say by notice (target.Channel channel) text) viewer = not (same by viewer) && is_member room viewer channel
+sees room (Say by notice (target.Channel channel) text) viewer =
+    not (same by viewer) && is_member room viewer channel
 sees room (Invite by nick channel) viewer = same nick viewer
 sees room (UserMode nick invisible) viewer = same nick viewer
 
@@ -45,9 +51,11 @@ abbrev pub stored_nick : Room → List ℕ → List ℕ
 stored_nick room nick = option_map_or (λ (user : User). user.nick) (row room.users (key nick)) nick
 
 abbrev pub stored_channel : Room → List ℕ → List ℕ
-stored_channel room channel = option_map_or (λ (c : Channel). c.name) (row room.channels (key channel)) channel
+stored_channel room channel =
+    option_map_or (λ (c : Channel). c.name) (row room.channels (key channel)) channel
 
--- a change's parameter as it is written: behind o and v the nickname as stored, however it was given
+-- a change's parameter as it is written: behind o and v the nickname as stored, however it was
+-- given
 abbrev pub written_word : Room → ModeChange → Option (List ℕ)
 written_word room c = if names_member c.letter then option_map (stored_nick room) c.word else c.word
 
@@ -55,7 +63,8 @@ written_word room c = if names_member c.letter then option_map (stored_nick room
 abbrev pub written_words : Room → List ModeChange → List (List ℕ)
 written_words room changes = filter_map (written_word room) changes
 
--- The words that changes are written as: the letters, then the parameters in order (RFC 2812 section 3.2.3).
+-- The words that changes are written as: the letters, then the parameters in order (RFC 2812
+-- section 3.2.3).
 abbrev pub changes_words : Room → List ModeChange → List (List ℕ)
 changes_words room changes = letters_text changes ∷ written_words room changes
 
@@ -78,7 +87,8 @@ from_by room by.Home viewer = Some (named viewer.home)
 
 -- the parts of a line, and the line, from somebody who is there
 abbrev pub parts_of : List ℕ → List (List ℕ) → Option (List ℕ) → Option Sender → Option Written
-parts_of command middle last sender = option_map (λ s. record { sender = s; command = command; middle = middle; last = last }) sender
+parts_of command middle last sender =
+    option_map (λ s. record { sender = s; command = command; middle = middle; last = last }) sender
 
 abbrev pub line_from : List ℕ → List (List ℕ) → Option (List ℕ) → Option Sender → Option (List ℕ)
 line_from command middle last sender = option_map text (parts_of command middle last sender)
@@ -91,22 +101,31 @@ target_name room (target.Channel channel) = stored_channel room channel
 -- the parts of the line that an effect shows to a viewer, and the line
 abbrev pub shown_parts : Room → Effect → User → Option Written
 shown_parts room (AddUser user) viewer = None
-shown_parts room (Rename nick new) viewer = parts_of (codes "NICK") (new ∷ []) None (from_nick room nick)
-shown_parts room (Quit nick reason) viewer = parts_of (codes "QUIT") [] (Some reason) (from_nick room nick)
-shown_parts room (Join nick channel op) viewer = parts_of (codes "JOIN") (stored_channel room channel ∷ []) None (from_nick room nick)
-shown_parts room (Part nick channel reason) viewer = parts_of (codes "PART") (stored_channel room channel ∷ []) (Some reason) (from_nick room nick)
+shown_parts room (Rename nick new) viewer =
+    parts_of (codes "NICK") (new ∷ []) None (from_nick room nick)
+shown_parts room (Quit nick reason) viewer =
+    parts_of (codes "QUIT") [] (Some reason) (from_nick room nick)
+shown_parts room (Join nick channel op) viewer =
+    parts_of (codes "JOIN") (stored_channel room channel ∷ []) None (from_nick room nick)
+shown_parts room (Part nick channel reason) viewer =
+    parts_of (codes "PART") (stored_channel room channel ∷ []) (Some reason) (from_nick room nick)
 shown_parts room (Kick by channel nick reason) viewer =
-    parts_of (codes "KICK") (stored_channel room channel ∷ stored_nick room nick ∷ []) (Some reason) (from_nick room by)
+    parts_of (codes "KICK") (stored_channel room channel ∷ stored_nick room nick ∷ []) (Some reason)
+    (from_nick room by)
 shown_parts room (ChangeModes by channel changes) viewer =
-    parts_of (codes "MODE") (stored_channel room channel ∷ changes_words room changes) None (from_by room by viewer)
-shown_parts room (SetTopic by channel topic) viewer = parts_of (codes "TOPIC") (stored_channel room channel ∷ []) (Some topic) (from_by room by viewer)
+    parts_of (codes "MODE") (stored_channel room channel ∷ changes_words room changes) None
+    (from_by room by viewer)
+shown_parts room (SetTopic by channel topic) viewer = parts_of (codes "TOPIC")
+    (stored_channel room channel ∷ []) (Some topic) (from_by room by viewer)
 shown_parts room (Say by notice to words) viewer =
-    parts_of (if notice then codes "NOTICE" else codes "PRIVMSG") (target_name room to ∷ []) (Some (words.items)) (from_nick room by)
+    parts_of (if notice then codes "NOTICE" else codes "PRIVMSG") (target_name room to ∷ [])
+    (Some (words.items)) (from_nick room by)
 shown_parts room (Invite by nick channel) viewer =
     parts_of (codes "INVITE") (stored_nick room nick ∷ stored_channel room channel ∷ []) None
     (from_nick room by)
 shown_parts room (UserMode nick invisible) viewer =
-    parts_of (codes "MODE") (stored_nick room nick ∷ (if invisible then codes "+i" else codes "-i") ∷ []) None (from_nick room nick)
+    parts_of (codes "MODE") (stored_nick room nick ∷ (if invisible then codes "+i" else codes "-i")
+    ∷ []) None (from_nick room nick)
 
 -- the line that an effect shows to a viewer, if it shows one
 abbrev pub shown_line : Room → Effect → User → Option (List ℕ)
@@ -120,8 +139,10 @@ pub record Showing : Type 0 where
 -- the viewer with its line, where it sees the effect
 abbrev pub shown_to : Room → Effect → User → Option Showing
 shown_to room effect viewer =
-    if sees room effect viewer.nick then option_map (λ line. record { viewer = viewer.nick; line = line }) (shown_line room effect viewer) else None
+    if sees room effect viewer.nick then option_map (λ line.
+    record { viewer = viewer.nick; line = line }) (shown_line room effect viewer) else None
 
 -- what an effect shows; an idle one shows nothing
 unfoldable pub seen : Room → Effect → List Showing
-seen room effect = if is_idle room effect then [] else filter_map (shown_to room effect) (values room.users)
+seen room effect =
+    if is_idle room effect then [] else filter_map (shown_to room effect) (values room.users)

@@ -1,6 +1,8 @@
--- What an effect has to be so that each server that reads the line that tells of it gets just this effect (RFC 2813 section 4). Whether it
--- is possible is not asked here. What only a server does is no such effect: a Home has no nickname that the line could be from.
-use Rattle.std.specs.Prelude.{◌≡◌, ℕ, ◌≤◌, Bool, true, false, Option, Some, None, List, [], ◌∷◌, codes, length, if◌then◌else◌}
+-- What an effect has to be so that each server that reads the line that tells of it gets just this
+-- effect (RFC 2813 section 4). Whether it is possible is not asked here. What only a server does is
+-- no such effect: a Home has no nickname that the line could be from.
+use Rattle.std.specs.Prelude.{◌≡◌, ℕ, ◌≤◌, Bool, true, false, Option, Some, None, List, [], ◌∷◌}
+use Rattle.std.specs.Prelude.{codes, length, if◌then◌else◌}
 use Rattle.std.specs.List.{AllByRecursion}
 use Rattle.std.specs.Option.{option_map, IfSome}
 use Rattle.irc_line.specs.Carried.{IsCarried}
@@ -17,20 +19,25 @@ use Rattle.irc_effects.specs.declared.effect.By.TheVariants as by
 use Rattle.irc_effects.specs.declared.effect.Target.{Target}
 use Rattle.irc_effects.specs.declared.effect.Target.TheVariants as target
 use Rattle.irc_effects.specs.declared.effect.Effect.{Effect}
-use Rattle.irc_effects.specs.declared.effect.Effect.TheVariants.{AddUser, Rename, Quit, Join, Part, Kick, ChangeModes, SetTopic, Say, Invite, UserMode}
+use Rattle.irc_effects.specs.declared.effect.Effect.TheVariants.{AddUser, Rename, Quit, Join, Part}
+use Rattle.irc_effects.specs.declared.effect.Effect.TheVariants.{Kick, ChangeModes, SetTopic, Say}
+use Rattle.irc_effects.specs.declared.effect.Effect.TheVariants.{Invite, UserMode}
 use Rattle.irc_effects.specs.Room.{Room}
 use Rattle.irc_effects.specs.Limits.{IsCarriedText, IsUserWithin}
 use Rattle.irc_effects.specs.Seen.{full_sender, names_member}
 
 -- a nickname that a user has, spelled as that user has it
 abbrev pub IsStoredNick : Room → List ℕ → Type 0
-IsStoredNick room nick = option_map (λ (user : User). user.nick) (row room.users (key nick)) ≡ Some nick
+IsStoredNick room nick =
+    option_map (λ (user : User). user.nick) (row room.users (key nick)) ≡ Some nick
 
 -- the name of a channel that is there, spelled as it is stored
 abbrev pub IsStoredChannel : Room → List ℕ → Type 0
-IsStoredChannel room name = option_map (λ (channel : Channel). channel.name) (row room.channels (key name)) ≡ Some name
+IsStoredChannel room name =
+    option_map (λ (channel : Channel). channel.name) (row room.channels (key name)) ≡ Some name
 
--- a name for the channel that was found under it, if one was: spelled as that one is, else any name by the rule
+-- a name for the channel that was found under it, if one was: spelled as that one is, else any name
+-- by the rule
 abbrev pub IsNameFor : List ℕ → Option Channel → Type 0
 IsNameFor name None = IsChannel name
 IsNameFor name (Some channel) = channel.name ≡ name
@@ -70,7 +77,8 @@ IsSentWord room false word = IsCarried word
 abbrev pub IsSentChange : Room → ModeChange → Type 0
 IsSentChange room change = IfSome change.word (IsSentWord room (names_member change.letter))
 
-pub record AreSentChanges (room : Room) (by channel : List ℕ) (changes : List ModeChange) : Type 0 where
+pub record AreSentChanges (room : Room) (by channel : List ℕ)
+    (changes : List ModeChange) : Type 0 where
   pub by_stored : IsStoredNick room by
   pub channel_stored : IsStoredChannel room channel
   pub changes_readable : AreReadable changes
@@ -99,12 +107,15 @@ said_parts user notice to text = record {
   last = Some text;
 }
 
--- A text, perhaps empty, that is so short that no server has to cut the line for clients. The line for servers is shorter.
-pub record IsSentText (room : Room) (by : List ℕ) (notice : Bool) (to : Target) (text : List ℕ) : Type 0 where
+-- A text, perhaps empty, that is so short that no server has to cut the line for clients. The line
+-- for servers is shorter.
+pub record IsSentText (room : Room) (by : List ℕ) (notice : Bool) (to : Target)
+    (text : List ℕ) : Type 0 where
   pub by_stored : IsStoredNick room by
   pub target_stored : IsSentTarget room to
   pub text_carried : IsCarried text
-  pub line_fits : IfSome (row room.users (key by)) (λ user. length (joined_text (said_parts user notice to text)) ≤ max_line)
+  pub line_fits : IfSome (row room.users (key by))
+      (λ user. length (joined_text (said_parts user notice to text)) ≤ max_line)
 
 pub record IsSentInvite (room : Room) (by nick channel : List ℕ) : Type 0 where
   pub by_stored : IsStoredNick room by
@@ -118,7 +129,8 @@ IsSendable room (Quit nick text) = IsSentQuit room nick text
 IsSendable room (Join nick channel op) = IsSentJoin room nick channel
 IsSendable room (Part nick channel text) = IsSentPart room nick channel text
 IsSendable room (Kick by channel nick text) = IsSentKick room by channel nick text
-IsSendable room (ChangeModes (by.User nick) channel changes) = AreSentChanges room nick channel changes
+IsSendable room (ChangeModes (by.User nick) channel changes) =
+    AreSentChanges room nick channel changes
 IsSendable room (ChangeModes by.Home channel changes) = ⊥
 IsSendable room (SetTopic (by.User nick) channel text) = IsSentTopic room nick channel text
 IsSendable room (SetTopic by.Home channel text) = ⊥

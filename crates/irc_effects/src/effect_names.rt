@@ -2,13 +2,15 @@
 ghost use Rattle.std.specs.Prelude.{◌≡◌};
 ghost use Rattle.std.specs.List.{filter_map};
 ghost use Rattle.std.specs.Option.{option_copied};
-ghost use Rattle.irc_effects.specs.Effects.{by_nick, doer_of, needs_channel, needs_other, needs_users, target_user};
+ghost use Rattle.irc_effects.specs.Effects.{by_nick, doer_of, needs_channel, needs_other};
+ghost use Rattle.irc_effects.specs.Effects.{needs_users, target_user};
 
 use crate::effect::{By, Effect, Target};
 use irc_names::{ChannelName, Nick};
 
 impl Effect {
-    /// The user that brings it about; none for a user that is added, and where a server changes a channel.
+    /// The user that brings it about; none for a user that is added, and where a server changes a
+    /// channel.
     pub fn doer(&self) -> Option<&Nick>
         ensures { option_copied result ≡ doer_of self.now }
     {

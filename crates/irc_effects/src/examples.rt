@@ -1,4 +1,5 @@
-//! Small rooms, and what is so in them. Each example is a function that does nothing, and its contract is the example.
+//! Small rooms, and what is so in them. Each example is a function that does nothing, and its
+//! contract is the example.
 ghost use Rattle.irc_effects.specs.Examples.{
   BanStandsOnce,
   ChangesWritten,
@@ -86,7 +87,8 @@ pub fn secret_stays_secret()
     ensures { SecretStaysSecret }
 {}
 
-/// Changes of modes are written with a sign where it differs from the one before, and with stored spellings of nicknames.
+/// Changes of modes are written with a sign where it differs from the one before, and with stored
+/// spellings of nicknames.
 pub fn changes_written()
     ensures { ChangesWritten }
 {}

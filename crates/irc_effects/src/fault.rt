@@ -1,8 +1,8 @@
 //! Why a room refuses an effect.
 use thiserror::Error;
 
-/// Why a room refuses an effect, in the order in which causes are looked for after [`RoomFault::Failed`], and
-/// [`RoomFault::Memory`] last.
+/// Why a room refuses an effect, in the order in which causes are looked for after
+/// [`RoomFault::Failed`], and [`RoomFault::Memory`] last.
 #[derive(Clone, Copy, Debug, Drop, Error, PartialEq, Eq)]
 pub enum RoomFault {
     /// A user that the effect names is not there.

@@ -1,12 +1,13 @@
-//! What holds of the invitations that one server keeps: those of its own users alone. Each law is a function that does nothing, and
-//! its contract is the law, as in `laws.rt`.
+//! What holds of the invitations that one server keeps: those of its own users alone. Each law is a
+//! function that does nothing, and its contract is the law, as in `laws.rt`.
 ghost use Rattle.irc_effects.specs.Invitations.{HomeFollows, HomeIsWellFormed, HomeOfHome};
-ghost use Rattle.irc_effects.specs.OtherInvitations.{AlikeHaveAlike, AlikeStayAlike, AlikeTakeAlike, HomeIsAlike};
+ghost use Rattle.irc_effects.specs.OtherInvitations.{AlikeHaveAlike, AlikeStayAlike};
+ghost use Rattle.irc_effects.specs.OtherInvitations.{AlikeTakeAlike, HomeIsAlike};
 ghost use Rattle.irc_effects.specs.Respelled.{AlikeAreRespelledAlike, HomeIsRespelled};
 ghost use Rattle.irc_effects.specs.SentAlike.{AlikeKeepLimits, AlikeSendAlike, HomeKnowsItsInvited};
 
-/// A server that keeps the invitations of its own users alone, and so does nothing upon an Invite of another server's user, has
-/// after each effect just its part of the room after it.
+/// A server that keeps the invitations of its own users alone, and so does nothing upon an Invite
+/// of another server's user, has after each effect just its part of the room after it.
 pub fn home_follows()
     ensures { HomeFollows }
 {}
@@ -31,7 +32,8 @@ pub fn alike_have_alike()
     ensures { AlikeHaveAlike }
 {}
 
-/// In two rooms that are alike but for who is invited, each effect is possible, idle and refused alike, and shows the same.
+/// In two rooms that are alike but for who is invited, each effect is possible, idle and refused
+/// alike, and shows the same.
 pub fn alike_take_alike()
     ensures { AlikeTakeAlike }
 {}

@@ -5,7 +5,8 @@ use irc_line::Text;
 use irc_names::Nick;
 use std::alloc::Global;
 
-/// A line, and the users of one server who see it, in folded order. Where nobody does, the line is any.
+/// A line, and the users of one server who see it, in folded order. Where nobody does, the line is
+/// any.
 #[derive(Drop)]
 pub struct ShownLine {
     /// The line, with its CR LF (RFC 2812 section 2.3).

@@ -8,12 +8,17 @@ use Rattle.irc_script.specs.Lemmas.Sinking.{no_loss}
 
 -- all of a text is a front of it
 tells_all : (old new : Option (List ℕ)) (text : List ℕ) → Appends old new text → Wrote old new text
-tells_all old new text appended = no_loss record { written = text; appended = appended; whole = sym (append-nil text) }
+tells_all old new text appended =
+    no_loss record { written = text; appended = appended; whole = sym (append-nil text) }
 
-pub held_whole : (r : Result (Unit {0}) Unwritten) (held middle after : Option (List ℕ)) (text : List ℕ)
-    → Appends held middle text → Keeps middle after → OnOk r (Appends held after text)
-held_whole (Ok _) held middle after text appended keeps = keeps_appended held middle after text appended keeps
+pub held_whole : (r : Result (Unit {0}) Unwritten) (held middle after : Option (List ℕ))
+    (text : List ℕ) → Appends held middle text → Keeps middle after
+    → OnOk r (Appends held after text)
+held_whole (Ok _) held middle after text appended keeps =
+    keeps_appended held middle after text appended keeps
 held_whole (Err fault) held middle after text appended keeps = tt
 
-pub held_front : (held middle after : Option (List ℕ)) (text : List ℕ) → Appends held middle text → Keeps middle after → Wrote held after text
-held_front held middle after text appended keeps = tells_all held after text (keeps_appended held middle after text appended keeps)
+pub held_front : (held middle after : Option (List ℕ)) (text : List ℕ) → Appends held middle text
+    → Keeps middle after → Wrote held after text
+held_front held middle after text appended keeps =
+    tells_all held after text (keeps_appended held middle after text appended keeps)

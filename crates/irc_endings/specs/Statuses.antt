@@ -30,7 +30,8 @@ stop_of_config config.BadName = stop.BadConfiguration
 stop_of_config config.DoubleName = stop.BadConfiguration
 stop_of_config config.Memory = stop.Failed
 
--- of the words of the command line, where the system does not give them: one that is no text is none of ours
+-- of the words of the command line, where the system does not give them: one that is no text is
+-- none of ours
 abbrev pub stop_unread : ErrorKind → Stop
 stop_unread kind.InvalidData = stop.Usage
 stop_unread _ = stop.Failed

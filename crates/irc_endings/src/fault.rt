@@ -3,7 +3,8 @@ ghost use Rattle.std.specs.Prelude.{◌≡◌, OnOk};
 ghost use Rattle.irc_endings.specs.declared.fault.Stop.TheVariants.{BadScript};
 ghost use Rattle.irc_script.specs.Sinks.{Wrote};
 ghost use Rattle.irc_endings.specs.Saying.{Utters};
-ghost use Rattle.irc_endings.specs.Statuses.{status_of, stop_line, stop_of, stopped, stop_of_settings, stop_of_config};
+ghost use Rattle.irc_endings.specs.Statuses.{status_of, stop_line, stop_of, stopped};
+ghost use Rattle.irc_endings.specs.Statuses.{stop_of_settings, stop_of_config};
 
 use arrayvec::ArrayVec;
 use irc_script::{SimFault, Unwritten, write_whole};
@@ -117,8 +118,10 @@ impl Stop {
 }
 
 fn tell_bad_script<E: Write>(line: u64, errors: &mut E) -> Result<(), Unwritten>
-    ensures whole { OnOk result (Utters E.contents (stop_line (BadScript line)) errors.old errors.new) }
-    ensures front { Wrote (E.contents errors.old) (E.contents errors.new) (stop_line (BadScript line)) }
+    ensures whole { OnOk result
+        (Utters E.contents (stop_line (BadScript line)) errors.old errors.new) }
+    ensures front { Wrote (E.contents errors.old) (E.contents errors.new)
+        (stop_line (BadScript line)) }
 {
     let text = bad_script(line);
     write_whole(text.as_slice(), errors)

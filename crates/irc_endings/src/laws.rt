@@ -1,4 +1,5 @@
-//! What holds of the program's constant. The law is a function that does nothing, and its contract is the law.
+//! What holds of the program's constant. The law is a function that does nothing, and its contract
+//! is the law.
 ghost use Rattle.std.specs.Prelude.{◌≡◌};
 ghost use Rattle.irc_endings.specs.Limits.{max_bad_script};
 

@@ -1,4 +1,5 @@
-//! What the words of the command line ask for, and how the program ends: what it says then, and its exit status.
+//! What the words of the command line ask for, and how the program ends: what it says then, and its
+//! exit status.
 #![tactic(auto)]
 
 mod ending;

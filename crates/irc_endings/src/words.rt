@@ -2,7 +2,8 @@
 ghost use Rattle.std.specs.Prelude.{◌≡◌, option_map, IfErr, IfOk};
 ghost use Rattle.irc_endings.specs.declared.fault.Stop.TheVariants.{Failed};
 ghost use Rattle.irc_script.specs.Numbers.{script_number};
-ghost use Rattle.irc_endings.specs.Words.{behind_name, errand, serves, task_of, texts_of, AreGiven, AreWordsOf};
+ghost use Rattle.irc_endings.specs.Words.{behind_name, errand, serves, task_of, texts_of, AreGiven};
+ghost use Rattle.irc_endings.specs.Words.{AreWordsOf};
 ghost use Rattle.irc_endings.specs.Statuses.{stop_unread};
 
 use crate::fault::Stop;

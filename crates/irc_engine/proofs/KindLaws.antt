@@ -1,11 +1,14 @@
 -- Of which kind connections are, and how they are told as lost, step by step.
-use Rattle.std.proofs.Common.{◌≡◌, Bool, true, false, ◌&&◌, ◌||◌, cond, is_some, Option, Some, None, refl, sym, ◌∙◌}
+use Rattle.std.proofs.Common.{◌≡◌, Bool, true, false, ◌&&◌, ◌||◌, cond, is_some, Option, Some, None}
+use Rattle.std.proofs.Common.{refl, sym, ◌∙◌}
 use Rattle.irc_engine.specs.declared.kind.Kind.{Kind}
 use Rattle.irc_engine.specs.declared.connection_table.Connection.{Connection}
-use Rattle.irc_engine.specs.Carrying.{is_open_at, kind_at, open_kind_at, IsOfKind, kind_of_connection, kind_of_loss, KeepsKind}
+use Rattle.irc_engine.specs.Carrying.{is_open_at, kind_at, open_kind_at, IsOfKind}
+use Rattle.irc_engine.specs.Carrying.{kind_of_connection, kind_of_loss, KeepsKind}
 use Rattle.irc_engine.specs.Loops.Connections.{lost_by}
 
-module _ (old new : Option Connection) (was now : Option Kind) (connection : kind_at new ≡ kind_at old) where
+module _ (old new : Option Connection) (was now : Option Kind)
+    (connection : kind_at new ≡ kind_at old) where
   -- it is of the kind that it was of, and is told as lost as it was
   pub kind_kept : now ≡ was → KeepsKind old was new now
   kind_kept lost kind (kind_of_connection is) = kind_of_connection (sym connection ∙ is)
@@ -40,33 +43,40 @@ or_all true = refl
 or_all false = refl
 
 -- whether a connection is told as lost: it was, or it is open and lost now
-pub some_lost : (it_is : Bool) (connection : Option Connection) (was : Option Kind) → is_some (lost_by it_is connection was) ≡ (is_some was || (it_is && is_open_at connection))
+pub some_lost : (it_is : Bool) (connection : Option Connection) (was : Option Kind)
+    → is_some (lost_by it_is connection was) ≡ (is_some was || (it_is && is_open_at connection))
 some_lost false connection was = or_none (is_some was)
 some_lost true None was = or_none (is_some was)
 some_lost true (Some connection) was = by (is_some connection.framer)
   where
-    by : (is_open : Bool) → is_some (cond is_open (Some connection.kind) was) ≡ (is_some was || is_open)
+    by : (is_open : Bool) → is_some (cond is_open (Some connection.kind) was)
+        ≡ (is_some was || is_open)
     by true = or_all (is_some was)
     by false = or_none (is_some was)
 
-pub lost_by_open : (it_is : Bool) (connection : Option Connection) (kind : Kind) (was : Option Kind) → open_kind_at connection ≡ Some kind
+pub lost_by_open : (it_is : Bool) (connection : Option Connection)
+    (kind : Kind) (was : Option Kind) → open_kind_at connection ≡ Some kind
     → cond it_is (Some kind) was ≡ lost_by it_is connection was
 lost_by_open false connection kind was is = refl
 lost_by_open true connection kind was is = by (is_open_at connection) is
   where
-    by : (is_open : Bool) → cond is_open (kind_at connection) None ≡ Some kind → Some kind ≡ cond is_open (kind_at connection) was
+    by : (is_open : Bool) → cond is_open (kind_at connection) None ≡ Some kind
+        → Some kind ≡ cond is_open (kind_at connection) was
     by true is = sym is
     by false is = cc is
 
-pub lost_by_close : (it_is : Bool) (connection : Option Connection) (was : Option Kind) → open_kind_at connection ≡ None → was ≡ lost_by it_is connection was
+pub lost_by_close : (it_is : Bool) (connection : Option Connection) (was : Option Kind)
+    → open_kind_at connection ≡ None → was ≡ lost_by it_is connection was
 lost_by_close false connection was is = refl
 lost_by_close true None was is = refl
 lost_by_close true (Some connection) was is = by (is_some connection.framer) is
   where
-    by : (is_open : Bool) → cond is_open (Some connection.kind) None ≡ None → was ≡ cond is_open (Some connection.kind) was
+    by : (is_open : Bool) → cond is_open (Some connection.kind) None ≡ None
+        → was ≡ cond is_open (Some connection.kind) was
     by true is = cc is
     by false is = refl
 
-pub open_some : (connection : Option Connection) (kind : Kind) → open_kind_at connection ≡ Some kind → is_some connection ≡ true
+pub open_some : (connection : Option Connection) (kind : Kind) → open_kind_at connection ≡ Some kind
+    → is_some connection ≡ true
 open_some None kind is = cc is
 open_some (Some connection) kind is = refl

@@ -1,5 +1,7 @@
 -- The code's table of connections, as what it answers at each number.
-use Rattle.std.proofs.Common.{◌≡◌, ℕ, zero, suc, ◌+◌, ◌<◌, Bool, true, false, cond, nat_eq, Option, Some, None, IsSome, is_some, Result, Ok, List, [], ◌∷◌, length, slice_set, count_by, ◌≤◌, get_or, refl, sym, ◌∙◌, ap, subst, arith}
+use Rattle.std.proofs.Common.{◌≡◌, ℕ, zero, suc, ◌+◌, ◌<◌, Bool, true, false, cond, nat_eq, Option}
+use Rattle.std.proofs.Common.{Some, None, IsSome, is_some, Result, Ok, List, [], ◌∷◌, length}
+use Rattle.std.proofs.Common.{slice_set, count_by, ◌≤◌, get_or, refl, sym, ◌∙◌, ap, subst, arith}
 use Rattle.std.specs.Ordering.{nat_cmp, is_eq}
 use Rattle.std.specs.Cmp.{nat_cmp_total, eq_by_cmp_equiv, Equal-is}
 use Rattle.std.specs.FinMap.{nat_cmp-IsAntisymmetric}
@@ -12,7 +14,9 @@ use Rattle.irc_engine.specs.declared.connection_table.Pushed.{Pushed}
 use Rattle.irc_engine.specs.declared.connection_table.Pushed.TheVariants.{First, More}
 use Rattle.irc_engine.specs.declared.connection_table.Connection.{Connection}
 use Rattle.irc_engine.specs.declared.connection_table.ConnectionTable.{ConnectionTable}
-use Rattle.irc_engine.specs.Loops.Tables.{connection_at, connection_count, connection_of, IsPushedAt, IsQueued, IsSet, Through, at_connection, no_connection, Within, in_none, in_connection}
+use Rattle.irc_engine.specs.Loops.Tables.{connection_at, connection_count, connection_of}
+use Rattle.irc_engine.specs.Loops.Tables.{IsPushedAt, IsQueued, IsSet, Through, at_connection}
+use Rattle.irc_engine.specs.Loops.Tables.{no_connection, Within, in_none, in_connection}
 
 pub one_number : (a b : ℕ) → nat_eq a b ≡ true → a ≡ b
 one_number a b same = eqb-true a b same
@@ -27,19 +31,24 @@ by_order a b = by (is_eq (nat_cmp a b)) refl (nat_eq a b) refl
     by : (s : Bool) → is_eq (nat_cmp a b) ≡ s → (t : Bool) → nat_eq a b ≡ t → s ≡ t
     by true e true f = refl
     by false e false f = refl
-    by true e false f = sym (eq-eqb a b (nat_cmp-IsAntisymmetric a b ((Equal-is (nat_cmp a b)).0 e))) ∙ f
+    by true e false f =
+        sym (eq-eqb a b (nat_cmp-IsAntisymmetric a b ((Equal-is (nat_cmp a b)).0 e))) ∙ f
     by false e true f =
-        sym e ∙ ap (λ n. is_eq (nat_cmp n b)) (one_number a b f) ∙ (eq_by_cmp_equiv nat_cmp_total).refl b
+        sym e ∙ ap (λ n. is_eq (nat_cmp n b)) (one_number a b f)
+        ∙ (eq_by_cmp_equiv nat_cmp_total).refl b
 
-pub set_at : {X : Type 0} (f : ℕ → X) (now : X) (conn q : ℕ) → cond (is_eq (nat_cmp conn q)) now (f q) ≡ cond (nat_eq conn q) now (f q)
+pub set_at : {X : Type 0} (f : ℕ → X) (now : X) (conn q : ℕ)
+    → cond (is_eq (nat_cmp conn q)) now (f q) ≡ cond (nat_eq conn q) now (f q)
 set_at f now conn q = ap (λ b. cond b now (f q)) (by_order conn q)
 
-set_here : {X : Type 0} (xs : List X) (i : ℕ) (x : X) → i < length xs → slice_get (slice_set xs i x) i ≡ Some x
+set_here : {X : Type 0} (xs : List X) (i : ℕ) (x : X) → i < length xs
+    → slice_get (slice_set xs i x) i ≡ Some x
 set_here [] i x within = absurd (omega (arith, within))
 set_here (y ∷ xs) zero x within = refl
 set_here (y ∷ xs) (suc i) x within = set_here xs i x (omega (arith, within))
 
-set_there : {X : Type 0} (xs : List X) (i q : ℕ) (x : X) → (i ≡ q → ⊥) → slice_get (slice_set xs i x) q ≡ slice_get xs q
+set_there : {X : Type 0} (xs : List X) (i q : ℕ) (x : X) → (i ≡ q → ⊥)
+    → slice_get (slice_set xs i x) q ≡ slice_get xs q
 set_there [] i q x apart = refl
 set_there (y ∷ xs) zero zero x apart = absurd (apart refl)
 set_there (y ∷ xs) zero (suc q) x apart = refl
@@ -47,52 +56,75 @@ set_there (y ∷ xs) (suc i) zero x apart = refl
 set_there (y ∷ xs) (suc i) (suc q) x apart = set_there xs i q x (λ is. apart (ap suc is))
 
 -- what is at one place and what is at the others, as one function
-at_place : {X : Type 0} (f g : ℕ → X) (i : ℕ) (x : X) → f i ≡ x → ((q : ℕ) → (i ≡ q → ⊥) → f q ≡ g q) → (q : ℕ) → f q ≡ cond (nat_eq i q) x (g q)
+at_place : {X : Type 0} (f g : ℕ → X) (i : ℕ) (x : X) → f i ≡ x
+    → ((q : ℕ) → (i ≡ q → ⊥) → f q ≡ g q) → (q : ℕ) → f q ≡ cond (nat_eq i q) x (g q)
 at_place f g i x here there q = by (nat_eq i q) refl
   where
     by : (t : Bool) → nat_eq i q ≡ t → f q ≡ cond t x (g q)
     by true is = sym (ap f (one_number i q is)) ∙ here
-    by false is = there q (λ same. let never : true ≡ false = sym (nat_eq-refl i) ∙ ap (nat_eq i) same ∙ is in cc never)
+    by false is = there q (λ same. let never : true ≡ false = sym (nat_eq-refl i)
+        ∙ ap (nat_eq i) same ∙ is in cc never)
 
-slot_set : {X : Type 0} (xs : List X) (i q : ℕ) (x : X) → i < length xs → slice_get (slice_set xs i x) q ≡ cond (nat_eq i q) (Some x) (slice_get xs q)
-slot_set xs i q x within = at_place (slice_get (slice_set xs i x)) (slice_get xs) i (Some x) (set_here xs i x within) (λ q apart. set_there xs i q x apart) q
+slot_set : {X : Type 0} (xs : List X) (i q : ℕ) (x : X) → i < length xs
+    → slice_get (slice_set xs i x) q ≡ cond (nat_eq i q) (Some x) (slice_get xs q)
+slot_set xs i q x within = at_place (slice_get (slice_set xs i x)) (slice_get xs) i (Some x)
+    (set_here xs i x within) (λ q apart. set_there xs i q x apart) q
 
 -- what is there at a number is changed, where it is one of the dense ones
-slot_changed : (old new : ConnectionTable) (conn : ℕ) (slot : Option Connection) → ((q : ℕ) → slice_get new.dense.items q ≡ cond (nat_eq conn q) (Some slot) (slice_get old.dense.items q))
-    → new.sparse ≡ old.sparse → IsSet (connection_of old) conn slot (connection_of new)
+slot_changed : (old new : ConnectionTable) (conn : ℕ) (slot : Option Connection)
+    → ((q : ℕ) → slice_get new.dense.items q ≡ cond (nat_eq conn q)
+    (Some slot) (slice_get old.dense.items q)) → new.sparse ≡ old.sparse
+    → IsSet (connection_of old) conn slot (connection_of new)
 slot_changed old new conn slot dense sparse q =
-    ap (λ f. connection_at (slice_get new.dense.items q) (get nat_eq f q)) sparse ∙ ap (λ s. connection_at s (get nat_eq old.sparse q)) (dense q) ∙ by (nat_eq conn q)
+    ap (λ f. connection_at (slice_get new.dense.items q) (get nat_eq f q)) sparse
+    ∙ ap (λ s. connection_at s (get nat_eq old.sparse q)) (dense q) ∙ by (nat_eq conn q)
   where
-    by : (t : Bool) → connection_at (cond t (Some slot) (slice_get old.dense.items q)) (get nat_eq old.sparse q) ≡ cond t slot (connection_of old q)
+    by : (t : Bool) → connection_at (cond t (Some slot) (slice_get old.dense.items q))
+        (get nat_eq old.sparse q) ≡ cond t slot (connection_of old q)
     by true = refl
     by false = refl
 
-pub dense_set : (old new : ConnectionTable) (conn : ℕ) (slot : Option Connection) → conn < length old.dense.items → new.dense.items ≡ slice_set old.dense.items conn slot
+pub dense_set : (old new : ConnectionTable) (conn : ℕ) (slot : Option Connection)
+    → conn < length old.dense.items → new.dense.items ≡ slice_set old.dense.items conn slot
     → new.sparse ≡ old.sparse → IsSet (connection_of old) conn slot (connection_of new)
-dense_set old new conn slot within dense sparse = slot_changed old new conn slot (λ q. ap (λ xs. slice_get xs q) dense ∙ slot_set old.dense.items conn q slot within) sparse
+dense_set old new conn slot within dense sparse = slot_changed old new conn slot
+    (λ q. ap (λ xs. slice_get xs q) dense ∙ slot_set old.dense.items conn q slot within) sparse
 
 -- and where it is another
-pub sparse_set : (old new : ConnectionTable) (conn : ℕ) (slot : Option Connection) → None ≡ slice_get old.dense.items conn → new.dense.items ≡ old.dense.items
-    → ((q : ℕ) → get nat_eq new.sparse q ≡ cond (nat_eq conn q) slot (get nat_eq old.sparse q)) → IsSet (connection_of old) conn slot (connection_of new)
+pub sparse_set : (old new : ConnectionTable) (conn : ℕ) (slot : Option Connection)
+    → None ≡ slice_get old.dense.items conn → new.dense.items ≡ old.dense.items
+    → ((q : ℕ) → get nat_eq new.sparse q ≡ cond (nat_eq conn q) slot (get nat_eq old.sparse q))
+    → IsSet (connection_of old) conn slot (connection_of new)
 sparse_set old new conn slot behind dense sparse q =
-    ap (λ xs. connection_at (slice_get xs q) (get nat_eq new.sparse q)) dense ∙ ap (connection_at (slice_get old.dense.items q)) (sparse q) ∙ by (nat_eq conn q) refl
+    ap (λ xs. connection_at (slice_get xs q) (get nat_eq new.sparse q)) dense
+    ∙ ap (connection_at (slice_get old.dense.items q)) (sparse q) ∙ by (nat_eq conn q) refl
   where
-    by : (t : Bool) → nat_eq conn q ≡ t → connection_at (slice_get old.dense.items q) (cond t slot (get nat_eq old.sparse q)) ≡ cond t slot (connection_of old q)
-    by true is = sym (ap (λ s. connection_at s slot) (subst (λ n. None ≡ slice_get old.dense.items n) (one_number conn q is) behind))
+    by : (t : Bool) → nat_eq conn q ≡ t → connection_at (slice_get old.dense.items q)
+        (cond t slot (get nat_eq old.sparse q)) ≡ cond t slot (connection_of old q)
+    by true is = sym (ap (λ s. connection_at s slot)
+        (subst (λ n. None ≡ slice_get old.dense.items n) (one_number conn q is) behind))
     by false is = refl
 
 -- how many are dense, once one of them has changed
-count_cons : (slot : Option Connection) (xs : List (Option Connection)) → count_by is_some (slot ∷ xs) ≡ cond (is_some slot) 1 0 + count_by is_some xs
+count_cons : (slot : Option Connection) (xs : List (Option Connection))
+    → count_by is_some (slot ∷ xs) ≡ cond (is_some slot) 1 0 + count_by is_some xs
 count_cons slot xs = sum_by-cons (λ s. cond (is_some s) 1 0) slot xs
 
-slots_counted : (xs : List (Option Connection)) (i : ℕ) (slot was : Option Connection) → slice_get xs i ≡ Some was
-    → count_by is_some (slice_set xs i slot) + cond (is_some was) 1 0 ≡ count_by is_some xs + cond (is_some slot) 1 0
+slots_counted : (xs : List (Option Connection)) (i : ℕ) (slot was : Option Connection)
+    → slice_get xs i ≡ Some was → count_by is_some (slice_set xs i slot) + cond (is_some was) 1 0
+    ≡ count_by is_some xs + cond (is_some slot) 1 0
 slots_counted [] i slot was is = cc is
 slots_counted (x ∷ xs) zero slot was is =
-    let same : cond (is_some x) 1 0 ≡ cond (is_some was) 1 0 = ap {B = ℕ} (λ s. cond (is_some (connection_at s None)) 1 0) is in
+    let same : cond (is_some x) 1 0 ≡ cond (is_some was) 1 0 =
+    ap {B = ℕ} (λ s. cond (is_some (connection_at s None)) 1 0) is in
     omega (arith, count_cons slot xs, count_cons x xs, same)
 slots_counted (x ∷ xs) (suc i) slot was is =
-    omega (arith, count_cons x (slice_set xs i slot), count_cons x xs, slots_counted xs i slot was is)
+    omega (
+      arith,
+      count_cons x (slice_set xs i slot),
+      count_cons x xs,
+      slots_counted xs i slot was is,
+    )
 
 slot_within : {X : Type 0} (xs : List X) (i : ℕ) (x : X) → slice_get xs i ≡ Some x → i < length xs
 slot_within [] i x is = cc is
@@ -100,7 +132,8 @@ slot_within (y ∷ xs) zero x is = omega arith
 slot_within (y ∷ xs) (suc i) x is = omega (arith, slot_within xs i x is)
 
 -- a place that is there, and one that is not
-pub found_slot : {X : Type 0} (xs : List X) (i : ℕ) (x : X) → i < length xs → x ≡ get_or xs i x → Some x ≡ slice_get xs i
+pub found_slot : {X : Type 0} (xs : List X) (i : ℕ) (x : X) → i < length xs → x ≡ get_or xs i x
+    → Some x ≡ slice_get xs i
 found_slot [] i x within is = absurd (omega (arith, within))
 found_slot (y ∷ xs) zero x within is = ap Some is
 found_slot (y ∷ xs) (suc i) x within is = found_slot xs i x (omega (arith, within)) is
@@ -111,45 +144,60 @@ no_slot (y ∷ xs) zero behind = absurd (omega (arith, behind))
 no_slot (y ∷ xs) (suc i) behind = no_slot xs i (omega (arith, behind))
 
 -- a change of one connection, or none where it is not there
-module _ (conn : ℕ) (P : Connection → Connection → Type 0) (Q : Type 0) (old new : ConnectionTable) where
-  pub dense_through : (slot now : Option Connection) → Some slot ≡ slice_get old.dense.items conn → new.dense.items ≡ slice_set old.dense.items conn now
-      → new.sparse ≡ old.sparse → Within P Q slot now → Through conn P Q old new
+module _ (conn : ℕ) (P : Connection → Connection → Type 0) (Q : Type 0)
+    (old new : ConnectionTable) where
+  pub dense_through : (slot now : Option Connection) → Some slot ≡ slice_get old.dense.items conn
+      → new.dense.items ≡ slice_set old.dense.items conn now → new.sparse ≡ old.sparse
+      → Within P Q slot now → Through conn P Q old new
   dense_through slot now was dense sparse within = by within
     where
       is : connection_of old conn ≡ slot
       is = sym (ap (λ s. connection_at s (get nat_eq old.sparse conn)) was)
 
       set : IsSet (connection_of old) conn now (connection_of new)
-      set = dense_set old new conn now (slot_within old.dense.items conn slot (sym was)) dense sparse
+      set =
+          dense_set old new conn now (slot_within old.dense.items conn slot (sym was)) dense sparse
 
-      same : now ≡ None → connection_of old conn ≡ None → (q : ℕ) (t : Bool) → nat_eq conn q ≡ t → cond t now (connection_of old q) ≡ connection_of old q
+      same : now ≡ None → connection_of old conn ≡ None → (q : ℕ) (t : Bool) → nat_eq conn q ≡ t
+          → cond t now (connection_of old q) ≡ connection_of old q
       same nothing none q true e = nothing ∙ sym none ∙ ap (connection_of old) (one_number conn q e)
       same nothing none q false e = refl
 
       by : Within P Q slot now → Through conn P Q old new
-      by (in_connection connection changed here there so) = at_connection connection changed (is ∙ here) (λ q. set q ∙ ap (λ s. cond (nat_eq conn q) s (connection_of old q)) there) so
-      by (in_none here there so) = no_connection (is ∙ here) (λ q. set q ∙ same there (is ∙ here) q (nat_eq conn q) refl) so
+      by (in_connection connection changed here there so) = at_connection connection changed
+          (is ∙ here) (λ q. set q ∙ ap (λ s. cond (nat_eq conn q) s (connection_of old q)) there) so
+      by (in_none here there so) =
+          no_connection (is ∙ here) (λ q. set q ∙ same there (is ∙ here) q (nat_eq conn q) refl) so
 
-  pub sparse_through : (connection now : Connection) → None ≡ slice_get old.dense.items conn → Some connection ≡ get nat_eq old.sparse conn → new.dense.items ≡ old.dense.items
-      → (IsSome (get_by (nat_eq conn) old.sparse) → UpdatesBy nat_eq (nat_eq conn) old.sparse new.sparse (Some now)) → P connection now → Through conn P Q old new
+  pub sparse_through : (connection now : Connection)
+      → None ≡ slice_get old.dense.items conn → Some connection ≡ get nat_eq old.sparse conn
+      → new.dense.items ≡ old.dense.items → (IsSome (get_by (nat_eq conn) old.sparse)
+      → UpdatesBy nat_eq (nat_eq conn) old.sparse new.sparse (Some now)) → P connection now
+      → Through conn P Q old new
   sparse_through connection now behind is dense updates so =
-      at_connection connection now (sym (ap (λ s. connection_at s (get nat_eq old.sparse conn)) behind) ∙ sym is)
+      at_connection connection now
+      (sym (ap (λ s. connection_at s (get nat_eq old.sparse conn)) behind) ∙ sym is)
       (sparse_set old new conn (Some now) behind dense (updates (sym (ap is_some is))).0) so
 
-  pub sparse_absent : None ≡ slice_get old.dense.items conn → None ≡ get nat_eq old.sparse conn → new.dense.items ≡ old.dense.items → new.sparse ≡ old.sparse → Q
-      → Through conn P Q old new
+  pub sparse_absent : None ≡ slice_get old.dense.items conn → None ≡ get nat_eq old.sparse conn
+      → new.dense.items ≡ old.dense.items → new.sparse ≡ old.sparse → Q → Through conn P Q old new
   sparse_absent behind none dense sparse so =
       no_connection (sym (ap (λ s. connection_at s (get nat_eq old.sparse conn)) behind) ∙ sym none)
-      (λ q. ap (λ xs. connection_at (slice_get xs q) (get nat_eq new.sparse q)) dense ∙ ap (λ f. connection_at (slice_get old.dense.items q) (get nat_eq f q)) sparse) so
+      (λ q. ap (λ xs. connection_at (slice_get xs q) (get nat_eq new.sparse q)) dense
+      ∙ ap (λ f. connection_at (slice_get old.dense.items q) (get nat_eq f q)) sparse) so
 
 -- how many there are then
-kept_some : {P : Connection → Connection → Type 0} {Q : Type 0} (slot now : Option Connection) → Within P Q slot now → is_some now ≡ is_some slot
-kept_some slot now (in_connection connection changed here there so) = ap is_some there ∙ sym (ap is_some here)
+kept_some : {P : Connection → Connection → Type 0} {Q : Type 0} (slot now : Option Connection)
+    → Within P Q slot now → is_some now ≡ is_some slot
+kept_some slot now (in_connection connection changed here there so) =
+    ap is_some there ∙ sym (ap is_some here)
 kept_some slot now (in_none here there so) = ap is_some there ∙ sym (ap is_some here)
 
 module _ (old new : ConnectionTable) (conn : ℕ) where
-  pub dense_kept : {P : Connection → Connection → Type 0} {Q : Type 0} (slot now : Option Connection) → Some slot ≡ slice_get old.dense.items conn
-      → new.dense.items ≡ slice_set old.dense.items conn now → new.sparse ≡ old.sparse → Within P Q slot now → connection_count new ≡ connection_count old
+  pub dense_kept : {P : Connection → Connection → Type 0} {Q : Type 0}
+      (slot now : Option Connection) → Some slot ≡ slice_get old.dense.items conn
+      → new.dense.items ≡ slice_set old.dense.items conn now → new.sparse ≡ old.sparse
+      → Within P Q slot now → connection_count new ≡ connection_count old
   dense_kept slot now is dense sparse within =
       omega (
         arith,
@@ -159,8 +207,9 @@ module _ (old new : ConnectionTable) (conn : ℕ) where
         ap {B = ℕ} (λ t. cond t 1 0) (kept_some slot now within),
       )
 
-  pub dense_removed : (slot : Option Connection) → Some slot ≡ slice_get old.dense.items conn → new.dense.items ≡ slice_set old.dense.items conn None
-      → new.sparse ≡ old.sparse → connection_count new + cond (is_some (connection_of old conn)) 1 0 ≡ connection_count old
+  pub dense_removed : (slot : Option Connection) → Some slot ≡ slice_get old.dense.items conn
+      → new.dense.items ≡ slice_set old.dense.items conn None → new.sparse ≡ old.sparse
+      → connection_count new + cond (is_some (connection_of old conn)) 1 0 ≡ connection_count old
   dense_removed slot is dense sparse =
       omega (
         arith,
@@ -170,8 +219,10 @@ module _ (old new : ConnectionTable) (conn : ℕ) where
         ap {B = ℕ} (λ s. cond (is_some (connection_at s (get nat_eq old.sparse conn))) 1 0) is,
       )
 
-  pub sparse_removed : (taken : Option Connection) → None ≡ slice_get old.dense.items conn → new.dense.items ≡ old.dense.items → taken ≡ get nat_eq old.sparse conn
-      → hash_map_len new.sparse + cond (is_some taken) 1 0 ≡ hash_map_len old.sparse → connection_count new + cond (is_some (connection_of old conn)) 1 0 ≡ connection_count old
+  pub sparse_removed : (taken : Option Connection) → None ≡ slice_get old.dense.items conn
+      → new.dense.items ≡ old.dense.items → taken ≡ get nat_eq old.sparse conn
+      → hash_map_len new.sparse + cond (is_some taken) 1 0 ≡ hash_map_len old.sparse
+      → connection_count new + cond (is_some (connection_of old conn)) 1 0 ≡ connection_count old
   sparse_removed taken behind dense is fewer =
       omega (
         arith,
@@ -185,15 +236,18 @@ module _ (old new : ConnectionTable) (conn : ℕ) where
 abbrev pub IsQueuedAt : ℕ → List ℕ → ConnectionTable → ConnectionTable → Type 0
 IsQueuedAt conn bytes old new = Through conn (λ s t. IsQueued s bytes t) ⊥ old new
 
-module _ (conn : ℕ) (bytes : List ℕ) (old new : ConnectionTable) (result : Result Pushed Overflow) where
-  pub queued_first : result ≡ Ok First → IsPushedAt conn bytes old result new → IsQueuedAt conn bytes old new
+module _ (conn : ℕ) (bytes : List ℕ) (old new : ConnectionTable)
+    (result : Result Pushed Overflow) where
+  pub queued_first : result ≡ Ok First → IsPushedAt conn bytes old result new
+      → IsQueuedAt conn bytes old new
   queued_first is pushed = by (subst (λ r. IsPushedAt conn bytes old r new) is pushed)
     where
       by : IsPushedAt conn bytes old (Ok First) new → IsQueuedAt conn bytes old new
       by (no_connection none same never) = cc never
       by (at_connection connection now was set so) = at_connection connection now was set so.0
 
-  pub queued_more : result ≡ Ok More → IsPushedAt conn bytes old result new → IsQueuedAt conn bytes old new
+  pub queued_more : result ≡ Ok More → IsPushedAt conn bytes old result new
+      → IsQueuedAt conn bytes old new
   queued_more is pushed = by (subst (λ r. IsPushedAt conn bytes old r new) is pushed)
     where
       by : IsPushedAt conn bytes old (Ok More) new → IsQueuedAt conn bytes old new

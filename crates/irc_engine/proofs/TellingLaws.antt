@@ -6,9 +6,15 @@ use Rattle.irc_engine.specs.Turning.{EngineView}
 use Rattle.irc_engine.specs.Telling.{RunsTelling, TellsTurned, ToldTurns, told_stopped}
 
 -- one turn is not taken, behind those that were
-pub told_stops : {W : Type 0} (is_after : W → List Call → Type 0) (old between new : EngineView W) (held then after : Option (List ℕ)) (taken turns : ℕ)
-    (result : Result (Unit {0}) EngineFault) (fault : EngineFault) → taken < turns → ToldTurns is_after old held taken between then
-    → TellsTurned is_after between new then after (Err fault) → IsErrAnd result (λ e. e ≡ fault) → RunsTelling is_after old held turns new after result
-told_stops is_after old between new held then after taken turns (Ok done) fault less so_far last fails = absurd fails
-told_stops is_after old between new held then after taken turns (Err e) fault less so_far last fails =
-    told_stopped taken between then e less so_far (subst (λ f. TellsTurned is_after between new then after (Err f)) (sym fails) last)
+pub told_stops : {W : Type 0} (is_after : W → List Call → Type 0) (old between new : EngineView W)
+    (held then after : Option (List ℕ)) (taken turns : ℕ)
+    (result : Result (Unit {0}) EngineFault) (fault : EngineFault) → taken < turns
+    → ToldTurns is_after old held taken between then
+    → TellsTurned is_after between new then after (Err fault) → IsErrAnd result (λ e. e ≡ fault)
+    → RunsTelling is_after old held turns new after result
+told_stops is_after old between new held
+    then after taken turns (Ok done) fault less so_far last fails = absurd fails
+told_stops is_after old between new held
+    then after taken turns (Err e) fault less so_far last fails =
+    told_stopped taken between then e less so_far
+    (subst (λ f. TellsTurned is_after between new then after (Err f)) (sym fails) last)

@@ -1,5 +1,6 @@
 -- A turn, from what the wire told and what was done then.
-use Rattle.std.proofs.Common.{◌≡◌, ℕ, ◌<◌, false, IsErrAnd, Result, Ok, Err, OnOk, List, ◌⊎◌, inl, inr, sym, subst}
+use Rattle.std.proofs.Common.{◌≡◌, ℕ, ◌<◌, false, IsErrAnd, Result, Ok, Err, OnOk, List, ◌⊎◌, inl}
+use Rattle.std.proofs.Common.{inr, sym, subst}
 use Rattle.irc_outbox.specs.declared.wire.Ready.{Ready}
 use Rattle.irc_outbox.specs.declared.wire.Ready.TheVariants.{Idle, Writable}
 use Rattle.irc_outbox.specs.Calls.{Call, asks, Adds, Keeps}
@@ -12,49 +13,67 @@ use Rattle.irc_engine.specs.Loops.Connections.{IsMarkedAt, KeepsNotes}
 use Rattle.irc_engine.specs.Loops.Moments.{moment_of}
 use Rattle.irc_engine.specs.Loops.Engines.{ChangesWireAlone}
 use Rattle.irc_engine.proofs.RunLaws.{ran_none}
-use Rattle.irc_engine.specs.Turning.{EngineView, Taken, takes_it, runs_out, Turned, takes_turn, wants_memory, Turns, Runs, stopped}
+use Rattle.irc_engine.specs.Turning.{EngineView, Taken, takes_it, runs_out, Turned, takes_turn}
+use Rattle.irc_engine.specs.Turning.{wants_memory, Turns, Runs, stopped}
 
 -- a call behind something that is no call
-pub kept_then : {W : Type 0} (is_after : W → List Call → Type 0) (old between new : W) (call : Call) → Keeps is_after old between
-    → Adds is_after between call new → Adds is_after old call new
+pub kept_then : {W : Type 0} (is_after : W → List Call → Type 0) (old between new : W) (call : Call)
+    → Keeps is_after old between → Adds is_after between call new → Adds is_after old call new
 kept_then is_after old between new call keeps adds calls after = adds calls (keeps calls after)
 
-module _ {W : Type 0} (is_after : W → List Call → Type 0) (old new : EngineView W) (ready : Ready) (asked : W) where
-  pub turned_from : (result : Result (Unit {0}) EngineFault) → old.failed ≡ false → Adds is_after old.now.wire (asks (Ok ready)) asked
-      → Taken is_after ready (record old { now = record old.now { wire = asked } }) new result → Turned is_after old new result
+module _ {W : Type 0} (is_after : W → List Call → Type 0) (old new : EngineView W) (ready : Ready)
+    (asked : W) where
+  pub turned_from : (result : Result (Unit {0}) EngineFault)
+      → old.failed ≡ false → Adds is_after old.now.wire (asks (Ok ready)) asked
+      → Taken is_after ready (record old { now = record old.now { wire = asked } }) new result
+      → Turned is_after old new result
   turned_from (Ok done) serves account (takes_it still same does) =
-      takes_turn serves still same (record { report = ready; wire = asked; account = account; does = does })
+      takes_turn serves still same
+      (record { report = ready; wire = asked; account = account; does = does })
   turned_from (Err fault) serves account (runs_out failed busy) =
       wants_memory ready asked serves failed account
-      (λ order idle. busy (record { all_told = order.all_told; noted = order.noted; none_done = order.none_done })
+      (λ order idle. busy
+      (record { all_told = order.all_told; noted = order.noted; none_done = order.none_done })
       (record { nothing_ready = idle.nothing_ready; nothing_left = idle.nothing_left }))
 
 -- a turn for which the wire has told what is ready
-pub told_ready : {W : Type 0} (is_after : W → List Call → Type 0) (ready : Ready) (old new : EngineView W) (before after : Engine W)
-    (result : Result (Unit {0}) EngineFault) → Taken is_after ready old new result → ChangesWireAlone result before after
+pub told_ready : {W : Type 0} (is_after : W → List Call → Type 0) (ready : Ready)
+    (old new : EngineView W) (before after : Engine W)
+    (result : Result (Unit {0}) EngineFault) → Taken is_after ready old new result
+    → ChangesWireAlone result before after
 told_ready is_after ready old new before after (Ok done) (takes_it still same does) = tt
 told_ready is_after ready old new before after (Err fault) (runs_out failed busy) = tt
 
 -- nothing is ready, or only that a connection takes bytes again
-pub nothing_to_do : {W : Type 0} (is_after : W → List Call → Type 0) (rooms : Rooms) (now : Moment W) (ready : Ready) → (ready ≡ Idle) ⊎ ((conn : ℕ) × (ready ≡ Writable conn))
+pub nothing_to_do : {W : Type 0} (is_after : W → List Call → Type 0) (rooms : Rooms)
+    (now : Moment W) (ready : Ready) → (ready ≡ Idle) ⊎ ((conn : ℕ) × (ready ≡ Writable conn))
     → Answers is_after rooms ready now now
-nothing_to_do is_after rooms now ready (inl is) = subst (λ r. Answers is_after rooms r now now) (sym is) (ran_none is_after now)
-nothing_to_do is_after rooms now ready (inr is) = subst (λ r. Answers is_after rooms r now now) (sym is.1) (ran_none is_after now)
+nothing_to_do is_after rooms now ready (inl is) =
+    subst (λ r. Answers is_after rooms r now now) (sym is) (ran_none is_after now)
+nothing_to_do is_after rooms now ready (inr is) =
+    subst (λ r. Answers is_after rooms r now now) (sym is.1) (ran_none is_after now)
 
 -- what is ready is done, and then outboxes are written
 module _ {W : Type 0} (is_after : W → List Call → Type 0) (old between new : Core W) where
-  order_between : (AllTold (moment_of old) → AllTold (moment_of between)) → KeepsNotes old.connections between.connections → IsInOrder (moment_of old)
+  order_between : (AllTold (moment_of old) → AllTold (moment_of between))
+      → KeepsNotes old.connections between.connections → IsInOrder (moment_of old)
       → IsInOrder (moment_of between)
-  order_between told notes order = record { all_told = told order.all_told; noted = λ q. (marked q).noted_is; none_done = λ q. (marked q).not_done }
+  order_between told notes order = record {
+    all_told = told order.all_told;
+    noted = λ q. (marked q).noted_is;
+    none_done = λ q. (marked q).not_done;
+  }
     where
       marked : (q : ℕ) → IsMarkedAt q false between.connections
       marked q = notes q (record { noted_is = order.noted q; not_done = order.none_done q })
 
-  pub does_both : {E : Type 0} (rooms : Rooms) (ready : Ready) (result : Result (Unit {0}) E) → Answers is_after rooms ready (moment_of old) (moment_of between)
-      → (AllTold (moment_of old) → AllTold (moment_of between)) → KeepsNotes old.connections between.connections
+  pub does_both : {E : Type 0} (rooms : Rooms) (ready : Ready) (result : Result (Unit {0}) E)
+      → Answers is_after rooms ready (moment_of old) (moment_of between) → (AllTold (moment_of old)
+      → AllTold (moment_of between)) → KeepsNotes old.connections between.connections
       → OnOk result (Flushes is_after (moment_of between) (moment_of new))
       → OnOk result (AllTold (moment_of between) → AllTold (moment_of new))
-      → OnOk result (IsInOrder (moment_of between) → IsInOrder (moment_of new)) → OnOk result (Does is_after rooms ready (moment_of old) (moment_of new))
+      → OnOk result (IsInOrder (moment_of between) → IsInOrder (moment_of new))
+      → OnOk result (Does is_after rooms ready (moment_of old) (moment_of new))
   does_both rooms ready (Ok done) answers told notes writes later still = record {
     between = moment_of between;
     answers = answers;
@@ -65,10 +84,11 @@ module _ {W : Type 0} (is_after : W → List Call → Type 0) (old between new :
   does_both rooms ready (Err fault) answers told notes writes later still = tt
 
 -- one turn is not taken, behind those that were
-pub stops_by : {W : Type 0} (is_after : W → List Call
-    → Type 0) (old between new : EngineView W) (taken turns : ℕ) (result : Result (Unit {0}) EngineFault) (fault : EngineFault)
-    → taken < turns → Turns is_after old taken between → Turned is_after between new (Err fault) → IsErrAnd result (λ e. e ≡ fault)
-    → Runs is_after old turns new result
+pub stops_by : {W : Type 0} (is_after : W → List Call → Type 0) (old between new : EngineView W)
+    (taken turns : ℕ) (result : Result (Unit {0}) EngineFault) (fault : EngineFault)
+    → taken < turns → Turns is_after old taken between → Turned is_after between new (Err fault)
+    → IsErrAnd result (λ e. e ≡ fault) → Runs is_after old turns new result
 stops_by is_after old between new taken turns (Ok done) fault less so_far last fails = absurd fails
 stops_by is_after old between new taken turns (Err e) fault less so_far last fails =
-    stopped taken between e less so_far (subst (λ f. Turned is_after between new (Err f)) (sym fails) last)
+    stopped taken between e less so_far
+    (subst (λ f. Turned is_after between new (Err f)) (sym fails) last)

@@ -1,5 +1,7 @@
--- What a server is told of one connection: the lines that its bytes complete, and once that it is gone.
-use Rattle.std.specs.Prelude.{◌≡◌, ℕ, Bool, false, nat_eq, Option, Some, None, List, [], ◌∷◌, ◌++◌, count_by, if◌then◌else◌}
+-- What a server is told of one connection: the lines that its bytes complete, and once that it is
+-- gone.
+use Rattle.std.specs.Prelude.{◌≡◌, ℕ, Bool, false, nat_eq, Option, Some, None, List, [], ◌∷◌, ◌++◌}
+use Rattle.std.specs.Prelude.{count_by, if◌then◌else◌}
 use Rattle.std.specs.List.{flat_map}
 use Rattle.arrayvec.specs.ArrayVec.{ArrayVec}
 use Rattle.irc_line.specs.Lines.{Begun, Takes}
@@ -37,7 +39,8 @@ is_gone_of conn other = false
 abbrev pub times_gone : ℕ → List Event → ℕ
 times_gone conn events = count_by (is_gone_of conn) events
 
--- what has come of the next line of a connection; nothing where it is not there, or where the server has closed it
+-- what has come of the next line of a connection; nothing where it is not there, or where the
+-- server has closed it
 abbrev pub begun_at : Option Connection → Option Begun
 begun_at None = None
 begun_at (Some connection) = connection.framer
@@ -57,8 +60,9 @@ pub record HearsFront (old : Begun) (came : List ℕ) (heard : List (List ℕ)) 
   pub came_is : came ≡ front ++ rest
   pub takes : Takes old front heard new
 
--- From one connection these bytes came, and these of its lines were passed on. While it is open, they are all lines that the bytes complete behind what had
--- come before; of one that was closed or lost meanwhile, those that a front of the bytes completes; of one that was not open, none.
+-- From one connection these bytes came, and these of its lines were passed on. While it is open,
+-- they are all lines that the bytes complete behind what had come before; of one that was closed or
+-- lost meanwhile, those that a front of the bytes completes; of one that was not open, none.
 abbrev pub Hears : Option Begun → List ℕ → List (List ℕ) → Option Begun → Type 0
 Hears None came heard None = heard ≡ []
 Hears None came heard (Some new) = ⊥

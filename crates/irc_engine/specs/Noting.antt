@@ -1,4 +1,5 @@
--- What comes to light of links by an event of a server: by the event itself, and by what the server puts out then.
+-- What comes to light of links by an event of a server: by the event itself, and by what the server
+-- puts out then.
 use Rattle.std.specs.Prelude.{ℕ, Option, Some, None, List, [], ◌∷◌, ◌++◌}
 use Rattle.std.specs.List.{flat_map}
 use Rattle.irc_batch.specs.Batches.{Sent}
@@ -9,7 +10,8 @@ use Rattle.irc_server.specs.declared.event.Event.TheVariants.{LinkUp, LinkLine, 
 use Rattle.irc_stage.specs.View.{View}
 use Rattle.irc_journal.specs.Signs.{Sign, opens, meets, is_gone, sign_of}
 
--- the server that is known at the other end of a link: each has the same number for itself there (RFC 2813 section 4.1.2)
+-- the server that is known at the other end of a link: each has the same number for itself there
+-- (RFC 2813 section 4.1.2)
 abbrev pub far_of : Option View → ℕ → Option (List ℕ)
 far_of None link = None
 far_of (Some view) link = token_in view.routes link own_token

@@ -19,8 +19,10 @@ abbrev pub IsCallSaid : Option FailedCall → Option (List ℕ) → Option (List
 IsCallSaid None held after = after ≡ held
 IsCallSaid (Some call) held after = IsSaid (call_told call) held after
 
--- All that there was to tell of links is said, and then a call that the wire says has failed, if there is one; nothing else has changed.
-pub record Tells {W : Type 0} (is_after : W → List Call → Type 0) (old new : EngineView W) (held after : Option (List ℕ)) : Type 0 where
+-- All that there was to tell of links is said, and then a call that the wire says has failed, if
+-- there is one; nothing else has changed.
+pub record Tells {W : Type 0} (is_after : W → List Call → Type 0) (old new : EngineView W)
+    (held after : Option (List ℕ)) : Type 0 where
   pub between : Option (List ℕ)
   pub are_said : AreSaid old.now.journal.tidings.items held between
   pub call : Option FailedCall
@@ -32,22 +34,29 @@ pub record Tells {W : Type 0} (is_after : W → List Call → Type 0) (old new :
   pub new_is : new ≡ record old { now = record old.now { journal = journal; wire = wire } }
 
 -- a turn is asked for, and then what there is to tell is said
-pub record TellsTurned {W : Type 0} (is_after : W → List Call → Type 0) (old new : EngineView W) (held after : Option (List ℕ))
+pub record TellsTurned {W : Type 0} (is_after : W → List Call → Type 0) (old new : EngineView W)
+    (held after : Option (List ℕ))
     (result : Result (Unit {0}) EngineFault) : Type 0 where
   pub between : EngineView W
   pub turned : Turned is_after old between result
   pub tells : Tells is_after between new held after
 
 -- so many turns, one after another, with what is said behind each
-pub data ToldTurns {W : Type 0} (is_after : W → List Call → Type 0) (old : EngineView W) (held : Option (List ℕ)) : ℕ → EngineView W → Option (List ℕ) → Type 0 where
+pub data ToldTurns {W : Type 0} (is_after : W → List Call → Type 0) (old : EngineView W)
+    (held : Option (List ℕ)) : ℕ → EngineView W → Option (List ℕ) → Type 0 where
   no_told : ToldTurns is_after old held 0 old held
-  told_more : (n : ℕ) (between new : EngineView W) (then after : Option (List ℕ)) → ToldTurns is_after old held n between then
-      → TellsTurned is_after between new then after (Ok tt) → ToldTurns is_after old held (n + 1) new after
+  told_more : (n : ℕ) (between new : EngineView W) (then after : Option (List ℕ))
+      → ToldTurns is_after old held n between then → TellsTurned is_after between new
+      then after (Ok tt) → ToldTurns is_after old held (n + 1) new after
 
--- All of so many turns were taken; or the one behind some of them was not, and that is the last. What there is to tell is said behind each, that one too.
-pub data RunsTelling {W : Type 0} (is_after : W → List Call → Type 0) (old : EngineView W) (held : Option (List ℕ)) (turns : ℕ) (new : EngineView W) (after : Option (List ℕ))
+-- All of so many turns were taken; or the one behind some of them was not, and that is the last.
+-- What there is to tell is said behind each, that one too.
+pub data RunsTelling {W : Type 0} (is_after : W → List Call → Type 0) (old : EngineView W)
+    (held : Option (List ℕ)) (turns : ℕ) (new : EngineView W) (after : Option (List ℕ))
     : Result (Unit {0}) EngineFault → Type 0 where
-  all_told : ToldTurns is_after old held turns new after → RunsTelling is_after old held turns new after (Ok tt)
-  told_stopped : (taken : ℕ) (between : EngineView W) (then : Option (List ℕ)) (fault : EngineFault) → taken < turns
-      → ToldTurns is_after old held taken between then → TellsTurned is_after between new then after (Err fault)
+  all_told : ToldTurns is_after old held turns new after
+      → RunsTelling is_after old held turns new after (Ok tt)
+  told_stopped : (taken : ℕ) (between : EngineView W) (then : Option (List ℕ)) (fault : EngineFault)
+      → taken < turns → ToldTurns is_after old held taken between then
+      → TellsTurned is_after between new then after (Err fault)
       → RunsTelling is_after old held turns new after (Err fault)

@@ -7,8 +7,8 @@ use irc_line::{Framer, Line};
 use std::alloc::{AllocError, Global};
 use std::marker::Model;
 
-/// A framer in memory of its own. It keeps half a kilobyte, and a line that goes to many reaches none of it: so connections are small, and lie close
-/// together.
+/// A framer in memory of its own. It keeps half a kilobyte, and a line that goes to many reaches
+/// none of it: so connections are small, and lie close together.
 #[derive(Drop)]
 pub struct BoxedFramer {
     framer: Box<Framer, Global>,

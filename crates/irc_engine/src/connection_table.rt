@@ -1,7 +1,13 @@
-//! The connections that are there, by number: the outbox of each, and what has come of its next line.
+//! The connections that are there, by number: the outbox of each, and what has come of its next
+//! line.
 ghost use Rattle.std.specs.Prelude.{◌≡◌, ℕ, Some, None, is_some, length, option_copied, IfOk, OnOk};
 ghost use Rattle.std.specs.List.{slice_get};
-ghost use Rattle.irc_engine.specs.Loops.Tables.{fresh_connection, has_some_at, is_done_at, is_open_at, open_kind_at, connection_count, connection_of, CountsWithout, Sets, IsPushedTo, IsPushedAt, IsPushedIn, IsClosedAt, IsWrittenAt, IsWrittenIn, with_line, Frames, FramesAt, FramesIn, Within};
+ghost use Rattle.irc_engine.specs.Loops.Tables.{fresh_connection, has_some_at, is_done_at};
+ghost use Rattle.irc_engine.specs.Loops.Tables.{is_open_at, open_kind_at, connection_count};
+ghost use Rattle.irc_engine.specs.Loops.Tables.{connection_of, CountsWithout, Sets, IsPushedTo};
+ghost use Rattle.irc_engine.specs.Loops.Tables.{IsPushedAt, IsPushedIn, IsClosedAt, IsWrittenAt};
+ghost use Rattle.irc_engine.specs.Loops.Tables.{IsWrittenIn, with_line, Frames, FramesAt, FramesIn};
+ghost use Rattle.irc_engine.specs.Loops.Tables.{Within};
 
 use crate::boxed_framer::BoxedFramer;
 use crate::kind::Kind;
@@ -100,8 +106,8 @@ impl Connection {
     }
 }
 
-/// The connections, by their numbers. What goes to many is pushed at each of their numbers in turn: those that a wire gives first are
-/// found without a search.
+/// The connections, by their numbers. What goes to many is pushed at each of their numbers in turn:
+/// those that a wire gives first are found without a search.
 #[derive(Drop)]
 pub(crate) struct ConnectionTable {
     /// Those of the numbers below its length, each at its number.
@@ -203,7 +209,8 @@ impl ConnectionTable {
 
     /// This connection is there from now on, at the first number behind those of the dense ones.
     fn insert_next(&mut self, connection: Connection) -> Result<(), AllocError>
-        ensures { OnOk result (Sets self.old (length self.old.dense.items) (Some connection) self.new) }
+        ensures { OnOk result
+            (Sets self.old (length self.old.dense.items) (Some connection) self.new) }
     {
         match self.dense.push(Some(connection)) {
             Ok(()) => Ok(()),
@@ -349,8 +356,9 @@ fn write<W: Wire>(slot: &mut Option<Connection>, wire: &mut W, conn: u64) -> Res
     }
 }
 
-/// Asks for the memory of many outboxes at once, and gives it back, where the number is a multiple of how many these are. It stays with the process,
-/// and each of the next connections takes its own from it: else the system is asked for nearly every one. Where it is refused, nothing is lost.
+/// Asks for the memory of many outboxes at once, and gives it back, where the number is a multiple
+/// of how many these are. It stays with the process, and each of the next connections takes its own
+/// from it: else the system is asked for nearly every one. Where it is refused, nothing is lost.
 fn ask_ahead(alloc: Global, number: usize, room: usize) {
     let outboxes = PIECE / max(room, 1);
     if outboxes > 0 && number % outboxes == 0 {

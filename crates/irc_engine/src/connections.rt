@@ -1,8 +1,12 @@
-//! The connections and the wire: what the server puts out goes to outboxes, and outboxes are written.
-ghost use Rattle.std.specs.Prelude.{◌≡◌, ◌+◌, ◌<◌, ◌≤◌, ◌↔◌, true, false, is_some, Some, None, [], IfNone, IfSome, IsSome, OnOk};
+//! The connections and the wire: what the server puts out goes to outboxes, and outboxes are
+//! written.
+ghost use Rattle.std.specs.Prelude.{◌≡◌, ◌+◌, ◌<◌, ◌≤◌, ◌↔◌, true, false, is_some, Some, None, []};
+ghost use Rattle.std.specs.Prelude.{IfNone, IfSome, IsSome, OnOk};
 ghost use Rattle.std.specs.Ordering.{nat_cmp};
 ghost use Rattle.std.specs.BTreeMap.{btree_map_len, IsLowerBound, IsUnchanged, Updates};
-ghost use Rattle.irc_engine.specs.Loops.Connections.{lost_at, Carries, CarriesOne, Ends, IsLostAs, IsNoted, KeepsMarks, Loses, EndsOrWaits, Writes};
+ghost use Rattle.irc_engine.specs.Loops.Connections.{lost_at, Carries, CarriesOne, Ends, IsLostAs};
+ghost use Rattle.irc_engine.specs.Loops.Connections.{IsNoted, KeepsMarks, Loses, EndsOrWaits};
+ghost use Rattle.irc_engine.specs.Loops.Connections.{Writes};
 ghost use Rattle.irc_engine.specs.Writing.{one_if};
 ghost use Rattle.irc_engine.specs.Noting.{out_signs};
 ghost use Rattle.irc_batch.specs.Batches.{end_of, line_to, sent_of};
@@ -103,10 +107,11 @@ impl<W: Wire> Connections<W> {
         }
     }
 
-    /// A line goes to a connection's outbox. Where others wait there, the connection is noted by now, or the turn is about to write to it. Where
-    /// it does not fit, the connection is lost.
+    /// A line goes to a connection's outbox. Where others wait there, the connection is noted by
+    /// now, or the turn is about to write to it. Where it does not fit, the connection is lost.
     fn send(&mut self, conn: u64, line: &[u8]) -> Result<(), AllocError>
-        ensures carries { OnOk result (CarriesOne W.is_after self.old (line_to conn line.now) self.new) }
+        ensures carries { OnOk result
+            (CarriesOne W.is_after self.old (line_to conn line.now) self.new) }
         ensures marks { OnOk result (KeepsMarks self.old self.new) }
     {
         match self.table.push(conn, line) {
@@ -131,9 +136,11 @@ impl<W: Wire> Connections<W> {
 
     /// Does one thing that the server has put out. That a link is closed is entered in the journal.
     fn dispatch_one(&mut self, out: Out<'_>, journal: &mut Journal) -> Result<(), AllocError>
-        ensures carries { OnOk result (CarriesOne W.is_after self.old (sent_of out.entry) self.new) }
+        ensures carries { OnOk result
+            (CarriesOne W.is_after self.old (sent_of out.entry) self.new) }
         ensures marks { OnOk result (KeepsMarks self.old self.new) }
-        ensures noted { OnOk result (EntersAll (sign_of (sent_of out.entry)) journal.old journal.new) }
+        ensures noted { OnOk result
+            (EntersAll (sign_of (sent_of out.entry)) journal.old journal.new) }
     {
         match out {
             Out::Line(conn, line) => self.send(conn, line),
@@ -164,7 +171,8 @@ impl<W: Wire> Connections<W> {
         Ok(())
     }
 
-    /// Writes once to a connection. It ends where the server has closed it and nothing is left, and is lost where the device fails.
+    /// Writes once to a connection. It ends where the server has closed it and nothing is left, and
+    /// is lost where the device fails.
     pub(crate) fn write(&mut self, conn: u64) -> Result<(), AllocError>
         ensures { OnOk result (Writes W.is_after conn self.old self.new) }
     {

@@ -4,11 +4,15 @@ ghost use Rattle.irc_outbox.specs.Calls.{Keeps};
 ghost use Rattle.irc_engine.specs.Loops.Counts.{count_of};
 ghost use Rattle.irc_engine.specs.Hearing.{end_event_of};
 ghost use Rattle.irc_engine.specs.Knowing.{HasNobody, IsArrival, IsSettled};
-ghost use Rattle.irc_engine.specs.Loops.Moments.{came, knows_at, yields_at, moment_of, passed_on, AsksFor, HearsFrom, IsAtOneIn, IsNobodyNoted, IsOpenAs, IsSettledIn, IsToHearIn, KeepsOrder, KeepsTold, Spans};
+ghost use Rattle.irc_engine.specs.Loops.Moments.{came, knows_at, yields_at, moment_of, passed_on};
+ghost use Rattle.irc_engine.specs.Loops.Moments.{AsksFor, HearsFrom, IsAtOneIn, IsNobodyNoted};
+ghost use Rattle.irc_engine.specs.Loops.Moments.{IsOpenAs, IsSettledIn, IsToHearIn, KeepsOrder};
+ghost use Rattle.irc_engine.specs.Loops.Moments.{KeepsTold, Spans};
 ghost use Rattle.irc_engine.specs.Loops.Faults.{is_out_of_memory};
 ghost use Rattle.irc_engine.specs.Loops.Tables.{connection_of};
 ghost use Rattle.irc_engine.specs.Loops.Connections.{lost_at, KeepsMarks, KeepsNotes};
-ghost use Rattle.irc_engine.specs.Running.{AllTold, Answers, AsksOnce, Does, Flushes, PassesOn, RanOn, Reads, Starts, TellsLosses};
+ghost use Rattle.irc_engine.specs.Running.{AllTold, Answers, AsksOnce, Does, Flushes, PassesOn};
+ghost use Rattle.irc_engine.specs.Running.{RanOn, Reads, Starts, TellsLosses};
 ghost use Rattle.irc_engine.specs.Turning.{brings_nothing, HasFailed, IsNew, Runs, Taken, Turned};
 
 use crate::connection_table::ConnectionTable;
@@ -59,7 +63,8 @@ pub struct Engine<W> {
     rooms: Rooms,
     pub(crate) core: Core<W>,
     /// The server has just the connections that are open.
-    ghost settled: { failed ≡ false → IsSettled core.server (connection_of core.connections.table) (lost_at core.connections.lost) },
+    ghost settled: { failed ≡ false → IsSettled core.server (connection_of core.connections.table)
+        (lost_at core.connections.lost) },
 }
 
 /// What an engine is made of.
@@ -79,8 +84,9 @@ pub(crate) struct Core<W> {
 impl<W: Wire + Drop> Engine<W> {
     ghost use Rattle.irc_engine.specs.Loops.Engines.{engine_view};
 
-    /// An engine for a server that has no connection and no link, over a wire that has reported nothing. An outbox of a client has room for
-    /// `client_room` bytes, and that of a link for `link_room`.
+    /// An engine for a server that has no connection and no link, over a wire that has reported
+    /// nothing. An outbox of a client has room for `client_room` bytes, and that of a link for
+    /// `link_room`.
     ///
     /// # Errors
     /// Where memory runs out.
@@ -92,7 +98,8 @@ impl<W: Wire + Drop> Engine<W> {
         link_room: usize,
     ) -> Result<Self, AllocError>
         requires nobody { HasNobody server }
-        ensures { IfOk result (λ engine. IsNew server wire client_room link_room (engine_view engine)) }
+        ensures { IfOk result
+            (λ engine. IsNew server wire client_room link_room (engine_view engine)) }
     {
         let buffer = vec![in alloc; 0u8; READ_SIZE]?;
         Ok(Engine {
@@ -121,10 +128,12 @@ impl<W: Wire + Drop> Engine<W> {
 impl<W: Wire> Engine<W> {
     ghost use Rattle.irc_engine.specs.Loops.Engines.{engine_view, ChangesWireAlone};
 
-    /// Takes one turn: asks what is ready and does it, then writes once from each outbox that is not empty, in order of number.
+    /// Takes one turn: asks what is ready and does it, then writes once from each outbox that is
+    /// not empty, in order of number.
     ///
     /// # Errors
-    /// [`EngineFault::Failed`] where memory ran out before; then [`EngineFault::Device`] where the wire could not tell what is ready:
+    /// [`EngineFault::Failed`] where memory ran out before; then [`EngineFault::Device`] where the
+    /// wire could not tell what is ready:
     /// nothing has changed then; [`EngineFault::Memory`] where memory runs out.
     pub fn turn(&mut self) -> Result<(), EngineFault>
         ensures turned { Turned W.is_after (engine_view self.old) (engine_view self.new) result }
@@ -233,13 +242,15 @@ impl<W: Wire> Core<W> {
         self.start(conn, Kind::Link, room, &Event::LinkUp(conn, starts))
     }
 
-    /// A client has connected, or a link is open, and the server is told. A number that is in use is passed over.
+    /// A client has connected, or a link is open, and the server is told. A number that is in use
+    /// is passed over.
     fn start(&mut self, conn: u64, kind: Kind, room: usize, event: &Event) -> Result<(), AllocError>
         requires at_one { IsAtOneIn self.old }
         requires told { AllTold (moment_of self.old) }
         requires arrival { IsArrival kind conn event.now }
         ensures at_one { OnOk result (IsAtOneIn self.new) }
-        ensures done { OnOk result (Spans (Starts W.is_after kind room conn event.now) self.old self.new) }
+        ensures done { OnOk result
+            (Spans (Starts W.is_after kind room conn event.now) self.old self.new) }
         ensures told { OnOk result (KeepsTold self.old self.new) }
         ensures notes { OnOk result (KeepsNotes self.old.connections self.new.connections) }
     {
@@ -270,7 +281,8 @@ impl<W: Wire> Core<W> {
         }
     }
 
-    /// Passes on each line that so many bytes at the front of the buffer complete, as long as the connection is open.
+    /// Passes on each line that so many bytes at the front of the buffer complete, as long as the
+    /// connection is open.
     fn take_lines(&mut self, conn: u64, count: usize) -> Result<(), AllocError>
         requires within { count ≤ length self.old.buffer.items }
         requires at_one { IsAtOneIn self.old }
@@ -300,7 +312,8 @@ impl<W: Wire> Core<W> {
         requires at_one { IsAtOneIn self.old }
         requires open { IsOpenAs conn kind self.old }
         ensures at_one { OnOk result (IsAtOneIn self.new) }
-        ensures ran { OnOk result (AsksFor W.is_after (passed_on kind conn line) self.old self.new) }
+        ensures ran { OnOk result
+            (AsksFor W.is_after (passed_on kind conn line) self.old self.new) }
         ensures told { OnOk result (KeepsTold self.old self.new) }
         ensures marks { OnOk result (KeepsMarks self.old.connections self.new.connections) }
         ensures same { self.new.buffer ≡ self.old.buffer }
@@ -311,7 +324,8 @@ impl<W: Wire> Core<W> {
         }
     }
 
-    /// Passes an event on to the server, and does what it puts out. Then it is told of each connection that was lost by this.
+    /// Passes an event on to the server, and does what it puts out. Then it is told of each
+    /// connection that was lost by this.
     fn pass(&mut self, event: &Event) -> Result<(), AllocError>
         requires { IsToHearIn event.now self.old }
         ensures at_one { OnOk result (IsAtOneIn self.new) }
@@ -325,7 +339,8 @@ impl<W: Wire> Core<W> {
         self.tell_losses()
     }
 
-    /// Tells the server of each connection that was lost, the lowest number first, until there is none.
+    /// Tells the server of each connection that was lost, the lowest number first, until there is
+    /// none.
     fn tell_losses(&mut self) -> Result<(), AllocError>
         requires { IsAtOneIn self.old }
         ensures at_one { OnOk result (IsAtOneIn self.new) }
@@ -359,7 +374,8 @@ impl<W: Wire> Core<W> {
     fn handle(&mut self, event: &Event) -> Result<(), AllocError>
         requires { IsToHearIn event.now self.old }
         ensures at_one { OnOk result (IsAtOneIn self.new) }
-        ensures count { OnOk result (count_of self.new.connections ≤ count_of self.old.connections) }
+        ensures count { OnOk result
+            (count_of self.new.connections ≤ count_of self.old.connections) }
         ensures asks { OnOk result (Spans (AsksOnce W.is_after event.now) self.old self.new) }
         ensures marks { OnOk result (KeepsMarks self.old.connections self.new.connections) }
         ensures same { self.new.buffer ≡ self.old.buffer }
@@ -393,7 +409,8 @@ impl<W: Wire> Core<W> {
     }
 }
 
-/// Tells a wire whether the server that it would call is known, if it would call one. Of two that call each other the one with the lesser name yields.
+/// Tells a wire whether the server that it would call is known, if it would call one. Of two that
+/// call each other the one with the lesser name yields.
 fn tell_known<W: Wire>(wire: &mut W, server: &Server)
     ensures { Keeps W.is_after wire.old wire.new }
 {
@@ -404,7 +421,8 @@ fn tell_known<W: Wire>(wire: &mut W, server: &Server)
     }
 }
 
-/// Whether a server knows another, by any way, or is that one. One for which memory ran out calls nobody any more.
+/// Whether a server knows another, by any way, or is that one. One for which memory ran out calls
+/// nobody any more.
 fn knows(server: &Server, name: &ServerName) -> bool
     ensures { result ≡ knows_at server.now name.now }
 {

@@ -9,7 +9,8 @@ use irc_outbox::{Unreached, Wire};
 use std::io::Write;
 
 impl<W: Wire> Engine<W> {
-    /// Takes so many turns, up to the first that is not done; that one is the last. Behind each, that one too, it says what there is to tell.
+    /// Takes so many turns, up to the first that is not done; that one is the last. Behind each,
+    /// that one too, it says what there is to tell.
     ///
     /// # Errors
     /// As [`Engine::turn`], for that turn.
@@ -33,7 +34,8 @@ impl<W: Wire> Engine<W> {
         turned
     }
 
-    /// Says what there is to tell of links, and of a call that has failed. Nothing that this cannot do ends anything.
+    /// Says what there is to tell of links, and of a call that has failed. Nothing that this cannot
+    /// do ends anything.
     pub fn tell<E: Write>(&mut self, errors: &mut E)
         ensures { Tells W.is_after (engine_view self.old) (engine_view self.new)
             (E.contents errors.old) (E.contents errors.new) }

@@ -16,10 +16,14 @@ place_is_worlds s links routes t fixed forest ends right among =
     let name = sym setting.named in
     (λ i. record {
       name = (right.named t among ∙ name) i;
-      info = (right.described t among ∙ ap (λ o. option_map_or (λ (x : Setting). x.info) o []) setting.is) i;
-      created = (right.created t among ∙ ap (λ o. option_map_or (λ (x : Setting). x.created) o []) setting.is) i;
-      links = (links_counted s links routes t forest ends right among ∙ ap (λ n. count_by (has_end n) links) name) i;
+      info = (right.described t among
+          ∙ ap (λ o. option_map_or (λ (x : Setting). x.info) o []) setting.is) i;
+      created = (right.created t among
+          ∙ ap (λ o. option_map_or (λ (x : Setting). x.created) o []) setting.is) i;
+      links = (links_counted s links routes t forest ends right among
+          ∙ ap (λ n. count_by (has_end n) links) name) i;
       servers = (servers_listed s links routes t fixed forest ends right among
-          ∙ ap (λ n. values (tabulate (names_of s.settings) (known_from s.settings links n))) name) i;
+          ∙ ap (λ n. values (tabulate (names_of s.settings) (known_from s.settings links n)))
+          name) i;
     })
     ∙ sym (ap (λ o. option_map_or (joined_place s.settings links) o (alone t [] [])) setting.is)

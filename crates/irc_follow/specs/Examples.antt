@@ -24,7 +24,8 @@ itself_only name = alone_known name (codes "A server") (codes "today")
 abbrev pub first_routes : Name → Known
 first_routes name =
     if same name a then added 1 b b 1 1 (codes "A server") (itself_only a)
-    else (if same name b then added 0 a a 1 1 (codes "A server") (itself_only b) else itself_only name)
+    else (if same name b then added 0 a a 1 1 (codes "A server") (itself_only b)
+    else itself_only name)
 
 -- b.net and c.net are being linked
 abbrev pub two_of_three : Tree
@@ -39,7 +40,8 @@ two_of_three = record {
 abbrev pub all_three : Tree
 all_three = gained three b c (codes "A server") two_of_three
 
--- Both give it the number 3. a.net has it from b.net by that number, and b.net from c.net by 1, which is each server's number for itself.
+-- Both give it the number 3. a.net has it from b.net by that number, and b.net from c.net by 1,
+-- which is each server's number for itself.
 pub record NumbersOfThree : Type 0 where
   pub of_a : token_out (all_three.routes a) c ≡ Some 3
   pub of_b : token_out (all_three.routes b) c ≡ Some 3

@@ -12,7 +12,8 @@ use Rattle.irc_follow.specs.Part.{Fixed, Part, number, is_home_of, IsSoundPart}
 
 -- the peers that a server is configured to have
 abbrev pub peers_of : List Setting → Name → List KnownPeer
-peers_of settings server = option_map_or (λ (own : Setting). own.peers) (setting_of settings server) []
+peers_of settings server =
+    option_map_or (λ (own : Setting). own.peers) (setting_of settings server) []
 
 -- the server at the other end of a link, once that has named itself
 abbrev pub far_of : End → Option (List ℕ)
@@ -20,7 +21,8 @@ far_of end = end.far
 
 -- the end of the link to x, where there is one: x has named itself just where this side knows it
 abbrev pub far_end : Part → Name → Name → Option (Option Name)
-far_end w t x = if linked w.tree.forest t x then Some (if w.tree.knows x then Some x else None) else None
+far_end w t x = if linked w.tree.forest t x then Some (if w.tree.knows x then Some x else None)
+    else None
 
 -- a number that is a server's
 pub record IsNumberOf (s : Fixed) (k : ℕ) : Type 0 where
@@ -28,14 +30,16 @@ pub record IsNumberOf (s : Fixed) (k : ℕ) : Type 0 where
   pub among : IsAmong s.names server
   pub is : number s server ≡ k
 
--- A server of this side has the peers that it is configured to have, the servers that it is to know and the ends of its links, its own clients, and the room but for
--- invitations of other servers' users.
+-- A server of this side has the peers that it is configured to have, the servers that it is to know
+-- and the ends of its links, its own clients, and the room but for invitations of other servers'
+-- users.
 pub record Fits (s : Fixed) (t : Name) (w : Part) (v : View) : Type 0 where
   pub here : w.tree.here t ≡ true
   pub sound : IsSoundPart s w
   pub peers : v.peers ≡ peers_of s.settings t
   pub routes : v.routes ≡ w.tree.routes t
-  pub ends : (x : Name) → IsAmong s.names x → option_map far_of (get v.ends (number s x)) ≡ far_end w t x
+  pub ends : (x : Name) → IsAmong s.names x
+      → option_map far_of (get v.ends (number s x)) ≡ far_end w t x
   pub no_others : (k : ℕ) (end : End) → get v.ends k ≡ Some end → IsNumberOf s k
   pub clients : v.clients ≡ retain_keys w.hall.clients (is_home_of s.homes t)
   pub room : v.room ≡ of_home t w.hall.room

@@ -1,5 +1,7 @@
--- When a line says a deed, stands aside, or a deed passes a server by; and a server as a machine that takes lines.
-use Rattle.std.specs.Prelude.{◌≡◌, ◌≢◌, ◌≤◌, ◌⊎◌, ⊤, ℕ, ◌-◌, true, false, Option, Some, None, List, [], ◌∷◌, length, nat_eq, take, if◌then◌else◌}
+-- When a line says a deed, stands aside, or a deed passes a server by; and a server as a machine
+-- that takes lines.
+use Rattle.std.specs.Prelude.{◌≡◌, ◌≢◌, ◌≤◌, ◌⊎◌, ⊤, ℕ, ◌-◌, true, false, Option, Some, None, List}
+use Rattle.std.specs.Prelude.{[], ◌∷◌, length, nat_eq, take, if◌then◌else◌}
 use Rattle.std.specs.List.{filter_map, list_any, AllByRecursion}
 use Rattle.std.specs.FinMap.{get, keys}
 use Rattle.irc_batch.specs.Batches.{Sent, line_on}
@@ -22,7 +24,8 @@ use Rattle.irc_room.specs.Sendable.{IsSendable, IsSentChange, IsStoredNick}
 use Rattle.irc_room.specs.Effects.{doer_of}
 use Rattle.irc_merge.specs.Bursts.{members_a_line}
 use Rattle.irc_merge.specs.CanBeDone.{DoesSomething}
-use Rattle.irc_merge.specs.Deeds.{Deed, does, gains, loses, kills, brings, sets, tops, titled, effects_of}
+use Rattle.irc_merge.specs.Deeds.{Deed, does, gains, loses, kills, brings, sets, tops, titled}
+use Rattle.irc_merge.specs.Deeds.{effects_of}
 use Rattle.irc_relay.specs.Links.{Name, same, toward, distance, AreLinked}
 use Rattle.irc_relay.specs.Relay.{Machine, TakesFrom}
 use Rattle.irc_relay.specs.Following.{Fact, Play, Terms}
@@ -35,7 +38,8 @@ use Rattle.irc_server.specs.Owed.{lines_to}
 use Rattle.irc_server.specs.Served.{link_says, served}
 use Rattle.irc_follow.specs.Fits.{Fits}
 use Rattle.irc_follow.specs.Tree.{told_token, CanGain, CanLose}
-use Rattle.irc_follow.specs.Part.{Fixed, Part, number, info_in, is_home_of, done, shown_at, IsSoundPart}
+use Rattle.irc_follow.specs.Part.{Fixed, Part, number, info_in, is_home_of, done, shown_at}
+use Rattle.irc_follow.specs.Part.{IsSoundPart}
 
 -- ---- a server, line by line
 
@@ -59,15 +63,18 @@ lines_on link out = filter_map (line_on_link link) out
 abbrev pub machine : Fixed → ℕ → Machine View (List ℕ) (List ℕ)
 machine s client = record {
   step = λ t p view line. (neighbour_served s p view line).view;
-  sends = λ t p view line u. if same u p then [] else lines_on (number s u) (neighbour_served s p view line).out;
-  shows = λ t p view line. if is_home_of s.homes t client then lines_to client (neighbour_served s p view line).out else [];
+  sends = λ t p view line u. if same u p then []
+      else lines_on (number s u) (neighbour_served s p view line).out;
+  shows = λ t p view line. if is_home_of s.homes t client
+      then lines_to client (neighbour_served s p view line).out else [];
 }
 
 -- ---- deeds that a line can say
 
 -- a server is on the way on which each server of this side takes its lines
 abbrev pub IsFar : Fixed → Part → Name → Type 0
-IsFar s w x = (t p : Name) → w.tree.here t ≡ true → TakesFrom s.streams t p → toward w.tree.forest t x ≡ p
+IsFar s w x = (t p : Name) → w.tree.here t ≡ true → TakesFrom s.streams t p
+    → toward w.tree.forest t x ≡ p
 
 -- a user who comes is of a server that is known, and is far
 pub record ComesFrom (s : Fixed) (w : Part) (home : Name) : Type 0 where
@@ -83,10 +90,12 @@ pub record IsDoableEffect (s : Fixed) (w : Part) (effect : Effect) : Type 0 wher
   pub possible : IsPossible w.hall.room effect
   pub busy : is_idle w.hall.room effect ≡ false
   pub sendable : IsSendable w.hall.room effect
-  pub doer_far : (nick : List ℕ) (home : Name) → doer_of effect ≡ Some nick → home_under w.hall.room (key nick) ≡ Some home → IsFar s w home
+  pub doer_far : (nick : List ℕ) (home : Name) → doer_of effect ≡ Some nick
+      → home_under w.hall.room (key nick) ≡ Some home → IsFar s w home
   pub comes : ComesFar s w effect
   -- one that is told only where it matters is told while all who take lines are of this side
-  pub everybody : (homes : List (List ℕ)) → told_homes w.hall.room effect ≡ Some homes → (u p : Name) → TakesFrom s.streams u p → w.tree.here u ≡ true
+  pub everybody : (homes : List (List ℕ)) → told_homes w.hall.room effect ≡ Some homes
+      → (u p : Name) → TakesFrom s.streams u p → w.tree.here u ≡ true
 
 -- a server that comes to be known, behind far ones
 pub record IsDoableGain (s : Fixed) (w : Part) (uplink name info : List ℕ) : Type 0 where
@@ -117,7 +126,8 @@ pub record IsFarChannel (s : Fixed) (w : Part) (channel : List ℕ) : Type 0 whe
 
 -- Changes of its modes that are read as they are written, with words that a line can carry. All of
 -- them are told on, whether they raise something in the channel or not.
-pub record AreToldChanges (s : Fixed) (w : Part) (channel : List ℕ) (changes : List ModeChange) : Type 0 where
+pub record AreToldChanges (s : Fixed) (w : Part) (channel : List ℕ)
+    (changes : List ModeChange) : Type 0 where
   pub far : IsFarChannel s w channel
   pub readable : AreReadable changes
   pub sent : AllByRecursion (IsSentChange w.hall.room) changes
@@ -132,7 +142,8 @@ pub record IsToldMember (s : Fixed) (w : Part) (member : List ℕ × Flags) : Ty
   pub stored : IsStoredNick w.hall.room member.0
   pub far : IsOfFar s w (home_under w.hall.room (key member.0))
 
-pub record AreToldMembers (s : Fixed) (w : Part) (channel : List ℕ) (members : List (List ℕ × Flags)) : Type 0 where
+pub record AreToldMembers (s : Fixed) (w : Part) (channel : List ℕ)
+    (members : List (List ℕ × Flags)) : Type 0 where
   pub named : IsChannel channel
   pub some : members ≢ []
   pub few : length members ≤ members_a_line
@@ -162,12 +173,15 @@ pub record IsDoableLoss (s : Fixed) (w : Part) (server name text : List ℕ) : T
   pub by_server : IsDoableByServer s w server (loses server name text)
   pub can : CanLose w.tree name
   pub far : IsFar s w name
-  pub not_linked : (t p : Name) → w.tree.here t ≡ true → TakesFrom s.streams t p → AreLinked w.tree.forest t name → ⊥
+  pub not_linked : (t p : Name) → w.tree.here t ≡ true → TakesFrom s.streams t p
+      → AreLinked w.tree.forest t name → ⊥
 
--- A user is killed by a far server, or by the one that finds the nickname on both sides; it is named as it is stored.
+-- A user is killed by a far server, or by the one that finds the nickname on both sides; it is
+-- named as it is stored.
 pub record IsDoableKill (s : Fixed) (w : Part) (server nick : List ℕ) : Type 0 where
   pub known : w.tree.knows server ≡ true
-  pub far_or_own : (t p : Name) → w.tree.here t ≡ true → TakesFrom s.streams t p → (t ≡ server) ⊎ (toward w.tree.forest t server ≡ p)
+  pub far_or_own : (t p : Name) → w.tree.here t ≡ true → TakesFrom s.streams t p
+      → (t ≡ server) ⊎ (toward w.tree.forest t server ≡ p)
   pub stored : IsStoredNick w.hall.room nick
 
 abbrev pub IsDoable : Fixed → Part → Deed → Type 0
@@ -175,23 +189,28 @@ IsDoable s w (does effect) = IsDoableEffect s w effect
 IsDoable s w (gains uplink name info) = IsDoableGain s w uplink name info
 IsDoable s w (loses server name text) = IsDoableLoss s w server name text
 IsDoable s w (kills server nick) = IsDoableKill s w server nick
-IsDoable s w (brings server channel members) = IsDoableByServer s w server (brings server channel members)
-IsDoable s w (sets server channel changes) = IsDoableByServer s w server (sets server channel changes)
+IsDoable s w (brings server channel members) =
+    IsDoableByServer s w server (brings server channel members)
+IsDoable s w (sets server channel changes) =
+    IsDoableByServer s w server (sets server channel changes)
 IsDoable s w (tops server channel topic) = IsDoableByServer s w server (tops server channel topic)
 
 -- ---- a line that says a deed
 
 -- with the numbers that p's line has for t
 abbrev pub told_as : Fixed → Part → Name → Name → Deed → Told
-told_as s w p t (gains uplink name info) = a_server uplink name (distance w.tree.forest t name) (told_token w.tree p name) info
+told_as s w p t (gains uplink name info) =
+    a_server uplink name (distance w.tree.forest t name) (told_token w.tree p name) info
 told_as s w p t deed = a_deed deed
 
 -- what t hears: p names itself, or tells of a deed
 abbrev pub saying : Fixed → Part → Name → Name → Deed → Heard
-saying s w p t (gains uplink name info) = if same name p then meets name info else tells (told_as s w p t (gains uplink name info) ∷ [])
+saying s w p t (gains uplink name info) =
+    if same name p then meets name info else tells (told_as s w p t (gains uplink name info) ∷ [])
 saying s w p t deed = tells (told_as s w p t deed ∷ [])
 
-pub record Says (s : Fixed) (p t : Name) (w : Part) (view : View) (deed : Deed) (line : List ℕ) : Type 0 where
+pub record Says (s : Fixed) (p t : Name) (w : Part) (view : View) (deed : Deed)
+    (line : List ℕ) : Type 0 where
   pub is_line : IsLine line
   pub end : End
   pub is_end : get view.ends (number s p) ≡ Some end
@@ -213,14 +232,16 @@ pub record Aside (s : Fixed) (p t : Name) (w : Part) (view : View) (line : List 
   pub is_end : get view.ends (number s p) ≡ Some end
   pub nothing : IsNothing (heard view (number s p) end (read_of line))
 
--- An effect passes a server by of which it is not told: none of the servers that it is told toward is on that server's side of the link to its parent.
+-- An effect passes a server by of which it is not told: none of the servers that it is told toward
+-- is on that server's side of the link to its parent.
 pub record Passes (s : Fixed) (u : Name) (w : Part) (effect : Effect) : Type 0 where
   pub takes : TakesFrom s.streams u (s.streams.parent u)
   pub sound : IsSoundPart s w
   pub doable : IsDoableEffect s w effect
   pub homes : List (List ℕ)
   pub told : told_homes w.hall.room effect ≡ Some homes
-  pub elsewhere : list_any (λ home. same (toward w.tree.forest (s.streams.parent u) home) u) homes ≡ false
+  pub elsewhere : list_any (λ home. same (toward w.tree.forest (s.streams.parent u) home) u) homes
+      ≡ false
 
 abbrev pub PassesBy : Fixed → Name → Part → Deed → Type 0
 PassesBy s u w (does effect) = Passes s u w effect

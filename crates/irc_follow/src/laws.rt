@@ -1,9 +1,16 @@
-//! What holds of one server and its side of the network. Each law is a function that does nothing, and its contract is the law: the check proves it, and a crate
-//! above may cite it.
-ghost use Rattle.irc_follow.specs.AtRest.{BehindIsThatSide, PartAtRestIsSound, PlaceIsWorlds, ToldAreThisSide, ToldByDistance};
-ghost use Rattle.irc_follow.specs.Laws.{AsideStays, DoneStaysSound, PassedByStays, SaidDeedFits, SaidDeedGoesOn, SaidDeedShows, SaidEffectGoesOn, SaidGainGoesOn, SaidKillGoesOn, SaidLossGoesOn, SaidMembersGoOn, SaidModesGoOn, SaidTopicGoesOn, ServersFollow};
-ghost use Rattle.irc_follow.specs.Relinked.{BehindSourceIsFar, OtherSources, PartAfterCut, PartAfterLink, TreeAfterCut, TreeAfterLink};
-ghost use Rattle.irc_follow.specs.SideFlows.{CutOnceLost, FarSideIsTold, NearSideIsTold, OneSideIsLeft, OtherSideIsLeft, SourceTells};
+//! What holds of one server and its side of the network. Each law is a function that does nothing,
+//! and its contract is the law: the check proves it, and a crate above may cite it.
+ghost use Rattle.irc_follow.specs.AtRest.{BehindIsThatSide, PartAtRestIsSound, PlaceIsWorlds};
+ghost use Rattle.irc_follow.specs.AtRest.{ToldAreThisSide, ToldByDistance};
+ghost use Rattle.irc_follow.specs.Laws.{AsideStays, DoneStaysSound, PassedByStays, SaidDeedFits};
+ghost use Rattle.irc_follow.specs.Laws.{SaidDeedGoesOn, SaidDeedShows, SaidEffectGoesOn};
+ghost use Rattle.irc_follow.specs.Laws.{SaidGainGoesOn, SaidKillGoesOn, SaidLossGoesOn};
+ghost use Rattle.irc_follow.specs.Laws.{SaidMembersGoOn, SaidModesGoOn, SaidTopicGoesOn};
+ghost use Rattle.irc_follow.specs.Laws.{ServersFollow};
+ghost use Rattle.irc_follow.specs.Relinked.{BehindSourceIsFar, OtherSources, PartAfterCut};
+ghost use Rattle.irc_follow.specs.Relinked.{PartAfterLink, TreeAfterCut, TreeAfterLink};
+ghost use Rattle.irc_follow.specs.SideFlows.{CutOnceLost, FarSideIsTold, NearSideIsTold};
+ghost use Rattle.irc_follow.specs.SideFlows.{OneSideIsLeft, OtherSideIsLeft, SourceTells};
 
 /// A side stays sound by each deed that can be done.
 pub fn done_stays_sound()
@@ -25,12 +32,14 @@ pub fn aside_stays()
     ensures { AsideStays }
 {}
 
-/// A server that an effect passes by is as it has to be after that effect, its clients are shown nothing, and it passes by whoever takes its lines.
+/// A server that an effect passes by is as it has to be after that effect, its clients are shown
+/// nothing, and it passes by whoever takes its lines.
 pub fn passed_by_stays()
     ensures { PassedByStays }
 {}
 
-/// It sends to each other neighbour that takes its lines one line of an effect, which says the effect there too, or none, and the effect passes that one by.
+/// It sends to each other neighbour that takes its lines one line of an effect, which says the
+/// effect there too, or none, and the effect passes that one by.
 pub fn said_effect_goes_on()
     ensures { SaidEffectGoesOn }
 {
@@ -90,7 +99,8 @@ pub fn said_members_go_on()
     irc_room::laws::names_are_line_words();
 }
 
-/// So it does with a SERVER, whether its own neighbour names itself or tells of one behind it (RFC 2813 section 4.1.2).
+/// So it does with a SERVER, whether its own neighbour names itself or tells of one behind it (RFC
+/// 2813 section 4.1.2).
 pub fn said_gain_goes_on()
     ensures { SaidGainGoesOn }
 {
@@ -100,7 +110,8 @@ pub fn said_gain_goes_on()
     irc_room::laws::names_are_line_words();
 }
 
-/// So it does with every deed: what it writes of a deed that a line said, says the same deed to each neighbour that takes its lines.
+/// So it does with every deed: what it writes of a deed that a line said, says the same deed to
+/// each neighbour that takes its lines.
 pub fn said_deed_goes_on()
     ensures { SaidDeedGoesOn }
 {
@@ -113,7 +124,8 @@ pub fn said_deed_goes_on()
     said_topic_goes_on();
 }
 
-/// So each server that takes lines follows its side: line by line it is, shows and tells on what the network does and shows by the deed that the line says.
+/// So each server that takes lines follows its side: line by line it is, shows and tells on what
+/// the network does and shows by the deed that the line says.
 pub fn servers_follow()
     ensures { ServersFollow }
 {
@@ -124,7 +136,8 @@ pub fn servers_follow()
     passed_by_stays();
 }
 
-/// The servers of a side are as they are to be with a link more to servers that they do not know yet.
+/// The servers of a side are as they are to be with a link more to servers that they do not know
+/// yet.
 pub fn tree_after_link()
     ensures { TreeAfterLink }
 {}
@@ -134,7 +147,8 @@ pub fn part_after_link()
     ensures { PartAfterLink }
 {}
 
-/// The servers of a side are as they are to be without a link, once they have lost all that were behind it.
+/// The servers of a side are as they are to be without a link, once they have lost all that were
+/// behind it.
 pub fn tree_after_cut()
     ensures { TreeAfterCut }
 {}
@@ -144,17 +158,20 @@ pub fn part_after_cut()
     ensures { PartAfterCut }
 {}
 
-/// A side stays sound whatever sources its lines come from, along its links or what is left of them.
+/// A side stays sound whatever sources its lines come from, along its links or what is left of
+/// them.
 pub fn other_sources()
     ensures { OtherSources }
 {}
 
-/// Who is behind the source for the servers next to it is behind the parent of every server of the side.
+/// Who is behind the source for the servers next to it is behind the parent of every server of the
+/// side.
 pub fn behind_source_is_far()
     ensures { BehindSourceIsFar }
 {}
 
-/// What a client says comes to all of its part from its server, which is behind itself for those next to it.
+/// What a client says comes to all of its part from its server, which is behind itself for those
+/// next to it.
 pub fn source_tells()
     ensures { SourceTells }
 {}
@@ -179,32 +196,38 @@ pub fn other_side_is_left()
     ensures { OtherSideIsLeft }
 {}
 
-/// Once the servers of a side know nobody but those that are still joined to its end, the lost link may go.
+/// Once the servers of a side know nobody but those that are still joined to its end, the lost link
+/// may go.
 pub fn cut_once_lost()
     ensures { CutOnceLost }
 {}
 
-/// While nothing is under way the side of each server is sound: it is the part of the world that the server is in, where all servers' routes are right.
+/// While nothing is under way the side of each server is sound: it is the part of the world that
+/// the server is in, where all servers' routes are right.
 pub fn part_at_rest_is_sound()
     ensures { PartAtRestIsSound }
 {}
 
-/// While nothing is under way the servers that a server has behind a link are those of that side of the link, in order of name.
+/// While nothing is under way the servers that a server has behind a link are those of that side of
+/// the link, in order of name.
 pub fn behind_is_that_side()
     ensures { BehindIsThatSide }
 {}
 
-/// While nothing is under way a server knows of the network what the world has of it: how many links it has, and all servers of its part.
+/// While nothing is under way a server knows of the network what the world has of it: how many
+/// links it has, and all servers of its part.
 pub fn place_is_worlds()
     ensures { PlaceIsWorlds }
 {}
 
-/// While nothing is under way the servers that a server tells a neighbour of are just those of its own side of the link, but for itself.
+/// While nothing is under way the servers that a server tells a neighbour of are just those of its
+/// own side of the link, but for itself.
 pub fn told_are_this_side()
     ensures { ToldAreThisSide }
 {}
 
-/// It tells of the nearer servers first, of two as far away of the one whose name comes first, and of each once.
+/// It tells of the nearer servers first, of two as far away of the one whose name comes first, and
+/// of each once.
 pub fn told_by_distance()
     ensures { ToldByDistance }
 {}

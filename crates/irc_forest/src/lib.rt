@@ -1,4 +1,5 @@
-//! The servers of a network, the links between them, and which of them the links join. Definitions are in `specs/`.
+//! The servers of a network, the links between them, and which of them the links join. Definitions
+//! are in `specs/`.
 #![tactic(auto)]
 
 mod forest;

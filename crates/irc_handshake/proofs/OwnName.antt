@@ -1,5 +1,6 @@
 -- A server finds itself under its own name.
-use Rattle.std.proofs.Common.{◌≡◌, ℕ, true, ◌&&◌, Some, List, [], ◌∷◌, if◌then◌else◌, nat_eq, refl, ◌∙◌, ap}
+use Rattle.std.proofs.Common.{◌≡◌, ℕ, true, ◌&&◌, Some, List, [], ◌∷◌, if◌then◌else◌, nat_eq, refl}
+use Rattle.std.proofs.Common.{◌∙◌, ap}
 use Rattle.std.specs.Cmp.Lexicographic.{pointwise}
 use Rattle.std.specs.Cmp.{nat_eq_equiv}
 use Rattle.std.specs.Option.{option_map}
@@ -11,8 +12,10 @@ eq_itself n = nat_eq_equiv.refl n
 
 pointwise_itself : (xs : List ℕ) → pointwise nat_eq xs xs ≡ true
 pointwise_itself [] = refl
-pointwise_itself (x ∷ xs) = ap (λ b. b && pointwise nat_eq xs xs) (eq_itself x) ∙ pointwise_itself xs
+pointwise_itself (x ∷ xs) =
+    ap (λ b. b && pointwise nat_eq xs xs) (eq_itself x) ∙ pointwise_itself xs
 
 pub own_info_known : (known : Known) → info_of known known.name ≡ Some known.info
 own_info_known known =
-    ap (λ b. if b then Some known.info else option_map (λ (r : ServerRow). r.info) (row_of known known.name)) (pointwise_itself known.name)
+    ap (λ b. if b then Some known.info else option_map (λ (r : ServerRow). r.info)
+    (row_of known known.name)) (pointwise_itself known.name)

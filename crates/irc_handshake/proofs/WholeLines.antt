@@ -20,12 +20,15 @@ pass_size all password all_is fits = omega arith
 
 pub pass_fits : PassFits
 pass_fits password rule =
-    pass_size (length (joined_text (pass_parts password))) (length password) (length-joined_text (pass_parts password)) (password_short password rule)
+    pass_size (length (joined_text (pass_parts password))) (length password)
+    (length-joined_text (pass_parts password)) (password_short password rule)
 
-greeting_size : (all name info : ℕ) → all ≡ 0 + (6 + (1 + name + 4 + (2 + info))) → name ≤ 63 → info ≤ 63 → all ≤ 510
+greeting_size : (all name info : ℕ) → all ≡ 0 + (6 + (1 + name + 4 + (2 + info))) → name ≤ 63
+    → info ≤ 63 → all ≤ 510
 greeting_size all name info all_is name_fits info_fits = omega arith
 
 pub greeting_fits : GreetingFits
 greeting_fits known name_so info_so =
-    greeting_size (length (joined_text (greeting known))) (length known.name) (length known.info) (length-joined_text (greeting known))
+    greeting_size (length (joined_text (greeting known))) (length known.name) (length known.info)
+    (length-joined_text (greeting known))
     (server-fits known.name name_so) (info_short known.info info_so)

@@ -8,9 +8,11 @@ use Rattle.irc_names.specs.Names.{fits, starts_without_colon}
 abbrev pub max_password : ℕ
 max_password = 20
 
--- bytes from 0x21 to 0x7E of which the first is no colon, so that a password can stand as a middle parameter
+-- bytes from 0x21 to 0x7E of which the first is no colon, so that a password can stand as a middle
+-- parameter
 abbrev pub is_password : List ℕ → Bool
-is_password bytes = starts_without_colon bytes && list_all is_ascii_graphic bytes && fits max_password bytes
+is_password bytes =
+    starts_without_colon bytes && list_all is_ascii_graphic bytes && fits max_password bytes
 
 abbrev pub IsPassword : List ℕ → Type 0
 IsPassword bytes = IsTrue (is_password bytes)

@@ -1,4 +1,5 @@
--- The two lines with which a link begins are not cut, by the limits (RFC 2812 section 2.3: 510 bytes before CR LF).
+-- The two lines with which a link begins are not cut, by the limits (RFC 2812 section 2.3: 510
+-- bytes before CR LF).
 use Rattle.std.specs.Prelude.{ℕ, List}
 use Rattle.irc_names.specs.Names.{IsServer}
 use Rattle.irc_room.specs.Laws.{IsWhole}

@@ -1,4 +1,5 @@
-//! The two lines with which a link begins, written (RFC 2813 section 4.1). Nothing here takes memory.
+//! The two lines with which a link begins, written (RFC 2813 section 4.1). Nothing here takes
+//! memory.
 ghost use Rattle.std.specs.Prelude.{◌≡◌};
 ghost use Rattle.irc_line.specs.Messages.{text};
 ghost use Rattle.irc_line.specs.MessageViews.{optional_now};
@@ -16,7 +17,8 @@ pub fn pass_text(password: &[u8]) -> Text
     plain_line(b"PASS", &[password, VERSION, AGREEMENT], None)
 }
 
-/// The second line of a link, by which a server names itself: `SERVER a.net 1 1 :A` (RFC 2813 section 4.1.2).
+/// The second line of a link, by which a server names itself: `SERVER a.net 1 1 :A` (RFC 2813
+/// section 4.1.2).
 pub fn greeting_text(routes: &Routes) -> Text
     ensures { result.items ≡ text (greeting routes.now) }
 {
@@ -29,7 +31,8 @@ pub fn greeting_text(routes: &Routes) -> Text
 
 /// A line from nobody.
 fn plain_line<'a>(command: &'a [u8], middle: &'a [&'a [u8]], last: Option<&'a [u8]>) -> Text
-    ensures { result.items ≡ text (from_nobody command.now (words_now middle.now) (optional_now last.entry)) }
+    ensures { result.items ≡ text
+        (from_nobody command.now (words_now middle.now) (optional_now last.entry)) }
 {
     write_message(&Parts {
         prefix: Prefix::Nothing,

@@ -6,7 +6,9 @@ ghost use Rattle.irc_line.specs.MessageViews.{parsed};
 ghost use Rattle.irc_line.specs.PartViews.{words_now};
 ghost use Rattle.irc_handshake.specs.GreetingLines.{agreement, version};
 ghost use Rattle.irc_handshake.specs.Loops.Readings.{greeting_told};
-ghost use Rattle.irc_handshake.specs.Openings.{greeting_if, greeting_named, greeting_of, greeting_opens, opening_of, pass_opens, password_of, told_first};
+ghost use Rattle.irc_handshake.specs.Openings.{greeting_if, greeting_named, greeting_of};
+ghost use Rattle.irc_handshake.specs.Openings.{greeting_opens, opening_of, pass_opens, password_of};
+ghost use Rattle.irc_handshake.specs.Openings.{told_first};
 
 use crate::password::Password;
 use crate::{AGREEMENT, VERSION};
@@ -39,7 +41,8 @@ pub struct Greeting<'a> {
     pub info: Info,
 }
 
-/// What a line comes to while the neighbour has not named itself, if it is one with which a link begins: what it says, or why it closes the link.
+/// What a line comes to while the neighbour has not named itself, if it is one with which a link
+/// begins: what it says, or why it closes the link.
 /// `has_password` is whether the neighbour has given a password.
 #[tactic(auto, unfolding(crate::specs::Openings::opening_of))]
 pub fn read_opening(
@@ -87,7 +90,8 @@ fn is_agreed(given: &[u8], agreed: &[u8]) -> bool
     given == VERSION && agreed == AGREEMENT
 }
 
-/// What a SERVER of these words comes to, by which the neighbour names itself: it has to have given a password.
+/// What a SERVER of these words comes to, by which the neighbour names itself: it has to have given
+/// a password.
 fn greeting_opening(words: &[&[u8]], has_password: bool) -> Result<Opening, CloseReason>
     ensures { result ≡ greeting_opens has_password (greeting_of (words_now words.now)) }
 {

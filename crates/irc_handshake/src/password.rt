@@ -12,7 +12,8 @@ use std::marker::Model;
 
 const COLON: u8 = b':';
 
-/// The password that two servers give each other: 1 to [`MAX_PASSWORD`] bytes from 0x21 to 0x7E, the first no `:` (our own choice).
+/// The password that two servers give each other: 1 to [`MAX_PASSWORD`] bytes from 0x21 to 0x7E,
+/// the first no `:` (our own choice).
 #[derive(Drop)]
 pub struct Password(ArrayVec<u8, MAX_PASSWORD>);
 

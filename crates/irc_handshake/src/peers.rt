@@ -6,8 +6,8 @@ ghost use Rattle.irc_handshake.specs.Peers.{not_taken, refusal};
 use irc_batch::CloseReason;
 use irc_routes::Routes;
 
-/// Why a neighbour that names itself is refused, if it is. `kept` is the password that is kept for a peer of its name, if there is such a peer, and
-/// `given` the one that it gave.
+/// Why a neighbour that names itself is refused, if it is. `kept` is the password that is kept for
+/// a peer of its name, if there is such a peer, and `given` the one that it gave.
 pub fn refusal(
     kept: Option<&[u8]>,
     given: &[u8],

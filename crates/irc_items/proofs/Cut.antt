@@ -1,9 +1,11 @@
--- A link is lost. Its two ends are the sources, and do not meet: each tells its own side, in turn, of the loss of each server that was behind the link.
+-- A link is lost. Its two ends are the sources, and do not meet: each tells its own side, in turn,
+-- of the loss of each server that was behind the link.
 --   Given            both ends have served the loss, and the way between them is gone (`IsCut`)
 --   Step             `IsCutStep`; what is left; where each server stands
 --   Sides, Ends      the deeds, and a side before and after; who is still joined and linked
 --   Names, NamesPassing, Forgetting, LostUsersQuit, Losses, LostInTurn
---                    servers that are lost one after another: what is forgotten, who quits, what is left of a side and seen of it
+-- servers that are lost one after another: what is forgotten, who quits, what is left of a side and
+-- seen of it
 --   Home, Told       what an end does of that, and that its lines say it to each neighbour
 --   Parts            each side is sound, its servers fit it, and its lines come from its end
 --   Side, Halls

@@ -16,12 +16,17 @@ pub record AreGivenLaws : Type 0 where
 
 pub given_stays_sound : AreGivenLaws → GivenStaysSound
 given_stays_sound laws net (connect server host) sound given =
-    connect_sound laws.client net sound given.at_rest (laws.rest net sound given.at_rest) (holds_now laws.world net sound) server host given.taken given.within
+    connect_sound laws.client net sound given.at_rest (laws.rest net sound given.at_rest)
+    (holds_now laws.world net sound) server host given.taken given.within
 given_stays_sound laws net (line client bytes) sound given =
-    line_sound laws.client net sound given.at_rest (laws.rest net sound given.at_rest) (holds_now laws.world net sound) client bytes given.taken given.within
+    line_sound laws.client net sound given.at_rest (laws.rest net sound given.at_rest)
+    (holds_now laws.world net sound) client bytes given.taken given.within
 given_stays_sound laws net (gone client) sound given =
-    gone_sound laws.client net sound given.at_rest (laws.rest net sound given.at_rest) (holds_now laws.world net sound) client given.taken
+    gone_sound laws.client net sound given.at_rest (laws.rest net sound given.at_rest)
+    (holds_now laws.world net sound) client given.taken
 given_stays_sound laws net (link near far) sound given =
-    link_item_sound laws.link net sound given.at_rest (laws.rest net sound given.at_rest) (holds_now laws.world net sound) near far given.taken
+    link_item_sound laws.link net sound given.at_rest (laws.rest net sound given.at_rest)
+    (holds_now laws.world net sound) near far given.taken
 given_stays_sound laws net (cut near far) sound given =
-    cut_item_sound laws.cut net sound given.at_rest (laws.rest net sound given.at_rest) (holds_now laws.world net sound) near far given.taken
+    cut_item_sound laws.cut net sound given.at_rest (laws.rest net sound given.at_rest)
+    (holds_now laws.world net sound) near far given.taken

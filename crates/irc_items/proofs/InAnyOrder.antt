@@ -4,7 +4,8 @@ use Rattle.irc_world.specs.Owed.{owed_by_network}
 use Rattle.irc_world.specs.Stepping.{Item, step}
 use Rattle.irc_network.specs.Network.{Network, begun, given}
 use Rattle.irc_items.specs.InAnyOrder.{none_yet, one_more, IsReached, ItemIsReceived}
-use Rattle.irc_items.specs.Laws.{DeliveryKeepsSettings, DeliveryStaysSound, GivenKeepsSettings, GivenStaysSound, RestIsOneRoom}
+use Rattle.irc_items.specs.Laws.{DeliveryKeepsSettings, DeliveryStaysSound, GivenKeepsSettings}
+use Rattle.irc_items.specs.Laws.{GivenStaysSound, RestIsOneRoom}
 use Rattle.irc_items.specs.SetUp.{settings_of}
 use Rattle.irc_items.specs.Sound.{owed_now, world_now, IsSound}
 use Rattle.irc_items.proofs.Common.ItemsMore.{owed_more}
@@ -35,19 +36,23 @@ module _ (laws : AreReceivingLaws) where
         items = (delivered_one from to (begun mid) course is).items ∙ so.items;
       }
 
-  owed_alike : (one other : Network) (client : ℕ) → settings_of other ≡ settings_of one → other.items ≡ one.items → owed_now other client ≡ owed_now one client
+  owed_alike : (one other : Network) (client : ℕ) → settings_of other ≡ settings_of one
+      → other.items ≡ one.items → owed_now other client ≡ owed_now one client
   owed_alike one other client settings items =
-      ap (λ ss. owed_by_network ss other.items client) settings ∙ ap (λ is. owed_by_network (settings_of one) is client) items
+      ap (λ ss. owed_by_network ss other.items client) settings
+      ∙ ap (λ is. owed_by_network (settings_of one) is client) items
 
   pub item_is_received : ItemIsReceived
   item_is_received net new item client through =
       (laws.rest new after.sound through.rest).received client
       ∙ owed_alike (given item net).net new client after.settings after.items
-      ∙ ap (λ ss. owed_by_network ss (given item net).net.items client) (laws.given_settings net item)
+      ∙ ap (λ ss. owed_by_network ss (given item net).net.items client)
+      (laws.given_settings net item)
       ∙ ap (λ is. owed_by_network (settings_of net) is client) (laws.items item net)
       ∙ owed_more (settings_of net) net.items item client
       ∙ ap (λ before. before ++ (step (settings_of net) (world_now net) item).lines client)
       (sym ((laws.rest net through.sound through.given_so.at_rest).received client))
     where
       after : IsLater (given item net).net new
-      after = later (given item net).net new (laws.stays net item through.sound through.given_so) through.reached
+      after = later (given item net).net new
+          (laws.stays net item through.sound through.given_so) through.reached

@@ -1,11 +1,14 @@
 -- What the deliveries of a network keep.
-use Rattle.std.proofs.Common.{◌≡◌, ℕ, zero, suc, ◌+◌, ◌≤◌, min, Option, Some, None, List, [], ◌∷◌, refl, sym, ap, subst, ◌∙◌, arith}
+use Rattle.std.proofs.Common.{◌≡◌, ℕ, zero, suc, ◌+◌, ◌≤◌, min, Option, Some, None, List, [], ◌∷◌}
+use Rattle.std.proofs.Common.{refl, sym, ap, subst, ◌∙◌, arith}
 use Rattle.std.specs.Option.{option_and_then, option_map_or}
 use Rattle.irc_line.specs.Reading.{read_of}
 use Rattle.irc_stage.specs.View.{View}
 use Rattle.irc_server.specs.Served.{Occurrence, link_says}
 use Rattle.irc_world.specs.World.{new_world}
-use Rattle.irc_network.specs.Network.{Course, Network, Reply, Site, site_asked, asked_at, line_counted, delivered, left, max_count, none_yet, reply, site_at, taken_of, then_one, waiting, with_reply, with_site}
+use Rattle.irc_network.specs.Network.{Course, Network, Reply, Site, site_asked, asked_at}
+use Rattle.irc_network.specs.Network.{line_counted, delivered, left, max_count, none_yet, reply}
+use Rattle.irc_network.specs.Network.{site_at, taken_of, then_one, waiting, with_reply, with_site}
 use Rattle.irc_items.specs.Kept.{DeliveryKeepsSound, SettlingKeepsSound, TakenAreFew}
 use Rattle.irc_items.specs.Laws.{DeliveryKeepsSettings, DeliveryStaysSound}
 use Rattle.irc_items.specs.SetUp.{settings_of}
@@ -19,18 +22,27 @@ pub record IsOnlyTaken (old new : Network) : Type 0 where
   pub items : new.items ≡ old.items
   pub taken : new.taken ≡ old.taken
 
-replied_taken : (place : ℕ) (course : Course) (site : Site) (answer : Reply) → site_at course.net place ≡ Some site
+replied_taken : (place : ℕ) (course : Course) (site : Site) (answer : Reply)
+    → site_at course.net place ≡ Some site
     → IsOnlyTaken course.net (with_reply place course site answer).net
-replied_taken place course site answer is = record { items = sent.changed.items; taken = sent.taken }
+replied_taken place course site answer is =
+    record { items = sent.changed.items; taken = sent.taken }
   where
     sent : IsSentOut place answer.out (record site { server = Some answer.view })
-        (record course { net = with_site place (record site { server = Some answer.view }) course.net })
+        (record course {
+          net = with_site place
+              (record site { server = Some answer.view }) course.net;
+        })
         (with_reply place course site answer)
     sent = all_sent place answer.out (record site { server = Some answer.view })
-        (record course { net = with_site place (record site { server = Some answer.view }) course.net })
+        (record course {
+          net = with_site place
+              (record site { server = Some answer.view }) course.net;
+        })
         (set_there course.net.sites place site (record site { server = Some answer.view }) is)
 
-asked_taken : (place : ℕ) (occurrence : Occurrence) (course : Course) → IsOnlyTaken course.net (site_asked place occurrence course).net
+asked_taken : (place : ℕ) (occurrence : Occurrence) (course : Course)
+    → IsOnlyTaken course.net (site_asked place occurrence course).net
 unfolding site_asked
 asked_taken place occurrence course = by (site_at course.net place) refl
   where
@@ -39,45 +51,59 @@ asked_taken place occurrence course = by (site_at course.net place) refl
 
     at : (site : Site) → site_at course.net place ≡ Some site → (o : Option View) → site.server ≡ o
         → IsOnlyTaken course.net (asked_at place occurrence course site).net
-    at site is None e = subst (λ o. IsOnlyTaken course.net (option_map_or (λ (view : View). with_reply place course site (reply view occurrence)) o course).net)
+    at site is None e = subst (λ o. IsOnlyTaken course.net (option_map_or
+        (λ (view : View). with_reply place course site (reply view occurrence)) o course).net)
         (sym e) (same course.net)
     at site is (Some view) e = subst
-        (λ o. IsOnlyTaken course.net (option_map_or (λ (view : View). with_reply place course site (reply view occurrence)) o course).net) (sym e)
+        (λ o. IsOnlyTaken course.net (option_map_or (λ (view : View).
+        with_reply place course site (reply view occurrence)) o course).net) (sym e)
         (replied_taken place course site (reply view occurrence) is)
 
-    by : (o : Option Site) → site_at course.net place ≡ o
-        → IsOnlyTaken course.net (option_map_or (asked_at place occurrence course) (site_at course.net place) course).net
-    by None e = subst (λ o. IsOnlyTaken course.net (option_map_or (asked_at place occurrence course) o course).net) (sym e) (same course.net)
-    by (Some site) e = subst (λ o. IsOnlyTaken course.net (option_map_or (asked_at place occurrence course) o course).net) (sym e) (at site e site.server refl)
+    by : (o : Option Site) → site_at course.net place ≡ o → IsOnlyTaken course.net
+        (option_map_or (asked_at place occurrence course) (site_at course.net place) course).net
+    by None e = subst (λ o. IsOnlyTaken course.net
+        (option_map_or (asked_at place occurrence course) o course).net) (sym e) (same course.net)
+    by (Some site) e = subst (λ o. IsOnlyTaken course.net (option_map_or
+        (asked_at place occurrence course) o course).net) (sym e) (at site e site.server refl)
 
 pub record IsOneMore (old new : Network) : Type 0 where
   pub items : new.items ≡ old.items
   pub taken : new.taken ≡ min (old.taken + 1) max_count
 
-pub delivered_one : (from to : ℕ) (old new : Course) → delivered from to old ≡ Some new → IsOneMore old.net new.net
+pub delivered_one : (from to : ℕ) (old new : Course) → delivered from to old ≡ Some new
+    → IsOneMore old.net new.net
 unfolding delivered
 delivered_one from to old new is = by (site_at old.net from) refl
   where
     same_some : (a b : Course) → Some a ≡ Some b → a ≡ b
     same_some a b e = cc e
 
-    taken : (site : Site) → (lines : List (List ℕ)) → taken_of from to old site lines ≡ Some new → IsOneMore old.net new.net
+    taken : (site : Site) → (lines : List (List ℕ)) → taken_of from to old site lines ≡ Some new
+        → IsOneMore old.net new.net
     taken site [] e = absurd (cc e)
-    taken site (first ∷ rest) e = subst (λ (c : Course). IsOneMore old.net c.net) (same_some _ new e) (record { items = one.items; taken = one.taken })
+    taken site (first ∷ rest) e = subst (λ (c : Course). IsOneMore old.net c.net)
+        (same_some _ new e) (record { items = one.items; taken = one.taken })
       where
         one : IsOnlyTaken (line_counted (with_site from (left to rest site) old.net))
-            (site_asked to (link_says from (read_of first)) (record old { net = line_counted (with_site from (left to rest site) old.net) })).net
-        one = asked_taken to (link_says from (read_of first)) (record old { net = line_counted (with_site from (left to rest site) old.net) })
+            (site_asked to (link_says from (read_of first)) (record old {
+              net = line_counted
+                  (with_site from (left to rest site) old.net);
+            })).net
+        one = asked_taken to (link_says from (read_of first))
+            (record old { net = line_counted (with_site from (left to rest site) old.net) })
 
     by : (o : Option Site) → site_at old.net from ≡ o → IsOneMore old.net new.net
-    by None e = absurd (let no = sym (ap (option_and_then (λ (site : Site). taken_of from to old site (waiting site to))) e) ∙ is in cc no)
-    by (Some site) e = taken site (waiting site to) (sym (ap (option_and_then (λ (site : Site). taken_of from to old site (waiting site to))) e) ∙ is)
+    by None e = absurd (let no = sym (ap (option_and_then
+        (λ (site : Site). taken_of from to old site (waiting site to))) e) ∙ is in cc no)
+    by (Some site) e = taken site (waiting site to) (sym (ap (option_and_then
+        (λ (site : Site). taken_of from to old site (waiting site to))) e) ∙ is)
 
 module _ (settings : DeliveryKeepsSettings) (stays : DeliveryStaysSound) where
   pub delivery_keeps_sound : DeliveryKeepsSound
   delivery_keeps_sound from to old new is few = record {
     sound = λ sound. stays from to old new sound is;
-    most = ap (λ s. most_of_last s new_world new.net.items) (settings from to old new is) ∙ ap (most_of_last (settings_of old.net) new_world) one.items;
+    most = ap (λ s. most_of_last s new_world new.net.items) (settings from to old new is)
+        ∙ ap (most_of_last (settings_of old.net) new_world) one.items;
     taken = one.taken;
   }
     where
@@ -88,20 +114,24 @@ module _ (settings : DeliveryKeepsSettings) (stays : DeliveryStaysSound) where
   at_most a b = omega arith
 
   pub settling_keeps_sound : SettlingKeepsSound
-  settling_keeps_sound zero old new none_yet few = record { sound = λ sound. sound; most = refl; taken = none old.net.taken few }
+  settling_keeps_sound zero old new none_yet few =
+      record { sound = λ sound. sound; most = refl; taken = none old.net.taken few }
     where
       none : (taken : ℕ) → taken ≤ max_count → taken ≡ min (taken + 0) max_count
       none taken few = omega arith
-  settling_keeps_sound (suc count) old new (then_one {between = mid} {direction = way} before _ is) few =
+  settling_keeps_sound (suc count) old new
+      (then_one {between = mid} {direction = way} before _ is) few =
       let first = settling_keeps_sound count old mid before few in
-      let last = delivery_keeps_sound way.from way.to mid new is (subst (λ n. n ≤ max_count) (sym first.taken) (at_most (old.net.taken + count) max_count)) in
+      let last = delivery_keeps_sound way.from way.to mid new is (subst (λ n. n ≤ max_count)
+      (sym first.taken) (at_most (old.net.taken + count) max_count)) in
       record {
         sound = λ sound. last.sound (first.sound sound);
         most = last.most ∙ first.most;
         taken = added old.net.taken mid.net.taken new.net.taken count first.taken last.taken;
       }
     where
-      added : (a b c count : ℕ) → b ≡ min (a + count) max_count → c ≡ min (b + 1) max_count → c ≡ min (a + suc count) max_count
+      added : (a b c count : ℕ) → b ≡ min (a + count) max_count → c ≡ min (b + 1) max_count
+          → c ≡ min (a + suc count) max_count
       added a b c count one two = omega arith
 
 pub taken_are_few : TakenAreFew

@@ -1,5 +1,7 @@
 -- A network to which nothing was given is sound.
-use Rattle.std.proofs.Common.{◌≡◌, ℕ, zero, suc, ◌+◌, ◌*◌, ◌≤◌, Bool, true, false, cond, not, ◌&&◌, Option, Some, None, is_some, List, [], ◌∷◌, ◌++◌, length, count_by, sum_by, refl, sym, ap, subst, ◌∙◌, arith, unwrap_or, if◌then◌else◌}
+use Rattle.std.proofs.Common.{◌≡◌, ℕ, zero, suc, ◌+◌, ◌*◌, ◌≤◌, Bool, true, false, cond, not, ◌&&◌}
+use Rattle.std.proofs.Common.{Option, Some, None, is_some, List, [], ◌∷◌, ◌++◌, length, count_by}
+use Rattle.std.proofs.Common.{sum_by, refl, sym, ap, subst, ◌∙◌, arith, unwrap_or, if◌then◌else◌}
 use Rattle.std.specs.FinMap.{empty, get, get-empty, retain_keys}
 use Rattle.std.specs.List.{list_any, slice_get, AllByRecursion}
 use Rattle.std.specs.Option.{option_and_then, option_map, option_map_or}
@@ -9,7 +11,8 @@ use Rattle.irc_relay.specs.Distances.{IsAmong}
 use Rattle.irc_relay.specs.Following.{AllAlong}
 use Rattle.irc_relay.specs.Lemmas.TellingNames.{same_when}
 use Rattle.irc_relay.specs.Links.{Name, Link, part, same, linked, joined, distance, AreLinked}
-use Rattle.irc_relay.specs.Relay.{streams_from, after, coming, lines_coming, lines_pending, under_way, Covers}
+use Rattle.irc_relay.specs.Relay.{streams_from, after, coming, lines_coming, lines_pending}
+use Rattle.irc_relay.specs.Relay.{under_way, Covers}
 use Rattle.irc_names.specs.TableLaws.{row-each, same_table}
 use Rattle.irc_room.specs.Invitations.{inviting_only, is_at, of_home}
 use Rattle.irc_room.specs.Laws.{no_room}
@@ -33,12 +36,14 @@ use Rattle.irc_network.specs.Network.{Network, Site, server_place, site_at}
 use Rattle.irc_items.specs.Laws.{NewNetworkIsSound}
 use Rattle.irc_items.specs.GoodLines.{no_answers, IsGoodLine}
 use Rattle.irc_items.specs.Relayed.{fixed_of, owed_at, owed_to, relayed, way_at}
-use Rattle.irc_items.specs.SetUp.{no_view, routes_in, settings_of, view_at, IsConfigured, IsNew, IsNewServer}
+use Rattle.irc_items.specs.SetUp.{no_view, routes_in, settings_of, view_at, IsConfigured, IsNew}
+use Rattle.irc_items.specs.SetUp.{IsNewServer}
 use Rattle.irc_items.specs.Sound.{most_now, owed_now, IsSound, IsSoundFrom, IsUnderWay}
 use Rattle.irc_items.proofs.Common.Begun.{none_at_source}
 use Rattle.irc_items.proofs.Common.Counting.{sum_most}
 use Rattle.irc_items.proofs.Common.FewLines.{none_pending}
-use Rattle.irc_items.specs.Lemmas.SetUpFacts.{fixed, servers_named, setting_there, there, viewed_nowhere}
+use Rattle.irc_items.specs.Lemmas.SetUpFacts.{fixed, servers_named, setting_there, there}
+use Rattle.irc_items.specs.Lemmas.SetUpFacts.{viewed_nowhere}
 
 no_depth : (t : Name) → distance [] t t ≡ 0
 unfolding distance
@@ -53,19 +58,23 @@ unfolding owed_by_network
 nothing_by_none settings client = refl
 
 -- no way goes from a site without queues
-none_queued : (sites : List Site) (place to : ℕ) → AllByRecursion (λ (site : Site). site.queues ≡ empty) sites
+none_queued : (sites : List Site) (place to : ℕ)
+    → AllByRecursion (λ (site : Site). site.queues ≡ empty) sites
     → option_and_then (λ (site : Site). get site.queues to) (slice_get sites place) ≡ None
 none_queued [] place to all = refl
 none_queued (site ∷ sites) zero to all = ap (λ queues. get queues to) all.0 ∙ get-empty nat_cmp to
 none_queued (site ∷ sites) (suc place) to all = none_queued sites place to all.1
 
-module _ (world_holds : TakenMakeWorld) (side : PartAtRestIsSound) (net : Network) (new : IsNew net) where
+module _ (world_holds : TakenMakeWorld) (side : PartAtRestIsSound) (net : Network)
+    (new : IsNew net) where
   no_ways : (x : Name) (to : ℕ) → way_at net x to ≡ None
   no_ways x to = by (server_place net x) refl
     where
       by : (o : Option ℕ) → server_place net x ≡ o → way_at net x to ≡ None
-      by None is = ap (λ o. option_and_then (λ (site : Site). get site.queues to) (option_and_then (site_at net) o)) is
-      by (Some place) is = ap (λ o. option_and_then (λ (site : Site). get site.queues to) (option_and_then (site_at net) o)) is
+      by None is = ap (λ o. option_and_then (λ (site : Site). get site.queues to)
+          (option_and_then (site_at net) o)) is
+      by (Some place) is = ap (λ o. option_and_then (λ (site : Site). get site.queues to)
+          (option_and_then (site_at net) o)) is
           ∙ none_queued net.sites place to new.queues
 
   abbrev s : Fixed
@@ -76,14 +85,17 @@ module _ (world_holds : TakenMakeWorld) (side : PartAtRestIsSound) (net : Networ
     where
       by : (b : Bool) → list_any (same x) net.names ≡ b → get (view_at net x).ends k ≡ None
       by true e = ap (λ ends. get ends k) (new.servers x e).no_ends ∙ get-empty nat_cmp k
-      by false e = ap (λ o. get (unwrap_or o no_view).ends k) (viewed_nowhere net x e) ∙ get-empty nat_cmp k
+      by false e =
+          ap (λ o. get (unwrap_or o no_view).ends k) (viewed_nowhere net x e) ∙ get-empty nat_cmp k
 
   owes_nobody : (x y : Name) → owed_to s (view_at net x) y ≡ []
-  owes_nobody x y = ap (λ o. option_map_or (owed_at s (view_at net x) y) o []) (no_end x (number s y))
+  owes_nobody x y =
+      ap (λ o. option_map_or (owed_at s (view_at net x) y) o []) (no_end x (number s y))
 
   nothing_under_way : (client : ℕ) (x y : Name) → under_way (relayed s net client) x y ≡ []
   nothing_under_way client x y =
-      ap (λ o. unwrap_or o [] ++ owed_to s (view_at net x) y) (no_ways x (number s y)) ∙ owes_nobody x y
+      ap (λ o. unwrap_or o [] ++ owed_to s (view_at net x) y) (no_ways x (number s y))
+      ∙ owes_nobody x y
 
   -- ---- what servers know
 
@@ -91,7 +103,8 @@ module _ (world_holds : TakenMakeWorld) (side : PartAtRestIsSound) (net : Networ
   no_row t x among = ap (λ rows. row rows x) (new.servers t among).no_rows ∙ get-empty fold_cmp x
 
   alone : (t : Name) → IsAmong net.names t → IsNumbered (routes_in net t)
-  alone t among = subst IsNumbered (sym is) (numbered_alone known.name known.info known.created configured.name configured.info configured.created)
+  alone t among = subst IsNumbered (sym is) (numbered_alone known.name known.info known.created
+      configured.name configured.info configured.created)
     where
       known : Known
       known = routes_in net t
@@ -99,7 +112,8 @@ module _ (world_holds : TakenMakeWorld) (side : PartAtRestIsSound) (net : Networ
       configured : IsConfigured (view_at net t)
       configured = new.set_up.configured t among
 
-      is : routes_in net t ≡ alone_known (routes_in net t).name (routes_in net t).info (routes_in net t).created
+      is : routes_in net t ≡ alone_known (routes_in net t).name (routes_in net t).info
+          (routes_in net t).created
       is i = record {
         name = (routes_in net t).name;
         info = (routes_in net t).info;
@@ -118,10 +132,13 @@ module _ (world_holds : TakenMakeWorld) (side : PartAtRestIsSound) (net : Networ
   right : AreRight s [] (routes_in net)
   right = record {
     named = λ t among. (there net new.set_up t among).named;
-    described = λ t among. sym (ap (λ o. option_map_or (λ (own : Setting). own.info) o []) (setting_there net new.set_up t among));
-    created = λ t among. sym (ap (λ o. option_map_or (λ (own : Setting). own.created) o []) (setting_there net new.set_up t among));
+    described = λ t among. sym (ap (λ o. option_map_or (λ (own : Setting). own.info) o [])
+        (setting_there net new.set_up t among));
+    created = λ t among. sym (ap (λ o. option_map_or (λ (own : Setting). own.created) o [])
+        (setting_there net new.set_up t among));
     rows = λ t x among. ap (option_map shape) (no_row t x among)
-        ∙ sym (ap (λ b. if b then Some (shape_in s.names (info_in s.settings) [] t x) else None) (none_both t x));
+        ∙ sym (ap (λ b. if b then Some (shape_in s.names (info_in s.settings) [] t x) else None)
+        (none_both t x));
     numbered = alone;
     low = λ t x r among is. absurd (let e = sym (no_row t x among) ∙ is in cc e);
     tokens = λ t u x r among linked is link. absurd linked;
@@ -136,25 +153,35 @@ module _ (world_holds : TakenMakeWorld) (side : PartAtRestIsSound) (net : Networ
   unfolding of_home
   no_room_here t i = record {
     users = empty;
-    channels = same_table (each (λ channel. Some (inviting_only (is_at t no_room.users) channel)) empty) empty
+    channels = same_table
+        (each (λ channel. Some (inviting_only (is_at t no_room.users) channel)) empty) empty
         (λ q. row-each (λ channel. Some (inviting_only (is_at t no_room.users) channel)) empty q
-        ∙ ap (option_and_then (λ channel. Some (inviting_only (is_at t no_room.users) channel))) (get-empty fold_cmp q) ∙ sym (get-empty fold_cmp q)) i;
+        ∙ ap (option_and_then (λ channel. Some (inviting_only (is_at t no_room.users) channel)))
+        (get-empty fold_cmp q) ∙ sym (get-empty fold_cmp q)) i;
   }
 
-  none_kept : (t : Name) → retain_keys (empty {X = Client} {R = nat_cmp}) (is_home_of s.homes t) ≡ empty
-  none_kept t = same_clients _ _ (λ q. get-kept empty (is_home_of s.homes t) q ∙ ap (λ o. cond (is_home_of s.homes t q) o None) (get-empty nat_cmp q)
+  none_kept : (t : Name)
+      → retain_keys (empty {X = Client} {R = nat_cmp}) (is_home_of s.homes t) ≡ empty
+  none_kept t = same_clients _ _ (λ q. get-kept empty (is_home_of s.homes t) q
+      ∙ ap (λ o. cond (is_home_of s.homes t q) o None) (get-empty nat_cmp q)
       ∙ either (is_home_of s.homes t q) ∙ sym (get-empty nat_cmp q))
     where
       either : (b : Bool) → cond {A = Option Client} b None None ≡ None
       either true = refl
       either false = refl
 
-  fits : (t : Name) → IsAmong net.names t → Fits s t (part_of s new_world (routes_in net) t) (view_at net t)
+  fits : (t : Name) → IsAmong net.names t
+      → Fits s t (part_of s new_world (routes_in net) t) (view_at net t)
   fits t among = record {
     here = same_when (part [] t) (part [] t) refl;
     sound = side s new_world (routes_in net) t (fixed net new.set_up s.streams)
-        (record { homes = new.homes; parents = λ u p takes. absurd (let z = no_depth u in let b = takes.below in omega arith) }) holds right among;
-    peers = sym (ap (λ o. option_map_or (λ (own : Setting). own.peers) o []) (setting_there net new.set_up t among));
+        (record {
+          homes = new.homes;
+          parents = λ u p takes. absurd
+              (let z = no_depth u in let b = takes.below in omega arith);
+        }) holds right among;
+    peers = sym (ap (λ o. option_map_or (λ (own : Setting). own.peers) o [])
+        (setting_there net new.set_up t among));
     routes = refl;
     ends = λ x x_among. ap (option_map far_of) (no_end t (number s x));
     no_others = λ k end is. absurd (let e = sym (no_end t k) ∙ is in cc e);
@@ -167,8 +194,10 @@ module _ (world_holds : TakenMakeWorld) (side : PartAtRestIsSound) (net : Networ
 
   -- ---- nothing comes
 
-  none_comes : (client : ℕ) (t : Name) → coming (machine s client) s.streams (relayed s net client) t ≡ []
-  none_comes client t = none_at_source (machine s client) s.streams (relayed s net client) t (no_depth t)
+  none_comes : (client : ℕ) (t : Name)
+      → coming (machine s client) s.streams (relayed s net client) t ≡ []
+  none_comes client t =
+      none_at_source (machine s client) s.streams (relayed s net client) t (no_depth t)
 
   no_home : (client : ℕ) → home_in net.homes client ≡ None
   no_home client = ap (λ homes. home_in homes client) new.homes ∙ nobody client
@@ -186,26 +215,32 @@ module _ (world_holds : TakenMakeWorld) (side : PartAtRestIsSound) (net : Networ
   under_way_now : (client : ℕ) → IsUnderWay s no_answers new_world (routes_in net) net client []
   under_way_now client = record {
     away = λ x y line lines is. absurd (let e = sym (nothing_under_way client x y) ∙ is in cc e);
-    fits = λ t among. subst (λ lines. Fits s t (part_of s new_world (routes_in net) t) (after (machine s client) t (s.streams.parent t) (view_at net t) lines))
+    fits = λ t among. subst (λ lines. Fits s t (part_of s new_world (routes_in net) t)
+        (after (machine s client) t (s.streams.parent t) (view_at net t) lines))
         (sym (none_comes client t)) (fits t among);
-    told = λ home is. absurd (let e = sym is ∙ ap (λ o. option_map_or (same home) o false) (no_home client) in cc e);
-    well = λ t. subst (AllAlong (machine s client) (IsGoodLine s no_answers new_world (routes_in net)) (s.streams.parent t) t (view_at net t))
+    told = λ home is. absurd (let e = sym is
+        ∙ ap (λ o. option_map_or (same home) o false) (no_home client) in cc e);
+    well = λ t. subst (AllAlong (machine s client) (IsGoodLine s no_answers new_world
+        (routes_in net)) (s.streams.parent t) t (view_at net t))
         (sym (none_comes client t)) tt;
   }
 
-  few_coming : (client : ℕ) → net.taken + lines_coming (machine s client) s.streams (relayed s net client) net.names ≤ most_now net
+  few_coming : (client : ℕ) → net.taken + lines_coming (machine s client) s.streams
+      (relayed s net client) net.names ≤ most_now net
   few_coming client =
-      let sum = sum_most net.names (λ t. false) 0 (λ t. length (coming (machine s client) s.streams (relayed s net client) t)) (λ t among is. cc is)
+      let sum = sum_most net.names (λ t. false) 0 (λ t. length
+      (coming (machine s client) s.streams (relayed s net client) t)) (λ t among is. cc is)
       (λ t among is. ap (λ (lines : List (List ℕ)). length lines) (none_comes client t)) in
       let taken = new.taken in
-      bound net.taken (sum_by (λ t. length (coming (machine s client) s.streams (relayed s net client) t)) net.names) (count_by (λ t. false) net.names)
+      bound net.taken (sum_by (λ t. length (coming (machine s client) s.streams
+      (relayed s net client) t)) net.names) (count_by (λ t. false) net.names)
       (most_now net) taken sum
     where
       bound : (taken sum many most : ℕ) → taken ≡ 0 → sum ≤ many * 0 → taken + sum ≤ most
       bound taken sum many most none few = let z : many * 0 ≡ 0 = omega arith in omega arith
 
-  few_now : (client : ℕ)
-      → net.taken + lines_pending (machine s client) s.streams (relayed s net client) net.names no_answers.answered no_answers.one no_answers.other
+  few_now : (client : ℕ) → net.taken + lines_pending (machine s client) s.streams
+      (relayed s net client) net.names no_answers.answered no_answers.one no_answers.other
       ≤ most_now net
   few_now client =
       let few = few_coming client in
@@ -214,16 +249,20 @@ module _ (world_holds : TakenMakeWorld) (side : PartAtRestIsSound) (net : Networ
 
   coming_now : IsSoundFrom (λ t. t) (routes_in net) no_answers net s
   coming_now = record {
-    covers = subst (λ links. Covers links (λ t. t)) (sym new.links) (record { joined = λ t. refl; linked = λ t u l. absurd l });
+    covers = subst (λ links. Covers links (λ t. t)) (sym new.links)
+        (record { joined = λ t. refl; linked = λ t u l. absurd l });
     right = subst (λ links. AreRight s links (routes_in net)) (sym new.links) right;
     called = λ x y l. absurd (subst (λ links. AreLinked links x y) new.links l);
-    under_way = λ client. subst (λ w. IsUnderWay s no_answers w (routes_in net) net client (owed_now net client)) (sym (no_items (world_of (settings_of net))))
-        (subst (IsUnderWay s no_answers new_world (routes_in net) net client) (sym (nothing_owed_now client)) (under_way_now client));
+    under_way = λ client. subst (λ w. IsUnderWay s no_answers w (routes_in net) net client
+        (owed_now net client)) (sym (no_items (world_of (settings_of net))))
+        (subst (IsUnderWay s no_answers new_world (routes_in net) net client)
+        (sym (nothing_owed_now client)) (under_way_now client));
     few = few_now;
   }
     where
       nothing_owed_now : (client : ℕ) → owed_now net client ≡ []
-      nothing_owed_now client = no_items (λ items. owed_by_network (settings_of net) items client) ∙ nothing_by_none (settings_of net) client
+      nothing_owed_now client = no_items (λ items. owed_by_network (settings_of net) items client)
+          ∙ nothing_by_none (settings_of net) client
 
   pub new_is_sound : IsSound net
   new_is_sound = record {
@@ -232,14 +271,18 @@ module _ (world_holds : TakenMakeWorld) (side : PartAtRestIsSound) (net : Networ
     within = subst (AllByRecursion IsItemWithin) (sym new.items) tt;
     links = new.links ∙ sym (no_items (λ items. (world_of (settings_of net) items).links));
     homes = new.homes ∙ sym (no_items (λ items. (world_of (settings_of net) items).homes));
-    inboxes = ap (λ (boxes : List (List (List ℕ))). length boxes) new.received ∙ sym (ap (λ (homes : List Name). length homes) new.homes);
-    ways = λ x y. ap is_some (no_ways x (index_in net.names y)) ∙ sym (no_links (λ links. linked links x y));
+    inboxes = ap (λ (boxes : List (List (List ℕ))). length boxes) new.received
+        ∙ sym (ap (λ (homes : List Name). length homes) new.homes);
+    ways = λ x y. ap is_some (no_ways x (index_in net.names y))
+        ∙ sym (no_links (λ links. linked links x y));
     to_servers = λ x place is. absurd (let e = sym is ∙ ap is_some (no_ways x place) in cc e);
-    nobody = λ client none. no_items (λ items. owed_by_network (settings_of net) items client) ∙ nothing_by_none (settings_of net) client;
+    nobody = λ client none. no_items (λ items. owed_by_network (settings_of net) items client)
+        ∙ nothing_by_none (settings_of net) client;
     source = λ t. t;
     routes = routes_in net;
     asks = no_answers;
-    coming = subst (IsSoundFrom (λ t. t) (routes_in net) no_answers net) (λ i. fixed_of net (streams_from (sym new.links i) (λ t. t))) coming_now;
+    coming = subst (IsSoundFrom (λ t. t) (routes_in net) no_answers net)
+        (λ i. fixed_of net (streams_from (sym new.links i) (λ t. t))) coming_now;
   }
 
 pub new_network_is_sound : TakenMakeWorld → PartAtRestIsSound → NewNetworkIsSound

@@ -1,4 +1,5 @@
--- What becomes of a network when one of its servers is asked for something, takes a line, or has a way opened or closed: which of it stays.
+-- What becomes of a network when one of its servers is asked for something, takes a line, or has a
+-- way opened or closed: which of it stays.
 --   SiteChanged, SetWays  one site is other than it was, one way of it
 --   SentOut, Asked        what a server puts out is on its ways and with its clients
 --   Delivered             a line is taken off a way

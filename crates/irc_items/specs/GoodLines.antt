@@ -1,13 +1,17 @@
--- What is so of each line of a link when its turn comes: its bytes are a line, it closes no link, and what is put out upon it goes to the server's own clients and on its links
--- alone. On the link by which it came goes what was owed there, and perhaps one line more: the KILL of a nickname that is on both sides (RFC 2812 section
--- 3.7.1).
+-- What is so of each line of a link when its turn comes: its bytes are a line, it closes no link,
+-- and what is put out upon it goes to the server's own clients and on its links alone. On the link
+-- by which it came goes what was owed there, and perhaps one line more: the KILL of a nickname that
+-- is on both sides (RFC 2812 section 3.7.1).
 --
 -- a.net and b.net are being linked, a.net calling; bo is at both:
---   SERVER of a.net comes to b.net       b.net puts out PASS, SERVER and its burst on that link: just what it owed, and it owes nothing there any more
+-- SERVER of a.net comes to b.net b.net puts out PASS, SERVER and its burst on that link: just what
+-- it owed, and it owes nothing there any more
 --   SERVER of b.net comes to a.net       a.net puts out its burst there: just what it owed
---   NICK of b.net's bo comes to a.net    a.net puts out `:a.net KILL bo :Nick collision`, which goes back; when it comes to b.net nobody there has
+-- NICK of b.net's bo comes to a.net a.net puts out `:a.net KILL bo :Nick collision`, which goes
+-- back; when it comes to b.net nobody there has
 --                                        the nickname any more
-use Rattle.std.specs.Prelude.{◌≡◌, ◌≢◌, ◌⊎◌, ℕ, Bool, false, true, Option, Some, None, List, [], ◌∷◌, ◌++◌}
+use Rattle.std.specs.Prelude.{◌≡◌, ◌≢◌, ◌⊎◌, ℕ, Bool, false, true, Option, Some, None, List, []}
+use Rattle.std.specs.Prelude.{◌∷◌, ◌++◌}
 use Rattle.std.specs.FinMap.{get}
 use Rattle.std.specs.List.{filter_map, AllByRecursion}
 use Rattle.irc_batch.specs.Batches.{Sent, end_of_link}
@@ -36,16 +40,20 @@ reason_of other = None
 abbrev pub closings : List Sent → List CloseReason
 closings out = filter_map reason_of out
 
--- What is put out on another link is behind all that is owed there: nothing is owed, or nothing is put out.
+-- What is put out on another link is behind all that is owed there: nothing is owed, or nothing is
+-- put out.
 pub record PaysNothing (s : Fixed) (view : View) (after : Served) (u : Name) : Type 0 where
   pub owes_as_before : owed_to s after.view u ≡ owed_to s view u
   pub in_turn : (lines_on (number s u) after.out ≡ []) ⊎ (owed_to s view u ≡ [])
 
 -- `back` goes back on the link of p, by which the line came
-pub record IsGoodReply (s : Fixed) (links : List Link) (p t : Name) (view : View) (after : Served) (back : List (List ℕ)) : Type 0 where
+pub record IsGoodReply (s : Fixed) (links : List Link) (p t : Name) (view : View) (after : Served)
+    (back : List (List ℕ)) : Type 0 where
   pub closes_none : closings after.out ≡ []
-  pub to_linked : (u : Name) (line : List ℕ) (lines : List (List ℕ)) → lines_on (number s u) after.out ≡ line ∷ lines → AreLinked links t u
-  pub to_own : (client : ℕ) (line : List ℕ) (lines : List (List ℕ)) → lines_to client after.out ≡ line ∷ lines → is_home_of s.homes t client ≡ true
+  pub to_linked : (u : Name) (line : List ℕ) (lines : List (List ℕ))
+      → lines_on (number s u) after.out ≡ line ∷ lines → AreLinked links t u
+  pub to_own : (client : ℕ) (line : List ℕ) (lines : List (List ℕ))
+      → lines_to client after.out ≡ line ∷ lines → is_home_of s.homes t client ≡ true
   pub pays : lines_on (number s p) after.out ++ owed_to s after.view p ≡ owed_to s view p ++ back
   pub others : (u : Name) → u ≢ p → PaysNothing s view after u
   pub met_stay : (u : Name) → is_met_with s view u ≡ true → is_met_with s after.view u ≡ true
@@ -69,16 +77,21 @@ pub record IsUnheard (s : Fixed) (t : Name) (view : View) (line : List ℕ) : Ty
   pub is_end : get view.ends (number s t) ≡ Some end
   pub nothing : heard view (number s t) end (read_of line) ≡ tells []
 
--- One line at most goes back, upon one that may be answered, from one end of a new link to the other. There it does nothing, once that end is what it is to be
--- in this world: nobody is left whom it is about.
-pub record IsAnswered (s : Fixed) (asks : Answering) (world : World) (routes : Name → Known) (p t : Name) (line : List ℕ) (back : List (List ℕ))
+-- One line at most goes back, upon one that may be answered, from one end of a new link to the
+-- other. There it does nothing, once that end is what it is to be in this world: nobody is left
+-- whom it is about.
+pub record IsAnswered (s : Fixed) (asks : Answering) (world : World) (routes : Name → Known)
+    (p t : Name) (line : List ℕ) (back : List (List ℕ))
     : Type 0 where
   pub once : AnswersOnce asks.answered asks.one asks.other p t line back
-  pub to_end : (next : List ℕ) (lines : List (List ℕ)) → back ≡ next ∷ lines → (s.streams.parent p ≡ t) × (s.streams.depth p ≡ 1)
-  pub unheard : (view : View) → Fits s p (part_of s world routes p) view → AllByRecursion (IsUnheard s t view) back
+  pub to_end : (next : List ℕ) (lines : List (List ℕ)) → back ≡ next ∷ lines
+      → (s.streams.parent p ≡ t) × (s.streams.depth p ≡ 1)
+  pub unheard : (view : View) → Fits s p (part_of s world routes p) view
+      → AllByRecursion (IsUnheard s t view) back
 
 -- of a line that t takes from p
-pub record IsGoodLine (s : Fixed) (asks : Answering) (world : World) (routes : Name → Known) (p t : Name) (view : View) (line : List ℕ) : Type 0 where
+pub record IsGoodLine (s : Fixed) (asks : Answering) (world : World) (routes : Name → Known)
+    (p t : Name) (view : View) (line : List ℕ) : Type 0 where
   pub is_line : IsLine line
   pub end : End
   pub is_end : get view.ends (number s p) ≡ Some end

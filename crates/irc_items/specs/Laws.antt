@@ -12,7 +12,8 @@ use Rattle.irc_stage.specs.View.{View}
 use Rattle.irc_world.specs.Refused.{refused}
 use Rattle.irc_world.specs.Stepping.{Item, link}
 use Rattle.irc_world.specs.WithinLimits.{IsItemWithin}
-use Rattle.irc_network.specs.Network.{Course, Network, Site, delivered, given, is_at_rest, received_by, site_at, waiting}
+use Rattle.irc_network.specs.Network.{Course, Network, Site, delivered, given, is_at_rest}
+use Rattle.irc_network.specs.Network.{received_by, site_at, waiting}
 use Rattle.irc_network.specs.Refusing.{fault_at_rest}
 use Rattle.irc_items.specs.OneRoom.{IsOneRoom}
 use Rattle.irc_items.specs.GoodLines.{closings}
@@ -30,17 +31,20 @@ pub record IsGivenAtRest (net : Network) (item : Item) : Type 0 where
   pub within : IsItemWithin item
 
 abbrev pub GivenStaysSound : Type 0
-GivenStaysSound = (net : Network) (item : Item) → IsSound net → IsGivenAtRest net item → IsSound (given item net).net
+GivenStaysSound = (net : Network) (item : Item) → IsSound net → IsGivenAtRest net item
+    → IsSound (given item net).net
 
 abbrev pub DeliveryStaysSound : Type 0
-DeliveryStaysSound = (from to : ℕ) (old new : Course) → IsSound old.net → delivered from to old ≡ Some new → IsSound new.net
+DeliveryStaysSound = (from to : ℕ) (old new : Course) → IsSound old.net
+    → delivered from to old ≡ Some new → IsSound new.net
 
 abbrev pub RestIsOneRoom : Type 0
 RestIsOneRoom = (net : Network) → IsSound net → is_at_rest net ≡ true → IsOneRoom net
 
 -- At every moment what a client has received is a front of what it is owed.
 abbrev pub ReceivedIsFront : Type 0
-ReceivedIsFront = (net : Network) (client : ℕ) → IsSound net → IsFront (received_by net client) (owed_now net client)
+ReceivedIsFront = (net : Network) (client : ℕ) → IsSound net
+    → IsFront (received_by net client) (owed_now net client)
 
 -- A network at rest refuses just what its world refuses.
 abbrev pub RefusalsAreTheWorlds : Type 0
@@ -49,33 +53,43 @@ RefusalsAreTheWorlds = (net : Network) (item : Item) → IsSound net → is_at_r
 
 -- What servers are configured to be stays.
 abbrev pub GivenKeepsSettings : Type 0
-GivenKeepsSettings = (net : Network) (item : Item) → settings_of (given item net).net ≡ settings_of net
+GivenKeepsSettings =
+    (net : Network) (item : Item) → settings_of (given item net).net ≡ settings_of net
 
 abbrev pub DeliveryKeepsSettings : Type 0
-DeliveryKeepsSettings = (from to : ℕ) (old new : Course) → delivered from to old ≡ Some new → settings_of new.net ≡ settings_of old.net
+DeliveryKeepsSettings = (from to : ℕ) (old new : Course) → delivered from to old ≡ Some new
+    → settings_of new.net ≡ settings_of old.net
 
--- Each line that waits on a way is one: 1 to 510 bytes, none of them NUL, CR or LF. So a stream that carries it with its CR LF gives it as it was put out
--- (RFC 2812 section 2.3).
+-- Each line that waits on a way is one: 1 to 510 bytes, none of them NUL, CR or LF. So a stream
+-- that carries it with its CR LF gives it as it was put out (RFC 2812 section 2.3).
 abbrev pub WaitingAreLines : Type 0
-WaitingAreLines = (net : Network) (place to : ℕ) (site : Site) → IsSound net → site_at net place ≡ Some site → AllByRecursion IsLine (waiting site to)
+WaitingAreLines = (net : Network) (place to : ℕ) (site : Site) → IsSound net
+    → site_at net place ≡ Some site → AllByRecursion IsLine (waiting site to)
 
 -- No server closes a link upon the line that it takes next from another.
 abbrev pub ClosesNoLink : Network → Type 0
-ClosesNoLink net = (from to : Name) (line : List ℕ) (rest : List (List ℕ)) → way_between net from to ≡ Some (line ∷ rest)
-    → closings (served (view_at net to) (link_says (index_in net.names from) (read_of line))).out ≡ []
+ClosesNoLink net = (from to : Name) (line : List ℕ) (rest : List (List ℕ))
+    → way_between net from to ≡ Some (line ∷ rest)
+    → closings (served (view_at net to) (link_says (index_in net.names from) (read_of line))).out
+    ≡ []
 
 abbrev pub NoLinkIsClosed : Type 0
 NoLinkIsClosed = (net : Network) → IsSound net → ClosesNoLink net
 
--- Two servers that are to be linked both keep their end: the one that calls, and the one that is called.
+-- Two servers that are to be linked both keep their end: the one that calls, and the one that is
+-- called.
 pub record OpensBothEnds (net : Network) (near far : Name) : Type 0 where
-  pub calls : closings (served (view_at net near) (link_up (index_in net.names far) (Some far))).out ≡ []
+  pub calls : closings (served (view_at net near) (link_up (index_in net.names far) (Some far))).out
+      ≡ []
   pub waits : closings (served (view_at net far) (link_up (index_in net.names near) None)).out ≡ []
 
 abbrev pub NewLinkIsOpen : Type 0
-NewLinkIsOpen = (net : Network) (near far : Name) → IsSound net → fault_at_rest net (link near far) ≡ None → OpensBothEnds net near far
+NewLinkIsOpen = (net : Network) (near far : Name) → IsSound net
+    → fault_at_rest net (link near far) ≡ None → OpensBothEnds net near far
 
--- What a server's clients do closes no link, nor does the loss of another: a server closes one only upon a line of it, or as it is made.
+-- What a server's clients do closes no link, nor does the loss of another: a server closes one only
+-- upon a line of it, or as it is made.
 pub record OnlyLinesClose : Type 0 where
-  pub by_clients : (view : View) (happening : Happening) → closings (served view (of_client happening)).out ≡ []
+  pub by_clients : (view : View) (happening : Happening)
+      → closings (served view (of_client happening)).out ≡ []
   pub by_losses : (view : View) (link : ℕ) → closings (served view (link_down link)).out ≡ []

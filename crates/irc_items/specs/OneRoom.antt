@@ -1,4 +1,5 @@
--- A network at rest is one room: each server is what it has to be in the world that the items make, and each client has received just what it is owed.
+-- A network at rest is one room: each server is what it has to be in the world that the items make,
+-- and each client has received just what it is owed.
 use Rattle.std.specs.Prelude.{◌≡◌, ℕ}
 use Rattle.irc_relay.specs.Distances.{IsAmong}
 use Rattle.irc_relay.specs.Links.{Name}
@@ -17,5 +18,6 @@ at_rest_of net = fixed_of net (streams_from net.links (λ server. server))
 
 pub record IsOneRoom (net : Network) : Type 0 where
   pub right : AreRight (at_rest_of net) net.links (routes_in net)
-  pub servers : (t : Name) → IsAmong net.names t → Fits (at_rest_of net) t (part_of (at_rest_of net) (world_now net) (routes_in net) t) (view_at net t)
+  pub servers : (t : Name) → IsAmong net.names t → Fits (at_rest_of net) t
+      (part_of (at_rest_of net) (world_now net) (routes_in net) t) (view_at net t)
   pub received : (client : ℕ) → received_by net client ≡ owed_now net client

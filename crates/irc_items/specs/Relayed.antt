@@ -1,4 +1,5 @@
--- A network of servers as one that passes lines on along links: what each server is, what is on its way from one to another, and what one client has received.
+-- A network of servers as one that passes lines on along links: what each server is, what is on its
+-- way from one to another, and what one client has received.
 use Rattle.std.specs.Prelude.{ℕ, Bool, false, Option, List, [], map, unwrap_or, if◌then◌else◌}
 use Rattle.std.specs.FinMap.{get}
 use Rattle.std.specs.Option.{option_and_then, option_map_or}
@@ -15,7 +16,8 @@ use Rattle.irc_items.specs.SetUp.{settings_of, view_at}
 
 -- what stays of a network while lines come from these sources
 abbrev pub fixed_of : Network → Streams → Fixed
-fixed_of net streams = record { settings = settings_of net; names = net.names; homes = net.homes; streams = streams }
+fixed_of net streams =
+    record { settings = settings_of net; names = net.names; homes = net.homes; streams = streams }
 
 -- the lines on the way from a server to a place, the oldest first; none where no way goes
 abbrev pub way_at : Network → Name → ℕ → Option (List (List ℕ))

@@ -1,5 +1,7 @@
--- What the servers of a network are configured to be, as it is read off them; and what is so of each of them from the beginning.
-use Rattle.std.specs.Prelude.{◌≡◌, ◌≤◌, true, Option, Some, List, [], map, count_by, length, unwrap_or}
+-- What the servers of a network are configured to be, as it is read off them; and what is so of
+-- each of them from the beginning.
+use Rattle.std.specs.Prelude.{◌≡◌, ◌≤◌, true, Option, Some, List, [], map, count_by, length}
+use Rattle.std.specs.Prelude.{unwrap_or}
 use Rattle.std.specs.List.{filter_map, AllByRecursion}
 use Rattle.std.specs.FinMap.{empty}
 use Rattle.std.specs.Option.{option_map}
@@ -33,7 +35,12 @@ routes_in net server = (view_at net server).routes
 
 -- how a server is set up, as its own view has it
 abbrev pub setting_now : View → Setting
-setting_now view = record { name = view.routes.name; info = view.routes.info; created = view.routes.created; peers = view.peers }
+setting_now view = record {
+  name = view.routes.name;
+  info = view.routes.info;
+  created = view.routes.created;
+  peers = view.peers;
+}
 
 -- none where no server is at the site
 abbrev pub setting_at : Site → Option Setting

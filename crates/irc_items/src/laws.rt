@@ -1,8 +1,16 @@
-//! What holds of networks of servers, whatever the order in which lines are delivered. Each law is a function that does nothing, and its contract is the law: the
-//! check proves it, and a crate above may cite it. The plan of the proof stands at the head of `proofs/Common.antt`.
-ghost use Rattle.irc_items.specs.InAnyOrder.{ClashingNicknamesGo, CrossingBurstsMeet, ItemIsReceived, RejoinJoinsTheRooms, SplitPartsTheRoom};
-ghost use Rattle.irc_items.specs.Kept.{DeliveryKeepsSound, SettlingKeepsSound, TakenAreFew, TurnLeavesFewer, TurnsAreFew};
-ghost use Rattle.irc_items.specs.Laws.{DeliveryKeepsSettings, DeliveryStaysSound, GivenKeepsSettings, GivenStaysSound, NewLinkIsOpen, NewNetworkIsSound, NoLinkIsClosed, OnlyLinesClose, ReceivedIsFront, RefusalsAreTheWorlds, RestIsOneRoom, WaitingAreLines};
+//! What holds of networks of servers, whatever the order in which lines are delivered. Each law is
+//! a function that does nothing, and its contract is the law: the check proves it, and a crate
+//! above may cite it. The plan of the proof stands at the head of `proofs/Common.antt`.
+ghost use Rattle.irc_items.specs.InAnyOrder.{ClashingNicknamesGo, CrossingBurstsMeet};
+ghost use Rattle.irc_items.specs.InAnyOrder.{ItemIsReceived, RejoinJoinsTheRooms};
+ghost use Rattle.irc_items.specs.InAnyOrder.{SplitPartsTheRoom};
+ghost use Rattle.irc_items.specs.Kept.{DeliveryKeepsSound, SettlingKeepsSound, TakenAreFew};
+ghost use Rattle.irc_items.specs.Kept.{TurnLeavesFewer, TurnsAreFew};
+ghost use Rattle.irc_items.specs.Laws.{DeliveryKeepsSettings, DeliveryStaysSound};
+ghost use Rattle.irc_items.specs.Laws.{GivenKeepsSettings, GivenStaysSound, NewLinkIsOpen};
+ghost use Rattle.irc_items.specs.Laws.{NewNetworkIsSound, NoLinkIsClosed, OnlyLinesClose};
+ghost use Rattle.irc_items.specs.Laws.{ReceivedIsFront, RefusalsAreTheWorlds, RestIsOneRoom};
+ghost use Rattle.irc_items.specs.Laws.{WaitingAreLines};
 
 /// A network to which nothing was given is sound.
 pub fn new_network_is_sound()
@@ -127,7 +135,8 @@ pub fn refusals_are_the_worlds()
     irc_world::laws::world_is_sound();
 }
 
-/// By an item each client receives just what one room sends it, in whatever order lines are delivered then.
+/// By an item each client receives just what one room sends it, in whatever order lines are
+/// delivered then.
 pub fn item_is_received()
     ensures { ItemIsReceived }
 {
@@ -139,7 +148,8 @@ pub fn item_is_received()
     delivery_keeps_settings();
 }
 
-/// So two bursts that cross, in whatever order they do, show the members of a channel that is on both sides to each other.
+/// So two bursts that cross, in whatever order they do, show the members of a channel that is on
+/// both sides to each other.
 pub fn crossing_bursts_meet()
     ensures { CrossingBurstsMeet }
 {
@@ -153,7 +163,8 @@ pub fn crossing_bursts_meet()
     delivery_keeps_settings();
 }
 
-/// And a link that is lost parts a room: each side sees those of the other quit, in whatever order the lines are delivered.
+/// And a link that is lost parts a room: each side sees those of the other quit, in whatever order
+/// the lines are delivered.
 pub fn split_parts_the_room()
     ensures { SplitPartsTheRoom }
 {
@@ -181,8 +192,8 @@ pub fn rejoin_joins_the_rooms()
     delivery_keeps_settings();
 }
 
-/// And two users of one nickname, on both sides of a new link, are gone from both, whatever crosses: who shared a channel with one of them sees it quit,
-/// and both are told why.
+/// And two users of one nickname, on both sides of a new link, are gone from both, whatever
+/// crosses: who shared a channel with one of them sees it quit, and both are told why.
 pub fn clashing_nicknames_go()
     ensures { ClashingNicknamesGo }
 {

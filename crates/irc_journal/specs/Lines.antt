@@ -6,7 +6,8 @@
 --   ircd: link from an unknown server: refused: an unknown peer
 --   ircd: link to b.net: lost
 --   ircd: link to b.net: not reached: Connection refused (os error 111)
-use Rattle.std.specs.Prelude.{◌≡◌, ⊤, ℕ, Bool, true, false, Option, Some, None, List, [], ◌++◌, codes}
+use Rattle.std.specs.Prelude.{◌≡◌, ⊤, ℕ, Bool, true, false, Option, Some, None, List, [], ◌++◌}
+use Rattle.std.specs.Prelude.{codes}
 use Rattle.irc_journal.specs.declared.tidings.Tidings.{Tidings}
 use Rattle.irc_journal.specs.declared.tidings.Outcome.{Outcome}
 use Rattle.irc_journal.specs.declared.tidings.Outcome.TheVariants as outcome
@@ -41,7 +42,8 @@ AreWords (outcome.Unreached error) words = ⊤
 
 abbrev pub line_of : Tidings → List ℕ → List ℕ
 line_of told words =
-    side_text told.is_called ++ far_text told.name ++ codes ": " ++ outcome_text told.outcome ++ words ++ codes "\n"
+    side_text told.is_called ++ far_text told.name ++ codes ": " ++ outcome_text told.outcome
+    ++ words ++ codes "\n"
 
 pub record IsLineOf (told : Tidings) (line : List ℕ) : Type 0 where
   pub words : List ℕ

@@ -1,4 +1,5 @@
--- What is said on a stream, line by line: each whole, or a front of it where the stream does not take it.
+-- What is said on a stream, line by line: each whole, or a front of it where the stream does not
+-- take it.
 use Rattle.std.specs.Prelude.{◌≡◌, ℕ, Option, List, [], ◌∷◌, take}
 use Rattle.std.specs.Io.KnownBytes.{Appends}
 use Rattle.irc_journal.specs.declared.tidings.Tidings.{Tidings}
@@ -12,7 +13,8 @@ pub record IsSaid (told : Tidings) (old new : Option (List ℕ)) : Type 0 where
   pub appended : Appends old new (take count line)
 
 -- one is said, and then others
-pub record SaysFirst (told : Tidings) (old : Option (List ℕ)) (rest : Option (List ℕ) → Type 0) : Type 0 where
+pub record SaysFirst (told : Tidings) (old : Option (List ℕ))
+    (rest : Option (List ℕ) → Type 0) : Type 0 where
   pub between : Option (List ℕ)
   pub says : IsSaid told old between
   pub rest_is : rest between

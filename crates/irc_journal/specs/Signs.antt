@@ -9,7 +9,8 @@
 --   a.net closes 1 for a reason    link to b.net: closed, for that reason
 --   2 is lost                      link from c.net: lost
 --   a.net closes 3, of which nobody has said who it is     link from an unknown server: refused
-use Rattle.std.specs.Prelude.{◌≡◌, ℕ, true, false, is_some, nat_eq, Option, Some, None, List, [], ◌∷◌, ◌++◌, if◌then◌else◌}
+use Rattle.std.specs.Prelude.{◌≡◌, ℕ, true, false, is_some, nat_eq, Option, Some, None, List, []}
+use Rattle.std.specs.Prelude.{◌∷◌, ◌++◌, if◌then◌else◌}
 use Rattle.std.specs.Ordering.{nat_cmp}
 use Rattle.std.specs.BTreeMap.{get}
 use Rattle.irc_batch.specs.declared.close_reason.CloseReason.{CloseReason}
@@ -61,7 +62,8 @@ abbrev pub told_as : Outcome → Page → Tidings
 told_as what page = record { name = page.name; is_called = page.is_called; outcome = what }
 
 abbrev pub closing_told : CloseReason → Page → Tidings
-closing_told reason page = told_as (if page.is_up then outcome.Closed reason else outcome.Refused reason) page
+closing_told reason page =
+    told_as (if page.is_up then outcome.Closed reason else outcome.Refused reason) page
 
 abbrev pub loss_told : Page → Tidings
 loss_told page = told_as (if page.is_up then outcome.Lost else outcome.LostEarly) page
@@ -91,9 +93,11 @@ pub record IsBlank (journal : Journal) : Type 0 where
   pub no_pages : (link : ℕ) → page_at journal link ≡ None
   pub no_tidings : journal.tidings.items ≡ []
 
--- a sign of one link is entered: that link stands as it does behind it, and what is told of it is told behind all else
+-- a sign of one link is entered: that link stands as it does behind it, and what is told of it is
+-- told behind all else
 pub record Enters (link : ℕ) (sign : Sign) (old new : Journal) : Type 0 where
-  pub pages : (q : ℕ) → page_at new q ≡ (if nat_eq link q then page_after sign (page_at old link) else page_at old q)
+  pub pages : (q : ℕ) → page_at new q ≡ (if nat_eq link q then page_after sign (page_at old link)
+      else page_at old q)
   pub tidings : new.tidings.items ≡ old.tidings.items ++ told_by sign (page_at old link)
 
 -- all that was to be told was told
@@ -102,7 +106,8 @@ pub record IsEmptied (old new : Journal) : Type 0 where
   pub no_tidings : new.tidings.items ≡ []
 
 -- signs are entered, and then others
-pub record EntersFirst (link : ℕ) (sign : Sign) (old : Journal) (rest : Journal → Type 0) : Type 0 where
+pub record EntersFirst (link : ℕ) (sign : Sign) (old : Journal)
+    (rest : Journal → Type 0) : Type 0 where
   pub between : Journal
   pub enters : Enters link sign old between
   pub rest_is : rest between
@@ -110,7 +115,8 @@ pub record EntersFirst (link : ℕ) (sign : Sign) (old : Journal) (rest : Journa
 -- signs of links are entered, one after another, and no others
 abbrev pub EntersAll : List (ℕ × Sign) → Journal → Journal → Type 0
 EntersAll [] old new = new ≡ old
-EntersAll (first ∷ signs) old new = EntersFirst first.0 first.1 old (λ between. EntersAll signs between new)
+EntersAll (first ∷ signs) old new =
+    EntersFirst first.0 first.1 old (λ between. EntersAll signs between new)
 
 -- what comes to light by what a server puts out: the links that it closes
 abbrev pub sign_of : Sent → List (ℕ × Sign)

@@ -1,7 +1,8 @@
 //! A journal of links: how each stands, and what is to be told.
 ghost use Rattle.std.specs.Prelude.{◌≡◌, ◌++◌, ◌∷◌, [], OnOk};
 ghost use Rattle.std.specs.Option.{option_copied};
-ghost use Rattle.irc_journal.specs.Signs.{closes, is_gone, meets, opens, page_at, Enters, IsBlank, IsEmptied};
+ghost use Rattle.irc_journal.specs.Signs.{closes, is_gone, meets, opens, page_at, Enters, IsBlank};
+ghost use Rattle.irc_journal.specs.Signs.{IsEmptied};
 
 use crate::page::Page;
 use crate::tidings::Tidings;
@@ -43,7 +44,8 @@ impl Journal {
         }
     }
 
-    /// A line of a link was heard, and this server is known at its other end, or none yet. The first time that one is, the link is up.
+    /// A line of a link was heard, and this server is known at its other end, or none yet. The
+    /// first time that one is, the link is up.
     pub fn meet(&mut self, link: u64, far: Option<&ServerName>) -> Result<(), AllocError>
         ensures { OnOk result (Enters link (meets (option_copied far.entry)) self.old self.new) }
     {

@@ -48,7 +48,11 @@ impl Page {
     /// The server of this name is known from now on, and that is told.
     pub(crate) fn rise(&mut self, name: &ServerName) -> Tidings
         ensures page { self.new ≡ risen name.now self.old }
-        ensures told { result ≡ record { name = self.new.name; is_called = self.new.is_called; outcome = outcome.Up } }
+        ensures told { result ≡ record {
+          name = self.new.name;
+          is_called = self.new.is_called;
+          outcome = outcome.Up;
+        } }
     {
         self.name = Some(name.copy());
         self.is_up = true;
@@ -84,7 +88,11 @@ impl Page {
     }
 
     fn ended(self, outcome: Outcome) -> Tidings
-        ensures { result ≡ record { name = self.name; is_called = self.is_called; outcome = outcome } }
+        ensures { result ≡ record {
+          name = self.name;
+          is_called = self.is_called;
+          outcome = outcome;
+        } }
     {
         Tidings {
             name: self.name,

@@ -4,8 +4,8 @@ ghost use Rattle.irc_journal.specs.Saying.{IsSaid, AreSaid};
 use crate::tidings::Tidings;
 use std::io::Write;
 
-/// Says all this, each in a line and by one write. Of a line that the writer does not take whole the rest is lost: who cannot be told
-/// keeps nobody waiting.
+/// Says all this, each in a line and by one write. Of a line that the writer does not take whole
+/// the rest is lost: who cannot be told keeps nobody waiting.
 pub fn say<E: Write>(all: &[Tidings], errors: &mut E)
     ensures { AreSaid all.now (E.contents errors.old) (E.contents errors.new) }
 {

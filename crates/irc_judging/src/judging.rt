@@ -38,7 +38,8 @@ use irc_names::{BanMask, ChannelName, Nick, copied};
 use irc_numerics::Reply;
 use irc_room::Room;
 
-/// What comes of a change in the channel as the changes so far have left it (RFC 2811 section 4, RFC 2812 section 3.2.3).
+/// What comes of a change in the channel as the changes so far have left it (RFC 2811 section 4,
+/// RFC 2812 section 3.2.3).
 pub fn judge(room: &Room, channel: &Channel, kept: &KeptChanges, asked: &AskedChange<'_>) -> Verdict
     requires { Follows channel.now kept.now.changes.items kept.now.settings }
     ensures { result ≡ judge_asked room.now (channel_behind kept.now channel.now) asked.now }
@@ -128,7 +129,8 @@ fn mode_word(bytes: &[u8]) -> ModeWord
     word
 }
 
-/// What comes of mode k, by the key that is set. It is taken away with that key, whatever word came.
+/// What comes of mode k, by the key that is set. It is taken away with that key, whatever word
+/// came.
 fn key_judged(name: &ChannelName, plus: bool, word: Option<&[u8]>, before: Option<&Key>) -> Verdict
     ensures { result ≡ key_asked name.now plus word.entry before.entry }
 {
@@ -234,7 +236,8 @@ fn mask_judged(channel: &Channel, kept: &KeptChanges, asked: &AskedChange<'_>) -
     )
 }
 
-/// What comes of a ban, by the one that is the same under the fold, if one is there, and by how many are.
+/// What comes of a ban, by the one that is the same under the fold, if one is there, and by how
+/// many are.
 fn ban_judged(
     name: &ChannelName,
     plus: bool,

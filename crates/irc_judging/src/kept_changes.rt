@@ -1,4 +1,5 @@
-//! The changes of a channel's modes that a command makes, and what they leave of the channel, which is neither changed nor copied.
+//! The changes of a channel's modes that a command makes, and what they leave of the channel, which
+//! is neither changed nor copied.
 ghost use Rattle.std.specs.Prelude.{◌≡◌, ◌<◌, ◌-◌, ◌^◌, [], ◌∷◌, find, fold, length, OnOk};
 ghost use Rattle.irc_names.specs.Fold.{same};
 ghost use Rattle.irc_acts.specs.Steps.{AddsTo};
@@ -190,7 +191,8 @@ pub(crate) fn mask_in(word: Option<&[u8]>) -> Option<BanMask>
     Some(BanMask::read(word?)?)
 }
 
-/// How many bans a channel has behind some changes, of which each that is of a ban adds one or takes one out.
+/// How many bans a channel has behind some changes, of which each that is of a ban adds one or
+/// takes one out.
 pub(crate) fn count(channel: &Channel, changes: &[ModeChange]) -> usize
     ensures { result ≡ fold count_by (length channel.now.modes.bans) changes.now }
 {

@@ -1,4 +1,5 @@
-//! What comes of one change of a channel's modes that an operator asks for, in the channel as the changes so far have left it.
+//! What comes of one change of a channel's modes that an operator asks for, in the channel as the
+//! changes so far have left it.
 #![tactic(auto)]
 
 mod judging;

@@ -5,7 +5,8 @@ use Rattle.irc_line.specs.Messages.{line_text}
 use Rattle.irc_line.specs.Reading.{read_of}
 use Rattle.irc_names.specs.Fold.{fold, fold_table}
 use Rattle.irc_names.specs.Names.{is_nick}
-use Rattle.irc_late.specs.Laws.{CrossedKillIsLeftOut, CrossedNickIsKilled, CrossedRenameIsLeftOut, KeyStays, KickIsPutRight, KilledIsLeftOut, ModeIsPutRight}
+use Rattle.irc_late.specs.Laws.{CrossedKillIsLeftOut, CrossedNickIsKilled, CrossedRenameIsLeftOut}
+use Rattle.irc_late.specs.Laws.{KeyStays, KickIsPutRight, KilledIsLeftOut, ModeIsPutRight}
 
 pub killed_is_left_out : KilledIsLeftOut
 unfolding read_of is_nick fold fold_table

@@ -1,5 +1,7 @@
 -- A line that is written again fits.
-use Rattle.std.proofs.Common.{◌≡◌, ◌+◌, ◌≤◌, ℕ, List, Result, Ok, Err, length, take, subst, arith, length-append, length-take, Bool, true, false, ◌&&◌, [], if◌then◌else◌, unwrap_or}
+use Rattle.std.proofs.Common.{◌≡◌, ◌+◌, ◌≤◌, ℕ, List, Result, Ok, Err, length, take, subst, arith}
+use Rattle.std.proofs.Common.{length-append, length-take, Bool, true, false, ◌&&◌, []}
+use Rattle.std.proofs.Common.{if◌then◌else◌, unwrap_or}
 use Rattle.std.specs.Bool.{⊤}
 use Rattle.std.specs.Cmp.Lexicographic.{pointwise}
 use Rattle.std.specs.Str.{bytes_eq}
@@ -12,7 +14,8 @@ use Rattle.irc_names.specs.Names.{is_nick}
 use Rattle.irc_late.specs.declared.hearing.Heard.{Heard}
 use Rattle.irc_late.specs.declared.hearing.Heard.TheVariants.{Unchanged, Changed, LeftOut, KillBack}
 use Rattle.irc_late.specs.Remembering.{Remembered, was_introduced}
-use Rattle.irc_late.specs.Late.{is_late, is_met_kill, is_nick_line, word_at, params_put_right, read_heard, with_params}
+use Rattle.irc_late.specs.Late.{is_late, is_met_kill, is_nick_line, word_at, params_put_right}
+use Rattle.irc_late.specs.Late.{read_heard, with_params}
 use Rattle.irc_late.specs.Laws.{ChangedFits}
 use Rattle.irc_late.proofs.Naming.{each_way}
 
@@ -26,7 +29,8 @@ Fits (KillBack nick) = ⊤
 text_fits : (parts : Written) → length (text parts) ≤ max_text
 unfolding line_text cut
 text_fits parts =
-    let all : length (text parts) ≡ length (take max_line (joined_text parts)) + 2 = length-append (take max_line (joined_text parts)) crlf in
+    let all : length (text parts) ≡ length (take max_line (joined_text parts)) + 2 =
+    length-append (take max_line (joined_text parts)) crlf in
     omega (arith, all, length-take max_line (joined_text parts))
 
 late_fits : (back : Bool) (nick : List ℕ) → Fits (if back then KillBack nick else LeftOut)
@@ -37,9 +41,12 @@ read_fits : (memory : Remembered) (read : Result Parsed LineFault) → Fits (rea
 read_fits memory (Ok message) =
     let params = params_put_right memory message.command message.params in
     let nick = word_at 0 message in
-    let back = is_nick_line message && (was_introduced memory (unwrap_or message.prefix []) && is_nick nick) in
-    each_way Fits (is_late memory message) (is_met_kill memory message) (pointwise bytes_eq params message.params)
-    (if back then KillBack nick else LeftOut) LeftOut Unchanged (Changed (record { items = text (with_params message params) })) (late_fits back nick) tt tt
+    let back = is_nick_line message
+    && (was_introduced memory (unwrap_or message.prefix []) && is_nick nick) in
+    each_way Fits (is_late memory message) (is_met_kill memory message)
+    (pointwise bytes_eq params message.params)
+    (if back then KillBack nick else LeftOut) LeftOut Unchanged
+    (Changed (record { items = text (with_params message params) })) (late_fits back nick) tt tt
     (text_fits (with_params message params))
 read_fits memory (Err fault) = tt
 

@@ -1,5 +1,6 @@
 -- What a wire around a wire tells and takes.
-use Rattle.std.proofs.Common.{◌≡◌, ℕ, true, false, is_some, IsErrAnd, Option, Some, None, Result, Ok, Err, List, refl, sym, subst}
+use Rattle.std.proofs.Common.{◌≡◌, ℕ, true, false, is_some, IsErrAnd, Option, Some, None, Result}
+use Rattle.std.proofs.Common.{Ok, Err, List, refl, sym, subst}
 use Rattle.irc_outbox.specs.Calls.{Call, asks, Adds}
 use Rattle.irc_outbox.specs.declared.wire.IoFault.{IoFault}
 use Rattle.irc_outbox.specs.declared.wire.Ready.{Ready}
@@ -8,49 +9,62 @@ use Rattle.irc_late.specs.declared.late_wire.LateWire.{LateWire}
 use Rattle.irc_late.specs.Around.{Links, first_held, WritesAt}
 use Rattle.irc_late.specs.AroundCalls.{Begins, IsReady, IsTold, MeetsAnswer, WritesUnheld}
 
-module _ {W : Type 0} (is_after : W → List Call → Type 0) (old begun : LateWire W) (begins : Begins old begun) where
-  pub told_held : (conn : ℕ) → begun.asked ≡ Some conn → IsReady is_after old (Ok (Readable conn)) begun
+module _ {W : Type 0} (is_after : W → List Call → Type 0) (old begun : LateWire W)
+    (begins : Begins old begun) where
+  pub told_held : (conn : ℕ) → begun.asked ≡ Some conn
+      → IsReady is_after old (Ok (Readable conn)) begun
   told_held conn is = record {
     begun = begun;
     begins = begins;
-    told = subst (λ asked. IsTold is_after asked begun.links begun.wire (Ok (Readable conn)) begun.links begun.wire) (sym is) (refl, refl, refl);
+    told = subst (λ asked. IsTold is_after asked begun.links begun.wire
+        (Ok (Readable conn)) begun.links begun.wire) (sym is) (refl, refl, refl);
     asked = refl;
     reading = refl;
     own = refl;
   }
 
-  pub told_below : (new : LateWire W) (result answer : Result Ready IoFault) (between : W) → begun.asked ≡ None → Adds is_after begun.wire (asks answer) between
-      → MeetsAnswer is_after answer begun.links between result new.links new.wire → new.asked ≡ begun.asked → new.reading ≡ begun.reading → new.own ≡ begun.own → IsReady is_after old result new
+  pub told_below : (new : LateWire W) (result answer : Result Ready IoFault) (between : W)
+      → begun.asked ≡ None → Adds is_after begun.wire (asks answer) between
+      → MeetsAnswer is_after answer begun.links between result new.links new.wire
+      → new.asked ≡ begun.asked → new.reading ≡ begun.reading → new.own ≡ begun.own
+      → IsReady is_after old result new
   told_below new result answer between none account meets asked reading own = record {
     begun = begun;
     begins = begins;
-    told = subst (λ held. IsTold is_after held begun.links begun.wire result new.links new.wire) (sym none)
+    told = subst (λ held. IsTold is_after held begun.links begun.wire result new.links new.wire)
+        (sym none)
         (record { answer = answer; between = between; account = account; meets = meets });
     asked = asked;
     reading = reading;
     own = own;
   }
 
-pub err_so : {X : Type 0} (result : Result X IoFault) (fault : IoFault) → IsErrAnd result (λ e. e ≡ fault) → result ≡ Err fault
+pub err_so : {X : Type 0} (result : Result X IoFault) (fault : IoFault)
+    → IsErrAnd result (λ e. e ≡ fault) → result ≡ Err fault
 err_so (Ok x) fault failed = absurd failed
 err_so (Err e) fault failed = λ i. Err (failed i)
 
 not_some : true ≡ false → ⊥
 not_some is = cc
 
-module _ {W : Type 0} (is_after : W → List Call → Type 0) (conn : ℕ) (bytes : List ℕ) (links : Links) (wire : W) where
-  unheld : (held : Option ℕ) → is_some held ≡ true → WritesUnheld is_after conn bytes held links wire (Ok 0) links wire
+module _ {W : Type 0} (is_after : W → List Call → Type 0) (conn : ℕ) (bytes : List ℕ)
+    (links : Links) (wire : W) where
+  unheld : (held : Option ℕ) → is_some held ≡ true
+      → WritesUnheld is_after conn bytes held links wire (Ok 0) links wire
   unheld (Some first) some = (refl, refl, refl)
   unheld None some = absurd (not_some (sym some))
 
-  pub put_off : is_some (first_held links) ≡ true → WritesUnheld is_after conn bytes (first_held links) links wire (Ok 0) links wire
+  pub put_off : is_some (first_held links) ≡ true
+      → WritesUnheld is_after conn bytes (first_held links) links wire (Ok 0) links wire
   put_off = unheld (first_held links)
 
-  on : (held : Option ℕ) (result : Result ℕ IoFault) (new : Links) (wire_after : W) → is_some held ≡ false → WritesAt is_after conn bytes links wire result new wire_after
+  on : (held : Option ℕ) (result : Result ℕ IoFault) (new : Links) (wire_after : W)
+      → is_some held ≡ false → WritesAt is_after conn bytes links wire result new wire_after
       → WritesUnheld is_after conn bytes held links wire result new wire_after
   on (Some first) result new wire_after none writes = absurd (not_some none)
   on None result new wire_after none writes = writes
 
-  pub written_on : (result : Result ℕ IoFault) (new : Links) (wire_after : W) → is_some (first_held links) ≡ false → WritesAt is_after conn bytes links wire result new wire_after
+  pub written_on : (result : Result ℕ IoFault) (new : Links) (wire_after : W) → is_some
+      (first_held links) ≡ false → WritesAt is_after conn bytes links wire result new wire_after
       → WritesUnheld is_after conn bytes (first_held links) links wire result new wire_after
   written_on = on (first_held links)

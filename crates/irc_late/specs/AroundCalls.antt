@@ -6,7 +6,8 @@ use Rattle.irc_outbox.specs.declared.wire.IoFault.{IoFault}
 use Rattle.irc_outbox.specs.declared.wire.Ready.{Ready}
 use Rattle.irc_outbox.specs.declared.wire.Ready.TheVariants.{Readable}
 use Rattle.irc_late.specs.declared.late_wire.LateWire.{LateWire}
-use Rattle.irc_late.specs.Around.{Links, first_held, told_behind, unless, Changes, ChangesIf, Meets, ReadsAt, Sets, WritesAt, WritesBackAt}
+use Rattle.irc_late.specs.Around.{Links, first_held, told_behind, unless, Changes, ChangesIf, Meets}
+use Rattle.irc_late.specs.Around.{ReadsAt, Sets, WritesAt, WritesBackAt}
 use Rattle.irc_late.specs.LinkEnds.{with_offered, with_turn_over, without_held}
 
 -- ---- what is ready

@@ -19,7 +19,9 @@
 --                             PRIVMSG or NOTICE for al
 --   `:bo MODE #c +ol al 5`    becomes `:bo MODE #c +ol ally :5`; a key that is spelled `al` stays
 -- Each other line is given on byte for byte.
-use Rattle.std.specs.Prelude.{ℕ, zero, suc, ◌-◌, Bool, true, false, ◌&&◌, ◌||◌, Option, Some, None, Result, Ok, Err, List, [], ◌∷◌, codes, length, take, get_or, nat_eq, unwrap_or, if◌then◌else◌}
+use Rattle.std.specs.Prelude.{ℕ, zero, suc, ◌-◌, Bool, true, false, ◌&&◌, ◌||◌, Option, Some, None}
+use Rattle.std.specs.Prelude.{Result, Ok, Err, List, [], ◌∷◌, codes, length, take, get_or, nat_eq}
+use Rattle.std.specs.Prelude.{unwrap_or, if◌then◌else◌}
 use Rattle.std.specs.List.{slice_get}
 use Rattle.std.specs.Option.{is_none, option_map_or}
 use Rattle.std.specs.Cmp.Lexicographic.{pointwise}
@@ -31,7 +33,9 @@ use Rattle.irc_names.specs.Names.{is_nick}
 use Rattle.irc_link_words.specs.Words.{is_command, is_for_channel}
 use Rattle.irc_late.specs.declared.hearing.Heard.{Heard}
 use Rattle.irc_late.specs.declared.hearing.Heard.TheVariants.{Unchanged, Changed, LeftOut, KillBack}
-use Rattle.irc_late.specs.Remembering.{Remembered, has_crossed, is_killed, is_met, is_met_new, nick_now, none_crossed, with_change, with_killed, with_met, was_introduced, without_changes, without_killed}
+use Rattle.irc_late.specs.Remembering.{Remembered, has_crossed, is_killed, is_met, is_met_new}
+use Rattle.irc_late.specs.Remembering.{nick_now, none_crossed, with_change, with_killed, with_met}
+use Rattle.irc_late.specs.Remembering.{was_introduced, without_changes, without_killed}
 
 -- a word of a line; no bytes where the line has fewer
 abbrev pub word_at : ℕ → Parsed → List ℕ
@@ -58,7 +62,8 @@ nick_put_out (Some old) nick memory = with_change old nick memory
 
 abbrev pub message_put_out : Remembered → Parsed → Remembered
 message_put_out memory message =
-    if is_kill_line message then with_killed (word_at 0 message) (is_met memory (word_at 0 message)) (is_met_new memory (word_at 0 message)) memory
+    if is_kill_line message then with_killed (word_at 0 message) (is_met memory (word_at 0 message))
+    (is_met_new memory (word_at 0 message)) memory
     else (if is_nick_line message then nick_put_out message.prefix (word_at 0 message) memory
     else memory)
 
@@ -94,7 +99,8 @@ abbrev pub names_member : ℕ → Bool
 names_member letter = nat_eq letter 0x6f || nat_eq letter 0x76
 
 abbrev pub has_word : Bool → ℕ → Bool
-has_word plus letter = names_member letter || (nat_eq letter 0x6b || (nat_eq letter 0x62 || (plus && nat_eq letter 0x6c)))
+has_word plus letter = names_member letter
+    || (nat_eq letter 0x6b || (nat_eq letter 0x62 || (plus && nat_eq letter 0x6c)))
 
 -- the words behind the letters of a MODE, of which those of o and v are members
 abbrev pub members_put_right : Remembered → Bool → List ℕ → List (List ℕ) → List (List ℕ)
@@ -104,13 +110,15 @@ members_put_right memory plus (letter ∷ letters) (word ∷ words) =
     if nat_eq letter 0x2b then members_put_right memory true letters (word ∷ words)
     else (if nat_eq letter 0x2d then members_put_right memory false letters (word ∷ words)
     else (if has_word plus letter then
-    (if names_member letter then put_right memory word else word) ∷ members_put_right memory plus letters words
+    (if names_member letter then put_right memory word else word)
+    ∷ members_put_right memory plus letters words
     else members_put_right memory plus letters (word ∷ words)))
 
 -- the parameters of a MODE: a channel, letters, and their words
 abbrev pub modes_put_right : Remembered → List (List ℕ) → List (List ℕ)
 modes_put_right memory (channel ∷ letters ∷ words) =
-    if is_for_channel channel then channel ∷ letters ∷ members_put_right memory true letters words else channel ∷ letters ∷ words
+    if is_for_channel channel then channel ∷ letters ∷ members_put_right memory true letters words
+    else channel ∷ letters ∷ words
 modes_put_right memory params = params
 
 -- whether the first parameter of a command may be a nickname
@@ -158,25 +166,29 @@ words_put_right memory message = params_put_right memory message.command message
 -- the line with other parameters, or as it is if they are no others
 abbrev pub heard_with : Parsed → List (List ℕ) → Heard
 heard_with message params =
-    if pointwise bytes_eq params message.params then Unchanged else Changed (record { items = text (with_params message params) })
+    if pointwise bytes_eq params message.params then Unchanged
+    else Changed (record { items = text (with_params message params) })
 
 abbrev pub put_right_heard : Remembered → Parsed → Heard
 put_right_heard memory message = heard_with message (words_put_right memory message)
 
 -- what becomes of a line that is from nobody whom this end has killed
 abbrev pub other_heard : Remembered → Parsed → Heard
-other_heard memory message = if is_met_kill memory message then LeftOut else put_right_heard memory message
+other_heard memory message =
+    if is_met_kill memory message then LeftOut else put_right_heard memory message
 
 -- A line of somebody who was killed is left out. Where it takes another nickname, and the KILL
 -- has crossed the line that has introduced it, a KILL for that nickname is to be written back:
 -- the one for the old nickname finds this end's own user there.
 abbrev pub late_heard : Remembered → List ℕ → Parsed → Heard
 late_heard memory name message =
-    if is_nick_line message && (was_introduced memory name && is_nick (word_at 0 message)) then KillBack (word_at 0 message) else LeftOut
+    if is_nick_line message && (was_introduced memory name && is_nick (word_at 0 message))
+    then KillBack (word_at 0 message) else LeftOut
 
 abbrev pub message_heard : Remembered → Parsed → Heard
 message_heard memory message =
-    if is_late memory message then late_heard memory (unwrap_or message.prefix []) message else other_heard memory message
+    if is_late memory message then late_heard memory (unwrap_or message.prefix []) message
+    else other_heard memory message
 
 abbrev pub read_heard : Remembered → Result Parsed LineFault → Heard
 read_heard memory (Ok message) = message_heard memory message
@@ -191,7 +203,8 @@ heard memory line = read_heard memory (read_of line)
 -- Somebody who was killed takes another nickname, and is to be killed under that one; or leaves.
 abbrev pub after_late : Remembered → List ℕ → Parsed → Remembered
 after_late memory name message =
-    if is_nick_line message then with_killed (word_at 0 message) false false (without_killed name memory)
+    if is_nick_line message
+    then with_killed (word_at 0 message) false false (without_killed name memory)
     else (if is_quit_line message then without_killed name memory
     else memory)
 
@@ -200,13 +213,15 @@ after_late memory name message =
 abbrev pub after_message : Remembered → Parsed → Remembered
 after_message memory message =
     if is_nick_line message then
-    with_met (word_at 0 message) (is_none message.prefix) (without_killed (word_at 0 message) (without_changes (word_at 0 message) memory))
+    with_met (word_at 0 message) (is_none message.prefix)
+    (without_killed (word_at 0 message) (without_changes (word_at 0 message) memory))
     else (if is_kill_line message then without_killed (word_at 0 message) memory
     else (if is_squit_line message then none_crossed memory
     else memory))
 
 abbrev pub after_read : Remembered → Result Parsed LineFault → Remembered
-after_read memory (Ok message) = if is_late memory message then after_late memory (unwrap_or message.prefix []) message else after_message memory message
+after_read memory (Ok message) = if is_late memory message
+    then after_late memory (unwrap_or message.prefix []) message else after_message memory message
 after_read memory (Err fault) = memory
 
 -- what is remembered once a line has come

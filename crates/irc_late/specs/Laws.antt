@@ -1,5 +1,6 @@
 -- What holds of late lines, whatever is remembered and whatever comes.
-use Rattle.std.specs.Prelude.{◌≡◌, ℕ, ◌≤◌, Bool, true, false, ◌||◌, Some, Ok, List, [], ◌++◌, codes, length}
+use Rattle.std.specs.Prelude.{◌≡◌, ℕ, ◌≤◌, Bool, true, false, ◌||◌, Some, Ok, List, [], ◌++◌, codes}
+use Rattle.std.specs.Prelude.{length}
 use Rattle.std.specs.List.{list_all, list_any}
 use Rattle.std.specs.Option.{is_some}
 use Rattle.arrayvec.specs.ArrayVec.{ArrayVec}
@@ -24,11 +25,13 @@ pub record RemembersNothing (memory : Remembered) : Type 0 where
 
 -- Then each line is given on as it came,
 abbrev pub NothingIsUnchanged : Type 0
-NothingIsUnchanged = (memory : Remembered) (line : List ℕ) → RemembersNothing memory → heard memory line ≡ Unchanged
+NothingIsUnchanged = (memory : Remembered) (line : List ℕ) → RemembersNothing memory
+    → heard memory line ≡ Unchanged
 
 -- and none is remembered behind it.
 abbrev pub NothingIsNoted : Type 0
-NothingIsNoted = (memory : Remembered) (line : List ℕ) → RemembersNothing memory → RemembersNothing (after_hearing memory line)
+NothingIsNoted = (memory : Remembered) (line : List ℕ) → RemembersNothing memory
+    → RemembersNothing (after_hearing memory line)
 
 -- ---- nobody is named who is remembered
 
@@ -45,14 +48,16 @@ pub record NamesNobody (memory : Remembered) (message : Parsed) : Type 0 where
 
 -- It is given on as it came.
 abbrev pub NobodyIsUnchanged : Type 0
-NobodyIsUnchanged = (memory : Remembered) (line : List ℕ) (message : Parsed) → read_of line ≡ Ok message → NamesNobody memory message
+NobodyIsUnchanged = (memory : Remembered) (line : List ℕ) (message : Parsed)
+    → read_of line ≡ Ok message → NamesNobody memory message
     → heard memory line ≡ Unchanged
 
 -- ---- servers
 
 -- whether a parameter of a command may be a nickname that is put right
 abbrev pub names_nicks : List ℕ → Bool
-names_nicks command = is_command (codes "KICK") command || (names_first command || is_command (codes "MODE") command)
+names_nicks command =
+    is_command (codes "KICK") command || (names_first command || is_command (codes "MODE") command)
 
 -- what is remembered as killed are nicknames
 abbrev pub are_nicks : List Killed → Bool
@@ -61,15 +66,18 @@ are_nicks killed = list_all (λ (k : Killed). is_nick k.nick) killed
 -- A line from a server, of a command that names nobody, is given on as it came: no nickname is a
 -- server's name.
 abbrev pub ServersAreUnchanged : Type 0
-ServersAreUnchanged = (memory : Remembered) (line : List ℕ) (message : Parsed) (server : List ℕ) → read_of line ≡ Ok message
-    → message.prefix ≡ Some server → IsServer server → are_nicks memory.killed ≡ true → names_nicks message.command ≡ false
+ServersAreUnchanged = (memory : Remembered) (line : List ℕ) (message : Parsed) (server : List ℕ)
+    → read_of line ≡ Ok message
+    → message.prefix ≡ Some server → IsServer server → are_nicks memory.killed ≡ true
+    → names_nicks message.command ≡ false
     → heard memory line ≡ Unchanged
 
 -- ---- what is written again
 
 -- It has no more bytes than a line with its CR LF has room for.
 abbrev pub ChangedFits : Type 0
-ChangedFits = (memory : Remembered) (line : List ℕ) (changed : ArrayVec ℕ) → heard memory line ≡ Changed changed → length changed.items ≤ max_text
+ChangedFits = (memory : Remembered) (line : List ℕ) (changed : ArrayVec ℕ)
+    → heard memory line ≡ Changed changed → length changed.items ≤ max_text
 
 -- ---- examples
 
@@ -82,13 +90,16 @@ abbrev pub changed_to : List ℕ → Heard
 changed_to line = Changed (record { items = line ++ crlf })
 
 abbrev pub KilledIsLeftOut : Type 0
-KilledIsLeftOut = heard_after (codes ":a.net KILL zed :Nick collision") (codes ":zed JOIN #c") ≡ LeftOut
+KilledIsLeftOut =
+    heard_after (codes ":a.net KILL zed :Nick collision") (codes ":zed JOIN #c") ≡ LeftOut
 
 abbrev pub KickIsPutRight : Type 0
-KickIsPutRight = heard_after (codes ":al NICK ally") (codes ":bo KICK #c al :out") ≡ changed_to (codes ":bo KICK #c ally :out")
+KickIsPutRight = heard_after (codes ":al NICK ally") (codes ":bo KICK #c al :out")
+    ≡ changed_to (codes ":bo KICK #c ally :out")
 
 abbrev pub ModeIsPutRight : Type 0
-ModeIsPutRight = heard_after (codes ":al NICK ally") (codes ":bo MODE #c +ol al 5") ≡ changed_to (codes ":bo MODE #c +ol ally :5")
+ModeIsPutRight = heard_after (codes ":al NICK ally") (codes ":bo MODE #c +ol al 5")
+    ≡ changed_to (codes ":bo MODE #c +ol ally :5")
 
 -- a key that is spelled like a nickname
 abbrev pub KeyStays : Type 0
@@ -101,14 +112,17 @@ heard_crossed came out line = heard (line_put_out (after_hearing nothing_remembe
 -- a KILL that has crossed this end's
 abbrev pub CrossedKillIsLeftOut : Type 0
 CrossedKillIsLeftOut =
-    heard_crossed (codes "NICK zed 1 u h 1 + :Z") (codes ":a.net KILL zed :Nick collision") (codes ":b.net KILL zed :Nick collision") ≡ LeftOut
+    heard_crossed (codes "NICK zed 1 u h 1 + :Z") (codes ":a.net KILL zed :Nick collision")
+    (codes ":b.net KILL zed :Nick collision") ≡ LeftOut
 
 -- somebody who was introduced as this end put out the KILL, and has another nickname now
 abbrev pub CrossedNickIsKilled : Type 0
 CrossedNickIsKilled =
-    heard_crossed (codes "NICK zed 1 u h 1 + :Z") (codes ":a.net KILL zed :Nick collision") (codes ":zed NICK zoe") ≡ KillBack (codes "zoe")
+    heard_crossed (codes "NICK zed 1 u h 1 + :Z") (codes ":a.net KILL zed :Nick collision")
+    (codes ":zed NICK zoe") ≡ KillBack (codes "zoe")
 
 -- somebody who took the nickname as this end put out the KILL
 abbrev pub CrossedRenameIsLeftOut : Type 0
 CrossedRenameIsLeftOut =
-    heard_crossed (codes ":al NICK zed") (codes ":a.net KILL zed :Nick collision") (codes ":zed NICK zoe") ≡ LeftOut
+    heard_crossed (codes ":al NICK zed") (codes ":a.net KILL zed :Nick collision")
+    (codes ":zed NICK zoe") ≡ LeftOut

@@ -1,6 +1,7 @@
 -- One end of a link: what it remembers, what it puts out, and what comes; and what it asks of the
 -- wire.
-use Rattle.std.specs.Prelude.{◌≡◌, ℕ, ◌≤◌, Bool, true, false, ◌&&◌, Result, Ok, Err, List, [], length, take, drop, nat_eq, if◌then◌else◌}
+use Rattle.std.specs.Prelude.{◌≡◌, ℕ, ◌≤◌, Bool, true, false, ◌&&◌, Result, Ok, Err, List, []}
+use Rattle.std.specs.Prelude.{length, take, drop, nat_eq, if◌then◌else◌}
 use Rattle.irc_line.specs.Lines.{completed}
 use Rattle.irc_outbox.specs.Calls.{Call, reads, writes, bytes_taken, is_some_bytes, Adds}
 use Rattle.irc_outbox.specs.Outboxes.{holding, WritesSome}
@@ -9,12 +10,18 @@ use Rattle.irc_outbox.specs.declared.wire.Got.TheVariants.{Bytes, Later}
 use Rattle.irc_outbox.specs.declared.wire.IoFault.{IoFault}
 use Rattle.irc_late.specs.declared.late_link.LateLink.{LateLink}
 use Rattle.irc_late.specs.Late.{lines_put_out}
-use Rattle.irc_late.specs.Links.{dropped, has_to_wait, holds_back, nothing_come, nothing_put_out, offered, taken_off, Gives}
+use Rattle.irc_late.specs.Links.{dropped, has_to_wait, holds_back, nothing_come, nothing_put_out}
+use Rattle.irc_late.specs.Links.{offered, taken_off, Gives}
 use Rattle.irc_late.specs.Remembering.{nothing_remembered, with_none_met}
 
 -- that of a link which begins
 abbrev pub begun : LateLink
-begun = record { memory = nothing_remembered; outgoing = nothing_put_out; incoming = nothing_come; back = holding [] 4096 }
+begun = record {
+  memory = nothing_remembered;
+  outgoing = nothing_put_out;
+  incoming = nothing_come;
+  back = holding [] 4096;
+}
 
 -- ---- what is written
 
@@ -34,8 +41,8 @@ has_to_write_back link = link.outgoing.is_between_lines && is_some_bytes link.ba
 pub data WritesBack {W : Type 0} (is_after : W → List Call → Type 0) (conn : ℕ) (old : LateLink)
     (wire : W) (result : Result ℕ IoFault) (new : LateLink) (wire_after : W) : Type 0 where
   some_back : has_to_write_back old ≡ true
-      → WritesSome is_after conn old.back wire result new.back wire_after
-      → new ≡ record old { back = new.back } → WritesBack is_after conn old wire result new wire_after
+      → WritesSome is_after conn old.back wire result new.back wire_after → new
+      ≡ record old { back = new.back } → WritesBack is_after conn old wire result new wire_after
   none_back : has_to_write_back old ≡ false → result ≡ Ok 0 → new ≡ old → wire_after ≡ wire
       → WritesBack is_after conn old wire result new wire_after
 
@@ -89,7 +96,8 @@ abbrev pub got : ℕ → Got
 got count = if nat_eq count 0 then Later else Bytes count
 
 -- Lines are given on to the front of a buffer, and this is told of them.
-pub record GivesGot (own : List ℕ) (old : LateLink) (buffer : List ℕ) (result : Got) (buffer_after : List ℕ)
+pub record GivesGot (own : List ℕ) (old : LateLink) (buffer : List ℕ) (result : Got)
+    (buffer_after : List ℕ)
     (new : LateLink) : Type 0 where
   pub count : ℕ
   pub told : result ≡ got count
@@ -111,7 +119,8 @@ GivesRead own old buffer answer result buffer_after new =
 
 -- the wire is read once
 pub record ReadsOn {W : Type 0} (is_after : W → List Call → Type 0) (conn : ℕ) (own : List ℕ)
-    (old : LateLink) (wire : W) (buffer : List ℕ) (result : Result Got IoFault) (buffer_after : List ℕ)
+    (old : LateLink) (wire : W) (buffer : List ℕ) (result : Result Got IoFault)
+    (buffer_after : List ℕ)
     (new : LateLink) (wire_after : W)
     : Type 0 where
   pub bytes : List ℕ
@@ -122,7 +131,8 @@ pub record ReadsOn {W : Type 0} (is_after : W → List Call → Type 0) (conn : 
 
 -- Where something is held back that is given on, and the wire is not asked; else it is read once.
 pub data ReadsLink {W : Type 0} (is_after : W → List Call → Type 0) (conn : ℕ) (own : List ℕ)
-    (old : LateLink) (wire : W) (buffer : List ℕ) (result : Result Got IoFault) (buffer_after : List ℕ)
+    (old : LateLink) (wire : W) (buffer : List ℕ) (result : Result Got IoFault)
+    (buffer_after : List ℕ)
     (new : LateLink) (wire_after : W)
     : Type 0 where
   held : (told : Got) → holds_back old.incoming ≡ true → result ≡ Ok told

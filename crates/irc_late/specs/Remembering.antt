@@ -6,7 +6,8 @@
 --                      zed is killed: what still comes from zed was said before
 --     a.net -> b.net   `:al NICK ally`
 --                      al is ally now: a KICK of al that still comes is meant for ally
-use Rattle.std.specs.Prelude.{ℕ, ◌-◌, Bool, false, not, ◌&&◌, ◌||◌, Option, Some, None, List, [], ◌∷◌, ◌++◌, length, drop, filter, map, if◌then◌else◌}
+use Rattle.std.specs.Prelude.{ℕ, ◌-◌, Bool, false, not, ◌&&◌, ◌||◌, Option, Some, None, List, []}
+use Rattle.std.specs.Prelude.{◌∷◌, ◌++◌, length, drop, filter, map, if◌then◌else◌}
 use Rattle.std.specs.List.{find, list_any}
 use Rattle.std.specs.Option.{option_map, option_map_or}
 use Rattle.irc_names.specs.Fold.{same}
@@ -57,14 +58,16 @@ without_killed nick memory = record memory { killed = filter (is_other_killed ni
 -- Whether it has crossed the line by which the other end has introduced its user. If that user
 -- has another nickname by then, the KILL finds this end's own user there.
 abbrev pub was_introduced : Remembered → List ℕ → Bool
-was_introduced memory nick = list_any (λ (k : Killed). k.crossed && (k.introduced && same k.nick nick)) memory.killed
+was_introduced memory nick =
+    list_any (λ (k : Killed). k.crossed && (k.introduced && same k.nick nick)) memory.killed
 
 -- a KILL is put out for a nickname; a word that is none is nobody's
 abbrev pub with_killed : List ℕ → (crossed introduced : Bool) → Remembered → Remembered
 with_killed nick crossed introduced memory =
     if is_nick nick then
     record memory {
-      killed = newest ((without_killed nick memory).killed ++ (record { nick = nick; crossed = crossed; introduced = introduced }) ∷ []);
+      killed = newest ((without_killed nick memory).killed
+          ++ (record { nick = nick; crossed = crossed; introduced = introduced }) ∷ []);
     }
     else memory
 
@@ -83,10 +86,14 @@ is_met memory nick = option_map_or (λ (met : Met). same met.nick nick) memory.m
 
 -- whether it introduces its user
 abbrev pub is_met_new : Remembered → List ℕ → Bool
-is_met_new memory nick = option_map_or (λ (met : Met). met.introduced && same met.nick nick) memory.met false
+is_met_new memory nick =
+    option_map_or (λ (met : Met). met.introduced && same met.nick nick) memory.met false
 
 abbrev pub with_met : List ℕ → Bool → Remembered → Remembered
-with_met nick introduced memory = record memory { met = if is_nick nick then Some (record { nick = nick; introduced = introduced }) else None }
+with_met nick introduced memory = record memory {
+  met = if is_nick nick
+      then Some (record { nick = nick; introduced = introduced }) else None;
+}
 
 -- what is put out from now on meets no line that has come
 abbrev pub with_none_met : Remembered → Remembered
@@ -96,7 +103,8 @@ with_none_met memory = record memory { met = None }
 
 -- the nickname now of the user that has given up this one, if one has
 abbrev pub nick_now : Remembered → List ℕ → Option (List ℕ)
-nick_now memory nick = option_map (λ (c : Change). c.now) (find (λ (c : Change). same c.given_up nick) memory.changes)
+nick_now memory nick =
+    option_map (λ (c : Change). c.now) (find (λ (c : Change). same c.given_up nick) memory.changes)
 
 -- whether a change is from or to a nickname
 abbrev pub is_of : List ℕ → Change → Bool

@@ -6,7 +6,10 @@ ghost use Rattle.irc_line.specs.Limits.{max_parameters};
 ghost use Rattle.irc_line.specs.MessageViews.{optional_now, parsed, params_now};
 ghost use Rattle.irc_line.specs.Messages.{text};
 ghost use Rattle.irc_line.specs.PartViews.{sender, words_now};
-ghost use Rattle.irc_late.specs.Late.{after_hearing, after_late, after_message, heard, heard_with, late_heard, line_put_out, may_meet, names_first, other_heard, params_put_right, put_right, put_right_at, put_right_heard, sender_again, with_params, word_at, words_put_right};
+ghost use Rattle.irc_late.specs.Late.{after_hearing, after_late, after_message, heard, heard_with};
+ghost use Rattle.irc_late.specs.Late.{late_heard, line_put_out, may_meet, names_first, other_heard};
+ghost use Rattle.irc_late.specs.Late.{params_put_right, put_right, put_right_at, put_right_heard};
+ghost use Rattle.irc_late.specs.Late.{sender_again, with_params, word_at, words_put_right};
 
 use crate::memory::Memory;
 use crate::mode_words::put_modes_right;

@@ -4,7 +4,9 @@ ghost use Rattle.irc_line.specs.Bytes.{crlf};
 ghost use Rattle.irc_line.specs.Limits.{max_line};
 ghost use Rattle.irc_outbox.specs.Calls.{is_some_bytes};
 ghost use Rattle.irc_late.specs.Late.{after_hearing, heard};
-ghost use Rattle.irc_late.specs.Links.{dropped, goes_on, has_to_wait, holds_back, is_alone, kill_behind, nothing_come, put_behind, text_given, waits, FillsFrom, Gives, GivesLine, HearsNext};
+ghost use Rattle.irc_late.specs.Links.{dropped, goes_on, has_to_wait, holds_back, is_alone};
+ghost use Rattle.irc_late.specs.Links.{kill_behind, nothing_come, put_behind, text_given, waits};
+ghost use Rattle.irc_late.specs.Links.{FillsFrom, Gives, GivesLine, HearsNext};
 
 use crate::hearing::{Heard, may_meet};
 use crate::memory::Memory;

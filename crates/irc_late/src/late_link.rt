@@ -2,7 +2,9 @@
 ghost use Rattle.std.specs.Prelude.{◌≡◌, ◌≤◌, length, IfOk};
 ghost use Rattle.irc_outbox.specs.Calls.{FitsIn};
 ghost use Rattle.irc_late.specs.Links.{holds_back};
-ghost use Rattle.irc_late.specs.LinkEnds.{begun, got, has_to_write_back, with_offered, with_turn_over, without_held, GivesGot, ReadsLink, WritesBack, WritesLink};
+ghost use Rattle.irc_late.specs.LinkEnds.{begun, got, has_to_write_back, with_offered};
+ghost use Rattle.irc_late.specs.LinkEnds.{with_turn_over, without_held, GivesGot, ReadsLink};
+ghost use Rattle.irc_late.specs.LinkEnds.{WritesBack, WritesLink};
 
 use crate::incoming::Incoming;
 use crate::memory::Memory;

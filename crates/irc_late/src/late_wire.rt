@@ -2,7 +2,9 @@
 ghost use Rattle.std.specs.Prelude.{◌≡◌, ◌≤◌, ⊤, None, length, IfOk};
 ghost use Rattle.irc_outbox.specs.Calls.{FitsIn};
 ghost use Rattle.irc_late.specs.LinkEnds.{with_offered, with_turn_over, without_held};
-ghost use Rattle.irc_late.specs.Around.{first_held, is_held, unless, Changes, ChangesIf, IsAdded, IsAround, Meets, MeetsLink, ReadsAt, Sets, WritesAt, WritesBackAt};
+ghost use Rattle.irc_late.specs.Around.{first_held, is_held, unless, Changes, ChangesIf, IsAdded};
+ghost use Rattle.irc_late.specs.Around.{IsAround, Meets, MeetsLink, ReadsAt, Sets, WritesAt};
+ghost use Rattle.irc_late.specs.Around.{WritesBackAt};
 ghost use Rattle.irc_late.specs.AroundCalls.{Begins, Closes, IsReady, ReadsFrom, WritesTo};
 
 use crate::late_link::LateLink;

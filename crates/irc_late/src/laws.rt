@@ -1,7 +1,10 @@
 //! What holds of late lines, whatever is remembered and whatever comes. Each law is a function
 //! that does nothing, and its contract is the law: the check proves it, and a crate above may
 //! cite it.
-ghost use Rattle.irc_late.specs.Laws.{ChangedFits, CrossedKillIsLeftOut, CrossedNickIsKilled, CrossedRenameIsLeftOut, KeyStays, KickIsPutRight, KilledIsLeftOut, ModeIsPutRight, NobodyIsUnchanged, NothingIsNoted, NothingIsUnchanged, ServersAreUnchanged};
+ghost use Rattle.irc_late.specs.Laws.{ChangedFits, CrossedKillIsLeftOut, CrossedNickIsKilled};
+ghost use Rattle.irc_late.specs.Laws.{CrossedRenameIsLeftOut, KeyStays, KickIsPutRight};
+ghost use Rattle.irc_late.specs.Laws.{KilledIsLeftOut, ModeIsPutRight, NobodyIsUnchanged};
+ghost use Rattle.irc_late.specs.Laws.{NothingIsNoted, NothingIsUnchanged, ServersAreUnchanged};
 
 /// With nothing remembered each line is given on as it came, and nothing is remembered behind it.
 pub fn nothing_remembered()

@@ -2,8 +2,10 @@
 ghost use Rattle.std.specs.Prelude.{◌≡◌, ◌≤◌, IfOk, length};
 ghost use Rattle.std.specs.List.{list_any};
 ghost use Rattle.std.specs.Option.{option_copied};
-ghost use Rattle.irc_late.specs.Remembering.{is_from_other, is_of, is_of_others, is_other_killed, moved, not_crossed};
-ghost use Rattle.irc_late.specs.Loops.Turned.{ChangesAll, Sifts, TurnsAll, TurnsOne, as_it_is, every};
+ghost use Rattle.irc_late.specs.Remembering.{is_from_other, is_of, is_of_others, is_other_killed};
+ghost use Rattle.irc_late.specs.Remembering.{moved, not_crossed};
+ghost use Rattle.irc_late.specs.Loops.Turned.{ChangesAll, Sifts, TurnsAll, TurnsOne, as_it_is};
+ghost use Rattle.irc_late.specs.Loops.Turned.{every};
 
 use crate::marks::{MarkedNick, Sought};
 use circular_buffer::HeapCircularBuffer;
@@ -57,13 +59,20 @@ impl Model for Memory {
 
     ghost Value = { Remembered };
 
-    ghost view = { λ memory. record { killed = memory.killed.items; changes = memory.changes.items; met = memory.met } };
+    ghost view = { λ memory. record {
+      killed = memory.killed.items;
+      changes = memory.changes.items;
+      met = memory.met;
+    } };
 
     ghost invariant = { λ memory. (memory.killed.capacity ≡ 1024) × (memory.changes.capacity ≡ 1024) };
 }
 
 impl Memory {
-    ghost use Rattle.irc_late.specs.Remembering.{nothing_remembered, has_crossed, is_killed, is_met, is_met_new, nick_now, none_crossed, with_killed, with_change, with_met, with_none_met, was_introduced, without_changes, without_killed};
+    ghost use Rattle.irc_late.specs.Remembering.{nothing_remembered, has_crossed, is_killed};
+    ghost use Rattle.irc_late.specs.Remembering.{is_met, is_met_new, nick_now, none_crossed};
+    ghost use Rattle.irc_late.specs.Remembering.{with_killed, with_change, with_met, with_none_met};
+    ghost use Rattle.irc_late.specs.Remembering.{was_introduced, without_changes, without_killed};
 
     /// Nothing.
     ///
@@ -287,7 +296,8 @@ fn lead_on(changes: &mut HeapCircularBuffer<Change, Global>, old: &Sought<'_>, n
 /// The first change goes behind the others as it leads then, or out if it is from this nickname.
 fn lead_first(changes: &mut HeapCircularBuffer<Change, Global>, old: &Sought<'_>, new: &MarkedNick)
     requires { length changes.old.items ≤ changes.old.capacity }
-    ensures turned { TurnsOne (is_from_other old.now) (moved old.now new.now) changes.old changes.new }
+    ensures turned { TurnsOne (is_from_other old.now)
+        (moved old.now new.now) changes.old changes.new }
     ensures fits { length changes.new.items ≤ changes.new.capacity }
 {
     if let Some(mut change) = changes.pop_front() {

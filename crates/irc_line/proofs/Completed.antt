@@ -1,20 +1,29 @@
 -- The lines that bytes complete, piece by piece; and what is written is a line.
-use Rattle.std.proofs.Common.{◌≡◌, ◌≢◌, ℕ, ◌<◌, Bool, true, false, not, ◌||◌, ◌&&◌, cond, Option, Some, None, List, [], ◌∷◌, ◌++◌, length, refl, sym, ◌∙◌, ap, subst, append-nil, arith}
+use Rattle.std.proofs.Common.{◌≡◌, ◌≢◌, ℕ, ◌<◌, Bool, true, false, not, ◌||◌, ◌&&◌, cond, Option}
+use Rattle.std.proofs.Common.{Some, None, List, [], ◌∷◌, ◌++◌, length, refl, sym, ◌∙◌, ap, subst}
+use Rattle.std.proofs.Common.{append-nil, arith}
 use Rattle.std.specs.Prelude.{option_to_list, unwrap_or}
 use Rattle.std.specs.List.{list_any, AllByRecursion}
 use Rattle.std.specs.Cmp.{first_so, second_so}
 use Rattle.std.proofs.lemmas.List.Folds.{list_all-append}
-use Rattle.irc_line.specs.Bytes.{is_line_end, is_nul, has_nul, cut, crlf, carriage_return, line_feed, space}
+use Rattle.irc_line.specs.Bytes.{is_line_end, is_nul, has_nul, cut, crlf, carriage_return}
+use Rattle.irc_line.specs.Bytes.{line_feed, space}
 use Rattle.irc_line.specs.Carried.{AreCarriedParts, IsCarried, is_carried, is_carried_byte}
-use Rattle.irc_line.specs.Laws.{AreTakenInTurn, LinesAreCompleted, PiecesCompleteTheSame, WrittenIsLine}
+use Rattle.irc_line.specs.Laws.{AreTakenInTurn, LinesAreCompleted, PiecesCompleteTheSame}
+use Rattle.irc_line.specs.Laws.{WrittenIsLine}
 use Rattle.irc_line.specs.Lemmas.CutLaws.{cut_all}
-use Rattle.irc_line.specs.Lines.{Begun, HasTaken, Takes, TellsTail, begun_behind, begun_of, completed, has_nothing, is_empty, lines, nothing_begun, stream_for, tail}
+use Rattle.irc_line.specs.Lines.{Begun, HasTaken, Takes, TellsTail, begun_behind, begun_of}
+use Rattle.irc_line.specs.Lines.{completed, has_nothing, is_empty, lines, nothing_begun, stream_for}
+use Rattle.irc_line.specs.Lines.{tail}
 use Rattle.irc_line.specs.Loops.Framing.{go_on, line_begun}
-use Rattle.irc_line.specs.Messages.{Written, joined_text, last_text, line_text, middle_text, prefix_of, prefix_text}
+use Rattle.irc_line.specs.Messages.{Written, joined_text, last_text, line_text, middle_text}
+use Rattle.irc_line.specs.Messages.{prefix_of, prefix_text}
 use Rattle.irc_line.specs.Lemmas.CarriedBytes.{carried_no_nul}
 use Rattle.irc_line.proofs.Pieces.{lines-run, tail_has_no_end}
 use Rattle.irc_line.proofs.Runs.{no_lines}
-use Rattle.irc_line.proofs.Streams.{is_empty-cut, has_taken_some, length-cut, list_any-cut, new_has_taken, stream_for_has_no_end, takes_append, takes_end, takes_run}
+use Rattle.irc_line.proofs.Streams.{is_empty-cut, has_taken_some, length-cut, list_any-cut}
+use Rattle.irc_line.proofs.Streams.{new_has_taken, stream_for_has_no_end, takes_append, takes_end}
+use Rattle.irc_line.proofs.Streams.{takes_run}
 
 -- ---- any bytes are taken
 
@@ -33,31 +42,49 @@ one_taken : (old : Begun) (b : ℕ) → Taken old (b ∷ [])
 one_taken old b = by (is_line_end b) refl
   where
     by : (ends : Bool) → is_line_end b ≡ ends → Taken old (b ∷ [])
-    by true ends = record { found = option_to_list (line_begun old); new = nothing_begun; takes = takes_end old b ends }
-    by false goes_on = record { found = []; new = go_on old (b ∷ []); takes = takes_run old (b ∷ []) (ap (λ e. e || false) goes_on) }
+    by true ends = record {
+      found = option_to_list (line_begun old);
+      new = nothing_begun;
+      takes = takes_end old b ends;
+    }
+    by false goes_on = record {
+      found = [];
+      new = go_on old (b ∷ []);
+      takes = takes_run old (b ∷ []) (ap (λ e. e || false) goes_on);
+    }
 
 all_taken : (old : Begun) (bytes : List ℕ) → Taken old bytes
 all_taken old [] = record { found = []; new = old; takes = takes_nothing old }
 all_taken old (b ∷ bytes) =
     let first = one_taken old b in
     let rest = all_taken first.new bytes in
-    record { found = first.found ++ rest.found; new = rest.new; takes = takes_append old first.new rest.new (b ∷ []) bytes first.found rest.found first.takes rest.takes }
+    record {
+      found = first.found ++ rest.found;
+      new = rest.new;
+      takes = takes_append old first.new
+          rest.new (b ∷ []) bytes first.found rest.found first.takes rest.takes;
+    }
 
 -- ---- what they complete
 
 module _ (framer : Begun) (real : HasTaken framer (stream_for framer)) where
   no_line_yet : lines (stream_for framer) ≡ []
-  no_line_yet = lines-run [] (stream_for framer) (subst (λ (f : Begun). list_any is_line_end (stream_for f) ≡ false) (sym real)
-      (stream_for_has_no_end (tail (stream_for framer)) (tail_has_no_end (stream_for framer)))) ∙ no_lines
+  no_line_yet = lines-run [] (stream_for framer)
+      (subst (λ (f : Begun). list_any is_line_end (stream_for f) ≡ false) (sym real)
+      (stream_for_has_no_end (tail (stream_for framer)) (tail_has_no_end (stream_for framer))))
+      ∙ no_lines
 
-  found_are : (bytes : List ℕ) (found : List (List ℕ)) (new : Begun) → Takes framer bytes found new → found ≡ completed framer bytes
+  found_are : (bytes : List ℕ) (found : List (List ℕ)) (new : Begun) → Takes framer bytes found new
+      → found ≡ completed framer bytes
   found_are bytes found new takes =
       sym (takes.lines_found (stream_for framer) real ∙ ap (λ ls. ls ++ found) no_line_yet)
 
-  new_is : (bytes : List ℕ) (found : List (List ℕ)) (new : Begun) → Takes framer bytes found new → new ≡ begun_behind framer bytes
+  new_is : (bytes : List ℕ) (found : List (List ℕ)) (new : Begun) → Takes framer bytes found new
+      → new ≡ begun_behind framer bytes
   new_is bytes found new takes = takes.framer (stream_for framer) real
 
-  real_behind : (bytes : List ℕ) → HasTaken (begun_behind framer bytes) (stream_for (begun_behind framer bytes))
+  real_behind : (bytes : List ℕ)
+      → HasTaken (begun_behind framer bytes) (stream_for (begun_behind framer bytes))
   real_behind bytes = has_taken_some (begun_behind framer bytes) (stream_for framer ++ bytes) refl
 
 pub pieces_complete_the_same : PiecesCompleteTheSame
@@ -66,20 +93,26 @@ pieces_complete_the_same framer real = record {
   none_begun = sym (new_is framer real [] [] framer (takes_nothing framer));
   in_turn = λ first second. in_turn first second;
   taken = real_behind framer real;
-  takes = λ bytes found new takes. (found_are framer real bytes found new takes, new_is framer real bytes found new takes);
+  takes = λ bytes found new takes.
+      (found_are framer real bytes found new takes, new_is framer real bytes found new takes);
 }
   where
     in_turn : (first second : List ℕ) → AreTakenInTurn framer first second
     in_turn first second =
         let one = all_taken framer first in
         let behind = begun_behind framer first in
-        let here : Takes framer first one.found behind = subst (λ (f : Begun). Takes framer first one.found f) (new_is framer real first one.found one.new one.takes) one.takes in
+        let here : Takes framer first one.found behind =
+        subst (λ (f : Begun). Takes framer first one.found f)
+        (new_is framer real first one.found one.new one.takes) one.takes in
         let two = all_taken behind second in
-        let both = takes_append framer behind two.new first second one.found two.found here two.takes in
+        let both =
+        takes_append framer behind two.new first second one.found two.found here two.takes in
         record {
-          lines = sym (found_are framer real (first ++ second) (one.found ++ two.found) two.new both)
+          lines =
+              sym (found_are framer real (first ++ second) (one.found ++ two.found) two.new both)
               ∙ ap (λ ls. ls ++ two.found) (found_are framer real first one.found one.new one.takes)
-              ∙ ap (λ ls. completed framer first ++ ls) (found_are behind (real_behind framer real first) second two.found two.new two.takes);
+              ∙ ap (λ ls. completed framer first ++ ls) (found_are behind
+              (real_behind framer real first) second two.found two.new two.takes);
           begun = sym (new_is framer real (first ++ second) (one.found ++ two.found) two.new both)
               ∙ new_is behind (real_behind framer real first) second two.found two.new two.takes;
         }
@@ -116,16 +149,21 @@ lines_are_completed line is = record {
     kept_is = cut_all line is.fits
 
     given : option_to_list (line_begun mid) ≡ line ∷ []
-    given = ap (λ kept. option_to_list (cond (is_empty kept || (false || has_nul line)) None (Some kept))) kept_is
-        ∙ a_line line (is_empty line) (false || has_nul line) refl (some_is line is.some_byte) is.no_nul
+    given = ap (λ kept. option_to_list
+        (cond (is_empty kept || (false || has_nul line)) None (Some kept))) kept_is
+        ∙ a_line line (is_empty line) (false || has_nul line) refl
+        (some_is line is.some_byte) is.no_nul
 
     ended : Takes mid crlf ((line ∷ []) ++ []) nothing_begun
-    ended = takes_append mid nothing_begun nothing_begun (carriage_return ∷ []) (line_feed ∷ []) (line ∷ []) []
-        (subst (λ found. Takes mid (carriage_return ∷ []) found nothing_begun) given (takes_end mid carriage_return refl))
+    ended = takes_append mid nothing_begun nothing_begun (carriage_return ∷ []) (line_feed ∷ [])
+        (line ∷ []) []
+        (subst (λ found. Takes mid (carriage_return ∷ []) found nothing_begun) given
+        (takes_end mid carriage_return refl))
         (takes_end nothing_begun line_feed refl)
 
     all : Takes nothing_begun (line ++ crlf) (line ∷ []) nothing_begun
-    all = takes_append nothing_begun mid nothing_begun line crlf [] (line ∷ []) (takes_run nothing_begun line is.no_end) ended
+    all = takes_append nothing_begun mid nothing_begun line crlf [] (line ∷ [])
+        (takes_run nothing_begun line is.no_end) ended
 
 -- ---- what is written
 
@@ -133,11 +171,14 @@ both_carried : (xs ys : List ℕ) → IsCarried xs → IsCarried ys → IsCarrie
 both_carried xs ys first second =
     list_all-append is_carried_byte xs ys ∙ ap (λ b. b && is_carried ys) first ∙ second
 
-words_carried : (words : List (List ℕ)) → AllByRecursion IsCarried words → IsCarried (middle_text words)
+words_carried : (words : List (List ℕ)) → AllByRecursion IsCarried words
+    → IsCarried (middle_text words)
 words_carried [] all = refl
-words_carried (word ∷ words) all = both_carried (space ∷ word) (middle_text words) all.0 (words_carried words all.1)
+words_carried (word ∷ words) all =
+    both_carried (space ∷ word) (middle_text words) all.0 (words_carried words all.1)
 
-prefix_carried : (prefix : Option (List ℕ)) → IsCarried (unwrap_or prefix []) → IsCarried (prefix_text prefix)
+prefix_carried : (prefix : Option (List ℕ)) → IsCarried (unwrap_or prefix [])
+    → IsCarried (prefix_text prefix)
 prefix_carried None carried = refl
 prefix_carried (Some name) carried = both_carried name (space ∷ []) carried refl
 
@@ -150,7 +191,8 @@ joined_carried parts are =
     let prefix = prefix_text (prefix_of parts.sender) in
     both_carried (prefix ++ parts.command ++ middle_text parts.middle) (last_text parts.last)
     (both_carried (prefix ++ parts.command) (middle_text parts.middle)
-    (both_carried prefix parts.command (prefix_carried (prefix_of parts.sender) are.sender) are.command) (words_carried parts.middle are.middle))
+    (both_carried prefix parts.command (prefix_carried (prefix_of parts.sender) are.sender)
+    are.command) (words_carried parts.middle are.middle))
     (last_carried parts.last are.last)
 
 no_end_byte : (nul end : Bool) → not (nul || end) ≡ true → end ≡ false
@@ -161,7 +203,8 @@ no_end_byte false false is = refl
 carried_no_end : (bytes : List ℕ) → IsCarried bytes → list_any is_line_end bytes ≡ false
 carried_no_end [] all = refl
 carried_no_end (b ∷ bytes) all =
-    ap (λ v. v || list_any is_line_end bytes) (no_end_byte (is_nul b) (is_line_end b) (first_so (is_carried_byte b) (is_carried bytes) all))
+    ap (λ v. v || list_any is_line_end bytes) (no_end_byte (is_nul b) (is_line_end b)
+    (first_so (is_carried_byte b) (is_carried bytes) all))
     ∙ carried_no_end bytes (second_so (is_carried_byte b) (is_carried bytes) all)
 
 some_length : (xs : List ℕ) → is_empty xs ≡ false → 0 < length xs

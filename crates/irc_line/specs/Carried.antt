@@ -1,4 +1,5 @@
--- What a line can carry, and what is known of the words of a line that was read (RFC 2812 section 2.3.1).
+-- What a line can carry, and what is known of the words of a line that was read (RFC 2812 section
+-- 2.3.1).
 use Rattle.std.specs.Prelude.{◌≢◌, ℕ, ◌≤◌, Bool, not, ◌||◌, List, [], length, unwrap_or, IsTrue}
 use Rattle.std.specs.List.{list_all, AllByRecursion}
 use Rattle.std.specs.Option.{IfSome}
@@ -25,7 +26,8 @@ pub record IsWordOf (line word : List ℕ) : Type 0 where
   pub fits : length word ≤ length line
   pub carried : IsCarried word
 
--- What is known of a message that was read from a line. Only its last parameter may be empty, have spaces or begin with a colon.
+-- What is known of a message that was read from a line. Only its last parameter may be empty, have
+-- spaces or begin with a colon.
 pub record AreLineWords (line : List ℕ) (message : Parsed) : Type 0 where
   pub prefix : IfSome message.prefix (IsWordOf line)
   pub prefix_no_space : IfSome message.prefix HasNoSpace

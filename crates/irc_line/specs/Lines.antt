@@ -1,8 +1,9 @@
 -- The lines of a byte stream, and what is no line yet (RFC 2812 section 2.3).
 --
--- Our own choice, lenient: each CR and each LF ends a line, an empty line and a line with a NUL are dropped, and of a longer
--- line the first 510 bytes count.
-use Rattle.std.specs.Prelude.{◌≡◌, ℕ, ◌<◌, ◌≤◌, Bool, true, false, not, ◌&&◌, ◌||◌, length, Option, Some, None, List, [], ◌∷◌, ◌++◌, if◌then◌else◌}
+-- Our own choice, lenient: each CR and each LF ends a line, an empty line and a line with a NUL are
+-- dropped, and of a longer line the first 510 bytes count.
+use Rattle.std.specs.Prelude.{◌≡◌, ℕ, ◌<◌, ◌≤◌, Bool, true, false, not, ◌&&◌, ◌||◌, length, Option}
+use Rattle.std.specs.Prelude.{Some, None, List, [], ◌∷◌, ◌++◌, if◌then◌else◌}
 use Rattle.std.specs.List.{slice_split, filter_map, list_any}
 use Rattle.irc_line.specs.Limits.{max_line}
 use Rattle.irc_line.specs.Bytes.{is_line_end, has_nul, cut}
@@ -36,7 +37,8 @@ tail bytes = last_piece (slice_split is_line_end bytes)
 unfoldable pub lines : List ℕ → List (List ℕ)
 lines bytes = filter_map line_of (earlier_pieces (slice_split is_line_end bytes))
 
--- All that counts of a piece that has begun: what a line has room for, and whether a NUL is in it, perhaps behind that.
+-- All that counts of a piece that has begun: what a line has room for, and whether a NUL is in it,
+-- perhaps behind that.
 pub record Begun : Type 0 where
   pub kept : List ℕ
   pub nul_seen : Bool
@@ -53,9 +55,11 @@ HasTaken framer stream = framer ≡ begun_of (tail stream)
 abbrev pub nothing_begun : Begun
 nothing_begun = record { kept = []; nul_seen = false }
 
--- A stream that the framer may have taken: what it kept, and a NUL behind that where it saw one that it did not keep.
+-- A stream that the framer may have taken: what it kept, and a NUL behind that where it saw one
+-- that it did not keep.
 abbrev pub stream_for : Begun → List ℕ
-stream_for framer = framer.kept ++ (if framer.nul_seen && not (has_nul framer.kept) then 0 ∷ [] else [])
+stream_for framer =
+    framer.kept ++ (if framer.nul_seen && not (has_nul framer.kept) then 0 ∷ [] else [])
 
 -- the lines that bytes complete which come to a framer, and what it is then
 abbrev pub completed : Begun → List ℕ → List (List ℕ)
@@ -76,14 +80,17 @@ pub record IsLine (line : List ℕ) : Type 0 where
   pub no_nul : has_nul line ≡ false
   pub no_end : list_any is_line_end line ≡ false
 
--- Whatever stream led to the framer old, after these bytes more it is new, and just the lines found are new.
+-- Whatever stream led to the framer old, after these bytes more it is new, and just the lines found
+-- are new.
 pub record Takes (old : Begun) (bytes : List ℕ) (found : List (List ℕ)) (new : Begun) : Type 0 where
   pub framer : (stream : List ℕ) → HasTaken old stream → HasTaken new (stream ++ bytes)
-  pub lines_found : (stream : List ℕ) → HasTaken old stream → lines (stream ++ bytes) ≡ lines stream ++ found
+  pub lines_found : (stream : List ℕ) → HasTaken old stream
+      → lines (stream ++ bytes) ≡ lines stream ++ found
 
 -- Whatever stream led to the framer old, these bytes more end no line.
 abbrev pub EndsNoLine : Begun → List ℕ → Type 0
-EndsNoLine old bytes = (stream : List ℕ) → HasTaken old stream → lines (stream ++ bytes) ≡ lines stream
+EndsNoLine old bytes =
+    (stream : List ℕ) → HasTaken old stream → lines (stream ++ bytes) ≡ lines stream
 
 -- Whatever stream led to the framer, this is whether its tail is empty.
 abbrev pub TellsTail : Begun → Bool → Type 0

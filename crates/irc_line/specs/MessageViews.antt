@@ -14,7 +14,8 @@ abbrev pub params_now : ArrayVec (Bor (List ℕ)) → List (List ℕ)
 params_now params = map (λ p. p.now) params.items
 
 abbrev pub parsed : Message → Parsed
-parsed m = record { prefix = optional_now m.prefix; command = m.command.now; params = params_now m.params }
+parsed m =
+    record { prefix = optional_now m.prefix; command = m.command.now; params = params_now m.params }
 
 abbrev pub parsed_result : Result Message LineFault → Result Parsed LineFault
 parsed_result (Ok m) = Ok (parsed m)

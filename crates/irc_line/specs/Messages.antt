@@ -1,8 +1,10 @@
 -- What a line says, and what parts are written as (RFC 2812 section 2.3.1).
-use Rattle.std.specs.Prelude.{◌≡◌, ◌≢◌, ℕ, ◌≤◌, true, false, not, Option, Some, None, List, [], ◌∷◌, ◌++◌, length, option_to_list, unwrap_or}
+use Rattle.std.specs.Prelude.{◌≡◌, ◌≢◌, ℕ, ◌≤◌, true, false, not, Option, Some, None, List, [], ◌∷◌}
+use Rattle.std.specs.Prelude.{◌++◌, length, option_to_list, unwrap_or}
 use Rattle.std.specs.List.{flat_map, list_all, AllByRecursion}
 use Rattle.irc_line.specs.Limits.{max_parameters}
-use Rattle.irc_line.specs.Bytes.{space, colon, exclamation_mark, at_sign, is_space, is_colon, has_nul, begins, crlf, cut}
+use Rattle.irc_line.specs.Bytes.{space, colon, exclamation_mark, at_sign, is_space, is_colon}
+use Rattle.irc_line.specs.Bytes.{has_nul, begins, crlf, cut}
 
 -- a message: the prefix if there is one, the command as it was given, the parameters
 pub record Parsed : Type 0 where
@@ -49,7 +51,8 @@ last_text (Some last) = space ∷ colon ∷ last
 
 -- the parts, written one after another
 abbrev pub joined_text : Written → List ℕ
-joined_text parts = prefix_text (prefix_of parts.sender) ++ parts.command ++ middle_text parts.middle ++ last_text parts.last
+joined_text parts = prefix_text (prefix_of parts.sender) ++ parts.command
+    ++ middle_text parts.middle ++ last_text parts.last
 
 -- the line that they are: what a line has room for (our own choice: a longer one is cut)
 unfoldable pub line_text : Written → List ℕ
@@ -67,7 +70,8 @@ message_of parts = record {
   params = parts.middle ++ option_to_list parts.last;
 }
 
--- a word that is read again as it was written: some bytes, none a space or a NUL, the first no colon (RFC 2812 section 2.3.1, "middle")
+-- a word that is read again as it was written: some bytes, none a space or a NUL, the first no
+-- colon (RFC 2812 section 2.3.1, "middle")
 pub record IsPlainWord (word : List ℕ) : Type 0 where
   pub is_some : word ≢ []
   pub no_space : list_all (λ b. not (is_space b)) word ≡ true
@@ -76,7 +80,8 @@ pub record IsPlainWord (word : List ℕ) : Type 0 where
 
 -- parts that are read again as they were written
 pub record IsPlain (parts : Written) : Type 0 where
-  pub prefix_no_space : list_all (λ b. not (is_space b)) (unwrap_or (prefix_of parts.sender) []) ≡ true
+  pub prefix_no_space : list_all (λ b. not (is_space b))
+      (unwrap_or (prefix_of parts.sender) []) ≡ true
   pub prefix_no_nul : has_nul (unwrap_or (prefix_of parts.sender) []) ≡ false
   pub command : IsPlainWord parts.command
   pub middle : AllByRecursion IsPlainWord parts.middle

@@ -1,8 +1,10 @@
 //! The lines of a byte stream that comes in pieces.
-ghost use Rattle.std.specs.Prelude.{◌≡◌, ℕ, ◌<◌, ◌≤◌, Bool, true, false, [], ◌++◌, length, take, slice_index, map, IsNone, IfSome, IfOk, OnOk};
+ghost use Rattle.std.specs.Prelude.{◌≡◌, ℕ, ◌<◌, ◌≤◌, Bool, true, false, [], ◌++◌, length, take};
+ghost use Rattle.std.specs.Prelude.{slice_index, map, IsNone, IfSome, IfOk, OnOk};
 ghost use Rattle.std.specs.List.{list_any, flat_map};
 ghost use Rattle.irc_line.specs.Bytes.{is_line_end, has_nul};
-ghost use Rattle.irc_line.specs.Lines.{lines, has_nothing, nothing_begun, stream_for, HasTaken, Takes, TellsTail, EndsNoLine, IsLine};
+ghost use Rattle.irc_line.specs.Lines.{lines, has_nothing, nothing_begun, stream_for, HasTaken};
+ghost use Rattle.irc_line.specs.Lines.{Takes, TellsTail, EndsNoLine, IsLine};
 ghost use Rattle.irc_line.specs.Loops.Framing.{go_on, HasEnded, IsReady, TakesRun, TakesPiece};
 ghost use Rattle.irc_line.specs.Framed.{found_in, bytes_of};
 
@@ -12,7 +14,8 @@ use arrayvec::ArrayVec;
 use std::alloc::{AllocError, Global};
 use std::marker::Model;
 
-/// A line without its line end. Those that a [`Framer`] gives have 1 to [`MAX_LINE`] bytes, and no NUL, CR or LF.
+/// A line without its line end. Those that a [`Framer`] gives have 1 to [`MAX_LINE`] bytes, and no
+/// NUL, CR or LF.
 pub type Line = ArrayVec<u8, MAX_LINE>;
 
 const CARRIAGE_RETURN: u8 = b'\r';
@@ -21,8 +24,9 @@ const LINE_FEED: u8 = b'\n';
 
 const NUL: u8 = 0;
 
-/// Cuts a byte stream into lines, whatever pieces it comes in (RFC 2812 section 2.3, read leniently: each CR and each LF
-/// ends a line, empty lines and lines with a NUL are dropped, and a longer line is cut at [`MAX_LINE`] bytes).
+/// Cuts a byte stream into lines, whatever pieces it comes in (RFC 2812 section 2.3, read
+/// leniently: each CR and each LF ends a line, empty lines and lines with a NUL are dropped, and a
+/// longer line is cut at [`MAX_LINE`] bytes).
 ///
 /// It takes no memory, and holds at most one line.
 #[derive(Drop)]
@@ -54,10 +58,12 @@ impl Framer {
         }
     }
 
-    /// Takes bytes of a piece up to the end of the next line, and gives that line; without one it takes the whole piece.
+    /// Takes bytes of a piece up to the end of the next line, and gives that line; without one it
+    /// takes the whole piece.
     /// The first number is how many bytes it took.
     pub fn take(&mut self, piece: &[u8]) -> (usize, Option<Line>)
-        // For each stream that can have led here, the framer is now that of the longer one, and just this line is new.
+        // For each stream that can have led here, the framer is now that of the longer one, and
+        // just this line is new.
         ensures takes { Takes self.old (take result.0 piece.now) (found_in result.1) self.new }
         ensures of_some_stream { HasTaken self.old (stream_for self.old) }
         ensures used { result.0 ≤ length piece.now }
@@ -79,7 +85,8 @@ impl Framer {
         (used, None)
     }
 
-    /// Whether no part of a line has come: the bytes so far are none, or the last of them ended a line.
+    /// Whether no part of a line has come: the bytes so far are none, or the last of them ended a
+    /// line.
     pub fn is_empty(&self) -> bool
         ensures value { result ≡ has_nothing self.now }
         ensures tail { TellsTail self.now result }
@@ -94,8 +101,8 @@ impl Framer {
         let _kept = &self.kept;
     }
 
-    /// Takes the bytes up to the next line end, and that. Says whether a line has ended, which then still is kept: as it is
-    /// half a kilobyte, only `take` moves it.
+    /// Takes the bytes up to the next line end, and that. Says whether a line has ended, which then
+    /// still is kept: as it is half a kilobyte, only `take` moves it.
     fn take_run(&mut self, bytes: &[u8]) -> (usize, bool)
         requires { 0 < length bytes.now }
         ensures takes { TakesRun self.old (take result.0 bytes.now) result.1 self.new }
@@ -121,7 +128,8 @@ impl Framer {
         self.nul_seen |= nul_seen;
     }
 
-    /// Ends the line that has begun. Says whether it is one to give, which then still is kept; otherwise another begins.
+    /// Ends the line that has begun. Says whether it is one to give, which then still is kept;
+    /// otherwise another begins.
     fn end_line(&mut self) -> bool
         ensures { HasEnded self.old result self.new }
     {
@@ -137,7 +145,8 @@ impl Framer {
 fn run_before_end(bytes: &[u8]) -> (usize, bool)
     ensures within { result.0 ≤ length bytes.now }
     ensures no_end { list_any is_line_end (take result.0 bytes.now) ≡ false }
-    ensures ends { result.0 < length bytes.now → is_line_end (slice_index bytes.now result.0) ≡ true }
+    ensures ends { result.0 < length bytes.now
+        → is_line_end (slice_index bytes.now result.0) ≡ true }
     ensures nul { result.1 ≡ has_nul (take result.0 bytes.now) }
 {
     let mut nul_seen = false;
@@ -150,12 +159,14 @@ fn run_before_end(bytes: &[u8]) -> (usize, bool)
     (bytes.len(), nul_seen)
 }
 
-/// The lines of a stream that comes in these pieces. However a stream is cut, its lines are the same.
+/// The lines of a stream that comes in these pieces. However a stream is cut, its lines are the
+/// same.
 ///
 /// # Errors
 /// Where memory runs out.
 pub fn lines_of_pieces(alloc: Global, pieces: &[&[u8]]) -> Result<Vec<Line>, AllocError>
-    ensures { IfOk result (λ found. bytes_of found.items ≡ lines (flat_map (λ piece. piece.now) pieces.now)) }
+    ensures { IfOk result
+        (λ found. bytes_of found.items ≡ lines (flat_map (λ piece. piece.now) pieces.now)) }
 {
     let mut framer = Framer::new();
     let mut found = Vec::new(alloc);

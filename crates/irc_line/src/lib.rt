@@ -1,7 +1,8 @@
-//! Lines of the IRC protocol: bytes cut into lines, lines read as messages, messages written as lines.
+//! Lines of the IRC protocol: bytes cut into lines, lines read as messages, messages written as
+//! lines.
 //!
-//! RFC 2812 section 2.3 says what a message is, and section 2.3.1 how it is spelled. Where this crate is more lenient than
-//! the standard, the definition in `specs/` says so.
+//! RFC 2812 section 2.3 says what a message is, and section 2.3.1 how it is spelled. Where this
+//! crate is more lenient than the standard, the definition in `specs/` says so.
 #![tactic(auto)]
 
 mod cutting;

@@ -49,12 +49,14 @@ pub struct Message<'a> {
 /// Reads a line, without its CR LF, as a message.
 ///
 /// # Errors
-/// A NUL is looked for first; then a line with nothing in it is empty, and one with a prefix alone has no command.
+/// A NUL is looked for first; then a line with nothing in it is empty, and one with a prefix alone
+/// has no command.
 pub fn parse(line: &[u8]) -> Result<Message<'_>, LineFault>
     // What it gives is read so, and a fault is given only where the line has it.
     ensures given { IsReadAs line.now (parsed_result result) }
     // What the line is read as is given, and so is the fault that it has.
-    ensures only { (read : Result Parsed LineFault) → IsReadAs line.now read → parsed_result result ≡ read }
+    ensures only { (read : Result Parsed LineFault) → IsReadAs line.now read
+        → parsed_result result ≡ read }
     // It is what the line is read as from left to right.
     ensures as_function { parsed_result result ≡ read_of line.now }
 {
@@ -95,7 +97,8 @@ fn read_command<'a>(prefix: Option<&'a [u8]>, text: &'a [u8]) -> Message<'a>
     message
 }
 
-/// Reads the parameters behind a command, in their place: they are a quarter of a kilobyte, and so are not moved.
+/// Reads the parameters behind a command, in their place: they are a quarter of a kilobyte, and so
+/// are not moved.
 fn read_params<'a>(text: &'a [u8], params: &mut ArrayVec<&'a [u8], MAX_PARAMETERS>)
     requires { params.old.items ≡ [] }
     ensures { ReadsParams max_parameters text.now (params_now params.new) }

@@ -2,7 +2,8 @@
 ghost use Rattle.std.specs.Prelude.{◌≡◌, ℕ, ◌≤◌, List, ◌++◌, length};
 ghost use Rattle.arrayvec.specs.ArrayVec.{array_vec_len};
 ghost use Rattle.irc_line.specs.Bytes.{cut, crlf};
-ghost use Rattle.irc_line.specs.Messages.{text, line_text, prefix_text, prefix_of, middle_text, last_text, full_name};
+ghost use Rattle.irc_line.specs.Messages.{text, line_text, prefix_text, prefix_of, middle_text};
+ghost use Rattle.irc_line.specs.Messages.{last_text, full_name};
 ghost use Rattle.irc_line.specs.PartViews.{written, sender, words_now};
 ghost use Rattle.irc_line.specs.MessageViews.{optional_now};
 
@@ -46,7 +47,8 @@ pub struct Parts<'a> {
     pub last: Option<&'a [u8]>,
 }
 
-/// Writes a message as a line with its CR LF. What goes past [`MAX_LINE`] bytes is cut off before them (our own choice).
+/// Writes a message as a line with its CR LF. What goes past [`MAX_LINE`] bytes is cut off before
+/// them (our own choice).
 pub fn write_message(parts: &Parts<'_>) -> Text
     ensures { result.items ≡ text (written parts.now) }
 {
@@ -59,10 +61,12 @@ pub fn write_message(parts: &Parts<'_>) -> Text
     line
 }
 
-/// Appends who sends a message as the front of a line: a colon, the name, a space (RFC 2812 section 2.3.1); nothing where nobody does.
+/// Appends who sends a message as the front of a line: a colon, the name, a space (RFC 2812 section
+/// 2.3.1); nothing where nobody does.
 pub fn push_prefix(line: &mut Text, prefix: &Prefix<'_>)
     requires { array_vec_len line.old ≤ MAX_LINE }
-    ensures pushed { line.new.items ≡ cut (line.old.items ++ prefix_text (prefix_of (sender prefix.now))) }
+    ensures pushed { line.new.items
+        ≡ cut (line.old.items ++ prefix_text (prefix_of (sender prefix.now))) }
     ensures still_cut { array_vec_len line.new ≤ MAX_LINE }
 {
     match prefix {
@@ -123,7 +127,8 @@ fn push_last(line: &mut Text, last: Option<&[u8]>)
 pub fn body(text: &Text) -> &[u8]
     ensures line { (line : List ℕ) → text.now.items ≡ line ++ crlf → result.now ≡ line }
     // Anything else is given whole.
-    ensures other { ((line : List ℕ) → text.now.items ≡ line ++ crlf → ⊥) → result.now ≡ text.now.items }
+    ensures other { ((line : List ℕ) → text.now.items ≡ line ++ crlf → ⊥)
+        → result.now ≡ text.now.items }
 {
     let bytes = text.as_slice();
     bytes.strip_suffix(LINE_END).unwrap_or(bytes)

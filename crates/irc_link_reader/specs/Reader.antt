@@ -1,19 +1,27 @@
 -- All that a server looks at when it reads a line of a link, and whom a line may be from.
 --
--- Servers form a tree, so a server and its users are behind just one link, and what is told of them comes by it alone. Three in a row:
+-- Servers form a tree, so a server and its users are behind just one link, and what is told of them
+-- comes by it alone. Three in a row:
 --
 --     a.net <-----> b.net <-----> c.net
 --      al            bo            cy
 --
 -- What b.net makes of lines that come by its link to a.net:
 --   `:al QUIT :x`          may come: al is a user of a.net, which is behind this link.
---   `:cy QUIT :x`          WrongDirection: cy is behind the other link. Were it taken, b.net would tell c.net that c.net's own user has left, and
---                          the two would no longer have the same room. A sound server never sends it, so nothing is mended by reading on.
---   `:bo QUIT :x`          WrongDirection: what b.net's own users do, b.net tells the others. So is `:b.net TOPIC #c :x`.
---   `:d.net TOPIC #c :x`   WrongDirection: nobody has told b.net of d.net, and a server is told of before it speaks.
---   `:zz QUIT :x`          may come, and means nothing. That nobody has this nickname is no fault of a.net: zz may have been taken out by the other
---                          side while the line was on its way. To close the link for it would be to lose links in the normal run of things.
---   `:9d QUIT :x`          is from nobody that could be looked for. It is let pass here, and is BadName once all else is right.
+-- `:cy QUIT :x` WrongDirection: cy is behind the other link. Were it taken, b.net would tell c.net
+-- that c.net's own user has left, and
+-- the two would no longer have the same room. A sound server never sends it, so nothing is mended
+-- by reading on.
+-- `:bo QUIT :x` WrongDirection: what b.net's own users do, b.net tells the others. So is `:b.net
+-- TOPIC #c :x`.
+-- `:d.net TOPIC #c :x` WrongDirection: nobody has told b.net of d.net, and a server is told of
+-- before it speaks.
+-- `:zz QUIT :x` may come, and means nothing. That nobody has this nickname is no fault of a.net: zz
+-- may have been taken out by the other
+-- side while the line was on its way. To close the link for it would be to lose links in the normal
+-- run of things.
+-- `:9d QUIT :x` is from nobody that could be looked for. It is let pass here, and is BadName once
+-- all else is right.
 use Rattle.std.specs.Prelude.{ℕ, Bool, true, false, Option, List, nat_eq, if◌then◌else◌}
 use Rattle.std.specs.List.{list_any}
 use Rattle.std.specs.Option.{option_map_or}
@@ -45,7 +53,8 @@ is_behind_link known link name = option_map_or (nat_eq link) (next_hop known nam
 -- whether a member of a channel is at home behind this link
 abbrev pub some_behind_link : Room → Known → ℕ → Channel → Bool
 some_behind_link room known link channel =
-    list_any (λ fold. option_map_or (is_behind_link known link) (home_under room fold) false) (keys channel.members)
+    list_any (λ fold. option_map_or (is_behind_link known link) (home_under room fold) false)
+    (keys channel.members)
 
 -- what a server knows when a line comes to it by this link
 abbrev pub reader_of : Room → Known → ℕ → Reader
@@ -54,11 +63,13 @@ reader_of room known link = record {
   is_far = is_behind_link known link;
   server = token_in known link;
   distance = distance_of known;
-  has_far = λ name. option_map_or (some_behind_link room known link) (row room.channels (key name)) false;
+  has_far =
+      λ name. option_map_or (some_behind_link room known link) (row room.channels (key name)) false;
 }
 
--- Whether a line from this name may come by this link. It may not where it is from a server that is not behind the link, be it known or
--- not, nor where it is from a user whose server is not; one from a nickname that nobody has may.
+-- Whether a line from this name may come by this link. It may not where it is from a server that is
+-- not behind the link, be it known or not, nor where it is from a user whose server is not; one
+-- from a nickname that nobody has may.
 abbrev pub may_come : Reader → List ℕ → Bool
 may_come reader name =
     if is_server name then reader.is_far name

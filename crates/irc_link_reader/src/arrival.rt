@@ -6,7 +6,8 @@ ghost use Rattle.irc_names.specs.Fold.{key};
 ghost use Rattle.irc_room.specs.Readers.{channel_at};
 ghost use Rattle.irc_room.specs.Effects.{needs_users};
 ghost use Rattle.irc_link_words.specs.declared.fault.WireFault.TheVariants.{WrongDirection};
-ghost use Rattle.irc_link_reader.specs.Loops.Readings.{are_there, has_home, is_far_user, is_member_far, reader};
+ghost use Rattle.irc_link_reader.specs.Loops.Readings.{are_there, has_home, is_far_user};
+ghost use Rattle.irc_link_reader.specs.Loops.Readings.{is_member_far, reader};
 ghost use Rattle.irc_link_reader.specs.Means.{if_there, is_distance_of};
 ghost use Rattle.irc_link_reader.specs.Reader.{may_come};
 

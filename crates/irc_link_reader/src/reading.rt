@@ -15,14 +15,17 @@ use irc_room::{Effect, Room};
 use irc_routes::Routes;
 use std::alloc::Global;
 
-/// What a line means that came by a link: the effects that it tells of. Where a nickname in it is nobody's, there are none.
+/// What a line means that came by a link: the effects that it tells of. Where a nickname in it is
+/// nobody's, there are none.
 ///
 /// # Errors
-/// In this order: [`WireFault::UnknownCommand`] where no line that tells of an effect has the command; [`WireFault::Parameters`] where there are too few
-/// or too many parameters, or one breaks its rule or limit; [`WireFault::BadToken`] where the number in it stands for no server;
-/// [`WireFault::WrongDirection`] where the server or user that it is from is not behind the link; [`WireFault::BadName`] where a word in the place of a
-/// name is none. [`WireFault::Memory`] where memory runs out, which takes a line that means something, or a MODE: it is never told in place of another
-/// line's fault.
+/// In this order: [`WireFault::UnknownCommand`] where no line that tells of an effect has the
+/// command; [`WireFault::Parameters`] where there are too few or too many parameters, or one breaks
+/// its rule or limit; [`WireFault::BadToken`] where the number in it stands for no server;
+/// [`WireFault::WrongDirection`] where the server or user that it is from is not behind the link;
+/// [`WireFault::BadName`] where a word in the place of a name is none. [`WireFault::Memory`] where
+/// memory runs out, which takes a line that means something, or a MODE: it is never told in place
+/// of another line's fault.
 pub fn read_effect(
     alloc: Global,
     message: &Message<'_>,
@@ -63,7 +66,8 @@ fn read_command(
     command: Command,
     message: &Message<'_>,
 ) -> Result<Option<Effect>, WireFault>
-    ensures { IsRead command at.entry (parsed message.now).prefix (parsed message.now).params result }
+    ensures { IsRead command at.entry (parsed message.now).prefix
+        (parsed message.now).params result }
 {
     let params = Params::new(message.params.as_slice());
     if let Command::Nick = command {

@@ -1,6 +1,7 @@
 //! Lines about a channel (RFC 2813 section 4).
 ghost use Rattle.std.specs.Prelude.{◌≡◌, Some, option_to_list};
-ghost use Rattle.irc_link_reader.specs.Loops.Readings.{IsChange, ReadsEffect, effects_counted, doer_or_fault, is_left_alone, reader};
+ghost use Rattle.irc_link_reader.specs.Loops.Readings.{IsChange, ReadsEffect, effects_counted};
+ghost use Rattle.irc_link_reader.specs.Loops.Readings.{doer_or_fault, is_left_alone, reader};
 ghost use Rattle.irc_link_reader.specs.Means.{join_line, kick_line, part_line, topic_line};
 
 use crate::arrival::{Arrival, expect_from, has_far, if_there};
@@ -113,8 +114,8 @@ pub(crate) fn read_doer(name: &[u8]) -> Result<By, WireFault>
     }
 }
 
-/// The change of a channel, where it counts: a user's if that is there, a server's if the channel has a
-/// member behind the link.
+/// The change of a channel, where it counts: a user's if that is there, a server's if the channel
+/// has a member behind the link.
 pub(crate) fn if_counts(at: Arrival<'_>, effect: Effect) -> Option<Effect>
     requires { IsChange effect }
     ensures { option_to_list result ≡ effects_counted (reader at.entry) effect }

@@ -2,8 +2,11 @@
 ghost use Rattle.std.specs.Prelude.{◌≡◌, ◌||◌, None, Some, IsOk, true};
 ghost use Rattle.std.specs.Str.{bytes_eq};
 ghost use Rattle.irc_line.specs.MessageViews.{optional_now};
-ghost use Rattle.irc_link_reader.specs.Loops.Readings.{IsNewcomer, IsUserMode, ReadsEffect, are_right, home_now, home_or_fault, introduction_of, reader};
-ghost use Rattle.irc_link_reader.specs.Means.{invite_line, is_itself_or_none, nick_line, quit_line, say_line};
+ghost use Rattle.irc_link_reader.specs.Loops.Readings.{IsNewcomer, IsUserMode, ReadsEffect};
+ghost use Rattle.irc_link_reader.specs.Loops.Readings.{are_right, home_now, home_or_fault};
+ghost use Rattle.irc_link_reader.specs.Loops.Readings.{introduction_of, reader};
+ghost use Rattle.irc_link_reader.specs.Means.{invite_line, is_itself_or_none, nick_line, quit_line};
+ghost use Rattle.irc_link_reader.specs.Means.{say_line};
 ghost use Rattle.irc_link_words.specs.Words.{with_i, without_i};
 
 use crate::arrival::{Arrival, expect_from, if_there, is_distance_of, server};

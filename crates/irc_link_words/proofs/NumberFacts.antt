@@ -11,18 +11,23 @@ use Rattle.irc_link_words.specs.Numbers.{begins_with_zero, is_number, max_number
 pub number-most : (digits : List ℕ) → is_number digits ≡ true → number_of digits ≤ 4294967295
 unfolding is_number
 number-most digits h =
-    let front = list_all is_ascii_digit digits && fits max_number_digits digits && not (begins_with_zero digits) in
-    let range : (nat_le 1 (number_of digits) && nat_le (number_of digits) max_number) ≡ true = second_so front _ h in
-    let most : nat_le (number_of digits) max_number ≡ true = second_so (nat_le 1 (number_of digits)) _ range in
+    let front = list_all is_ascii_digit digits && fits max_number_digits digits
+    && not (begins_with_zero digits) in
+    let range : (nat_le 1 (number_of digits) && nat_le (number_of digits) max_number) ≡ true =
+    second_so front _ h in
+    let most : nat_le (number_of digits) max_number ≡ true =
+    second_so (nat_le 1 (number_of digits)) _ range in
     grind (arith, nat_tests)
 
-pub number-digits : (digits : List ℕ) → is_number digits ≡ true → list_all is_ascii_digit digits ≡ true
+pub number-digits : (digits : List ℕ) → is_number digits ≡ true
+    → list_all is_ascii_digit digits ≡ true
 unfolding is_number
 number-digits digits h =
     let few = fits max_number_digits digits in
     let plain = not (begins_with_zero digits) in
     first_so (list_all is_ascii_digit digits) few
-    (first_so (list_all is_ascii_digit digits && few) plain (first_so (list_all is_ascii_digit digits && few && plain) _ h))
+    (first_so (list_all is_ascii_digit digits && few) plain
+    (first_so (list_all is_ascii_digit digits && few && plain) _ h))
 
 pub number-few : (digits : List ℕ) → is_number digits ≡ true → length digits ≤ 10
 unfolding is_number
@@ -30,7 +35,8 @@ number-few digits h =
     let few = fits max_number_digits digits in
     let plain = not (begins_with_zero digits) in
     let short : few ≡ true = second_so (list_all is_ascii_digit digits) few
-    (first_so (list_all is_ascii_digit digits && few) plain (first_so (list_all is_ascii_digit digits && few && plain) _ h)) in
+    (first_so (list_all is_ascii_digit digits && few) plain
+    (first_so (list_all is_ascii_digit digits && few && plain) _ h)) in
     grind (arith, nat_tests)
 
 pub ruleset number_facts = (number-digits, number-few, number-most)

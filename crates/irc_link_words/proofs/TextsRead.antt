@@ -1,5 +1,6 @@
 -- Texts and names that keep their limits are kept whole.
-use Rattle.std.proofs.Common.{◌≡◌, ◌≤◌, ℕ, true, not, ◌&&◌, if◌then◌else◌, List, [], ◌∷◌, length, map, refl, ◌∙◌, ap, arith}
+use Rattle.std.proofs.Common.{◌≡◌, ◌≤◌, ℕ, true, not, ◌&&◌, if◌then◌else◌, List, [], ◌∷◌, length}
+use Rattle.std.proofs.Common.{map, refl, ◌∙◌, ap, arith}
 use Rattle.std.specs.Cmp.{first_so, second_so}
 use Rattle.std.specs.List.{list_all}
 use Rattle.std.proofs.lemmas.Bool.Decides.{nat_tests}
@@ -24,7 +25,8 @@ pub ruleset words_whole = (words-whole)
 pub real-kept : (text : List ℕ) → fits max_real_name text ≡ true → cut_real text ≡ text
 real-kept text short = real-whole text (grind (arith, nat_tests))
 
-all-clean : (bytes : List ℕ) → list_all is_user_byte bytes ≡ true → map clean_user_byte bytes ≡ bytes
+all-clean : (bytes : List ℕ) → list_all is_user_byte bytes ≡ true
+    → map clean_user_byte bytes ≡ bytes
 all-clean [] so = refl
 all-clean (b ∷ bytes) so =
     ap (λ t. (if t then b else 95) ∷ map clean_user_byte bytes) (first_so (is_user_byte b) _ so)
@@ -37,6 +39,7 @@ user-kept word so =
     let clean = list_all is_user_byte word in
     let front = first_so (some && clean) _ so in
     let short : fits max_user_name word ≡ true = second_so (some && clean) _ so in
-    ap (map clean_user_byte) (take_all max_user_name word (grind (arith, nat_tests))) ∙ all-clean word (second_so some clean front)
+    ap (map clean_user_byte) (take_all max_user_name word (grind (arith, nat_tests)))
+    ∙ all-clean word (second_so some clean front)
 
 pub ruleset names_whole = (user-kept, real-kept)

@@ -1,4 +1,5 @@
--- Numbers in the lines of a link (RFC 2813 section 4.1.2): distances, and the tokens that stand for servers.
+-- Numbers in the lines of a link (RFC 2813 section 4.1.2): distances, and the tokens that stand for
+-- servers.
 use Rattle.std.specs.Prelude.{ℕ, Bool, false, not, ◌&&◌, List, [], ◌∷◌, nat_eq, nat_le}
 use Rattle.std.specs.List.{list_all}
 use Rattle.std.specs.Char.{is_ascii_digit}

@@ -4,7 +4,8 @@ use Rattle.std.specs.Borrow.{Bor}
 use Rattle.irc_link_words.specs.declared.fault.WireFault.{WireFault}
 use Rattle.irc_link_words.specs.declared.fault.WireFault.TheVariants.{Parameters}
 
--- what is taken of the parameters that are left, and the rest: the first of them, or the fault that there is none
+-- what is taken of the parameters that are left, and the rest: the first of them, or the fault that
+-- there is none
 abbrev pub IsNext : List (List ℕ) → Result (Bor (List ℕ)) WireFault → List (List ℕ) → Type 0
 IsNext left (Ok word) rest = left ≡ word.now ∷ rest
 IsNext left (Err Parameters) rest = (left ≡ []) × (rest ≡ [])

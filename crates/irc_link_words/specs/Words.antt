@@ -1,5 +1,7 @@
 -- The words of the lines of a link (RFC 2813 section 4).
-use Rattle.std.specs.Prelude.{ℕ, ◌-◌, Bool, true, false, not, ◌&&◌, ◌||◌, Option, Some, None, Result, Ok, Err, List, [], ◌∷◌, ◌++◌, codes, length, take, drop, map, nat_eq, if◌then◌else◌}
+use Rattle.std.specs.Prelude.{ℕ, ◌-◌, Bool, true, false, not, ◌&&◌, ◌||◌, Option, Some, None}
+use Rattle.std.specs.Prelude.{Result, Ok, Err, List, [], ◌∷◌, ◌++◌, codes, length, take, drop, map}
+use Rattle.std.specs.Prelude.{nat_eq, if◌then◌else◌}
 use Rattle.std.specs.List.{list_all, filter_map}
 use Rattle.std.specs.Char.{to_ascii_lowercase}
 use Rattle.std.specs.Cmp.Lexicographic.{pointwise}
@@ -44,7 +46,8 @@ is_come_mode word = bytes_eq word with_i || bytes_eq word no_mode
 
 -- ---- the channel of a JOIN
 
--- what stands behind the name for one that becomes an operator: the byte 7 and `o` (RFC 2813 section 4.2.1)
+-- what stands behind the name for one that becomes an operator: the byte 7 and `o` (RFC 2813
+-- section 4.2.1)
 abbrev pub op_mark : List ℕ
 op_mark = 7 ∷ codes "o"
 
@@ -112,10 +115,12 @@ parameters changes = filter_map (λ (c : ModeChange). c.word) changes
 
 -- whether a word can stand behind the letters, and be read as one word wherever it stands
 abbrev pub is_mode_word : List ℕ → Bool
-is_mode_word word = starts_without_colon word && list_all (λ b. not (is_space b)) word && fits max_mode_word word
+is_mode_word word =
+    starts_without_colon word && list_all (λ b. not (is_space b)) word && fits max_mode_word word
 
--- Whether a change has a word where its letter takes one, and that is a key, a limit from 1 on without leading zeros, or the mask of a ban, as
--- the letter wants it. Of o and v it is asked here only that there is a word.
+-- Whether a change has a word where its letter takes one, and that is a key, a limit from 1 on
+-- without leading zeros, or the mask of a ban, as the letter wants it. Of o and v it is asked here
+-- only that there is a word.
 abbrev pub keeps_word : ModeChange → Bool
 keeps_word c = if names_member c.letter then is_worded c else has_its_word c
 
@@ -126,11 +131,12 @@ names_nick c = if names_member c.letter then has_its_word c else true
 abbrev pub are_members_named : List ModeChange → Bool
 are_members_named changes = list_all names_nick changes
 
--- Whether words are what some changes are written as: the words of the changes that are read of them keep the rules of their letters, and
--- these changes are written as these words.
+-- Whether words are what some changes are written as: the words of the changes that are read of
+-- them keep the rules of their letters, and these changes are written as these words.
 abbrev pub are_changes : List (List ℕ) → Bool
 are_changes words =
-    list_all is_mode_word words && (list_all keeps_word (changes_of words) && pointwise bytes_eq (changes_written (changes_of words)) words)
+    list_all is_mode_word words && (list_all keeps_word (changes_of words)
+    && pointwise bytes_eq (changes_written (changes_of words)) words)
 
 -- the changes that words of a MODE tell of
 abbrev pub told_changes : List (List ℕ) → Option (List ModeChange)

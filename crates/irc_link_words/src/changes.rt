@@ -7,8 +7,10 @@ ghost use Rattle.std.specs.Str.{bytes_eq};
 ghost use Rattle.irc_line.specs.PartViews.{words_now};
 ghost use Rattle.irc_mode_words.specs.ModeViews.{asked};
 ghost use Rattle.irc_mode_words.specs.ModeWritten.{changes_written, letter_text, letters_text};
-ghost use Rattle.irc_link_words.specs.Loops.Changes.{Grew, IsKeptWord, behind_bytes, behind_word, bytes_left, if_written, words_left};
-ghost use Rattle.irc_link_words.specs.Words.{changes_of, is_mode_word, made, parameters, told_changes};
+ghost use Rattle.irc_link_words.specs.Loops.Changes.{Grew, IsKeptWord, behind_bytes, behind_word};
+ghost use Rattle.irc_link_words.specs.Loops.Changes.{bytes_left, if_written, words_left};
+ghost use Rattle.irc_link_words.specs.Words.{changes_of, is_mode_word, made, parameters};
+ghost use Rattle.irc_link_words.specs.Words.{told_changes};
 
 use crate::mode_parameters::keep_words;
 use crate::words::is_mode_word;
@@ -17,8 +19,9 @@ use irc_modes::ModeChange;
 use irc_room::ModeChanges;
 use std::alloc::{AllocError, Global};
 
-/// The changes that words tell of, where these are what the changes are written as, and the words of the changes keep the rules of their
-/// letters. Whether o and v name members by nicknames is not looked at.
+/// The changes that words tell of, where these are what the changes are written as, and the words
+/// of the changes keep the rules of their letters. Whether o and v name members by nicknames is not
+/// looked at.
 ///
 /// # Errors
 /// Where memory runs out.
@@ -93,7 +96,8 @@ fn push_made(changes: &mut Vec<ModeChange, Global>, item: ModeItem<'_>) -> Resul
     Ok(())
 }
 
-/// Whether a word is the letters of changes in order, with a sign before the first and wherever it differs from the one before.
+/// Whether a word is the letters of changes in order, with a sign before the first and wherever it
+/// differs from the one before.
 fn are_letters_of(changes: &[ModeChange], word: &[u8]) -> bool
     ensures { result ≡ bytes_eq (letters_text changes.now) word.now }
 {
@@ -109,7 +113,8 @@ fn are_letters_of(changes: &[ModeChange], word: &[u8]) -> bool
     used == word.len()
 }
 
-/// How many bytes of a word are used once a change has taken its sign and its letter, where these are the next of them.
+/// How many bytes of a word are used once a change has taken its sign and its letter, where these
+/// are the next of them.
 fn used_by_letter(
     sign: Option<bool>,
     change: &ModeChange,
@@ -117,7 +122,8 @@ fn used_by_letter(
     used: usize,
 ) -> Option<usize>
     requires { used ≤ length word.now }
-    ensures bytes { bytes_left word.now result ≡ behind_bytes (letter_text sign change.now) (drop used word.now) }
+    ensures bytes { bytes_left word.now result ≡ behind_bytes (letter_text sign change.now)
+        (drop used word.now) }
     ensures within { IfSome result (λ n. n ≤ length word.now) }
 {
     let signed = used_by_bytes(sign_text(sign, change.plus), word, used)?;
@@ -154,7 +160,8 @@ fn are_words_of(changes: &[ModeChange], words: &[&[u8]]) -> bool
 /// How many words are used once a change has taken its parameter, where that is the next of them.
 fn used_by(change: &ModeChange, words: &[&[u8]], used: usize) -> Option<usize>
     requires { used ≤ length words.now }
-    ensures words { words_left words.now result ≡ behind_word change.now.word (words_now (drop used words.now)) }
+    ensures words { words_left words.now result ≡ behind_word change.now.word
+        (words_now (drop used words.now)) }
     ensures within { IfSome result (λ n. n ≤ length words.now) }
 {
     match &change.word {
@@ -166,7 +173,8 @@ fn used_by(change: &ModeChange, words: &[&[u8]], used: usize) -> Option<usize>
 /// How many words are used once a parameter is taken, where that is the next of them.
 fn used_by_word(word: &[u8], words: &[&[u8]], used: usize) -> Option<usize>
     requires { used ≤ length words.now }
-    ensures words { words_left words.now result ≡ behind_word (Some word.now) (words_now (drop used words.now)) }
+    ensures words { words_left words.now result ≡ behind_word (Some word.now)
+        (words_now (drop used words.now)) }
     ensures within { IfSome result (λ n. n ≤ length words.now) }
 {
     if used == words.len() {

@@ -1,5 +1,6 @@
-//! The words of the lines of a link (RFC 2813 section 4): a cursor over them, and a reader for each kind of word, which gives what the
-//! word says or why the line is refused. Definitions are in `specs/`.
+//! The words of the lines of a link (RFC 2813 section 4): a cursor over them, and a reader for each
+//! kind of word, which gives what the word says or why the line is refused. Definitions are in
+//! `specs/`.
 #![tactic(auto)]
 
 mod changes;

@@ -2,7 +2,8 @@
 ghost use Rattle.std.specs.Prelude.{◌≡◌, Ok, Err, decimal, if◌then◌else◌};
 ghost use Rattle.std.specs.List.{list_all};
 ghost use Rattle.std.specs.Str.{bytes_eq};
-ghost use Rattle.irc_mode_words.specs.Readable.{has_its_word, has_parameter, is_parameter, is_written_limit};
+ghost use Rattle.irc_mode_words.specs.Readable.{has_its_word, has_parameter, is_parameter};
+ghost use Rattle.irc_mode_words.specs.Readable.{is_written_limit};
 ghost use Rattle.irc_link_words.specs.declared.fault.WireFault.TheVariants.{BadName};
 ghost use Rattle.irc_link_words.specs.Words.{are_members_named, keeps_word, names_nick};
 
@@ -41,7 +42,8 @@ fn names_nick(change: &ModeChange) -> bool
     }
 }
 
-/// Whether each change has a word where its letter takes one, by the rule of that letter; of o and v it is not asked whether it is a nickname.
+/// Whether each change has a word where its letter takes one, by the rule of that letter; of o and
+/// v it is not asked whether it is a nickname.
 pub(crate) fn keep_words(changes: &[ModeChange]) -> bool
     ensures { result ≡ list_all keeps_word changes.now }
 {

@@ -8,7 +8,9 @@ ghost use Rattle.irc_names.specs.Limits.{max_real_name};
 ghost use Rattle.irc_names.specs.Names.{fits, is_channel, is_host, is_nick, is_server};
 ghost use Rattle.irc_names.specs.UserTexts.{is_user_byte};
 ghost use Rattle.irc_link_words.specs.declared.fault.WireFault.TheVariants.{BadName, Parameters};
-ghost use Rattle.irc_link_words.specs.Words.{are_words, as_text, is_come_mode, is_command, is_for_channel, is_marked, is_mode_word, is_user_name, target_or_fault, unmarked, with_i, without_i};
+ghost use Rattle.irc_link_words.specs.Words.{are_words, as_text, is_come_mode, is_command};
+ghost use Rattle.irc_link_words.specs.Words.{is_for_channel, is_marked, is_mode_word, is_user_name};
+ghost use Rattle.irc_link_words.specs.Words.{target_or_fault, unmarked, with_i, without_i};
 
 use crate::WireFault;
 use irc_channels::Words;
@@ -21,7 +23,8 @@ use irc_names::{
 };
 use irc_room::Target;
 
-/// What stands behind the channel of a JOIN for one that becomes an operator (RFC 2813 section 4.2.1).
+/// What stands behind the channel of a JOIN for one that becomes an operator (RFC 2813 section
+/// 4.2.1).
 pub const OPERATOR_MARK: &[u8] = b"\x07o";
 
 /// Whether a word is a command, in any case of letters.
@@ -86,7 +89,8 @@ pub fn read_server(bytes: &[u8]) -> Result<ServerName, WireFault>
 /// Whom a text is for.
 ///
 /// # Errors
-/// [`WireFault::BadName`] where it is neither a nickname nor, if it begins with `#`, the name of a channel.
+/// [`WireFault::BadName`] where it is neither a nickname nor, if it begins with `#`, the name of a
+/// channel.
 pub fn read_target(bytes: &[u8]) -> Result<Target, WireFault>
     ensures { result ≡ target_or_fault bytes.now }
 {
@@ -117,7 +121,8 @@ pub fn read_words(bytes: &[u8]) -> Result<Words, WireFault>
 /// # Errors
 /// [`WireFault::Parameters`] where it is longer than [`MAX_LINE`] bytes.
 pub fn read_line(bytes: &[u8]) -> Result<Line, WireFault>
-    ensures { result ≡ (if fits max_line bytes.now then Ok (as_text bytes.now) else Err Parameters) }
+    ensures { result ≡ (if fits max_line bytes.now then Ok (as_text bytes.now)
+        else Err Parameters) }
 {
     if bytes.len() <= MAX_LINE {
         Ok(copied(bytes))
@@ -209,7 +214,8 @@ pub fn is_come_mode(word: &[u8]) -> bool
     is_with_i(word) || word == b"+".as_slice()
 }
 
-/// Whether a word can stand behind the letters of a MODE, and be read as one word wherever it stands.
+/// Whether a word can stand behind the letters of a MODE, and be read as one word wherever it
+/// stands.
 pub(crate) fn is_mode_word(word: &[u8]) -> bool
     ensures { result ≡ is_mode_word word.now }
 {

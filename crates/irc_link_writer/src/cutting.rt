@@ -7,7 +7,8 @@ ghost use Rattle.irc_link_writer.specs.Loops.Families.{head_text};
 
 use irc_line::{Text, push_cut};
 
-/// Appends what stands before the second parameter of a line about a channel; the command has a space before and behind it.
+/// Appends what stands before the second parameter of a line about a channel; the command has a
+/// space before and behind it.
 pub fn push_head(line: &mut Text, name: &[u8], command: &[u8], channel: &[u8])
     requires { line.old.items ≡ [] }
     ensures head { line.new.items ≡ cut (head_text name.now command.now channel.now) }

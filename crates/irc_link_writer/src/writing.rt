@@ -4,9 +4,12 @@ ghost use Rattle.irc_line.specs.MessageViews.{optional_now};
 ghost use Rattle.irc_line.specs.Messages.{text};
 ghost use Rattle.irc_line.specs.PartViews.{words_now};
 ghost use Rattle.irc_names.specs.Limits.{max_channel};
-ghost use Rattle.irc_link_writer.specs.Loops.Families.{IsOfUsers, introduced, written_invite, written_join, written_kick, written_user_mode};
+ghost use Rattle.irc_link_writer.specs.Loops.Families.{IsOfUsers, introduced, written_invite};
+ghost use Rattle.irc_link_writer.specs.Loops.Families.{written_join, written_kick};
+ghost use Rattle.irc_link_writer.specs.Loops.Families.{written_user_mode};
 ghost use Rattle.irc_link_words.specs.Words.{marked, with_i, without_i};
-ghost use Rattle.irc_link_writer.specs.Written.{by_name, from, introduction, next_distance, wire, written_token};
+ghost use Rattle.irc_link_writer.specs.Written.{by_name, from, introduction, next_distance, wire};
+ghost use Rattle.irc_link_writer.specs.Written.{written_token};
 
 use crate::mode_line::mode_line;
 use arrayvec::ArrayVec;
@@ -21,8 +24,9 @@ use itoa::Buffer;
 /// A channel's name, and room for what makes its first member an operator.
 type MarkedName = ArrayVec<u8, 52>;
 
-/// The line that tells the server at the other end of a link of an effect (RFC 2813 section 4). It is the same for every link. It is to be written
-/// before the effect is applied. It takes no memory.
+/// The line that tells the server at the other end of a link of an effect (RFC 2813 section 4). It
+/// is the same for every link. It is to be written before the effect is applied. It takes no
+/// memory.
 pub fn write_effect(effect: &Effect, room: &Room, routes: &Routes, link: u64) -> Text
     ensures { result.items ≡ text (wire room.now.room routes.now effect.now) }
 {
@@ -117,7 +121,8 @@ fn by_name<'a>(room: &'a Room, routes: &'a Routes, by: &'a By) -> &'a [u8]
 
 /// A line from a nickname or from a server.
 fn line(name: &[u8], command: &[u8], middle: &[&[u8]], last: Option<&[u8]>) -> Text
-    ensures { result.items ≡ text (from name.now command.now (words_now middle.now) (optional_now last.entry)) }
+    ensures { result.items ≡ text
+        (from name.now command.now (words_now middle.now) (optional_now last.entry)) }
 {
     write_message(&Parts {
         prefix: Prefix::Name(name),
@@ -165,7 +170,8 @@ fn kick_line<'a>(
     nick: &'a Nick,
     words: &[u8],
 ) -> Text
-    ensures { result.items ≡ text (written_kick room.now.room by.now channel.now nick.now words.now) }
+    ensures { result.items ≡ text
+        (written_kick room.now.room by.now channel.now nick.now words.now) }
 {
     line(
         room.stored_nick(by.as_bytes()),

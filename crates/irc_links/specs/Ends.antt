@@ -3,8 +3,8 @@ use Rattle.std.specs.Prelude.{ℕ, Bool, is_some, Option, None, List}
 use Rattle.std.specs.Ordering.{nat_cmp}
 use Rattle.std.specs.FinMap.{FinMap}
 
--- the end of an open link: the peer that is called, where it is the end that calls; the password that it was given; the name of the server at
--- the other end, once that has told it
+-- the end of an open link: the peer that is called, where it is the end that calls; the password
+-- that it was given; the name of the server at the other end, once that has told it
 pub record End : Type 0 where
   pub starts : Option (List ℕ)
   pub password : Option (List ℕ)

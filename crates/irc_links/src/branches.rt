@@ -6,14 +6,16 @@ ghost use Rattle.irc_names.specs.Fold.{key};
 ghost use Rattle.irc_room.specs.Readers.{home_under};
 ghost use Rattle.irc_routes.specs.Known.{next_hop};
 ghost use Rattle.irc_links.specs.Ways.{homes_of};
-ghost use Rattle.irc_links.specs.Loops.Branching.{Added, AreBranches, hops_of, is_of, link_toward, links_of};
+ghost use Rattle.irc_links.specs.Loops.Branching.{Added, AreBranches, hops_of, is_of, link_toward};
+ghost use Rattle.irc_links.specs.Loops.Branching.{links_of};
 
 use irc_names::{ChannelName, Nick};
 use irc_room::Room;
 use irc_routes::Routes;
 use std::alloc::{AllocError, Global};
 
-/// The links behind which a member is of the channel that something was said in last: so a text does not walk the servers of the members.
+/// The links behind which a member is of the channel that something was said in last: so a text
+/// does not walk the servers of the members.
 #[derive(Drop)]
 pub(crate) struct Branches {
     /// The channel; none once a user, a channel or a server has changed.
@@ -61,7 +63,8 @@ impl Branches {
         channel: &ChannelName,
     ) -> Result<(), AllocError>
         requires { AreBranches self.old room.now.room routes.now }
-        ensures found { OnOk result (self.new.links.items ≡ links_of room.now.room routes.now channel.now) }
+        ensures found { OnOk result
+            (self.new.links.items ≡ links_of room.now.room routes.now channel.now) }
         ensures so { OnOk result (AreBranches self.new room.now.room routes.now) }
     {
         if self.are_of(channel) {

@@ -1,11 +1,13 @@
-//! The ends of a server's links. What an end knows of the other, by the two lines with which that begins (RFC 2813 section 4.1):
+//! The ends of a server's links. What an end knows of the other, by the two lines with which that
+//! begins (RFC 2813 section 4.1):
 //!
 //! ```text
 //! Fresh  --- PASS --->  PasswordKnown  --- SERVER --->  Met: the link counts
 //! ```
 //!
-//! The end that calls writes its own two as the link is opened, and the end that is called as that SERVER comes. Until a link counts, an empty line is
-//! nothing, and any other line closes it, as does a SERVER of one that may not link.
+//! The end that calls writes its own two as the link is opened, and the end that is called as that
+//! SERVER comes. Until a link counts, an empty line is nothing, and any other line closes it, as
+//! does a SERVER of one that may not link.
 ghost use Rattle.std.specs.Prelude.{◌≡◌, Some};
 ghost use Rattle.std.specs.Option.{option_copied};
 ghost use Rattle.irc_links.specs.Ends.{fresh_end, is_met};
@@ -46,7 +48,11 @@ impl Model for LinkEnd {
 
     ghost Value = { End };
 
-    ghost view = { λ e. record { starts = e.starts; password = password_in e.handshake; far = far_in e.handshake } };
+    ghost view = { λ e. record {
+      starts = e.starts;
+      password = password_in e.handshake;
+      far = far_in e.handshake;
+    } };
 }
 
 impl LinkEnd {

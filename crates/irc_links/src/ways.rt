@@ -1,7 +1,8 @@
 //! On which links a line goes.
 ghost use Rattle.std.specs.Prelude.{◌≡◌, ◌++◌, option_to_list, OnOk};
 ghost use Rattle.irc_links.specs.Ways.{but};
-ghost use Rattle.irc_links.specs.Loops.Branching.{Added, IsRight, KnowsNothing, but_met, but_toward, toward_members, ways_around};
+ghost use Rattle.irc_links.specs.Loops.Branching.{Added, IsRight, KnowsNothing, but_met};
+ghost use Rattle.irc_links.specs.Loops.Branching.{but_toward, toward_members, ways_around};
 
 use crate::branches::{Branches, toward};
 use crate::link_end::LinkEnd;
@@ -77,7 +78,8 @@ impl Ways {
         effect: &Effect,
     ) -> Result<(), AllocError>
         requires { IsRight self.old around }
-        ensures found { OnOk result (self.new.links.items ≡ ways_around around.entry arrival effect.now) }
+        ensures found { OnOk result
+            (self.new.links.items ≡ ways_around around.entry arrival effect.now) }
         ensures so { OnOk result (IsRight self.new around.entry) }
     {
         self.links.clear();
@@ -104,7 +106,8 @@ impl Ways {
     ) -> Result<(), AllocError>
         requires { IsRight self.old around }
         ensures found { OnOk result
-            (self.new.links.items ≡ self.old.links.items ++ but arrival (toward_members around.entry channel.now)) }
+            (self.new.links.items ≡ self.old.links.items
+            ++ but arrival (toward_members around.entry channel.now)) }
         ensures so { OnOk result (IsRight self.new around.entry) }
     {
         self.branches.refresh(around.room, around.routes, channel)?;

@@ -10,7 +10,9 @@ use Rattle.irc_acts.specs.MoveLaws.{moves_keep_users}
 use Rattle.irc_membership.specs.Loops.KickList.{member_at}
 
 -- one that has flags there is the user that the room has had all along
-pub member_is : (room : Room) (acts : List Act) (nick channel : List ℕ) → AreMoves room acts → is_some (flags_at (ahead room acts) nick channel) ≡ true
+pub member_is : (room : Room) (acts : List Act) (nick channel : List ℕ)
+    → AreMoves room acts → is_some (flags_at (ahead room acts) nick channel) ≡ true
     → member_at (ahead room acts) nick channel ≡ row room.users nick
 member_is room acts nick channel moves is =
-    ap (λ b. cond b (row (ahead room acts).users nick) None) is ∙ ap (λ users. row users nick) (moves_keep_users room acts moves)
+    ap (λ b. cond b (row (ahead room acts).users nick) None) is
+    ∙ ap (λ users. row users nick) (moves_keep_users room acts moves)

@@ -17,7 +17,8 @@ use Rattle.irc_membership.specs.Part.{part_one}
 use Rattle.irc_membership.specs.Laws.PartLaw.{found_so}
 
 -- the steps so far, and those of one channel more, let members leave and nothing else
-pub leaves_more : (me : User) (text : List ℕ) (room : Room) (before acts : List Act) (name : List ℕ) (new : List Act) → IsWellFormed room → AreLeaves room before
+pub leaves_more : (me : User) (text : List ℕ) (room : Room) (before acts : List Act)
+    (name : List ℕ) (new : List Act) → IsWellFormed room → AreLeaves room before
     → part_one me text (ahead room before) name ≡ acts → new ≡ before ++ acts → AreLeaves room new
 leaves_more me text room before acts name new well leaves_before served new_is =
     let now = ahead room before in
@@ -26,7 +27,8 @@ leaves_more me text room before acts name new well leaves_before served new_is =
     (subst (λ (steps : List Act). EachInTurn IsLeave now (effects_among steps)) served
     (found_so IsLeave me text now name (record {
       leaves_it = λ channel is member.
-          ap (λ fold. option_map_or (has_member (key me.nick)) (row now.channels fold) false) (leaves_keep_names name room before well leaves_before channel is)
+          ap (λ fold. option_map_or (has_member (key me.nick)) (row now.channels fold) false)
+          (leaves_keep_names name room before well leaves_before channel is)
           ∙ ap (λ o. option_map_or (has_member (key me.nick)) o false) is
           ∙ member;
     }) (row now.channels (key name)) refl)))

@@ -1,12 +1,15 @@
 -- KICK.
-use Rattle.std.specs.Prelude.{ℕ, not, is_some, Option, Some, None, List, [], ◌∷◌, codes, length, map, nat_eq, if◌then◌else◌}
+use Rattle.std.specs.Prelude.{ℕ, not, is_some, Option, Some, None, List, [], ◌∷◌, codes, length}
+use Rattle.std.specs.Prelude.{map, nat_eq, if◌then◌else◌}
 use Rattle.irc_names.specs.Fold.{key}
 use Rattle.irc_names.specs.Tables.{Table, row}
 use Rattle.irc_users.specs.declared.user.User.{User}
 use Rattle.irc_channels.specs.declared.flags.Flags.{Flags}
 use Rattle.irc_channels.specs.declared.channel.Channel.{Channel}
 use Rattle.irc_channels.specs.Channels.{has_member}
-use Rattle.irc_numerics.specs.declared.replies.Reply.TheVariants.{NeedMoreParams, NoSuchChannel, UserNotInChannel, NotOnChannel, ChanOPrivsNeeded}
+use Rattle.irc_numerics.specs.declared.replies.Reply.TheVariants.{NeedMoreParams, NoSuchChannel}
+use Rattle.irc_numerics.specs.declared.replies.Reply.TheVariants.{UserNotInChannel, NotOnChannel}
+use Rattle.irc_numerics.specs.declared.replies.Reply.TheVariants.{ChanOPrivsNeeded}
 use Rattle.irc_room.specs.effect.Effect.TheVariants.{Kick}
 use Rattle.irc_room.specs.Room.{Room}
 use Rattle.irc_acts.specs.declared.act.Act.{Act}
@@ -33,14 +36,17 @@ paired [] nicks = []
 paired (channel ∷ channels) [] = []
 paired (channel ∷ channels) (nick ∷ nicks) = kicking channel nick ∷ paired channels nicks
 
--- One channel is meant for all the nicknames; else there have to be as many channels as nicknames (RFC 2812 section 3.2.8).
+-- One channel is meant for all the nicknames; else there have to be as many channels as nicknames
+-- (RFC 2812 section 3.2.8).
 abbrev pub kicks_asked : List (List ℕ) → List (List ℕ) → Option (List Kicking)
 kicks_asked (channel ∷ []) nicks = Some (map (kicking channel) nicks)
-kicks_asked channels nicks = if nat_eq (length channels) (length nicks) then Some (paired channels nicks) else None
+kicks_asked channels nicks =
+    if nat_eq (length channels) (length nicks) then Some (paired channels nicks) else None
 
 -- the user of a nickname, where it is a member of a channel
 abbrev pub member_named : Table User → Channel → List ℕ → Option User
-member_named users channel nick = if has_member (key nick) channel then row users (key nick) else None
+member_named users channel nick = if has_member (key nick) channel then row users (key nick)
+    else None
 
 -- why a user may not kick from the channel of this name, by its flags there, if it is a member
 abbrev pub kick_refusals : List ℕ → Option Flags → List Refusal
@@ -49,7 +55,8 @@ kick_refusals name flags =
     ∷ where_so (not (is_operator flags)) (ChanOPrivsNeeded name)
     ∷ []
 
--- the member of a nickname is kicked from the channel of this name; where there is none, the nickname is repeated as it was given
+-- the member of a nickname is kicked from the channel of this name; where there is none, the
+-- nickname is repeated as it was given
 abbrev pub kicks : User → List ℕ → List ℕ → List ℕ → Option User → List Act
 kicks me text name nick None = Answer (UserNotInChannel (client_words nick) name) ∷ []
 kicks me text name nick (Some member) = Do (Kick me.nick name member.nick text) ∷ []
@@ -63,7 +70,8 @@ kicks_found users me text asked (Some channel) =
 
 -- one entry of the list, in the room as those before it leave it
 abbrev pub kick_one : User → List ℕ → Room → Kicking → List Act
-kick_one me text room asked = kicks_found room.users me text asked (row room.channels (key asked.channel))
+kick_one me text room asked =
+    kicks_found room.users me text asked (row room.channels (key asked.channel))
 
 -- one after another; lists that do not fit each other are too few parameters (our own choice)
 abbrev pub kick_all : User → List ℕ → Room → Option (List Kicking) → List Act
@@ -72,9 +80,12 @@ kick_all me text room (Some asked) = in_turn (kick_one me text) room asked
 
 -- the nicknames of a comma list from the channels of another
 abbrev pub kick_lists : Room → User → List ℕ → List ℕ → List ℕ → List Act
-kick_lists room me text channels nicks = kick_all me text room (kicks_asked (entries channels) (entries nicks))
+kick_lists room me text channels nicks =
+    kick_all me text room (kicks_asked (entries channels) (entries nicks))
 
--- What a KICK of a list of nicknames from a list of channels does (RFC 2812 section 3.2.8): of both the empty entries are skipped before
--- anything is counted. The parameter behind them is the text, and the nickname of who kicks stands for it where it is absent or empty.
+-- What a KICK of a list of nicknames from a list of channels does (RFC 2812 section 3.2.8): of both
+-- the empty entries are skipped before anything is counted. The parameter behind them is the text,
+-- and the nickname of who kicks stands for it where it is absent or empty.
 unfoldable pub kick_steps : Room → User → List ℕ → List ℕ → List (List ℕ) → List Act
-kick_steps room me channels nicks more = kick_lists room me (reason_given more me.nick) channels nicks
+kick_steps room me channels nicks more =
+    kick_lists room me (reason_given more me.nick) channels nicks

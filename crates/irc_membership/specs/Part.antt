@@ -19,7 +19,8 @@ use Rattle.irc_acts.specs.Words.{reason_given}
 abbrev pub left_by : User → List ℕ → List ℕ → Option Channel → List Act
 left_by me text name None = Answer (NoSuchChannel (client_words name)) ∷ []
 left_by me text name (Some channel) =
-    if has_member (key me.nick) channel then Do (Part me.nick channel.name text) ∷ [] else Answer (NotOnChannel channel.name) ∷ []
+    if has_member (key me.nick) channel then Do (Part me.nick channel.name text) ∷ []
+    else Answer (NotOnChannel channel.name) ∷ []
 
 -- one name of the list, in the room as those before it leave it
 abbrev pub part_one : User → List ℕ → Room → List ℕ → List Act
@@ -29,7 +30,7 @@ part_one me text room name = left_by me text name (row room.channels (key name))
 abbrev pub part_list : Room → User → List ℕ → List ℕ → List Act
 part_list room me text list = in_turn (part_one me text) room (entries list)
 
--- What a PART of a list of channels does (RFC 2812 section 3.2.2): the parameter behind it is the text, and the nickname stands for it where it
--- is absent or empty.
+-- What a PART of a list of channels does (RFC 2812 section 3.2.2): the parameter behind it is the
+-- text, and the nickname stands for it where it is absent or empty.
 unfoldable pub part_steps : Room → User → List ℕ → List (List ℕ) → List Act
 part_steps room me list more = part_list room me (reason_given more me.nick) list

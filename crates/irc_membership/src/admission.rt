@@ -10,7 +10,8 @@ use irc_modes::Key;
 use irc_numerics::Reply;
 use irc_users::User;
 
-/// Why a user is kept out of a channel that it asks for with a key, if it is (RFC 2811 sections 4.2.2, 4.2.9, 4.2.10 and 4.3.1).
+/// Why a user is kept out of a channel that it asks for with a key, if it is (RFC 2811 sections
+/// 4.2.2, 4.2.9, 4.2.10 and 4.3.1).
 pub(crate) fn kept_out(me: &User, given: &[u8], channel: &Channel) -> Option<Act>
     ensures { result ≡ kept_out me.now given.now channel.now }
 {

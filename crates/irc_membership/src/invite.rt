@@ -3,8 +3,10 @@ ghost use Rattle.std.specs.Prelude.{◌≡◌, None};
 ghost use Rattle.irc_room.specs.effect.Effect.TheVariants.{Invite};
 ghost use Rattle.irc_acts.specs.Refusing.{first_refusal};
 ghost use Rattle.irc_acts.specs.Steps.{by_room, Yields};
-ghost use Rattle.irc_membership.specs.Invite.{invite_refusals, invite_steps, invites, invites_found, invites_there};
-ghost use Rattle.irc_membership.specs.Laws.InviteDoes.{InviteDoes, InviteIsPossible, InviteLooksAtNoInvitation};
+ghost use Rattle.irc_membership.specs.Invite.{invite_refusals, invite_steps, invites};
+ghost use Rattle.irc_membership.specs.Invite.{invites_found, invites_there};
+ghost use Rattle.irc_membership.specs.Laws.InviteDoes.{InviteDoes, InviteIsPossible};
+ghost use Rattle.irc_membership.specs.Laws.InviteDoes.{InviteLooksAtNoInvitation};
 ghost use Rattle.irc_membership.specs.Laws.InviteSendable.{InviteIsSendable};
 ghost use Rattle.irc_membership.specs.Laws.InviteLaw.{InviteIsOwn};
 
@@ -57,7 +59,8 @@ fn invite_to(
     }
 }
 
-/// Why a user may not invite another to a channel. Where mode i is set only an operator does (RFC 2811 section 4.2.2).
+/// Why a user may not invite another to a channel. Where mode i is set only an operator does (RFC
+/// 2811 section 4.2.2).
 fn refusal(me: &User, other: &User, channel: &Channel) -> Option<Reply>
     ensures { result ≡ first_refusal (invite_refusals me.now other.now channel.now) }
 {
@@ -78,7 +81,8 @@ fn refusal(me: &User, other: &User, channel: &Channel) -> Option<Reply>
     }
 }
 
-/// What inviting a user to a channel that is not there does: it is told, with the name as it was given, and not kept.
+/// What inviting a user to a channel that is not there does: it is told, with the name as it was
+/// given, and not kept.
 fn invite_elsewhere(
     context: &Context<'_>,
     other: &User,

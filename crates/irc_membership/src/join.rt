@@ -6,10 +6,12 @@ ghost use Rattle.irc_channels.specs.Channels.{has_member};
 ghost use Rattle.irc_room.specs.Effects.{is_member};
 ghost use Rattle.irc_acts.specs.Steps.{by_room, AddsTo, Yields};
 ghost use Rattle.irc_acts.specs.Moves.{AreOwnJoins, own_channels};
-ghost use Rattle.irc_membership.specs.Join.{is_zero, join_list, join_steps, joiner_topic, leave_each, leaves};
+ghost use Rattle.irc_membership.specs.Join.{is_zero, join_list, join_steps, joiner_topic};
+ghost use Rattle.irc_membership.specs.Join.{leave_each, leaves};
 ghost use Rattle.irc_membership.specs.Laws.JoinLaw.{JoinIsOwnOrLeaves, LeavingAllIsOwn};
 ghost use Rattle.irc_membership.specs.Laws.JoinDoes.{JoinDoes, JoinLooksAtOwnInvitations};
-ghost use Rattle.irc_membership.specs.Loops.JoinList.{is_in_ahead, Enters, IsNextKey, JoinsFound, JoinsOne, JoinsThere};
+ghost use Rattle.irc_membership.specs.Loops.JoinList.{is_in_ahead, Enters, IsNextKey, JoinsFound};
+ghost use Rattle.irc_membership.specs.Loops.JoinList.{JoinsOne, JoinsThere};
 
 use crate::MAX_JOINED;
 use crate::admission::kept_out;
@@ -26,7 +28,8 @@ use irc_tables::Row;
 use irc_users::User;
 use std::alloc::{AllocError, Global};
 
-/// What a JOIN of a comma list of channels does, with a comma list of keys, which is empty where none is given (RFC 2812 section 3.2.1).
+/// What a JOIN of a comma list of channels does, with a comma list of keys, which is empty where
+/// none is given (RFC 2812 section 3.2.1).
 ///
 /// # Errors
 /// Where memory runs out.
@@ -52,7 +55,8 @@ fn is_zero(list: &[u8]) -> bool
     list == b"0".as_slice()
 }
 
-/// A Part of each channel that the user is in, with its nickname as the text. No other channel is looked at.
+/// A Part of each channel that the user is in, with its nickname as the text. No other channel is
+/// looked at.
 fn leave_each(context: &Context<'_>) -> Result<Vec<Act, Global>, AllocError>
     ensures { Yields result (by_room context.now leave_each) }
 {
@@ -230,7 +234,8 @@ fn put_topic(steps: &mut Vec<Act, Global>, channel: &Channel) -> Result<(), Allo
     put(steps, Act::Answer(Reply::Topic { channel, topic }))
 }
 
-/// A law: each effect of a JOIN is its user's own, in the room that those before it have left, or the user leaves all its channels.
+/// A law: each effect of a JOIN is its user's own, in the room that those before it have left, or
+/// the user leaves all its channels.
 pub fn is_own_or_leaves()
     ensures { JoinIsOwnOrLeaves }
 {}

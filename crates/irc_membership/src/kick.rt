@@ -6,10 +6,12 @@ ghost use Rattle.irc_acts.specs.Moves.{AreLeaves};
 ghost use Rattle.irc_acts.specs.Refusing.{first_refusal};
 ghost use Rattle.irc_acts.specs.Steps.{by_room, Yields};
 ghost use Rattle.irc_membership.specs.Kick.{kick_lists, kick_refusals, kick_steps, kicking};
-ghost use Rattle.irc_membership.specs.Laws.KickDoes.{KickDoes, KickIsPossible, KickLooksAtNoInvitation};
+ghost use Rattle.irc_membership.specs.Laws.KickDoes.{KickDoes, KickIsPossible};
+ghost use Rattle.irc_membership.specs.Laws.KickDoes.{KickLooksAtNoInvitation};
 ghost use Rattle.irc_membership.specs.Laws.KickSendable.{KickIsSendable};
 ghost use Rattle.irc_membership.specs.Laws.KickLaw.{KickIsOwn};
-ghost use Rattle.irc_membership.specs.Loops.KickList.{kick_list, member_ahead, IsKick, IsKickAhead, IsNextKick};
+ghost use Rattle.irc_membership.specs.Loops.KickList.{kick_list, member_ahead, IsKick, IsKickAhead};
+ghost use Rattle.irc_membership.specs.Loops.KickList.{IsNextKick};
 
 use irc_acts::ahead::{self, know_well_formed};
 use irc_acts::comma_lists::{entry_count, next_entry};
@@ -24,8 +26,8 @@ use irc_room::{Effect, Room};
 use irc_users::User;
 use std::alloc::{AllocError, Global};
 
-/// What a KICK of a comma list of nicknames from a comma list of channels does (RFC 2812 section 3.2.8); the first parameter behind them is
-/// the text.
+/// What a KICK of a comma list of nicknames from a comma list of channels does (RFC 2812 section
+/// 3.2.8); the first parameter behind them is the text.
 ///
 /// # Errors
 /// Where memory runs out.

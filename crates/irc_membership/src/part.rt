@@ -16,7 +16,8 @@ use irc_channels::Words;
 use irc_room::Effect;
 use std::alloc::{AllocError, Global};
 
-/// What a PART of a comma list of channels does (RFC 2812 section 3.2.2); the first parameter behind it is the text.
+/// What a PART of a comma list of channels does (RFC 2812 section 3.2.2); the first parameter
+/// behind it is the text.
 ///
 /// # Errors
 /// Where memory runs out.

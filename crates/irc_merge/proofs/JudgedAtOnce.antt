@@ -1,5 +1,7 @@
--- The members of one line, judged one after another or all at the start: it is the same where none stands twice.
-use Rattle.std.proofs.Common.{◌≡◌, ℕ, Bool, true, false, cond, not, ◌&&◌, Option, Some, None, List, [], ◌∷◌, refl, sym, ◌∙◌, ap, filter, is_some}
+-- The members of one line, judged one after another or all at the start: it is the same where none
+-- stands twice.
+use Rattle.std.proofs.Common.{◌≡◌, ℕ, Bool, true, false, cond, not, ◌&&◌, Option, Some, None, List}
+use Rattle.std.proofs.Common.{[], ◌∷◌, refl, sym, ◌∙◌, ap, filter, is_some}
 use Rattle.std.specs.List.{list_any}
 use Rattle.std.specs.Prelude.{unwrap_or}
 use Rattle.std.specs.Cmp.Lexicographic.{bytes_decides}
@@ -28,11 +30,13 @@ two_folds : (one other : List ℕ) → same one other ≡ false → same_fold (k
 two_folds one other two = by_test (same_fold (key other) (key one)) refl
   where
     by_test : (b : Bool) → same_fold (key other) (key one) ≡ b → b ≡ false
-    by_test true is = not_true (sym two ∙ (bytes_decides (key one) (key other)).1 (sym (one_fold (key other) (key one) is)))
+    by_test true is = not_true (sym two
+        ∙ (bytes_decides (key one) (key other)).1 (sym (one_fold (key other) (key one) is)))
     by_test false none = refl
 
 -- whether one is a member does not change when another comes
-comes_same : (name q fold : List ℕ) (flags : Flags) (x : Option Channel) → same_fold q fold ≡ false → row_has q (comes_to name fold flags x) ≡ row_has q x
+comes_same : (name q fold : List ℕ) (flags : Flags) (x : Option Channel) → same_fold q fold ≡ false
+    → row_has q (comes_to name fold flags x) ≡ row_has q x
 comes_same name q fold flags x two =
     ap is_some (row-alter fold (λ _. Some flags) (unwrap_or x (new_channel name)).members q)
     ∙ ap (λ b. is_some (cond b (Some flags) (row (unwrap_or x (new_channel name)).members q))) two
@@ -44,18 +48,24 @@ comes_same name q fold flags x two =
 
 module _ (far : List ℕ → Bool) (channel : List ℕ) where
   still_new : (room : Room) (member other : List ℕ × Flags) → same member.0 other.0 ≡ false
-      → is_new_member far (alter_channel channel (comes_to channel (key member.0) member.1) room) channel other ≡ is_new_member far room channel other
+      → is_new_member far (alter_channel channel (comes_to channel (key member.0) member.1) room)
+      channel other ≡ is_new_member far room channel other
   still_new room member other two =
       ap (λ b. home_passes far room.users (key other.0) && not b)
-      (ap (row_has (key other.0)) (row-alter_same (key channel) (comes_to channel (key member.0) member.1) room.channels)
-      ∙ comes_same channel (key other.0) (key member.0) member.1 (row room.channels (key channel)) (two_folds member.0 other.0 two))
+      (ap (row_has (key other.0))
+      (row-alter_same (key channel) (comes_to channel (key member.0) member.1) room.channels)
+      ∙ comes_same channel (key other.0) (key member.0) member.1 (row room.channels (key channel))
+      (two_folds member.0 other.0 two))
 
-  all_still : (room : Room) (member : List ℕ × Flags) (members : List (List ℕ × Flags)) → list_any (λ (other : List ℕ × Flags). same member.0 other.0) members ≡ false
-      → filter (is_new_member far (alter_channel channel (comes_to channel (key member.0) member.1) room) channel) members ≡ filter (is_new_member far room channel) members
+  all_still : (room : Room) (member : List ℕ × Flags) (members : List (List ℕ × Flags))
+      → list_any (λ (other : List ℕ × Flags). same member.0 other.0) members ≡ false → filter
+      (is_new_member far (alter_channel channel (comes_to channel (key member.0) member.1) room)
+      channel) members ≡ filter (is_new_member far room channel) members
   all_still room member [] apart = refl
   all_still room member (other ∷ members) apart =
       let parts = neither _ _ apart in
-      λ i. cond (still_new room member other parts.0 i) (other ∷ all_still room member members parts.1 i) (all_still room member members parts.1 i)
+      λ i. cond (still_new room member other parts.0 i) (other
+      ∷ all_still room member members parts.1 i) (all_still room member members parts.1 i)
 
   at_once : (members : List (List ℕ × Flags)) (room : Room) → no_member_twice members ≡ true
       → new_members far room channel members ≡ filter (is_new_member far room channel) members
@@ -63,17 +73,23 @@ module _ (far : List ℕ → Bool) (channel : List ℕ) where
   at_once (member ∷ members) room distinct =
       let parts = not_and _ _ distinct in
       by_test (is_new_member far room channel member) refl parts.0
-      (at_once members (alter_channel channel (comes_to channel (key member.0) member.1) room) parts.1) (at_once members room parts.1)
+      (at_once members (alter_channel channel (comes_to channel (key member.0) member.1) room)
+      parts.1) (at_once members room parts.1)
     where
-      by_test : (b : Bool) → is_new_member far room channel member ≡ b → list_any (λ (other : List ℕ × Flags). same member.0 other.0) members ≡ false
-          → new_members far (alter_channel channel (comes_to channel (key member.0) member.1) room) channel members
-          ≡ filter (is_new_member far (alter_channel channel (comes_to channel (key member.0) member.1) room) channel) members
+      by_test : (b : Bool) → is_new_member far room channel member ≡ b → list_any
+          (λ (other : List ℕ × Flags). same member.0 other.0) members ≡ false → new_members far
+          (alter_channel channel (comes_to channel (key member.0) member.1) room) channel members
+          ≡ filter (is_new_member far (alter_channel channel
+          (comes_to channel (key member.0) member.1) room) channel) members
           → new_members far room channel members ≡ filter (is_new_member far room channel) members
-          → cond b (member ∷ new_members far (after_all room (member_comes channel member)) channel members) (new_members far room channel members)
-          ≡ cond b (member ∷ filter (is_new_member far room channel) members) (filter (is_new_member far room channel) members)
+          → cond b (member ∷ new_members far (after_all room (member_comes channel member)) channel
+          members) (new_members far room channel members)
+          ≡ cond b (member ∷ filter (is_new_member far room channel) members)
+          (filter (is_new_member far room channel) members)
       by_test true new apart more less =
           ap (λ r. member ∷ new_members far r channel members)
-          (comes channel member room ((and_not (home_passes far room.users (key member.0)) (is_member room member.0 channel) new).1))
+          (comes channel member room ((and_not (home_passes far room.users (key member.0))
+          (is_member room member.0 channel) new).1))
           ∙ ap (λ ms. member ∷ ms) (more ∙ all_still room member members apart)
       by_test false old apart more less = less
 

@@ -1,5 +1,6 @@
 -- Where both halves have the same of each channel, a link shows who comes and nothing more.
-use Rattle.std.proofs.Common.{◌≡◌, ℕ, Bool, true, false, cond, Option, Some, None, List, [], ◌∷◌, ◌++◌, refl, sym, ◌∙◌, ap, subst, map, if◌then◌else◌}
+use Rattle.std.proofs.Common.{◌≡◌, ℕ, Bool, true, false, cond, Option, Some, None, List, [], ◌∷◌}
+use Rattle.std.proofs.Common.{◌++◌, refl, sym, ◌∙◌, ap, subst, map, if◌then◌else◌}
 use Rattle.std.proofs.lemmas.List.{append-nil}
 use Rattle.std.specs.declared.cmp.Ordering.{Ordering}
 use Rattle.std.specs.declared.cmp.Ordering.TheVariants.{Less, Equal, Greater}
@@ -25,10 +26,13 @@ use Rattle.irc_room.specs.Lemmas.Rows.{same_some}
 use Rattle.irc_merge.specs.ShownAlong.{shown_along}
 use Rattle.irc_merge.specs.Quits.{quits_of, collision_text}
 use Rattle.irc_merge.specs.Merge.{AreAlike, clash, room_without}
-use Rattle.irc_merge.specs.MergeShown.{member_arrival, mode_lines, raised_line, raised_lines, raised_topic, channel_seen, channel_arrivals, arrivals, merge_shown}
+use Rattle.irc_merge.specs.MergeShown.{member_arrival, mode_lines, raised_line, raised_lines}
+use Rattle.irc_merge.specs.MergeShown.{raised_topic, channel_seen, channel_arrivals, arrivals}
+use Rattle.irc_merge.specs.MergeShown.{merge_shown}
 use Rattle.irc_merge.specs.Split.{split}
 use Rattle.irc_merge.specs.Laws.{ComesOf, CanBeTold}
-use Rattle.irc_merge.specs.Rejoined.{comers, all_comers, AgreedShowComers, SidesAgree, RejoinShowsComers}
+use Rattle.irc_merge.specs.Rejoined.{comers, all_comers, AgreedShowComers, SidesAgree}
+use Rattle.irc_merge.specs.Rejoined.{RejoinShowsComers}
 use Rattle.irc_merge.specs.Lemmas.Clashing.{without_well}
 use Rattle.irc_merge.specs.Lemmas.TableWords.{true_is, entries_all}
 use Rattle.irc_merge.proofs.Lines.{joined_lines}
@@ -38,29 +42,36 @@ use Rattle.irc_merge.specs.Lemmas.SplitInTurn.{split_is_well_formed}
 
 -- ---- a channel's own modes and topic raise nothing
 
-parts_raise_nothing : (front rest : List ModeChange) (modes : Modes) → raising (front ++ rest) modes ≡ []
-    → (raising front modes ≡ []) × (raising rest modes ≡ [])
+parts_raise_nothing : (front rest : List ModeChange) (modes : Modes)
+    → raising (front ++ rest) modes ≡ [] → (raising front modes ≡ []) × (raising rest modes ≡ [])
 parts_raise_nothing [] rest modes none = (refl, none)
 parts_raise_nothing (change ∷ front) rest modes none =
-    by (raises change.plus change.letter change.word modes) (parts_raise_nothing front rest modes) none
+    by (raises change.plus change.letter change.word modes)
+    (parts_raise_nothing front rest modes) none
   where
-    by : (b : Bool) → (raising (front ++ rest) modes ≡ [] → (raising front modes ≡ []) × (raising rest modes ≡ []))
-        → cond b (change ∷ raising (front ++ rest) (mode_step modes change)) (raising (front ++ rest) modes) ≡ []
-        → (cond b (change ∷ raising front (mode_step modes change)) (raising front modes) ≡ []) × (raising rest modes ≡ [])
+    by : (b : Bool) → (raising (front ++ rest) modes ≡ []
+        → (raising front modes ≡ []) × (raising rest modes ≡ [])) → cond b
+        (change ∷ raising (front ++ rest) (mode_step modes change)) (raising (front ++ rest) modes)
+        ≡ [] → (cond b (change ∷ raising front (mode_step modes change)) (raising front modes) ≡ [])
+        × (raising rest modes ≡ [])
     by true later is = absurd (cc is)
     by false later is = later is
 
-lines_raise_nothing : (viewer : User) (channel : List ℕ) (lines : List (List ModeChange)) (modes : Modes)
-    → raising (joined_lines lines) modes ≡ [] → raised_lines viewer channel lines modes ≡ []
+lines_raise_nothing : (viewer : User) (channel : List ℕ) (lines : List (List ModeChange))
+    (modes : Modes) → raising (joined_lines lines) modes ≡ []
+    → raised_lines viewer channel lines modes ≡ []
 lines_raise_nothing viewer channel [] modes none = refl
 lines_raise_nothing viewer channel (line ∷ lines) modes none =
     let parts = parts_raise_nothing line (joined_lines lines) modes none in
-    (λ i. raised_line viewer channel (parts.0 i) ++ raised_lines viewer channel lines (modes_after (parts.0 i) modes))
+    (λ i. raised_line viewer channel (parts.0 i) ++ raised_lines viewer channel lines
+    (modes_after (parts.0 i) modes))
     ∙ lines_raise_nothing viewer channel lines modes parts.1
 
-own_modes : (viewer : User) (channel : List ℕ) (modes : Modes) → AreWithinLimits modes → raised_lines viewer channel (mode_lines modes) modes ≡ []
+own_modes : (viewer : User) (channel : List ℕ) (modes : Modes) → AreWithinLimits modes
+    → raised_lines viewer channel (mode_lines modes) modes ≡ []
 own_modes viewer channel modes within =
-    lines_raise_nothing viewer channel (mode_lines modes) modes (ap (λ changes. raising changes modes) (all_mode_lines modes) ∙ nothing_raised modes within)
+    lines_raise_nothing viewer channel (mode_lines modes) modes
+    (ap (λ changes. raising changes modes) (all_mode_lines modes) ∙ nothing_raised modes within)
 
 not_less : (one : List ℕ) → is_lt (bytes_cmp one one) ≡ false
 not_less one = by (bytes_cmp one one) (nat_list_cmp_total.antisymm one one)
@@ -83,12 +94,14 @@ module _ (other : Room) (viewer : User) where
   abbrev come : List ℕ → Channel → List (List ℕ)
   come name theirs = flat_map (member_arrival other.users viewer name) (entries theirs.members)
 
-  alike_seen : (name : List ℕ) (theirs ours : Channel) → AreAlike ours theirs → AreWithinLimits ours.modes
-      → channel_seen other viewer name theirs ours ≡ come name theirs
+  alike_seen : (name : List ℕ) (theirs ours : Channel) → AreAlike ours theirs
+      → AreWithinLimits ours.modes → channel_seen other viewer name theirs ours ≡ come name theirs
   alike_seen name theirs ours alike within =
       (λ i. come name theirs
-      ++ (raised_lines viewer name (mode_lines (sym alike.modes i)) ours.modes ++ raised_topic viewer name ours.topic (sym alike.topic i)))
-      ∙ (λ i. come name theirs ++ (own_modes viewer name ours.modes within i ++ own_topic viewer name ours.topic i))
+      ++ (raised_lines viewer name (mode_lines (sym alike.modes i)) ours.modes
+      ++ raised_topic viewer name ours.topic (sym alike.topic i)))
+      ∙ (λ i. come name theirs
+      ++ (own_modes viewer name ours.modes within i ++ own_topic viewer name ours.topic i))
       ∙ append-nil (come name theirs)
 
   alike_arrive : (theirs ours : Channel) → AreAlike ours theirs → AreWithinLimits ours.modes
@@ -99,9 +112,12 @@ module _ (other : Room) (viewer : User) where
 
 -- what is so of each channel of both
 record AreAllAlike (room other : Room) : Type 0 where
-  pub named : (fold : List ℕ) (theirs : Channel) → row other.channels fold ≡ Some theirs → key theirs.name ≡ fold
-  pub alike : (fold : List ℕ) (ours theirs : Channel) → row room.channels fold ≡ Some ours → row other.channels fold ≡ Some theirs → AreAlike ours theirs
-  pub within : (fold : List ℕ) (ours : Channel) → row room.channels fold ≡ Some ours → AreWithinLimits ours.modes
+  pub named : (fold : List ℕ) (theirs : Channel) → row other.channels fold ≡ Some theirs
+      → key theirs.name ≡ fold
+  pub alike : (fold : List ℕ) (ours theirs : Channel) → row room.channels fold ≡ Some ours
+      → row other.channels fold ≡ Some theirs → AreAlike ours theirs
+  pub within : (fold : List ℕ) (ours : Channel) → row room.channels fold ≡ Some ours
+      → AreWithinLimits ours.modes
 
 module _ (room other : Room) (all : AreAllAlike room other) (viewer : User) where
   abbrev ArriveAlike : Channel → Type 0
@@ -109,11 +125,13 @@ module _ (room other : Room) (all : AreAllAlike room other) (viewer : User) wher
       option_map_or (channel_arrivals other viewer theirs) (row room.channels (key theirs.name)) []
       ≡ option_map_or (comers other viewer theirs) (row room.channels (key theirs.name)) []
 
-  one_arrives : (fold : List ℕ) (theirs : Channel) → row other.channels fold ≡ Some theirs → ArriveAlike theirs
+  one_arrives : (fold : List ℕ) (theirs : Channel) → row other.channels fold ≡ Some theirs
+      → ArriveAlike theirs
   one_arrives fold theirs there = by (row room.channels (key theirs.name)) refl
     where
       by : (o : Option Channel) → row room.channels (key theirs.name) ≡ o
-          → option_map_or (channel_arrivals other viewer theirs) o [] ≡ option_map_or (comers other viewer theirs) o []
+          → option_map_or (channel_arrivals other viewer theirs) o []
+          ≡ option_map_or (comers other viewer theirs) o []
       by None here = refl
       by (Some ours) here =
           let fold_is = all.named fold theirs there in
@@ -122,8 +140,10 @@ module _ (room other : Room) (all : AreAllAlike room other) (viewer : User) wher
           (all.within (key theirs.name) ours here)
 
   all_arrive : (es : List (List ℕ × Channel)) → AllByRecursion (λ e. ArriveAlike e.1) es
-      → flat_map (λ (theirs : Channel). option_map_or (channel_arrivals other viewer theirs) (row room.channels (key theirs.name)) []) (map (λ e. e.1) es)
-      ≡ flat_map (λ (theirs : Channel). option_map_or (comers other viewer theirs) (row room.channels (key theirs.name)) []) (map (λ e. e.1) es)
+      → flat_map (λ (theirs : Channel). option_map_or (channel_arrivals other viewer theirs)
+      (row room.channels (key theirs.name)) []) (map (λ e. e.1) es)
+      ≡ flat_map (λ (theirs : Channel). option_map_or (comers other viewer theirs)
+      (row room.channels (key theirs.name)) []) (map (λ e. e.1) es)
   all_arrive [] each = refl
   all_arrive (e ∷ es) each = λ i. each.0 i ++ all_arrive es each.1 i
 
@@ -137,14 +157,16 @@ module _ (room other : Room) (all : AreAllAlike room other) (viewer : User) wher
 pub agreed_show_comers : AgreedShowComers
 unfolding merge_shown
 agreed_show_comers room other well well_other told agreed viewer =
-    ap (λ lines. shown_along viewer room (quits_of collision_text (clash room other)) ++ lines) (by_user (row (room_without room other).users (key viewer)))
+    ap (λ lines. shown_along viewer room (quits_of collision_text (clash room other)) ++ lines)
+    (by_user (row (room_without room other).users (key viewer)))
   where
     left : ComesOf room (room_without room other)
     left = without_comes room other well
 
     all : AreAllAlike (room_without room other) (room_without other room)
     all = record {
-      named = λ fold theirs there. ((without_well other room well_other).channels_sound fold theirs there).named;
+      named = λ fold theirs there.
+          ((without_well other room well_other).channels_sound fold theirs there).named;
       alike = agreed.alike;
       within = λ fold ours here.
           let before = left.channels fold ours here in
@@ -155,16 +177,19 @@ agreed_show_comers room other well well_other told agreed viewer =
         → option_map_or (arrivals (room_without room other) (room_without other room)) o []
         ≡ option_map_or (all_comers (room_without room other) (room_without other room)) o []
     by_user None = refl
-    by_user (Some user) = arrivals_are_comers (room_without room other) (room_without other room) all user
+    by_user (Some user) =
+        arrivals_are_comers (room_without room other) (room_without other room) all user
 
 -- ---- the sides of one room
 
 -- a channel of one side, with what it was of in the room
-side_channel : (text : List ℕ) (homes : List (List ℕ)) (room other : Room) → IsWellFormed room → (fold : List ℕ) (channel : Channel)
+side_channel : (text : List ℕ) (homes : List (List ℕ)) (room other : Room)
+    → IsWellFormed room → (fold : List ℕ) (channel : Channel)
     → row (room_without (split text homes room) other).channels fold ≡ Some channel
     → (before : Channel) × ((row room.channels fold ≡ Some before) × AreAlike channel before)
 side_channel text homes room other well fold channel is =
-    let left = (without_comes (split text homes room) other (split_is_well_formed text homes room well)).channels fold channel is in
+    let left = (without_comes (split text homes room) other
+    (split_is_well_formed text homes room well)).channels fold channel is in
     let was = (split_has_nothing_new text homes room well).channels fold left.0 left.1.0 in (
       was.0,
       (
@@ -181,7 +206,8 @@ pub sides_agree : SidesAgree
 sides_agree near_text far_text lost others room well = record {
   alike = λ fold c d here there.
       let ours = side_channel near_text lost room (split far_text others room) well fold c here in
-      let theirs = side_channel far_text others room (split near_text lost room) well fold d there in
+      let theirs =
+      side_channel far_text others room (split near_text lost room) well fold d there in
       let one = same_some ours.0 theirs.0 (sym ours.1.0 ∙ theirs.1.0) in
       record {
         name = (ours.1.1).name ∙ ap (λ (x : Channel). x.name) one ∙ sym (theirs.1.1).name;
@@ -190,7 +216,8 @@ sides_agree near_text far_text lost others room well = record {
       };
 }
 
-side_told : (text : List ℕ) (homes : List (List ℕ)) (room : Room) → IsWellFormed room → CanBeTold room → CanBeTold (split text homes room)
+side_told : (text : List ℕ) (homes : List (List ℕ)) (room : Room) → IsWellFormed room
+    → CanBeTold room → CanBeTold (split text homes room)
 side_told text homes room well told = record {
   modes = λ fold channel is.
       let was = (split_has_nothing_new text homes room well).channels fold channel is in

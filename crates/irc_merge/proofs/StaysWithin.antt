@@ -16,35 +16,47 @@ use Rattle.irc_merge.specs.LimitLaws.{WithinLimitsIsTold}
 use Rattle.irc_merge.specs.Lemmas.Joining.{greater_so}
 
 -- a channel with the name, modes and topic of one within limits
-alike_within : (channel before : Channel) → AreAlike channel before → IsChannelWithin before → IsChannelWithin channel
+alike_within : (channel before : Channel) → AreAlike channel before → IsChannelWithin before
+    → IsChannelWithin channel
 alike_within channel before alike within = record {
   name = subst IsChannel (sym alike.name) within.name;
   topic = subst IsCarriedText (sym alike.topic) within.topic;
   modes = subst AreWithinLimits (sym alike.modes) within.modes;
-  bans_carried = subst (λ (modes : Modes). list_all is_carried modes.bans ≡ true) (sym alike.modes) within.bans_carried;
+  bans_carried = subst (λ (modes : Modes). list_all is_carried modes.bans ≡ true)
+      (sym alike.modes) within.bans_carried;
 }
 
 -- two channels within limits are joined to one
-joined_within : (before theirs : Channel) → IsChannelWithin before → IsChannelWithin theirs → IsChannelWithin (one_channel before theirs)
+joined_within : (before theirs : Channel) → IsChannelWithin before → IsChannelWithin theirs
+    → IsChannelWithin (one_channel before theirs)
 joined_within before theirs within within_too = record {
   name = greater_so IsChannel before.name theirs.name within.name within_too.name;
   topic = greater_so IsCarriedText before.topic theirs.topic within.topic within_too.topic;
   modes = joined_is_within_limits before.modes theirs.modes within.modes within_too.modes;
-  bans_carried = all-joined_bans is_carried before.modes.bans theirs.modes.bans within.bans_carried within_too.bans_carried;
+  bans_carried = all-joined_bans is_carried before.modes.bans theirs.modes.bans within.bans_carried
+      within_too.bans_carried;
 }
 
-pub both_within : (one other new : Room) → ComesOfBoth one other new → IsWithinLimits one → IsWithinLimits other → IsWithinLimits new
+pub both_within : (one other new : Room) → ComesOfBoth one other new → IsWithinLimits one
+    → IsWithinLimits other → IsWithinLimits new
 both_within one other new comes first second = record {
-  users = λ fold user is. elim (comes.users fold user is) [ inl h ↦ first.users fold user h | inr h ↦ second.users fold user h ];
+  users = λ fold user is. elim (comes.users fold user is) [
+    | inl h ↦ first.users fold user h
+    | inr h ↦ second.users fold user h
+  ];
   channels = λ fold channel is. within fold channel (comes.channels fold channel is);
 }
   where
-    within : (fold : List ℕ) (channel : Channel) → IsOfBoth one other fold channel → IsChannelWithin channel
-    within fold channel (of_one before at alike) = alike_within channel before alike (first.channels fold before at)
-    within fold channel (of_other before at alike) = alike_within channel before alike (second.channels fold before at)
+    within : (fold : List ℕ) (channel : Channel) → IsOfBoth one other fold channel
+        → IsChannelWithin channel
+    within fold channel (of_one before at alike) =
+        alike_within channel before alike (first.channels fold before at)
+    within fold channel (of_other before at alike) =
+        alike_within channel before alike (second.channels fold before at)
     within fold channel (of_both before theirs at that alike) =
         alike_within channel (one_channel before theirs) alike
-        (joined_within before theirs (first.channels fold before at) (second.channels fold theirs that))
+        (joined_within before theirs (first.channels fold before at)
+        (second.channels fold theirs that))
 
 pub left_within : (room new : Room) → ComesOf room new → IsWithinLimits room → IsWithinLimits new
 left_within room new comes within = record {
@@ -55,4 +67,5 @@ left_within room new comes within = record {
 }
 
 pub within_is_told : WithinLimitsIsTold
-within_is_told room within = record { modes = λ fold channel is. (within.channels fold channel is).modes }
+within_is_told room within =
+    record { modes = λ fold channel is. (within.channels fold channel is).modes }

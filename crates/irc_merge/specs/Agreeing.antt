@@ -47,12 +47,14 @@ same_modes one other =
 
 -- names, keys, bans and topics are compared by their bytes
 abbrev pub are_alike : Channel → Channel → Bool
-are_alike one other = exactly_same one.name other.name && (same_modes one.modes other.modes && exactly_same one.topic other.topic)
+are_alike one other = exactly_same one.name other.name
+    && (same_modes one.modes other.modes && exactly_same one.topic other.topic)
 
 -- of each channel of the one half that the other has too
 abbrev pub agree : Room → Room → Bool
 agree one other =
-    list_all (λ (e : List ℕ × Channel). option_map_or (are_alike e.1) (row (room_without other one).channels e.0) true) (entries (room_without one other).channels)
+    list_all (λ (e : List ℕ × Channel). option_map_or (are_alike e.1) (row
+    (room_without other one).channels e.0) true) (entries (room_without one other).channels)
 
 -- the test tells whether they agree
 abbrev pub AgreeTells : Type 0

@@ -1,5 +1,6 @@
--- What looks at no invitation: agreement, a burst, what is read of it, and what the lines of a link do and show. So each server may ask it of what it has of the
--- room, where invitations of other servers' users are missing.
+-- What looks at no invitation: agreement, a burst, what is read of it, and what the lines of a link
+-- do and show. So each server may ask it of what it has of the room, where invitations of other
+-- servers' users are missing.
 use Rattle.std.specs.Prelude.{◌≡◌, ℕ, Bool, true, ⊤, List}
 use Rattle.irc_room.specs.Room.{Room, IsWellFormed}
 use Rattle.irc_room.specs.Effects.{IsPossible, brings_free}
@@ -13,12 +14,14 @@ use Rattle.irc_merge.specs.Deeds.{Deed, does, brings, titled, effects_of, after_
 
 -- two servers, of two halves, find out by what they have whether the halves agree
 abbrev pub AgreeLooksAtNoInvitation : Type 0
-AgreeLooksAtNoInvitation = (home theirs : List ℕ) (one other : Room) → IsWellFormed one → IsWellFormed other
+AgreeLooksAtNoInvitation = (home theirs : List ℕ) (one other : Room) → IsWellFormed one
+    → IsWellFormed other
     → agree (of_home home one) (of_home theirs other) ≡ agree one other
 
 -- what a server has of a room is told as all of the room
 abbrev pub BurstTellsNoInvitation : Type 0
-BurstTellsNoInvitation = (server home : List ℕ) (room : Room) → burst server (of_home home room) ≡ burst server room
+BurstTellsNoInvitation =
+    (server home : List ℕ) (room : Room) → burst server (of_home home room) ≡ burst server room
 
 -- a line of a burst, and all its lines, are read alike in two rooms that differ in who is invited
 pub record AreReadAlike (own : List ℕ) (far : List ℕ → Bool) (room other : Room) : Type 0 where
@@ -26,7 +29,8 @@ pub record AreReadAlike (own : List ℕ) (far : List ℕ → Bool) (room other :
   pub all : (deeds : List Deed) → read_all own far room deeds ≡ read_all own far other deeds
 
 abbrev pub AlikeReadAlike : Type 0
-AlikeReadAlike = (own : List ℕ) (far : List ℕ → Bool) (room other : Room) → AreAlikeRooms room other → AreReadAlike own far room other
+AlikeReadAlike = (own : List ℕ) (far : List ℕ → Bool) (room other : Room) → AreAlikeRooms room other
+    → AreReadAlike own far room other
 
 -- and a deed does and shows the same in both
 pub record IsDoneAlike (room other : Room) (deed : Deed) : Type 0 where
@@ -35,9 +39,11 @@ pub record IsDoneAlike (room other : Room) (deed : Deed) : Type 0 where
   pub shown : (viewer : List ℕ) → shown_by viewer room deed ≡ shown_by viewer other deed
 
 abbrev pub AlikeDoAlike : Type 0
-AlikeDoAlike = (room other : Room) (deed : Deed) → AreAlikeRooms room other → IsDoneAlike room other deed
+AlikeDoAlike = (room other : Room) (deed : Deed) → AreAlikeRooms room other
+    → IsDoneAlike room other deed
 
--- what a server makes of its part of the room by a deed: of somebody else's invitation it takes no note
+-- what a server makes of its part of the room by a deed: of somebody else's invitation it takes no
+-- note
 abbrev pub after_deed_at : List ℕ → Room → Deed → Room
 after_deed_at home room (does effect) = after_at home room effect
 after_deed_at home room deed = after_deed room deed
@@ -52,5 +58,6 @@ CanComeOf room other = ⊤
 
 -- What a server has of the room after a deed is what the deed makes of what it had.
 abbrev pub HomeFollowsDeed : Type 0
-HomeFollowsDeed = (home : List ℕ) (room : Room) (deed : Deed) → IsWellFormed room → CanComeOf room deed
+HomeFollowsDeed = (home : List ℕ) (room : Room) (deed : Deed) → IsWellFormed room
+    → CanComeOf room deed
     → of_home home (after_deed room deed) ≡ after_deed_at home (of_home home room) deed

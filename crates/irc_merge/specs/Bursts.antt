@@ -1,5 +1,7 @@
--- What a server tells of its side of the network to a neighbour that is new (RFC 2813 section 5.3.2; that topics are told is our own choice).
-use Rattle.std.specs.Prelude.{ℕ, Bool, Some, None, List, [], ◌∷◌, ◌++◌, Option, length, map, false, if◌then◌else◌}
+-- What a server tells of its side of the network to a neighbour that is new (RFC 2813 section
+-- 5.3.2; that topics are told is our own choice).
+use Rattle.std.specs.Prelude.{ℕ, Bool, Some, None, List, [], ◌∷◌, ◌++◌, Option, length, map, false}
+use Rattle.std.specs.Prelude.{if◌then◌else◌}
 use Rattle.std.specs.Int.{div_ceil}
 use Rattle.std.specs.List.{filter_map, flat_map}
 use Rattle.std.specs.Option.{option_map, option_map_or}
@@ -34,7 +36,8 @@ user_deeds room = map (λ user. does (AddUser user)) (values room.users)
 
 -- the members of a channel in folded order, each with its nickname as it is stored
 abbrev pub stored_member : Table User → List ℕ × Flags → Option (List ℕ × Flags)
-stored_member users member = option_map (λ (user : User). (user.nick, member.1)) (row users member.0)
+stored_member users member =
+    option_map (λ (user : User). (user.nick, member.1)) (row users member.0)
 
 abbrev pub stored_members : Table User → Channel → List (List ℕ × Flags)
 stored_members users channel = filter_map (stored_member users) (entries channel.members)
@@ -56,13 +59,16 @@ channel_deeds server users channel =
     ++ (map (sets server channel.name) (in_lines bans_a_line (ban_changes channel.modes.bans))
     ++ topic_line server channel.name channel.topic))
 
--- all that a room has but invitations, told by this server: users, and then channel by channel, in folded order
+-- all that a room has but invitations, told by this server: users, and then channel by channel, in
+-- folded order
 unfoldable pub burst : List ℕ → Room → List Deed
-burst server room = user_deeds room ++ flat_map (channel_deeds server room.users) (values room.channels)
+burst server room =
+    user_deeds room ++ flat_map (channel_deeds server room.users) (values room.channels)
 
 -- whether the home of the user under a fold passes a test
 abbrev pub home_passes : (List ℕ → Bool) → Table User → List ℕ → Bool
-home_passes passes users fold = option_map_or (λ (user : User). passes user.home) (row users fold) false
+home_passes passes users fold =
+    option_map_or (λ (user : User). passes user.home) (row users fold) false
 
 abbrev pub user_passes : (List ℕ → Bool) → User → Option User
 user_passes passes user = if passes user.home then Some user else None
@@ -76,7 +82,10 @@ channel_side passes users channel = while_members (record channel {
 
 -- a room with those users alone whose homes pass
 unfoldable pub side_of : (List ℕ → Bool) → Room → Room
-side_of passes room = record { users = each (user_passes passes) room.users; channels = each (channel_side passes room.users) room.channels }
+side_of passes room = record {
+  users = each (user_passes passes) room.users;
+  channels = each (channel_side passes room.users) room.channels;
+}
 
 -- what is told of the users whose homes pass: those that are not behind the link
 abbrev pub burst_of : List ℕ → (List ℕ → Bool) → Room → List Deed

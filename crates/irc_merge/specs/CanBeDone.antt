@@ -1,4 +1,5 @@
--- What is read of a burst, as effects on the room: each can be done when its turn comes, and does something.
+-- What is read of a burst, as effects on the room: each can be done when its turn comes, and does
+-- something.
 use Rattle.std.specs.Prelude.{◌≡◌, ℕ, Bool, false, ⊤, List, [], ◌∷◌}
 use Rattle.std.specs.List.{AllByRecursion}
 use Rattle.irc_room.specs.effect.Effect.{Effect}
@@ -18,7 +19,8 @@ pub record DoesSomething (room : Room) (effect : Effect) : Type 0 where
 abbrev pub DeedsDo : Room → List Deed → Type 0
 DeedsDo room [] = ⊤
 DeedsDo room (deed ∷ deeds) =
-    EachInTurn DoesSomething (titled room deed) (effects_of room deed) × DeedsDo (after_deed room deed) deeds
+    EachInTurn DoesSomething (titled room deed) (effects_of room deed)
+    × DeedsDo (after_deed room deed) deeds
 
 -- the lines of a burst
 abbrev pub IsOfBurst : Deed → Type 0
@@ -30,5 +32,6 @@ IsOfBurst other = ⊥
 
 -- whatever the lines of a burst say
 abbrev pub LinesCanBeDone : Type 0
-LinesCanBeDone = (own : List ℕ) (far : List ℕ → Bool) (room : Room) (deeds : List Deed) → AllByRecursion IsOfBurst deeds → IsWellFormed room
+LinesCanBeDone = (own : List ℕ) (far : List ℕ → Bool) (room : Room) (deeds : List Deed)
+    → AllByRecursion IsOfBurst deeds → IsWellFormed room
     → DeedsDo room (read_all own far room deeds)

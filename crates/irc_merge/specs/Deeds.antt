@@ -1,5 +1,6 @@
--- What a line of a link says, without the numbers that stand for servers in it (RFC 2813 sections 4 and 5). Names of servers in front are
--- those whose lines these are; a viewer is shown its own server in their place.
+-- What a line of a link says, without the numbers that stand for servers in it (RFC 2813 sections 4
+-- and 5). Names of servers in front are those whose lines these are; a viewer is shown its own
+-- server in their place.
 use Rattle.std.specs.Prelude.{ℕ, Bool, true, false, Some, List, [], ◌∷◌, ◌++◌, if◌then◌else◌}
 use Rattle.std.specs.List.{flat_map}
 use Rattle.std.specs.Option.{option_map_or}
@@ -42,21 +43,23 @@ pub data Deed : Type 0 where
 -- a server gives a member a flag
 abbrev pub flag_given : Bool → ModeLetter → List ℕ → List ℕ → List Effect
 flag_given has which channel nick =
-    if has then ChangeModes by.Home channel (record { plus = true; letter = which; word = Some nick } ∷ []) ∷ [] else []
+    if has then ChangeModes by.Home channel
+    (record { plus = true; letter = which; word = Some nick } ∷ []) ∷ [] else []
 
 -- a member comes with its flags: it joins, and is then given each flag that it has
 abbrev pub member_comes : List ℕ → List ℕ × Flags → List Effect
 member_comes channel member =
     Join member.0 channel false
-    ∷ (flag_given member.1.op letter.Operator channel member.0 ++ flag_given member.1.voice letter.Voice channel member.0)
+    ∷ (flag_given member.1.op letter.Operator channel member.0
+    ++ flag_given member.1.voice letter.Voice channel member.0)
 
 -- changes of a channel's modes by a server, where there are any
 abbrev pub changes_made : List ℕ → List ModeChange → List Effect
 changes_made channel [] = []
 changes_made channel (change ∷ changes) = ChangeModes by.Home channel (change ∷ changes) ∷ []
 
--- of the changes that a server tells, those that raise something in the channel that is there (our own
--- choice)
+-- of the changes that a server tells, those that raise something in the channel that is there (our
+-- own choice)
 abbrev pub raised_in : Room → List ℕ → List ModeChange → List ModeChange
 raised_in room channel changes =
     option_map_or (λ (c : Channel). raising changes c.modes) (row room.channels (key channel)) []
@@ -79,7 +82,8 @@ effects_of room (sets server channel changes) =
 effects_of room (tops server channel topic) =
     if is_greater_topic room channel topic then SetTopic by.Home channel topic ∷ [] else []
 
--- What a deed does first: NJOIN has the channel that is there take its spelling, where that is greater.
+-- What a deed does first: NJOIN has the channel that is there take its spelling, where that is
+-- greater.
 -- It is no effect, and nobody is shown it.
 abbrev pub titled : Room → Deed → Room
 titled room (brings server channel members) = titled_by channel room
@@ -99,4 +103,5 @@ shown_by viewer room deed = shown_along viewer (titled room deed) (effects_of ro
 
 abbrev pub shown_by_all : List ℕ → Room → List Deed → List (List ℕ)
 shown_by_all viewer room [] = []
-shown_by_all viewer room (deed ∷ deeds) = shown_by viewer room deed ++ shown_by_all viewer (after_deed room deed) deeds
+shown_by_all viewer room (deed ∷ deeds) =
+    shown_by viewer room deed ++ shown_by_all viewer (after_deed room deed) deeds

@@ -1,5 +1,6 @@
 -- Small networks that are joined, and what their servers tell each other.
-use Rattle.std.specs.Prelude.{◌≡◌, ℕ, true, false, Some, None, List, [], ◌∷◌, ◌++◌, codes, length, map, nat_eq}
+use Rattle.std.specs.Prelude.{◌≡◌, ℕ, true, false, Some, None, List, [], ◌∷◌, ◌++◌, codes, length}
+use Rattle.std.specs.Prelude.{map, nat_eq}
 use Rattle.std.specs.Cmp.Lexicographic.{pointwise}
 use Rattle.std.specs.Option.{option_map}
 use Rattle.irc_names.specs.Fold.{key}
@@ -38,44 +39,55 @@ a_member = record { op = false; voice = false }
 -- a channel on b.net with two members, modes i and k, four bans and a topic
 abbrev pub with_modes : List Effect
 with_modes =
-    AddUser (of_b (codes "bo")) ∷ AddUser (of_b (codes "cy")) ∷ Join (codes "bo") (codes "#c") true ∷ Join (codes "cy") (codes "#c") false
+    AddUser (of_b (codes "bo")) ∷ AddUser (of_b (codes "cy")) ∷ Join (codes "bo") (codes "#c") true
+    ∷ Join (codes "cy") (codes "#c") false
     ∷ ChangeModes by.Home (codes "#c")
-    (set letter.InviteOnly None ∷ set letter.Key (Some (codes "pw")) ∷ set letter.Ban (Some (codes "d!*@*")) ∷ set letter.Ban (Some (codes "b!*@*"))
+    (set letter.InviteOnly None ∷ set letter.Key (Some (codes "pw")) ∷ set letter.Ban
+    (Some (codes "d!*@*")) ∷ set letter.Ban (Some (codes "b!*@*"))
     ∷ set letter.Ban (Some (codes "a!*@*")) ∷ set letter.Ban (Some (codes "c!*@*")) ∷ [])
     ∷ SetTopic by.Home (codes "#c") (codes "hello") ∷ []
 
--- A channel is told: its members with their flags, its modes in one line, its bans three a line and in folded order, and its topic.
+-- A channel is told: its members with their flags, its modes in one line, its bans three a line and
+-- in folded order, and its topic.
 abbrev pub ChannelIsTold : Type 0
 ChannelIsTold =
     burst (codes "b.net") (room_after with_modes)
     ≡ does (AddUser (of_b (codes "bo"))) ∷ does (AddUser (of_b (codes "cy")))
     ∷ brings (codes "b.net") (codes "#c") ((codes "bo", an_operator) ∷ (codes "cy", a_member) ∷ [])
-    ∷ sets (codes "b.net") (codes "#c") (set letter.InviteOnly None ∷ set letter.Key (Some (codes "pw")) ∷ [])
     ∷ sets (codes "b.net") (codes "#c")
-    (set letter.Ban (Some (codes "a!*@*")) ∷ set letter.Ban (Some (codes "b!*@*")) ∷ set letter.Ban (Some (codes "c!*@*")) ∷ [])
+    (set letter.InviteOnly None ∷ set letter.Key (Some (codes "pw")) ∷ [])
+    ∷ sets (codes "b.net") (codes "#c")
+    (set letter.Ban (Some (codes "a!*@*")) ∷ set letter.Ban (Some (codes "b!*@*")) ∷ set letter.Ban
+    (Some (codes "c!*@*")) ∷ [])
     ∷ sets (codes "b.net") (codes "#c") (set letter.Ban (Some (codes "d!*@*")) ∷ [])
     ∷ tops (codes "b.net") (codes "#c") (codes "hello") ∷ []
 
 -- thirty-one members are told in four lines: three of ten, and one of one
 abbrev pub ThirtyOneMembers : Type 0
-ThirtyOneMembers = (members : List (List ℕ × Flags)) → length members ≡ 31 → map length (in_lines members_a_line members) ≡ 10 ∷ 10 ∷ 10 ∷ 1 ∷ []
+ThirtyOneMembers = (members : List (List ℕ × Flags)) → length members ≡ 31
+    → map length (in_lines members_a_line members) ≡ 10 ∷ 10 ∷ 10 ∷ 1 ∷ []
 
 -- al and an on a.net, bo and cy on b.net; al and bo have each made #c
 abbrev pub als_side : List Effect
-als_side = AddUser (of_a (codes "al")) ∷ AddUser (of_a (codes "an")) ∷ Join (codes "al") (codes "#c") true ∷ []
+als_side = AddUser (of_a (codes "al")) ∷ AddUser (of_a (codes "an")) ∷ Join (codes "al")
+    (codes "#c") true ∷ []
 
 abbrev pub bos_side : List Effect
-bos_side = AddUser (of_b (codes "bo")) ∷ AddUser (of_b (codes "cy")) ∷ Join (codes "bo") (codes "#c") true ∷ []
+bos_side = AddUser (of_b (codes "bo")) ∷ AddUser (of_b (codes "cy")) ∷ Join (codes "bo")
+    (codes "#c") true ∷ []
 
--- the two are in one channel then, both operators; each sees the other come, and who is in no channel sees nothing
+-- the two are in one channel then, both operators; each sees the other come, and who is in no
+-- channel sees nothing
 abbrev pub ChannelsAreJoined : Type 0
 ChannelsAreJoined =
     let one = room_after als_side in
     let other = room_after bos_side in
     (flags_of (merge one other) (codes "al") (codes "#c") ≡ Some an_operator)
     × (flags_of (merge one other) (codes "bo") (codes "#c") ≡ Some an_operator)
-    × (merge_shown one other (codes "al") ≡ (codes ":bo!u@h JOIN #c" ++ crlf) ∷ (codes ":a.net MODE #c +o bo" ++ crlf) ∷ [])
-    × (merge_shown other one (codes "bo") ≡ (codes ":al!u@h JOIN #c" ++ crlf) ∷ (codes ":b.net MODE #c +o al" ++ crlf) ∷ [])
+    × (merge_shown one other (codes "al") ≡ (codes ":bo!u@h JOIN #c" ++ crlf)
+    ∷ (codes ":a.net MODE #c +o bo" ++ crlf) ∷ [])
+    × (merge_shown other one (codes "bo") ≡ (codes ":al!u@h JOIN #c" ++ crlf)
+    ∷ (codes ":b.net MODE #c +o al" ++ crlf) ∷ [])
     × (merge_shown one other (codes "an") ≡ [])
 
 -- al's #c has modes s and k and a topic, bo's n and another key
@@ -96,8 +108,8 @@ keyed_side =
 abbrev pub modes_written : Channel → List (List ℕ)
 modes_written channel = changes_written (set_changes channel.modes)
 
--- Nothing that is set is lost, and the greater key is taken. Each sees, behind those who come, what the
--- other side's modes and topic raise.
+-- Nothing that is set is lost, and the greater key is taken. Each sees, behind those who come, what
+-- the other side's modes and topic raise.
 abbrev pub ModesAreJoined : Type 0
 ModesAreJoined =
     let one = room_after secret_side in
@@ -127,7 +139,8 @@ topic_of_b topic = tops (codes "b.net") (codes "#c") topic
 abbrev pub GreaterTopicIsSet : Type 0
 GreaterTopicIsSet =
     let room = room_after bo_has_come in
-    (read_deed (codes "a.net") (λ home. pointwise nat_eq home (codes "b.net")) room (topic_of_b (codes "hallo"))
+    (read_deed (codes "a.net") (λ home. pointwise nat_eq home (codes "b.net")) room
+    (topic_of_b (codes "hallo"))
     ≡ topic_of_b (codes "hallo") ∷ [])
     × (effects_of room (topic_of_b (codes "hallo")) ≡ [])
     × (effects_of room (topic_of_b (codes "hi")) ≡ SetTopic by.Home (codes "#c") (codes "hi") ∷ [])
@@ -135,17 +148,20 @@ GreaterTopicIsSet =
 -- zed on both sides: on a.net it is in #y with al and alone in #z, on b.net in #z with bo
 abbrev pub zeds_side : List Effect
 zeds_side =
-    AddUser (of_a (codes "al")) ∷ AddUser (of_a (codes "zed")) ∷ Join (codes "al") (codes "#y") true ∷ Join (codes "zed") (codes "#y") false
+    AddUser (of_a (codes "al")) ∷ AddUser (of_a (codes "zed")) ∷ Join (codes "al") (codes "#y") true
+    ∷ Join (codes "zed") (codes "#y") false
     ∷ Join (codes "zed") (codes "#z") true ∷ []
 
 abbrev pub other_zeds_side : List Effect
 other_zeds_side =
-    AddUser (of_b (codes "bo")) ∷ AddUser (of_b (codes "Zed")) ∷ Join (codes "bo") (codes "#z") true ∷ Join (codes "Zed") (codes "#z") false ∷ []
+    AddUser (of_b (codes "bo")) ∷ AddUser (of_b (codes "Zed")) ∷ Join (codes "bo") (codes "#z") true
+    ∷ Join (codes "Zed") (codes "#z") false ∷ []
 
 abbrev pub zeds_quit : List ℕ → List (List ℕ)
 zeds_quit nick = (codes ":" ++ nick ++ codes "!u@h QUIT :Killed (Nick collision)" ++ crlf) ∷ []
 
--- Both are gone. Each side sees its own quit, and nobody come: #z of a.net has ended. The holder's nickname is killed as it is stored.
+-- Both are gone. Each side sees its own quit, and nobody come: #z of a.net has ended. The holder's
+-- nickname is killed as it is stored.
 abbrev pub NicknameOnBothSides : Type 0
 NicknameOnBothSides =
     let one = room_after zeds_side in
@@ -154,5 +170,6 @@ NicknameOnBothSides =
     × (merge_shown one other (codes "al") ≡ zeds_quit (codes "zed"))
     × (merge_shown one other (codes "zed") ≡ [])
     × (merge_shown other one (codes "bo") ≡ zeds_quit (codes "Zed"))
-    × (read_deed (codes "b.net") (λ home. pointwise nat_eq home (codes "a.net")) other (does (AddUser (of_a (codes "zed"))))
+    × (read_deed (codes "b.net") (λ home. pointwise nat_eq home (codes "a.net")) other
+    (does (AddUser (of_a (codes "zed"))))
     ≡ kills (codes "b.net") (codes "Zed") ∷ [])

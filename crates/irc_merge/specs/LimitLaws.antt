@@ -8,12 +8,14 @@ use Rattle.irc_merge.specs.Split.{split}
 
 -- two rooms within limits become one that is
 abbrev pub MergeIsWithinLimits : Type 0
-MergeIsWithinLimits = (one other : Room) → IsWellFormed one → IsWellFormed other → IsWithinLimits one → IsWithinLimits other
+MergeIsWithinLimits = (one other : Room) → IsWellFormed one → IsWellFormed other
+    → IsWithinLimits one → IsWithinLimits other
     → IsWithinLimits (merge one other)
 
 -- and so is what a split leaves of one
 abbrev pub SplitIsWithinLimits : Type 0
-SplitIsWithinLimits = (text : List ℕ) (homes : List (List ℕ)) (room : Room) → IsWellFormed room → IsWithinLimits room
+SplitIsWithinLimits = (text : List ℕ) (homes : List (List ℕ)) (room : Room) → IsWellFormed room
+    → IsWithinLimits room
     → IsWithinLimits (split text homes room)
 
 -- the modes of a room within limits can be told

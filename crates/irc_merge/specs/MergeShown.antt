@@ -1,4 +1,5 @@
--- What the users of one half are shown when two halves of a network become one (RFC 2813 section 5.3.2).
+-- What the users of one half are shown when two halves of a network become one (RFC 2813 section
+-- 5.3.2).
 use Rattle.std.specs.Prelude.{ℕ, Bool, Some, None, List, [], ◌∷◌, ◌++◌, codes, if◌then◌else◌}
 use Rattle.std.specs.List.{flat_map}
 use Rattle.std.specs.Ordering.{is_lt}
@@ -26,21 +27,33 @@ use Rattle.irc_merge.specs.Merge.{clash, room_without}
 
 -- the JOIN of a user
 abbrev pub join_line : List ℕ → User → List ℕ
-join_line channel user = text (record { sender = full user.nick user.user user.host; command = codes "JOIN"; middle = channel ∷ []; last = None })
+join_line channel user = text (record {
+  sender = full user.nick user.user user.host;
+  command = codes "JOIN";
+  middle = channel ∷ [];
+  last = None;
+})
 
 -- the MODE with which the viewer's own server gives a member a flag, where it has it
 abbrev pub flag_line : User → List ℕ → Bool → List ℕ → List ℕ → List (List ℕ)
 flag_line viewer channel has change nick =
-    if has then text (record { sender = named viewer.home; command = codes "MODE"; middle = channel ∷ change ∷ nick ∷ []; last = None }) ∷ [] else []
+    if has then text (record {
+      sender = named viewer.home;
+      command = codes "MODE";
+      middle = channel ∷ change ∷ nick ∷ [];
+      last = None;
+    }) ∷ [] else []
 
 -- one comes to a channel: JOIN, and then +o and +v
 abbrev pub arrival : User → List ℕ → Flags → User → List (List ℕ)
 arrival viewer channel flags user =
-    join_line channel user ∷ (flag_line viewer channel flags.op (codes "+o") user.nick ++ flag_line viewer channel flags.voice (codes "+v") user.nick)
+    join_line channel user ∷ (flag_line viewer channel flags.op (codes "+o") user.nick
+    ++ flag_line viewer channel flags.voice (codes "+v") user.nick)
 
 -- of a member of the other half's channel
 abbrev pub member_arrival : Table User → User → List ℕ → List ℕ × Flags → List (List ℕ)
-member_arrival users viewer channel member = option_map_or (arrival viewer channel member.1) (row users member.0) []
+member_arrival users viewer channel member =
+    option_map_or (arrival viewer channel member.1) (row users member.0) []
 
 -- the letters that are set in one line, where there are any
 abbrev pub letters_line : List ModeChange → List (List ModeChange)
@@ -81,8 +94,8 @@ raised_topic viewer channel ours theirs =
       last = Some theirs;
     }) ∷ [] else []
 
--- What of the other half's channel is shown under a name: all its members, in folded order; what its
--- modes raise in ours; its topic.
+-- What of the other half's channel is shown under a name: all its members, in folded order; what
+-- its modes raise in ours; its topic.
 abbrev pub channel_seen : Room → User → List ℕ → Channel → Channel → List (List ℕ)
 channel_seen other viewer name theirs ours =
     flat_map (member_arrival other.users viewer name) (entries theirs.members)
@@ -98,10 +111,13 @@ channel_arrivals other viewer theirs ours =
 -- channel by channel, in folded order, as far as there are both
 abbrev pub arrivals : Room → Room → User → List (List ℕ)
 arrivals room other viewer =
-    flat_map (λ (theirs : Channel). option_map_or (channel_arrivals other viewer theirs) (row room.channels (key theirs.name)) []) (values other.channels)
+    flat_map (λ (theirs : Channel). option_map_or (channel_arrivals other viewer theirs)
+    (row room.channels (key theirs.name)) []) (values other.channels)
 
--- The user of a nickname sees those quit who clash, in order, until it is one of them; and if it is none, who comes to its channels.
+-- The user of a nickname sees those quit who clash, in order, until it is one of them; and if it is
+-- none, who comes to its channels.
 unfoldable pub merge_shown : Room → Room → List ℕ → List (List ℕ)
 merge_shown room other viewer =
     shown_along viewer room (quits_of collision_text (clash room other))
-    ++ option_map_or (arrivals (room_without room other) (room_without other room)) (row (room_without room other).users (key viewer)) []
+    ++ option_map_or (arrivals (room_without room other) (room_without other room))
+    (row (room_without room other).users (key viewer)) []

@@ -15,6 +15,7 @@ quits_of text users = map (λ (user : User). Quit user.nick text) users
 abbrev pub users_at : List ℕ → Room → List User
 users_at home room = filter (is_home home) (values room.users)
 
--- the text with which both holders of a nickname quit (RFC 2812 section 3.7.1; the words are our own choice)
+-- the text with which both holders of a nickname quit (RFC 2812 section 3.7.1; the words are our
+-- own choice)
 abbrev pub collision_text : List ℕ
 collision_text = codes "Killed (Nick collision)"

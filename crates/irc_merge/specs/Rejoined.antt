@@ -42,7 +42,8 @@ comers_shown room other viewer =
 -- channel's modes and no TOPIC.
 abbrev pub AgreedShowComers : Type 0
 AgreedShowComers = (room other : Room) → IsWellFormed room → IsWellFormed other → CanBeTold room
-    → Agree room other → (viewer : List ℕ) → merge_shown room other viewer ≡ comers_shown room other viewer
+    → Agree room other → (viewer : List ℕ)
+    → merge_shown room other viewer ≡ comers_shown room other viewer
 
 -- Two sides of one room, which a lost link has left, have the same of each channel.
 abbrev pub SidesAgree : Type 0

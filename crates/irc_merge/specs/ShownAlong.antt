@@ -8,4 +8,5 @@ use Rattle.irc_room.specs.Viewers.{shows_to}
 -- the lines that the user of a nickname is shown by some effects, one after another
 abbrev pub shown_along : List ℕ → Room → List Effect → List (List ℕ)
 shown_along viewer room [] = []
-shown_along viewer room (effect ∷ effects) = option_to_list (shows_to room effect viewer) ++ shown_along viewer (after room effect) effects
+shown_along viewer room (effect ∷ effects) =
+    option_to_list (shows_to room effect viewer) ++ shown_along viewer (after room effect) effects

@@ -10,5 +10,7 @@ use Rattle.irc_merge.specs.Split.{lost_home}
 
 -- its flags in each channel, and whether it is a member at all
 abbrev pub MembersStay : Type 0
-MembersStay = (text home other : List ℕ) (room : Room) (nick channel : List ℕ) (user : User) → exactly_same home other ≡ false → IsWellFormed room
-    → row room.users nick ≡ Some user → is_home other user ≡ true → flags_at (lost_home text room home) nick channel ≡ flags_at room nick channel
+MembersStay = (text home other : List ℕ) (room : Room) (nick channel : List ℕ) (user : User)
+    → exactly_same home other ≡ false → IsWellFormed room
+    → row room.users nick ≡ Some user → is_home other user ≡ true
+    → flags_at (lost_home text room home) nick channel ≡ flags_at room nick channel

@@ -1,5 +1,6 @@
 //! Small networks that are joined, by example.
-ghost use Rattle.irc_merge.specs.Examples.{ChannelIsTold, ChannelsAreJoined, GreaterTopicIsSet, ModesAreJoined, NicknameOnBothSides, ThirtyOneMembers};
+ghost use Rattle.irc_merge.specs.Examples.{ChannelIsTold, ChannelsAreJoined, GreaterTopicIsSet};
+ghost use Rattle.irc_merge.specs.Examples.{ModesAreJoined, NicknameOnBothSides, ThirtyOneMembers};
 
 /// A channel is told by its members, its modes, its bans and its topic.
 pub fn channel_is_told()
@@ -16,8 +17,8 @@ pub fn channels_are_joined()
     ensures { ChannelsAreJoined }
 {}
 
-/// Modes, keys and topics of two channels of one name are joined, and the members of each see what the
-/// other's raise.
+/// Modes, keys and topics of two channels of one name are joined, and the members of each see what
+/// the other's raise.
 pub fn modes_are_joined()
     ensures { ModesAreJoined }
 {}

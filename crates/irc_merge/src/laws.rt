@@ -1,7 +1,9 @@
-//! What holds of rooms that become one, and of one that comes apart. Each law is a function that does nothing, and its contract is the law: the
-//! check proves it, and a crate above may cite it.
+//! What holds of rooms that become one, and of one that comes apart. Each law is a function that
+//! does nothing, and its contract is the law: the check proves it, and a crate above may cite it.
 ghost use Rattle.irc_merge.specs.Agreeing.{AgreeTells};
-ghost use Rattle.irc_merge.specs.AsideInvitations.{AgreeLooksAtNoInvitation, AlikeDoAlike, AlikeReadAlike, BurstTellsNoInvitation, HomeFollowsDeed};
+ghost use Rattle.irc_merge.specs.AsideInvitations.{AgreeLooksAtNoInvitation, AlikeDoAlike};
+ghost use Rattle.irc_merge.specs.AsideInvitations.{AlikeReadAlike, BurstTellsNoInvitation};
+ghost use Rattle.irc_merge.specs.AsideInvitations.{HomeFollowsDeed};
 ghost use Rattle.irc_merge.specs.CanBeDone.{LinesCanBeDone};
 ghost use Rattle.irc_merge.specs.Laws.{
   BurstReadIsMerge,
@@ -20,7 +22,8 @@ ghost use Rattle.irc_merge.specs.Laws.{
   SquitsSplit,
   WholeSide,
 };
-ghost use Rattle.irc_merge.specs.LimitLaws.{MergeIsWithinLimits, SplitIsWithinLimits, WithinLimitsIsTold};
+ghost use Rattle.irc_merge.specs.LimitLaws.{MergeIsWithinLimits, SplitIsWithinLimits};
+ghost use Rattle.irc_merge.specs.LimitLaws.{WithinLimitsIsTold};
 ghost use Rattle.irc_merge.specs.OwnInvitations.{ServerReadsMerge, ServerShowsMerge};
 ghost use Rattle.irc_merge.specs.Rejoined.{AgreedShowComers, RejoinShowsComers, SidesAgree};
 ghost use Rattle.irc_merge.specs.StayingMembers.{MembersStay};
@@ -74,34 +77,36 @@ pub fn homes_one_by_one()
     ensures { HomesOneByOne }
 {}
 
-/// The SQUITs of the lost servers leave what the split leaves, and show to each user what it shows (RFC 2813 section 4.1.6).
+/// The SQUITs of the lost servers leave what the split leaves, and show to each user what it shows
+/// (RFC 2813 section 4.1.6).
 pub fn squits_split()
     ensures { SquitsSplit }
 {}
 
-/// A burst that is read makes a room just what both halves become: who clashes is gone, everybody else is
-/// there, and so are all channels and members, and each channel's spelling, modes, bans and topic are
-/// joined (RFC 2813 section 5.3.2). Invitations alone are not told.
+/// A burst that is read makes a room just what both halves become: who clashes is gone, everybody
+/// else is there, and so are all channels and members, and each channel's spelling, modes, bans and
+/// topic are joined (RFC 2813 section 5.3.2). Invitations alone are not told.
 pub fn burst_read_is_merge()
     ensures { BurstReadIsMerge }
 {}
 
-/// A burst that is read shows to each user of this side just what the merge shows: those who clash quit,
-/// in order, and then, channel by channel, each of the other side's members comes, with its flags, and
-/// then what its modes and its topic raise (RFC 2813 section 5.3.2). The lines are the same, and so is
-/// their order.
+/// A burst that is read shows to each user of this side just what the merge shows: those who clash
+/// quit, in order, and then, channel by channel, each of the other side's members comes, with its
+/// flags, and then what its modes and its topic raise (RFC 2813 section 5.3.2). The lines are the
+/// same, and so is their order.
 pub fn shown_is_merge_shown()
     ensures { ShownIsMergeShown }
 {}
 
-/// Each user of a merge is a user of one of the halves, each member has its flags of one of them, who is
-/// invited was, and each channel has its name, modes and topic of one of them, or of two that are joined;
-/// so the limits of a room that both halves keep hold of the merge.
+/// Each user of a merge is a user of one of the halves, each member has its flags of one of them,
+/// who is invited was, and each channel has its name, modes and topic of one of them, or of two
+/// that are joined; so the limits of a room that both halves keep hold of the merge.
 pub fn merge_has_nothing_new()
     ensures { MergeHasNothingNew }
 {}
 
-/// Each user and each member that a split leaves was there, with its flags, who is invited was, and each channel has its name, modes and topic as before.
+/// Each user and each member that a split leaves was there, with its flags, who is invited was, and
+/// each channel has its name, modes and topic as before.
 pub fn split_has_nothing_new()
     ensures { SplitHasNothingNew }
 {}
@@ -111,7 +116,8 @@ pub fn whole_side()
     ensures { WholeSide }
 {}
 
-/// Where no nickname stands twice in a line of members, each may be judged by the room as it was before the line.
+/// Where no nickname stands twice in a line of members, each may be judged by the room as it was
+/// before the line.
 pub fn members_at_once()
     ensures { MembersAtOnce }
 {}
@@ -126,17 +132,20 @@ pub fn side_is_well_formed()
     ensures { SideIsWellFormed }
 {}
 
-/// A burst that tells of some homes alone makes a room, when it is read, what this room and that side become.
+/// A burst that tells of some homes alone makes a room, when it is read, what this room and that
+/// side become.
 pub fn side_read_is_merge()
     ensures { SideReadIsMerge }
 {}
 
-/// Whatever the lines of a burst say: each effect of what is read of them is possible when its turn comes, and is not idle.
+/// Whatever the lines of a burst say: each effect of what is read of them is possible when its turn
+/// comes, and is not idle.
 pub fn lines_can_be_done()
     ensures { LinesCanBeDone }
 {}
 
-/// A server keeps the invitations of its own users alone. One that reads what a server of the other half tells, has then of the merge what it has to have.
+/// A server keeps the invitations of its own users alone. One that reads what a server of the other
+/// half tells, has then of the merge what it has to have.
 pub fn server_reads_merge()
     ensures { ServerReadsMerge }
 {}
@@ -161,7 +170,8 @@ pub fn within_limits_is_told()
     ensures { WithinLimitsIsTold }
 {}
 
-/// Two servers find out by what each has of its half whether the halves agree: no invitation is asked.
+/// Two servers find out by what each has of its half whether the halves agree: no invitation is
+/// asked.
 pub fn agree_looks_at_no_invitation()
     ensures { AgreeLooksAtNoInvitation }
 {
@@ -182,7 +192,8 @@ pub fn alike_read_alike()
     irc_room::invitation_laws::alike_have_alike();
 }
 
-/// What a line of a link says does and shows the same in two rooms that are alike but for who is invited.
+/// What a line of a link says does and shows the same in two rooms that are alike but for who is
+/// invited.
 pub fn alike_do_alike()
     ensures { AlikeDoAlike }
 {
@@ -191,7 +202,8 @@ pub fn alike_do_alike()
     irc_room::invitation_laws::alike_have_alike();
 }
 
-/// What a server has of a room after a line of a link is what the line makes of what the server had.
+/// What a server has of a room after a line of a link is what the line makes of what the server
+/// had.
 pub fn home_follows_deed()
     ensures { HomeFollowsDeed }
 {

@@ -1,5 +1,6 @@
 -- What holds of changes of modes, and of the modes that they leave.
-use Rattle.std.specs.Prelude.{◌≡◌, ◌≤◌, ℕ, Bool, true, false, Option, List, ◌∷◌, ◌++◌, length, map, filter}
+use Rattle.std.specs.Prelude.{◌≡◌, ◌≤◌, ℕ, Bool, true, false, Option, List, ◌∷◌, ◌++◌, length, map}
+use Rattle.std.specs.Prelude.{filter}
 use Rattle.std.specs.List.{list_all, filter_map}
 use Rattle.irc_names.specs.Names.{is_ban_mask}
 use Rattle.irc_modes.specs.declared.modes.Modes.{Modes}
@@ -17,11 +18,13 @@ asked_for c = change c.plus c.letter c.word
 
 -- changes that are written and read again are the same
 abbrev pub WrittenIsRead : Type 0
-WrittenIsRead = (changes : List ModeChange) → AreReadable changes → modes_read (changes_written changes) ≡ map asked_for changes
+WrittenIsRead = (changes : List ModeChange) → AreReadable changes
+    → modes_read (changes_written changes) ≡ map asked_for changes
 
 -- what is left when some are left out is readable too, if anything is left
 abbrev pub LeftIsReadable : Type 0
-LeftIsReadable = (keeps : ModeChange → Bool) (changes : List ModeChange) → AreReadable changes → is_nil (filter keeps changes) ≡ false
+LeftIsReadable = (keeps : ModeChange → Bool) (changes : List ModeChange) → AreReadable changes
+    → is_nil (filter keeps changes) ≡ false
     → AreReadable (filter keeps changes)
 
 -- whatever the words of a MODE, what is read of them keeps the limits of one command
@@ -30,7 +33,8 @@ ReadChangesAreFew = (words : List (List ℕ)) → AreFew (modes_read words)
 
 -- some of what a MODE asks for, in order, is readable where each change has a word of its letter
 abbrev pub SomeAskedAreReadable : Type 0
-SomeAskedAreReadable = (words : List (List ℕ)) (changes : List ModeChange) → AreSomeAsked (modes_read words) changes → is_nil changes ≡ false
+SomeAskedAreReadable = (words : List (List ℕ)) (changes : List ModeChange)
+    → AreSomeAsked (modes_read words) changes → is_nil changes ≡ false
     → AreReadable changes
 
 -- ---- changes with other words
@@ -39,10 +43,12 @@ SomeAskedAreReadable = (words : List (List ℕ)) (changes : List ModeChange) →
 abbrev pub reworded : (ModeChange → Option (List ℕ)) → ModeChange → ModeChange
 reworded words c = record c { word = words c }
 
--- the letters of changes behind which other words stand are what the changes with these words are written as
+-- the letters of changes behind which other words stand are what the changes with these words are
+-- written as
 abbrev pub RewordedIsWritten : Type 0
 RewordedIsWritten = (words : ModeChange → Option (List ℕ)) (changes : List ModeChange)
-    → letters_text changes ∷ filter_map words changes ≡ changes_written (map (reworded words) changes)
+    → letters_text changes ∷ filter_map words changes ≡ changes_written
+    (map (reworded words) changes)
 
 -- changes stay readable with other words, where each of them too is one of its letter
 abbrev pub RewordedIsReadable : Type 0
@@ -54,13 +60,16 @@ RewordedIsReadable = (words : ModeChange → Option (List ℕ)) (changes : List 
 
 -- the changes that set the modes of a channel make these modes where no mode is set
 abbrev pub SetMakesTheModes : Type 0
-SetMakesTheModes = (modes : Modes) → AreWithinLimits modes → modes_after (set_changes modes ++ ban_changes modes.bans) no_modes ≡ modes
+SetMakesTheModes = (modes : Modes) → AreWithinLimits modes
+    → modes_after (set_changes modes ++ ban_changes modes.bans) no_modes ≡ modes
 
 -- those of its modes but for the bans are readable all at once, if any is set
 abbrev pub SetIsReadable : Type 0
-SetIsReadable = (modes : Modes) → AreWithinLimits modes → is_nil (set_changes modes) ≡ false → AreReadable (set_changes modes)
+SetIsReadable = (modes : Modes) → AreWithinLimits modes → is_nil (set_changes modes) ≡ false
+    → AreReadable (set_changes modes)
 
 -- and of its bans as many as a command may have parameters
 abbrev pub BansAreReadable : Type 0
-BansAreReadable = (bans : List (List ℕ)) → list_all is_ban_mask bans ≡ true → is_nil bans ≡ false → length bans ≤ max_mode_parameters
+BansAreReadable = (bans : List (List ℕ)) → list_all is_ban_mask bans ≡ true → is_nil bans ≡ false
+    → length bans ≤ max_mode_parameters
     → AreReadable (ban_changes bans)

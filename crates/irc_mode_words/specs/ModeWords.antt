@@ -1,24 +1,27 @@
--- The words of a MODE of a channel (RFC 2811 section 4, RFC 2812 section 3.2.3): the first has letters, the others are the parameters
--- of those letters. They are read twice. First each letter takes its parameter, whether it will count or not; then the limits of one
--- command drop letters.
-use Rattle.std.specs.Prelude.{ℕ, Bool, true, false, not, ◌&&◌, ◌||◌, Option, Some, None, is_some, List, [], ◌∷◌, ◌++◌, drop, nat_eq, nat_lt, count_by, if◌then◌else◌}
+-- The words of a MODE of a channel (RFC 2811 section 4, RFC 2812 section 3.2.3): the first has
+-- letters, the others are the parameters of those letters. They are read twice. First each letter
+-- takes its parameter, whether it will count or not; then the limits of one command drop letters.
+use Rattle.std.specs.Prelude.{ℕ, Bool, true, false, not, ◌&&◌, ◌||◌, Option, Some, None, is_some}
+use Rattle.std.specs.Prelude.{List, [], ◌∷◌, ◌++◌, drop, nat_eq, nat_lt, count_by, if◌then◌else◌}
 use Rattle.std.specs.List.{list_any}
 use Rattle.irc_modes.specs.Letters.{letter_byte, plus_byte, minus_byte}
 use Rattle.irc_mode_words.specs.Limits.{max_mode_parameters}
 use Rattle.irc_modes.specs.declared.modes.ModeLetter.{ModeLetter}
 use Rattle.irc_modes.specs.declared.modes.ModeLetter.TheVariants as letter
 use Rattle.irc_mode_words.specs.declared.mode_words.Asks.{Asks}
-use Rattle.irc_mode_words.specs.declared.mode_words.Asks.TheVariants.{Nothing, Word, WordIfAny, WordOrList}
+use Rattle.irc_mode_words.specs.declared.mode_words.Asks.TheVariants.{Nothing, Word, WordIfAny}
+use Rattle.irc_mode_words.specs.declared.mode_words.Asks.TheVariants.{WordOrList}
 
--- what a letter asks for: a change of a mode, the list of the bans, nothing for want of its parameter, nothing since no mode has it
+-- what a letter asks for: a change of a mode, the list of the bans, nothing for want of its
+-- parameter, nothing since no mode has it
 pub data Asked : Type 0 where
   change : (plus : Bool) → ModeLetter → (word : Option (List ℕ)) → Asked
   list : Asked
   no_word : Asked
   unknown : (byte : ℕ) → Asked
 
--- a letter as it was read: whether it is one of those that take a parameter, whether only the first such letter of a command counts, and
--- what it asks for if it counts
+-- a letter as it was read: whether it is one of those that take a parameter, whether only the first
+-- such letter of a command counts, and what it asks for if it counts
 pub record Reading : Type 0 where
   pub byte : ℕ
   pub takes : Bool
@@ -43,8 +46,9 @@ mode_of byte =
 
 -- ---- first, each letter takes its parameter
 
--- What a letter asks of the parameters that are left, after the sign `+` or another. A key is taken away without naming it too (our own
--- choice), a limit is only taken away so, and a ban without a mask asks for the list (RFC 2811 section 4.3.1).
+-- What a letter asks of the parameters that are left, after the sign `+` or another. A key is taken
+-- away without naming it too (our own choice), a limit is only taken away so, and a ban without a
+-- mask asks for the list (RFC 2811 section 4.3.1).
 abbrev pub needs : Bool → ModeLetter → Asks
 needs plus letter.Key = if plus then Word else WordIfAny
 needs plus letter.Limit = if plus then Word else Nothing
@@ -53,7 +57,8 @@ needs plus letter.Operator = Word
 needs plus letter.Voice = Word
 needs plus other = Nothing
 
--- what a letter asks for, by what it asks of the parameters and the next one, where one is left; a parameter is taken whole
+-- what a letter asks for, by what it asks of the parameters and the next one, where one is left; a
+-- parameter is taken whole
 abbrev pub answer : Asks → Bool → ModeLetter → Option (List ℕ) → Asked
 answer Nothing plus letter next = change plus letter None
 answer Word plus letter (Some word) = change plus letter (Some word)
@@ -63,14 +68,16 @@ answer WordIfAny plus letter None = change plus letter None
 answer WordOrList plus letter (Some word) = change plus letter (Some word)
 answer WordOrList plus letter None = list
 
--- whether it is one of the letters that take a parameter: also where there is none, but for a request of the list
+-- whether it is one of the letters that take a parameter: also where there is none, but for a
+-- request of the list
 abbrev pub takes : Asks → Bool → Bool
 takes Nothing has_next = false
 takes Word has_next = true
 takes WordIfAny has_next = true
 takes WordOrList has_next = has_next
 
--- whether only the first such letter of a command counts: not for bans and members, but for requests of the list
+-- whether only the first such letter of a command counts: not for bans and members, but for
+-- requests of the list
 abbrev pub once : ModeLetter → Bool → Bool
 once letter.Ban has_next = not has_next
 once letter.Operator has_next = false
@@ -79,7 +86,8 @@ once other has_next = true
 
 -- what a mode's letter is read as; any other takes no parameter, and counts each time
 abbrev pub reading_of : Bool → ℕ → Option ModeLetter → Option (List ℕ) → Reading
-reading_of plus byte None next = record { byte = byte; takes = false; once = false; asked = unknown byte }
+reading_of plus byte None next =
+    record { byte = byte; takes = false; once = false; asked = unknown byte }
 reading_of plus byte (Some letter) next = record {
   byte = byte;
   takes = takes (needs plus letter) (is_some next);
@@ -119,7 +127,8 @@ abbrev pub letters_read : Bool → List ℕ → List (List ℕ) → List Reading
 letters_read plus [] words = []
 letters_read plus (byte ∷ letters) words =
     if is_sign byte then letters_read (nat_eq byte plus_byte) letters words
-    else reading plus byte (next_word words) ∷ letters_read plus letters (words_after plus byte words)
+    else reading plus byte (next_word words) ∷ letters_read plus letters
+    (words_after plus byte words)
 
 -- ---- then the limits drop letters
 
@@ -127,8 +136,9 @@ letters_read plus (byte ∷ letters) words =
 abbrev pub is_once_with : ℕ → Reading → Bool
 is_once_with byte reading = reading.once && nat_eq byte reading.byte
 
--- Whether a letter counts after those that were written before it, whether they counted or not. Of the letters that take a parameter
--- the first three do (RFC 2812 section 3.2.3), and of those that count once the first (our own choice).
+-- Whether a letter counts after those that were written before it, whether they counted or not. Of
+-- the letters that take a parameter the first three do (RFC 2812 section 3.2.3), and of those that
+-- count once the first (our own choice).
 abbrev pub counts : List Reading → Reading → Bool
 counts earlier reading =
     (not reading.takes || nat_lt (count_by (λ r. r.takes) earlier) max_mode_parameters)
@@ -138,7 +148,8 @@ counts earlier reading =
 abbrev pub counted : List Reading → List Reading → List Asked
 counted earlier [] = []
 counted earlier (reading ∷ later) =
-    (if counts earlier reading then reading.asked ∷ [] else []) ++ counted (earlier ++ reading ∷ []) later
+    (if counts earlier reading then reading.asked ∷ [] else [])
+    ++ counted (earlier ++ reading ∷ []) later
 
 -- what the words of a MODE ask for, in the order of its letters; the first sign is `+`
 abbrev pub modes_read : List (List ℕ) → List Asked

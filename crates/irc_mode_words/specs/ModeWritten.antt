@@ -1,6 +1,8 @@
--- How changes of modes are written: their letters in order, with a sign before the first and wherever it differs from the one before, and then
--- their parameters in order (RFC 2812 section 3.2.3).
-use Rattle.std.specs.Prelude.{ℕ, Bool, true, false, Option, Some, None, List, [], ◌∷◌, ◌++◌, option_to_list, if◌then◌else◌}
+-- How changes of modes are written: their letters in order, with a sign before the first and
+-- wherever it differs from the one before, and then their parameters in order (RFC 2812 section
+-- 3.2.3).
+use Rattle.std.specs.Prelude.{ℕ, Bool, true, false, Option, Some, None, List, [], ◌∷◌, ◌++◌}
+use Rattle.std.specs.Prelude.{option_to_list, if◌then◌else◌}
 use Rattle.std.specs.List.{filter_map}
 use Rattle.irc_line.specs.Messages.{middle_text}
 use Rattle.irc_modes.specs.declared.modes.ModeChange.{ModeChange}
@@ -25,7 +27,8 @@ parameter_text word = middle_text (option_to_list word)
 abbrev pub letters_behind : Bool → List ModeChange → List ℕ
 letters_behind sign [] = []
 letters_behind sign (c ∷ changes) =
-    (if c.plus then (if sign then [] else sign_byte true ∷ []) else (if sign then sign_byte false ∷ [] else []))
+    (if c.plus then (if sign then [] else sign_byte true ∷ [])
+    else (if sign then sign_byte false ∷ [] else []))
     ++ letter_byte c.letter ∷ letters_behind c.plus changes
 
 -- the letters of changes, with a sign where it is another than before

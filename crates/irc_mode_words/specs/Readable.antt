@@ -1,6 +1,8 @@
--- The changes of modes that survive being written and read again. What one server has decided it writes for another, which reads it as a
--- MODE of a client is read; so all has to be left that the limits of one command leave (RFC 2812 section 3.2.3).
-use Rattle.std.specs.Prelude.{◌≡◌, ℕ, ◌≤◌, Bool, true, false, not, ◌&&◌, is_some, Option, Some, None, List, [], ◌∷◌, nat_eq, count_by, decimal, IsTrue}
+-- The changes of modes that survive being written and read again. What one server has decided it
+-- writes for another, which reads it as a MODE of a client is read; so all has to be left that the
+-- limits of one command leave (RFC 2812 section 3.2.3).
+use Rattle.std.specs.Prelude.{◌≡◌, ℕ, ◌≤◌, Bool, true, false, not, ◌&&◌, is_some, Option, Some}
+use Rattle.std.specs.Prelude.{None, List, [], ◌∷◌, nat_eq, count_by, decimal, IsTrue}
 use Rattle.std.specs.List.{list_all}
 use Rattle.std.specs.Str.{bytes_eq}
 use Rattle.irc_names.specs.Names.{is_nick, is_key, is_ban_mask}
@@ -55,8 +57,9 @@ is_of which c = nat_eq (letter_byte which) (letter_byte c.letter)
 abbrev pub IsOnce : ModeLetter → Type 0
 IsOnce which = IsTrue (once which true)
 
--- The changes that are read as they are written: there are some, each has the word of its letter, at most three have one, and of each of
--- i m n p s t k l there is one at most, whether it is set or taken away.
+-- The changes that are read as they are written: there are some, each has the word of its letter,
+-- at most three have one, and of each of i m n p s t k l there is one at most, whether it is set or
+-- taken away.
 pub record AreReadable (changes : List ModeChange) : Type 0 where
   pub filled : is_nil changes ≡ false
   pub worded : list_all has_its_word changes ≡ true
@@ -74,12 +77,14 @@ abbrev pub asks_of : ModeLetter → Asked → Bool
 asks_of which (change plus other word) = nat_eq (letter_byte which) (letter_byte other)
 asks_of which other = false
 
--- of what is asked for at most three changes are written with a parameter, and each of i m n p s t k l is changed once at most
+-- of what is asked for at most three changes are written with a parameter, and each of i m n p s t
+-- k l is changed once at most
 pub record AreFew (items : List Asked) : Type 0 where
   pub few : count_by asks_parameter items ≤ max_mode_parameters
   pub once : (which : ModeLetter) → IsOnce which → count_by (asks_of which) items ≤ 1
 
--- a change of the same mode as is asked for, with a word of its letter, be it the one that was given or another
+-- a change of the same mode as is asked for, with a word of its letter, be it the one that was
+-- given or another
 pub record IsOneAsked (item : Asked) (made : ModeChange) : Type 0 where
   pub given : Option (List ℕ)
   pub asked : item ≡ change made.plus made.letter given
@@ -88,6 +93,8 @@ pub record IsOneAsked (item : Asked) (made : ModeChange) : Type 0 where
 -- changes that are some of those asked for, in order
 pub data AreSomeAsked : List Asked → List ModeChange → Type 0 where
   nothing_left : AreSomeAsked [] []
-  one_left_out : {item : Asked} {items : List Asked} {changes : List ModeChange} → AreSomeAsked items changes → AreSomeAsked (item ∷ items) changes
+  one_left_out : {item : Asked} {items : List Asked} {changes : List ModeChange}
+      → AreSomeAsked items changes → AreSomeAsked (item ∷ items) changes
   one_made : {item : Asked} {items : List Asked} {made : ModeChange} {changes : List ModeChange}
-      → IsOneAsked item made → AreSomeAsked items changes → AreSomeAsked (item ∷ items) (made ∷ changes)
+      → IsOneAsked item made → AreSomeAsked items changes
+      → AreSomeAsked (item ∷ items) (made ∷ changes)

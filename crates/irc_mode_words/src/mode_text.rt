@@ -1,15 +1,18 @@
-//! Changes of modes, written into a line (RFC 2812 section 3.2.3). As many changes as there may be, it takes no memory.
+//! Changes of modes, written into a line (RFC 2812 section 3.2.3). As many changes as there may be,
+//! it takes no memory.
 ghost use Rattle.std.specs.Prelude.{◌≡◌, ◌≤◌, ◌++◌};
 ghost use Rattle.arrayvec.specs.ArrayVec.{array_vec_len};
 ghost use Rattle.irc_line.specs.Bytes.{cut};
 ghost use Rattle.irc_line.specs.Limits.{max_line};
 ghost use Rattle.irc_line.specs.MessageViews.{optional_now};
-ghost use Rattle.irc_mode_words.specs.ModeWritten.{letter_text, letters_text, parameter_text, sign_between};
+ghost use Rattle.irc_mode_words.specs.ModeWritten.{letter_text, letters_text, parameter_text};
+ghost use Rattle.irc_mode_words.specs.ModeWritten.{sign_between};
 
 use irc_line::{Text, push_cut};
 use irc_modes::ModeChange;
 
-/// Appends the letters of changes in order, with a sign before the first and wherever it differs from the one before.
+/// Appends the letters of changes in order, with a sign before the first and wherever it differs
+/// from the one before.
 pub fn push_letters(line: &mut Text, changes: &[ModeChange])
     requires { array_vec_len line.old ≤ max_line }
     ensures pushed { line.new.items ≡ cut (line.old.items ++ letters_text changes.now) }
@@ -46,7 +49,8 @@ pub fn sign_text(before: Option<bool>, plus: bool) -> &'static [u8]
 /// Appends the parameter of one change behind a space, if the change has one.
 pub fn push_parameter(line: &mut Text, word: Option<&[u8]>)
     requires { array_vec_len line.old ≤ max_line }
-    ensures pushed { line.new.items ≡ cut (line.old.items ++ parameter_text (optional_now word.entry)) }
+    ensures pushed { line.new.items
+        ≡ cut (line.old.items ++ parameter_text (optional_now word.entry)) }
     ensures still_cut { array_vec_len line.new ≤ max_line }
 {
     match word {

@@ -1,8 +1,11 @@
 //! The words of a MODE of a channel (RFC 2811 section 4, RFC 2812 section 3.2.3).
-ghost use Rattle.std.specs.Prelude.{◌≡◌, ◌≤◌, [], ◌∷◌, ◌++◌, true, drop, length, IfOk, if◌then◌else◌};
+ghost use Rattle.std.specs.Prelude.{◌≡◌, ◌≤◌, [], ◌∷◌, ◌++◌, true, drop, length, IfOk};
+ghost use Rattle.std.specs.Prelude.{if◌then◌else◌};
 ghost use Rattle.std.specs.Option.{option_copied};
 ghost use Rattle.irc_line.specs.PartViews.{words_now};
-ghost use Rattle.irc_mode_words.specs.ModeWords.{answer, change, is_sign, letter_asks, mode_of, modes_read, needs, next_word, once, reading, takes, words_after};
+ghost use Rattle.irc_mode_words.specs.ModeWords.{answer, change, is_sign, letter_asks, mode_of};
+ghost use Rattle.irc_mode_words.specs.ModeWords.{modes_read, needs, next_word, once, reading};
+ghost use Rattle.irc_mode_words.specs.ModeWords.{takes, words_after};
 ghost use Rattle.irc_mode_words.specs.ModeViews.{all_asked, asked, letter_read};
 ghost use Rattle.irc_mode_words.specs.Loops.ModeLimits.{Judges};
 
@@ -58,11 +61,13 @@ struct Limits {
     met: Vec<u8, Global>,
 }
 
-/// What the words of a MODE after the channel ask for: the first word has the letters, the others are parameters.
+/// What the words of a MODE after the channel ask for: the first word has the letters, the others
+/// are parameters.
 ///
-/// Each letter in turn takes its parameter, whether it will count or not. Of the letters that take a parameter only the first three
-/// count, and of each of i, m, n, p, s, t, k, l and a request of the list only the first. Words that no letter takes are ignored. A word
-/// is lent as it was given, whatever its length and whether or not its mode takes it.
+/// Each letter in turn takes its parameter, whether it will count or not. Of the letters that take
+/// a parameter only the first three count, and of each of i, m, n, p, s, t, k, l and a request of
+/// the list only the first. Words that no letter takes are ignored. A word is lent as it was given,
+/// whatever its length and whether or not its mode takes it.
 ///
 /// # Errors
 /// Where memory runs out.
@@ -81,7 +86,8 @@ fn read_letters<'a>(
     letters: &[u8],
     words: &[&'a [u8]],
 ) -> Result<Vec<ModeItem<'a>>, AllocError>
-    ensures { IfOk result (λ items. all_asked items.items ≡ modes_read (letters.now ∷ words_now words.now)) }
+    ensures { IfOk result
+        (λ items. all_asked items.items ≡ modes_read (letters.now ∷ words_now words.now)) }
 {
     let mut plus = true;
     let mut used = 0;
@@ -105,7 +111,8 @@ fn read_letters<'a>(
 
 /// Whether a letter counts; it is remembered, whether it does or not.
 fn judge(limits: &mut Limits, reading: &Reading<'_>) -> Result<bool, AllocError>
-    ensures { IfOk result (λ verdict. Judges limits.old (letter_read reading.now) verdict limits.new) }
+    ensures { IfOk result
+        (λ verdict. Judges limits.old (letter_read reading.now) verdict limits.new) }
 {
     let has_room = limits.room > 0;
     let is_met = limits.met.contains(&reading.byte);
@@ -116,7 +123,8 @@ fn judge(limits: &mut Limits, reading: &Reading<'_>) -> Result<bool, AllocError>
 
 /// Adds a letter to those that were there, if it is to be added.
 fn meet(wanted: bool, byte: u8, met: &mut Vec<u8>) -> Result<(), AllocError>
-    ensures { IfOk result (λ _. met.new.items ≡ met.old.items ++ (if wanted then byte ∷ [] else [])) }
+    ensures { IfOk result
+        (λ _. met.new.items ≡ met.old.items ++ (if wanted then byte ∷ [] else [])) }
 {
     if wanted {
         met.push(byte)?;
@@ -130,7 +138,8 @@ fn add_if<'a>(
     item: ModeItem<'a>,
     items: &mut Vec<ModeItem<'a>>,
 ) -> Result<(), AllocError>
-    ensures { IfOk result (λ _. items.new.items ≡ items.old.items ++ (if counts then item.entry ∷ [] else [])) }
+    ensures { IfOk result
+        (λ _. items.new.items ≡ items.old.items ++ (if counts then item.entry ∷ [] else [])) }
 {
     if counts {
         items.push(item)?;
@@ -177,7 +186,8 @@ fn next_word<'a>(words: &[&'a [u8]], used: usize) -> Option<&'a [u8]>
 #[tactic(auto, using(crate::proofs::ModeSteps::word_places))]
 fn used_after(plus: bool, byte: u8, used: usize, words: &[&[u8]]) -> usize
     requires { used ≤ length words.now }
-    ensures after { drop result (words_now words.now) ≡ words_after plus byte (drop used (words_now words.now)) }
+    ensures after { drop result (words_now words.now) ≡ words_after plus byte
+        (drop used (words_now words.now)) }
     ensures within { result ≤ length words.now }
 {
     if !takes_next(plus, byte) {

@@ -8,7 +8,8 @@ use Rattle.irc_channels.specs.declared.channel.Channel.{Channel}
 use Rattle.irc_modes.specs.declared.modes.ModeChange.{ModeChange}
 use Rattle.irc_channels.specs.Channels.{all_changed}
 use Rattle.irc_mode_words.specs.ModeWords.{Asked, change, list, no_word, unknown, modes_read}
-use Rattle.irc_numerics.specs.declared.replies.Reply.TheVariants.{NoSuchChannel, NeedMoreParams, UnknownMode, ChanOPrivsNeeded}
+use Rattle.irc_numerics.specs.declared.replies.Reply.TheVariants.{NoSuchChannel, NeedMoreParams}
+use Rattle.irc_numerics.specs.declared.replies.Reply.TheVariants.{UnknownMode, ChanOPrivsNeeded}
 use Rattle.irc_room.specs.effect.By.TheVariants as by
 use Rattle.irc_room.specs.effect.Effect.TheVariants.{ChangeModes}
 use Rattle.irc_room.specs.Room.{Room}
@@ -36,7 +37,8 @@ outcome_of (Says reply) = only_replies (Answer reply ∷ [])
 outcome_of (Keeps made) = record { replies = []; changes = made ∷ [] }
 outcome_of Nothing = only_replies []
 
--- what is told to a letter that asks for no change, to anybody; the bans are those that stood at the command's start
+-- what is told to a letter that asks for no change, to anybody; the bans are those that stood at
+-- the command's start
 abbrev pub letter_replies : Channel → Asked → List Act
 letter_replies start list = bans_shown start
 letter_replies start no_word = Answer (NeedMoreParams (client_words (codes "MODE"))) ∷ []
@@ -48,8 +50,8 @@ abbrev pub one_served : Table User → Channel → Channel → Asked → Outcome
 one_served users start now (change plus which word) = outcome_of (judge users now plus which word)
 one_served users start now other = only_replies (letter_replies start other)
 
--- What comes of the letters of an operator, each in the channel as the changes before it have left it. That it is an operator is asked of
--- the command's start alone (our own choice).
+-- What comes of the letters of an operator, each in the channel as the changes before it have left
+-- it. That it is an operator is asked of the command's start alone (our own choice).
 abbrev pub served : Table User → Channel → Channel → List Asked → Outcome
 served users start now [] = only_replies []
 served users start now (item ∷ items) =
@@ -57,17 +59,19 @@ served users start now (item ∷ items) =
     let rest = served users start (all_changed first.changes now) items in
     record { replies = first.replies ++ rest.replies; changes = first.changes ++ rest.changes }
 
--- Who is no operator changes nothing: the first change that it asks for is answered by 482, whatever would have come of it, and no other is
--- answered.
+-- Who is no operator changes nothing: the first change that it asks for is answered by 482,
+-- whatever would have come of it, and no other is answered.
 abbrev pub denied : Channel → List Asked → List Act
 denied start [] = []
-denied start (change plus which word ∷ items) = Answer (ChanOPrivsNeeded start.name) ∷ flat_map (letter_replies start) items
+denied start (change plus which word ∷ items) =
+    Answer (ChanOPrivsNeeded start.name) ∷ flat_map (letter_replies start) items
 denied start (item ∷ items) = letter_replies start item ++ denied start items
 
 -- all changes are made at once
 abbrev pub changing : User → Channel → List ModeChange → List Act
 changing me channel [] = []
-changing me channel (first ∷ changes) = Do (ChangeModes (by.User me.nick) channel.name (first ∷ changes)) ∷ []
+changing me channel (first ∷ changes) =
+    Do (ChangeModes (by.User me.nick) channel.name (first ∷ changes)) ∷ []
 
 -- the replies, and then the changes
 abbrev pub in_one : User → Channel → Outcome → List Act
@@ -80,12 +84,14 @@ obeyed users me channel items = in_one me channel (served users channel channel 
 -- only an operator of the channel is obeyed
 abbrev pub asked_of : Table User → User → Channel → List Asked → List Act
 asked_of users me channel items =
-    if is_operator (row channel.members (key me.nick)) then obeyed users me channel items else denied channel items
+    if is_operator (row channel.members (key me.nick)) then obeyed users me channel items
+    else denied channel items
 
 -- what the parameters behind the channel do
 abbrev pub in_channel : Table User → User → Channel → List (List ℕ) → List Act
 in_channel users me channel [] = modes_shown me channel ∷ []
-in_channel users me channel (letters ∷ words) = asked_of users me channel (modes_read (letters ∷ words))
+in_channel users me channel (letters ∷ words) =
+    asked_of users me channel (modes_read (letters ∷ words))
 
 -- what comes of a MODE for the channel that was found under a name, if one was
 unfoldable pub channel_mode : Table User → User → List ℕ → List (List ℕ) → Option Channel → List Act
@@ -94,4 +100,5 @@ channel_mode users me name more (Some channel) = in_channel users me channel mor
 
 -- by the channel that is found under the name
 abbrev pub channel_mode_named : Room → User → List ℕ → List (List ℕ) → List Act
-channel_mode_named room me name more = channel_mode room.users me name more (row room.channels (key name))
+channel_mode_named room me name more =
+    channel_mode room.users me name more (row room.channels (key name))

@@ -10,4 +10,5 @@ use Rattle.irc_moderation.specs.ChannelMode.{channel_mode_named}
 -- what a MODE of a target does (RFC 2812 sections 3.1.5 and 3.2.3)
 unfoldable pub mode_steps : Room → User → List ℕ → List (List ℕ) → List Act
 mode_steps room me target more =
-    if names_channel target then channel_mode_named room me target more else user_mode me target more
+    if names_channel target then channel_mode_named room me target more
+    else user_mode me target more

@@ -11,7 +11,8 @@ use Rattle.irc_modes.specs.declared.modes.Privacy.{Privacy}
 use Rattle.irc_modes.specs.declared.modes.Privacy.TheVariants.{Public, Private, Secret}
 use Rattle.irc_channels.specs.Channels.{has_member}
 use Rattle.irc_modes.specs.Letters.{letter_byte, plus_byte}
-use Rattle.irc_numerics.specs.declared.replies.Reply.TheVariants.{ChannelModeIs, BanList, EndOfBanList}
+use Rattle.irc_numerics.specs.declared.replies.Reply.TheVariants.{ChannelModeIs, BanList}
+use Rattle.irc_numerics.specs.declared.replies.Reply.TheVariants.{EndOfBanList}
 use Rattle.irc_acts.specs.declared.act.Act.{Act}
 use Rattle.irc_acts.specs.declared.act.Act.TheVariants.{Answer}
 use Rattle.irc_acts.specs.Acts.{bytes_kept}
@@ -45,7 +46,8 @@ key_shown member word = if member then word else codes "*"
 -- the modes of a channel as a user is told them
 abbrev pub modes_shown : User → Channel → Act
 modes_shown me channel =
-    Answer (ChannelModeIs channel.name (bytes_kept (letters_set channel.modes)) (option_map (key_shown (has_member (key me.nick) channel)) channel.modes.key)
+    Answer (ChannelModeIs channel.name (bytes_kept (letters_set channel.modes))
+    (option_map (key_shown (has_member (key me.nick) channel)) channel.modes.key)
     channel.modes.limit)
 
 -- one ban as a user is told it
@@ -54,4 +56,5 @@ ban_shown channel mask = Answer (BanList channel mask)
 
 -- the bans of a channel, in folded order, as they are stored
 abbrev pub bans_shown : Channel → List Act
-bans_shown channel = map (ban_shown channel.name) channel.modes.bans ++ Answer (EndOfBanList channel.name) ∷ []
+bans_shown channel =
+    map (ban_shown channel.name) channel.modes.bans ++ Answer (EndOfBanList channel.name) ∷ []

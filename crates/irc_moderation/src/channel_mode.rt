@@ -20,7 +20,8 @@ ghost use Rattle.irc_acts.specs.declared.act.Act.TheVariants.{Answer};
 ghost use Rattle.irc_numerics.specs.declared.replies.Reply.TheVariants.{UnknownMode};
 ghost use Rattle.irc_moderation.specs.Loops.Denied.{denied_one, is_change};
 ghost use Rattle.irc_judging.specs.Loops.KeptChanges.{AreSetBy, Follows};
-ghost use Rattle.irc_moderation.specs.Loops.Served.{AnswersEach, AnswersOne, ChangesEach, ChangesOne};
+ghost use Rattle.irc_moderation.specs.Loops.Served.{AnswersEach, AnswersOne, ChangesEach};
+ghost use Rattle.irc_moderation.specs.Loops.Served.{ChangesOne};
 
 use crate::modes_shown::{modes_shown, put_bans};
 use irc_acts::refusals::{need_more_params, no_such_channel};
@@ -86,7 +87,8 @@ fn is_ruled_by(channel: &Channel, me: &User) -> bool
     is_operator(channel.members.get(me.nick.as_bytes()).copied())
 }
 
-/// What the letters of an operator do: the replies, and then one effect of all changes that are made.
+/// What the letters of an operator do: the replies, and then one effect of all changes that are
+/// made.
 fn serve(
     context: &Context<'_>,
     channel: &Channel,

@@ -41,7 +41,8 @@ pub fn looks_at_no_invitations()
     ensures { ModeLooksAtNoInvitations }
 {}
 
-/// A law: each change that a MODE makes leaves another channel than those before it have left, and a user's own mode is made another.
+/// A law: each change that a MODE makes leaves another channel than those before it have left, and
+/// a user's own mode is made another.
 pub fn does_something()
     ensures { ModeDoesSomething }
 {}

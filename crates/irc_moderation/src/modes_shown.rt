@@ -1,9 +1,11 @@
 //! How the modes of a channel are told.
-ghost use Rattle.std.specs.Prelude.{◌≡◌, ◌≤◌, ◌<◌, ◌+◌, [], ◌∷◌, ◌++◌, codes, length, if◌then◌else◌};
+ghost use Rattle.std.specs.Prelude.{◌≡◌, ◌≤◌, ◌<◌, ◌+◌, [], ◌∷◌, ◌++◌, codes, length};
+ghost use Rattle.std.specs.Prelude.{if◌then◌else◌};
 ghost use Rattle.std.specs.Option.{option_copied, option_map};
 ghost use Rattle.irc_acts.specs.Acts.{bytes_kept};
 ghost use Rattle.irc_acts.specs.Steps.{AddsTo};
-ghost use Rattle.irc_moderation.specs.ModesShown.{ban_shown, bans_shown, key_shown, letters_set, modes_shown, privacy_letter};
+ghost use Rattle.irc_moderation.specs.ModesShown.{ban_shown, bans_shown, key_shown, letters_set};
+ghost use Rattle.irc_moderation.specs.ModesShown.{modes_shown, privacy_letter};
 
 use irc_acts::{Act, put};
 use irc_channels::Channel;

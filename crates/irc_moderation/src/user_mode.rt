@@ -22,7 +22,8 @@ use irc_room::Effect;
 use irc_users::User;
 use std::alloc::{AllocError, Global};
 
-/// What a MODE of a nickname does: a user sees and changes its own mode alone (RFC 2812 section 3.1.5).
+/// What a MODE of a nickname does: a user sees and changes its own mode alone (RFC 2812 section
+/// 3.1.5).
 #[tactic(auto, unfolding(crate::specs::UserMode::user_mode))]
 pub(crate) fn steps(
     context: &Context<'_>,

@@ -1,5 +1,5 @@
--- Two descriptions of one channel's modes, joined: nothing that one of them has set is lost (our own choice; RFC 2813 says nothing of
--- servers whose channels differ).
+-- Two descriptions of one channel's modes, joined: nothing that one of them has set is lost (our
+-- own choice; RFC 2813 says nothing of servers whose channels differ).
 use Rattle.std.specs.Prelude.{ℕ, ◌||◌, List, map}
 use Rattle.std.specs.Ordering.{nat_cmp}
 use Rattle.std.specs.FinMap.{from_entries, values}
@@ -21,11 +21,13 @@ joined_privacy Secret other = Secret
 abbrev pub by_fold : List (List ℕ) → Table (List ℕ)
 by_fold bans = from_entries (map (λ ban. (key ban, ban)) bans)
 
--- all bans of both, in folded order; of two spellings of one ban the greater. There may be as many as both have.
+-- all bans of both, in folded order; of two spellings of one ban the greater. There may be as many
+-- as both have.
 abbrev pub joined_bans : List (List ℕ) → List (List ℕ) → List (List ℕ)
 joined_bans one other = values (both (greater_of bytes_cmp) (by_fold one) (by_fold other))
 
--- A flag is set where one of them has it; the key is the greater by bytes, the limit the greater number.
+-- A flag is set where one of them has it; the key is the greater by bytes, the limit the greater
+-- number.
 abbrev pub joined_modes : Modes → Modes → Modes
 joined_modes one other = record {
   invite_only = one.invite_only || other.invite_only;

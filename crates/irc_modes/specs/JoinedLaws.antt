@@ -5,11 +5,14 @@ use Rattle.std.proofs.Math.Bool.{or_self, or_comm, or_assoc}
 use Rattle.std.specs.declared.cmp.Ordering.{Ordering}
 use Rattle.std.specs.Ordering.{is_lt, nat_cmp}
 use Rattle.irc_names.specs.Greater.{bytes_cmp, greater_of}
-use Rattle.irc_names.specs.GreaterLaws.{greater_of-itself, greater_text-even, greater_text-associates, greater_number-even, greater_number-associates}
+use Rattle.irc_names.specs.GreaterLaws.{greater_of-itself, greater_text-even}
+use Rattle.irc_names.specs.GreaterLaws.{greater_text-associates, greater_number-even}
+use Rattle.irc_names.specs.GreaterLaws.{greater_number-associates}
 use Rattle.irc_names.specs.Names.{is_ban_mask, IsKey}
 use Rattle.irc_modes.specs.Bans.{IsBanList}
 use Rattle.irc_modes.specs.Joined.{joined_privacy, joined_modes}
-use Rattle.irc_modes.specs.Lemmas.JoinedBans.{rises-joined_bans, all-joined_bans, joined_bans-even, joined_bans-associates, joined_bans-itself}
+use Rattle.irc_modes.specs.Lemmas.JoinedBans.{rises-joined_bans, all-joined_bans, joined_bans-even}
+use Rattle.irc_modes.specs.Lemmas.JoinedBans.{joined_bans-associates, joined_bans-itself}
 use Rattle.irc_modes.specs.ModesSet.{AreWithinLimits, IsLimit}
 use Rattle.irc_modes.specs.declared.modes.Modes.{Modes}
 use Rattle.irc_modes.specs.declared.modes.Privacy.{Privacy}

@@ -1,4 +1,5 @@
--- The bytes that the letters of modes and their signs are written as (RFC 2811 section 4, RFC 2812 section 3.2.3).
+-- The bytes that the letters of modes and their signs are written as (RFC 2811 section 4, RFC 2812
+-- section 3.2.3).
 use Rattle.std.specs.Prelude.{ℕ, Bool, true, false, if◌then◌else◌}
 use Rattle.irc_modes.specs.declared.modes.ModeLetter.{ModeLetter}
 use Rattle.irc_modes.specs.declared.modes.ModeLetter.TheVariants as letter

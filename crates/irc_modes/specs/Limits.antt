@@ -1,7 +1,8 @@
 -- The limits of modes.
 use Rattle.std.specs.Prelude.{ℕ}
 
--- the most bans that a client's MODE may set on a channel (our own choice); a change that is applied knows no such limit
+-- the most bans that a client's MODE may set on a channel (our own choice); a change that is
+-- applied knows no such limit
 abbrev pub max_bans : ℕ
 max_bans = 30
 

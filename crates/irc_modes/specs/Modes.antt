@@ -1,5 +1,6 @@
 -- The modes of a channel, and what each change of one does (RFC 2811 section 4).
-use Rattle.std.specs.Prelude.{ℕ, Bool, true, false, not, ◌&&◌, Option, Some, None, List, [], ◌∷◌, ◌++◌, fold, filter, nat_le, if◌then◌else◌}
+use Rattle.std.specs.Prelude.{ℕ, Bool, true, false, not, ◌&&◌, Option, Some, None, List, [], ◌∷◌}
+use Rattle.std.specs.Prelude.{◌++◌, fold, filter, nat_le, if◌then◌else◌}
 use Rattle.std.specs.List.{list_any, list_all}
 use Rattle.std.specs.Char.{is_ascii_digit}
 use Rattle.std.specs.Option.{option_copied}
@@ -49,15 +50,18 @@ secret_changed false before = before
 -- a limit is 1 to 65535, written in at most 5 digits (our own choice)
 unfoldable pub is_limit : List ℕ → Bool
 is_limit digits =
-    list_all is_ascii_digit digits && fits max_limit_digits digits && (nat_le 1 (number_of digits) && nat_le (number_of digits) max_limit)
+    list_all is_ascii_digit digits && fits max_limit_digits digits
+    && (nat_le 1 (number_of digits) && nat_le (number_of digits) max_limit)
 
--- k is set to its parameter; one that is no key changes nothing, nor does k without one. It is cleared whatever its parameter is.
+-- k is set to its parameter; one that is no key changes nothing, nor does k without one. It is
+-- cleared whatever its parameter is.
 abbrev pub key_changed : Bool → Option (List ℕ) → Option (List ℕ) → Option (List ℕ)
 key_changed true (Some word) before = if is_key word then Some word else before
 key_changed true None before = before
 key_changed false word before = None
 
--- l is set to the number that its parameter writes; one that is no limit changes nothing, nor does l without one
+-- l is set to the number that its parameter writes; one that is no limit changes nothing, nor does
+-- l without one
 abbrev pub limit_changed : Bool → Option (List ℕ) → Option ℕ → Option ℕ
 limit_changed true (Some word) before = if is_limit word then Some (number_of word) else before
 limit_changed true None before = before
@@ -128,4 +132,5 @@ modes_after changes modes = fold mode_step modes changes
 
 -- the change that is asked for, with a parameter of its own
 abbrev pub kept_change : AskedChange → ModeChange
-kept_change asked = record { plus = asked.plus; letter = asked.letter; word = option_copied asked.word }
+kept_change asked =
+    record { plus = asked.plus; letter = asked.letter; word = option_copied asked.word }

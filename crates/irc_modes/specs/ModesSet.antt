@@ -1,6 +1,8 @@
--- The changes that set all that is set in a channel's modes, as a server tells them to one that knows the channel only from it. Made on a
--- channel with no mode set, they make the modes what they are.
-use Rattle.std.specs.Prelude.{◌≡◌, ℕ, ◌≤◌, Bool, true, Option, Some, None, List, [], ◌∷◌, ◌++◌, map, decimal, if◌then◌else◌}
+-- The changes that set all that is set in a channel's modes, as a server tells them to one that
+-- knows the channel only from it. Made on a channel with no mode set, they make the modes what they
+-- are.
+use Rattle.std.specs.Prelude.{◌≡◌, ℕ, ◌≤◌, Bool, true, Option, Some, None, List, [], ◌∷◌, ◌++◌, map}
+use Rattle.std.specs.Prelude.{decimal, if◌then◌else◌}
 use Rattle.std.specs.List.{list_all}
 use Rattle.std.specs.Option.{IfSome}
 use Rattle.irc_names.specs.Names.{is_ban_mask, IsKey}
@@ -58,8 +60,8 @@ pub record IsLimit (limit : ℕ) : Type 0 where
   pub least : 1 ≤ limit
   pub most : limit ≤ max_limit
 
--- A key and a limit that are set keep their rules; the bans are masks, in folded order, and no two the same. Of how many bans there are
--- nothing is said.
+-- A key and a limit that are set keep their rules; the bans are masks, in folded order, and no two
+-- the same. Of how many bans there are nothing is said.
 pub record AreWithinLimits (modes : Modes) : Type 0 where
   pub key : IfSome modes.key IsKey
   pub limit : IfSome modes.limit IsLimit

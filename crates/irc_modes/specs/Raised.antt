@@ -1,6 +1,7 @@
--- Which changes of modes, as a server tells them of its side's channel, raise something in the modes that are there: those are made, and
--- the others are left out (our own choice).
-use Rattle.std.specs.Prelude.{ℕ, Bool, true, false, not, Option, Some, List, [], ◌∷◌, find, if◌then◌else◌}
+-- Which changes of modes, as a server tells them of its side's channel, raise something in the
+-- modes that are there: those are made, and the others are left out (our own choice).
+use Rattle.std.specs.Prelude.{ℕ, Bool, true, false, not, Option, Some, List, [], ◌∷◌, find}
+use Rattle.std.specs.Prelude.{if◌then◌else◌}
 use Rattle.std.specs.declared.cmp.Ordering.{Ordering}
 use Rattle.std.specs.Ordering.{is_lt, nat_cmp}
 use Rattle.std.specs.Option.{option_map_or}
@@ -28,8 +29,8 @@ abbrev pub is_secret : Privacy → Bool
 is_secret Secret = true
 is_secret other = false
 
--- What is taken away counts always, and so does a mode of a member. A word that is no limit raises one: it changes nothing, so that it
--- does not matter.
+-- What is taken away counts always, and so does a mode of a member. A word that is no limit raises
+-- one: it changes nothing, so that it does not matter.
 abbrev pub raises : Bool → ModeLetter → Option (List ℕ) → Modes → Bool
 raises true letter.InviteOnly word modes = not modes.invite_only
 raises true letter.Moderated word modes = not modes.moderated
@@ -43,11 +44,13 @@ raises true letter.Limit (Some word) modes =
 raises true letter.Ban (Some word) modes = is_above bytes_cmp word (find (same word) modes.bans)
 raises plus other word modes = true
 
--- Of changes one after another those that raise something, each judged by the modes as those before it have left them.
+-- Of changes one after another those that raise something, each judged by the modes as those before
+-- it have left them.
 abbrev pub raising : List ModeChange → Modes → List ModeChange
 raising [] modes = []
 raising (change ∷ changes) modes =
-    if raises change.plus change.letter change.word modes then change ∷ raising changes (mode_step modes change) else raising changes modes
+    if raises change.plus change.letter change.word modes
+    then change ∷ raising changes (mode_step modes change) else raising changes modes
 
 -- a change is made where it raises something
 abbrev pub raise_step : Modes → ModeChange → Modes

@@ -1,5 +1,5 @@
--- What is raised of all that another side tells of a channel's modes, in whatever lines it tells it,
--- makes them both sides' modes joined. Of what a side has itself nothing is raised.
+-- What is raised of all that another side tells of a channel's modes, in whatever lines it tells
+-- it, makes them both sides' modes joined. Of what a side has itself nothing is raised.
 use Rattle.std.proofs.Common.{◌≡◌, List, [], ◌∷◌, ◌++◌, fold, sym, ap, ◌∙◌, refl}
 use Rattle.std.proofs.lemmas.List.Sums.{fold-append}
 use Rattle.std.specs.List.{flat_map}

@@ -1,5 +1,6 @@
 //! Changes of a channel's bans, made where there is room for the bans that they add.
-ghost use Rattle.std.specs.Prelude.{◌≡◌, ◌+◌, ◌<◌, ◌≤◌, false, length, filter, position, vec_len, vec_capacity, IsTrue};
+ghost use Rattle.std.specs.Prelude.{◌≡◌, ◌+◌, ◌<◌, ◌≤◌, false, length, filter, position, vec_len};
+ghost use Rattle.std.specs.Prelude.{vec_capacity, IsTrue};
 ghost use Rattle.std.specs.List.{list_any};
 ghost use Rattle.std.specs.Option.{option_copied};
 ghost use Rattle.irc_names.specs.Fold.{same};
@@ -21,10 +22,12 @@ pub(crate) fn additions(bans: &[BanMask], changes: &[ModeChange]) -> usize
         .count()
 }
 
-/// Makes the changes that are of bans, one after another. There is room for as many bans as they set that are not there.
+/// Makes the changes that are of bans, one after another. There is room for as many bans as they
+/// set that are not there.
 pub(crate) fn change_all(bans: &mut Vec<BanMask, Global>, changes: &[ModeChange])
     requires ordered { IsBanList bans.old.items }
-    requires room { vec_len bans.old + length (filter (adds_ban bans.old.items) changes.now) ≤ vec_capacity bans.old }
+    requires room { vec_len bans.old + length (filter (adds_ban bans.old.items) changes.now)
+        ≤ vec_capacity bans.old }
     ensures value { bans.new.items ≡ bans_after changes.now bans.old.items }
     ensures ordered { IsBanList bans.new.items }
 {
@@ -36,7 +39,8 @@ pub(crate) fn change_all(bans: &mut Vec<BanMask, Global>, changes: &[ModeChange]
 /// Makes a change, if it is of a ban. There is room for a ban that it adds.
 fn change_one(bans: &mut Vec<BanMask, Global>, change: &ModeChange)
     requires ordered { IsBanList bans.old.items }
-    requires room { IsTrue (adds_ban bans.old.items change.now) → vec_len bans.old < vec_capacity bans.old }
+    requires room { IsTrue (adds_ban bans.old.items change.now)
+        → vec_len bans.old < vec_capacity bans.old }
     ensures value { bans.new.items ≡ ban_step bans.old.items change.now }
     ensures ordered { IsBanList bans.new.items }
     ensures capacity { vec_capacity bans.old ≤ vec_capacity bans.new }
@@ -49,11 +53,12 @@ fn change_one(bans: &mut Vec<BanMask, Global>, change: &ModeChange)
     }
 }
 
-/// Sets a ban in its place. One that is the same under the fold goes: the new spelling is kept, and no
-/// room is taken.
+/// Sets a ban in its place. One that is the same under the fold goes: the new spelling is kept, and
+/// no room is taken.
 fn set(bans: &mut Vec<BanMask, Global>, mask: BanMask)
     requires ordered { IsBanList bans.old.items }
-    requires room { list_any (same mask) bans.old.items ≡ false → vec_len bans.old < vec_capacity bans.old }
+    requires room { list_any (same mask) bans.old.items ≡ false
+        → vec_len bans.old < vec_capacity bans.old }
     ensures value { bans.new.items ≡ with_ban mask bans.old.items }
     ensures ordered { IsBanList bans.new.items }
     ensures capacity { vec_capacity bans.old ≤ vec_capacity bans.new }
@@ -86,7 +91,8 @@ fn adds_ban(bans: &[BanMask], change: &ModeChange) -> bool
     }
 }
 
-/// The mask that a change of a ban names; none where it changes no ban, or its parameter is no mask.
+/// The mask that a change of a ban names; none where it changes no ban, or its parameter is no
+/// mask.
 fn mask_of(change: &ModeChange) -> Option<BanMask>
     ensures { result ≡ ban_mask change.now.letter change.now.word }
 {

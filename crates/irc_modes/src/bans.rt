@@ -103,8 +103,9 @@ impl BanList {
             .any(|ban| mask_matches(ban.as_bytes(), text))
     }
 
-    /// Makes the changes that are of bans, one after another; however many bans there are, a ban is added. Room for those that are
-    /// added is made before the first change, so where there is no memory nothing has changed.
+    /// Makes the changes that are of bans, one after another; however many bans there are, a ban is
+    /// added. Room for those that are added is made before the first change, so where there is no
+    /// memory nothing has changed.
     ///
     /// # Errors
     /// Where memory runs out; nothing has changed then.

@@ -1,7 +1,8 @@
 //! What holds of two channels' modes, joined, and of what one raises in the other. Each law is a
 //! function that does nothing, and its contract is the law: the check proves it, and a crate above
 //! may cite it.
-ghost use Rattle.irc_modes.specs.JoinedLaws.{JoinedAssociates, JoinedIsEven, JoinedIsWithinLimits, JoinedWithItself};
+ghost use Rattle.irc_modes.specs.JoinedLaws.{JoinedAssociates, JoinedIsEven, JoinedIsWithinLimits};
+ghost use Rattle.irc_modes.specs.JoinedLaws.{JoinedWithItself};
 ghost use Rattle.irc_modes.specs.RaisedLaws.{NothingRaised, RaisedInTurn, RaisedIsJoined};
 
 /// Which of two is named first makes no difference, whatever their bans are.

@@ -16,7 +16,8 @@ pub use limit::read_limit;
 pub use mode_word::ModeWord;
 pub use modes::{AskedChange, ModeChange, ModeLetter, Modes, Privacy, sign_byte};
 
-/// The most bans that a client's MODE may set on a channel (our own choice). A change that is applied knows no such limit.
+/// The most bans that a client's MODE may set on a channel (our own choice). A change that is
+/// applied knows no such limit.
 pub const MAX_BANS: usize = 30;
 
 /// The longest parameter that any mode takes: the mask of a ban.

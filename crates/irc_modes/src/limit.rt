@@ -7,7 +7,8 @@ ghost use Rattle.irc_modes.specs.Modes.{is_limit};
 use crate::{MAX_LIMIT, MAX_LIMIT_DIGITS};
 use irc_names::{are_digits, number_of};
 
-/// The limit that these bytes write: 1 to [`MAX_LIMIT`], in at most [`MAX_LIMIT_DIGITS`] digits (our own choice).
+/// The limit that these bytes write: 1 to [`MAX_LIMIT`], in at most [`MAX_LIMIT_DIGITS`] digits
+/// (our own choice).
 #[tactic(auto, using(crate::specs::Lemmas::LimitFacts::limit_facts))]
 pub fn read_limit(bytes: &[u8]) -> Option<u16>
     ensures { SomeIff result (IsTrue (is_limit bytes.now)) (number_of bytes.now) }

@@ -2,7 +2,8 @@
 ghost use Rattle.std.specs.Prelude.{◌≡◌, false, IfOk, IsOk, OnOk, OnErr};
 ghost use Rattle.std.specs.List.{list_any};
 ghost use Rattle.std.specs.Option.{option_copied};
-ghost use Rattle.irc_modes.specs.Modes.{adds_ban, no_modes, modes_after, private_changed, secret_changed, key_changed, limit_changed};
+ghost use Rattle.irc_modes.specs.Modes.{adds_ban, no_modes, modes_after, private_changed};
+ghost use Rattle.irc_modes.specs.Modes.{secret_changed, key_changed, limit_changed};
 ghost use Rattle.irc_modes.specs.Loops.ManyChanges.{setting_step, settings_after};
 
 use crate::bans::BanList;
@@ -47,8 +48,9 @@ impl Modes {
         })
     }
 
-    /// Changes modes of the channel, one after another. The letters o and v are modes of a member, and change nothing here. Only a
-    /// ban that is added takes memory; where there is none nothing has changed.
+    /// Changes modes of the channel, one after another. The letters o and v are modes of a member,
+    /// and change nothing here. Only a ban that is added takes memory; where there is none nothing
+    /// has changed.
     ///
     /// # Errors
     /// Where memory runs out; nothing has changed then.

@@ -8,7 +8,8 @@ use arrayvec::ArrayVec;
 use irc_names::copied;
 use std::marker::Model;
 
-/// The parameter of a mode: a nickname, a key, a limit or a mask, as it is written, of at most [`MAX_MODE_WORD`] bytes.
+/// The parameter of a mode: a nickname, a key, a limit or a mask, as it is written, of at most
+/// [`MAX_MODE_WORD`] bytes.
 #[derive(Drop)]
 pub struct ModeWord(ArrayVec<u8, MAX_MODE_WORD>);
 

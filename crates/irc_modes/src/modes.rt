@@ -96,14 +96,16 @@ impl ModeLetter {
     }
 }
 
-/// The sign that is written before a letter: `+` for a mode that is set, `-` for one that is taken away.
+/// The sign that is written before a letter: `+` for a mode that is set, `-` for one that is taken
+/// away.
 pub fn sign_byte(plus: bool) -> u8
     ensures { result ≡ sign_byte plus }
 {
     if plus { b'+' } else { b'-' }
 }
 
-/// A change of one mode as a command asks for it (RFC 2811 section 4): its parameter is one of the command's, whole.
+/// A change of one mode as a command asks for it (RFC 2811 section 4): its parameter is one of the
+/// command's, whole.
 #[derive(Clone, Copy)]
 pub struct AskedChange<'a> {
     /// Whether it is to be set, or taken away.
@@ -115,7 +117,8 @@ pub struct AskedChange<'a> {
 }
 
 impl<'a> AskedChange<'a> {
-    /// The change with a parameter of its own; none where the parameter is longer than any mode takes. It takes no memory.
+    /// The change with a parameter of its own; none where the parameter is longer than any mode
+    /// takes. It takes no memory.
     pub fn kept(&self) -> Option<ModeChange>
         ensures { SomeIff result (IsKept (option_copied self.now.word)) (kept_change self.now) }
     {

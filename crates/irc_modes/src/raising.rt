@@ -1,5 +1,5 @@
-//! Which changes of a channel's modes raise something: those that a server makes of what another side
-//! tells of the channel.
+//! Which changes of a channel's modes raise something: those that a server makes of what another
+//! side tells of the channel.
 ghost use Rattle.std.specs.Prelude.{◌≡◌, [], ◌∷◌, ◌++◌, true, IfOk, OnOk};
 ghost use Rattle.std.specs.Option.{option_copied};
 ghost use Rattle.std.specs.Ordering.{is_lt};
@@ -15,8 +15,8 @@ use std::slice;
 impl Modes {
     /// Of changes one after another those that raise something, each judged by the modes as those
     /// before it would leave them: what is not set, a greater key, limit or spelling of a ban. It
-    /// changes nothing here, and fails only where there is no memory for the answer or for the modes
-    /// that it tries them on.
+    /// changes nothing here, and fails only where there is no memory for the answer or for the
+    /// modes that it tries them on.
     pub fn raising(&self, changes: &[ModeChange]) -> Result<Vec<ModeChange, Global>, AllocError>
         ensures { IfOk result (λ raised. raised.items ≡ raising changes.now self.now) }
     {
@@ -36,7 +36,8 @@ fn raise(
     change: &ModeChange,
 ) -> Result<(), AllocError>
     ensures made { OnOk result (now.new ≡ raise_step now.old change.now) }
-    ensures noted { OnOk result (raised.new.items ≡ raised.old.items ++ raised_of change.now now.old) }
+    ensures noted { OnOk result
+        (raised.new.items ≡ raised.old.items ++ raised_of change.now now.old) }
 {
     if !raises(change, now) {
         return Ok(());

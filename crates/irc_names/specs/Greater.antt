@@ -1,5 +1,5 @@
--- The greater of two, by which two descriptions of one thing are joined (our own choice): texts by their bytes, what is there over
--- what is missing.
+-- The greater of two, by which two descriptions of one thing are joined (our own choice): texts by
+-- their bytes, what is there over what is missing.
 use Rattle.std.specs.Prelude.{ℕ, Option, Some, None, List, if◌then◌else◌}
 use Rattle.std.specs.declared.cmp.Ordering.{Ordering}
 use Rattle.std.specs.Ordering.{is_lt, nat_cmp}

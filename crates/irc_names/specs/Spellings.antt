@@ -6,7 +6,8 @@ use Rattle.std.specs.declared.cmp.Ordering.{Ordering}
 use Rattle.std.specs.declared.cmp.Ordering.TheVariants.{Less, Equal, Greater}
 use Rattle.std.specs.Ordering.{then_cmp, ordering_then, nat_cmp, is_eq}
 use Rattle.std.specs.Cmp.{IsTotalOrder, IsEquivalence, then_total}
-use Rattle.std.specs.Cmp.Lexicographic.{pointwise, slice_cmp, nat_list_cmp_total, nat_list_eq_equiv, texts_ties, bytes_decides}
+use Rattle.std.specs.Cmp.Lexicographic.{pointwise, slice_cmp, nat_list_cmp_total, nat_list_eq_equiv}
+use Rattle.std.specs.Cmp.Lexicographic.{texts_ties, bytes_decides}
 use Rattle.irc_rules.specs.Fold.{key, name_cmp}
 use Rattle.irc_rules.specs.FoldLaws.{name_cmp-total, key-equal}
 
@@ -25,7 +26,8 @@ pub exact_cmp-total : IsTotalOrder exact_cmp
 exact_cmp-total = then_total name_cmp-total nat_list_cmp_total
 
 -- the second order alone tells apart what the first does not
-level_second : (first second : Ordering) → (is_eq second ≡ true → first ≡ Equal) → is_eq second ≡ is_eq (ordering_then first second)
+level_second : (first second : Ordering) → (is_eq second ≡ true → first ≡ Equal)
+    → is_eq second ≡ is_eq (ordering_then first second)
 level_second Less Less h = refl
 level_second Less Equal h = ap is_eq (sym (h refl))
 level_second Less Greater h = refl

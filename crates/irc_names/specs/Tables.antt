@@ -1,5 +1,6 @@
--- Tables by name: finite maps whose keys are folds. Three words make every table from others: `alter` changes one row, `each`
--- changes every row, `both` joins two tables row by row. Beside them `retain_keys` of std leaves the rows at some folds alone.
+-- Tables by name: finite maps whose keys are folds. Three words make every table from others:
+-- `alter` changes one row, `each` changes every row, `both` joins two tables row by row. Beside
+-- them `retain_keys` of std leaves the rows at some folds alone.
 use Rattle.std.specs.Prelude.{ℕ, Option, Some, None, List, [], ◌∷◌, ◌++◌}
 use Rattle.std.specs.declared.cmp.Ordering.{Ordering}
 use Rattle.std.specs.Ordering.{nat_cmp}
@@ -38,10 +39,13 @@ unfoldable pub each : {X Y : Type 0} → (X → Option Y) → Table X → Table 
 each change table = tabulate (keys table) (λ fold. option_and_then change (row table fold))
 
 -- Two tables become one, row by row.
-unfoldable pub both : {X Y Z : Type 0} → (Option X → Option Y → Option Z) → Table X → Table Y → Table Z
-both join one other = tabulate (keys one ++ keys other) (λ fold. join (row one fold) (row other fold))
+unfoldable pub both : {X Y Z : Type 0} → (Option X → Option Y → Option Z) → Table X → Table Y
+    → Table Z
+both join one other =
+    tabulate (keys one ++ keys other) (λ fold. join (row one fold) (row other fold))
 
--- a row that was taken out of a table is put at a fold, and changed; there is nothing to do where there was none
+-- a row that was taken out of a table is put at a fold, and changed; there is nothing to do where
+-- there was none
 abbrev pub put_row : {X : Type 0} → Option X → List ℕ → (X → X) → Table X → Table X
 put_row None new change rest = rest
 put_row (Some x) new change rest = alter new (λ _. Some (change x)) rest

@@ -5,7 +5,8 @@ ghost use Rattle.std.specs.Ordering.{as_partial_cmp};
 ghost use Rattle.std.specs.Cmp.{partial_equiv_from_equiv, po};
 ghost use Rattle.irc_rules.specs.Names.{IsBanMask};
 ghost use Rattle.irc_rules.specs.Fold.{same, name_cmp};
-ghost use Rattle.irc_rules.specs.FoldLaws.{same-equivalence, name_cmp-total, same-ties, folds_fed, same-fed};
+ghost use Rattle.irc_rules.specs.FoldLaws.{same-equivalence, name_cmp-total, same-ties, folds_fed};
+ghost use Rattle.irc_rules.specs.FoldLaws.{same-fed};
 
 use arrayvec::ArrayVec;
 use irc_rules::{MAX_BAN_MASK, compare, copied, hash_folds, is_ban_mask, same};
@@ -14,8 +15,8 @@ use std::cmp::Ordering;
 use std::hash::{Hash, Hasher};
 use std::marker::Model;
 
-/// The mask of a ban: at most [`MAX_BAN_MASK`] bytes that [`is_ban_mask`] takes, as spelled. Two are equal where
-/// their folds are, and stand in the order of their folds.
+/// The mask of a ban: at most [`MAX_BAN_MASK`] bytes that [`is_ban_mask`] takes, as spelled. Two
+/// are equal where their folds are, and stand in the order of their folds.
 #[derive(Drop)]
 pub struct BanMask(ArrayVec<u8, MAX_BAN_MASK>);
 

@@ -5,7 +5,8 @@ ghost use Rattle.std.specs.Ordering.{as_partial_cmp};
 ghost use Rattle.std.specs.Cmp.{partial_equiv_from_equiv, po};
 ghost use Rattle.irc_rules.specs.Names.{IsChannel};
 ghost use Rattle.irc_rules.specs.Fold.{same, name_cmp};
-ghost use Rattle.irc_rules.specs.FoldLaws.{same-equivalence, name_cmp-total, same-ties, folds_fed, same-fed};
+ghost use Rattle.irc_rules.specs.FoldLaws.{same-equivalence, name_cmp-total, same-ties, folds_fed};
+ghost use Rattle.irc_rules.specs.FoldLaws.{same-fed};
 
 use arrayvec::ArrayVec;
 use irc_rules::{MAX_CHANNEL, compare, copied, hash_folds, is_channel, same};
@@ -14,8 +15,8 @@ use std::cmp::Ordering;
 use std::hash::{Hash, Hasher};
 use std::marker::Model;
 
-/// The name of a channel: at most [`MAX_CHANNEL`] bytes that [`is_channel`] takes, as spelled. Two are equal where
-/// their folds are, and stand in the order of their folds.
+/// The name of a channel: at most [`MAX_CHANNEL`] bytes that [`is_channel`] takes, as spelled. Two
+/// are equal where their folds are, and stand in the order of their folds.
 #[derive(Drop)]
 pub struct ChannelName(ArrayVec<u8, MAX_CHANNEL>);
 

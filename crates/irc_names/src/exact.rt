@@ -3,7 +3,9 @@ ghost use Rattle.std.specs.Prelude.{◌≡◌, ◌++◌, ℕ, List, refl};
 ghost use Rattle.std.specs.Ordering.{on, as_partial_cmp};
 ghost use Rattle.std.specs.Cmp.{on_equiv, on_total, partial_equiv_from_equiv, po};
 ghost use Rattle.std.specs.Hash as fed;
-ghost use Rattle.irc_names.specs.Spellings.{exactly_same, exact_cmp, exactly_same-equivalence, exact_cmp-total, exactly_same-ties, bytes_fed, exactly_same-fed};
+ghost use Rattle.irc_names.specs.Spellings.{exactly_same, exact_cmp, exactly_same-equivalence};
+ghost use Rattle.irc_names.specs.Spellings.{exact_cmp-total, exactly_same-ties, bytes_fed};
+ghost use Rattle.irc_names.specs.Spellings.{exactly_same-fed};
 
 use crate::{BanMask, ChannelName, Nick};
 use irc_rules::compare;
@@ -44,15 +46,16 @@ impl Folded for BanMask {
     }
 }
 
-/// A name compared by its fold first and by its bytes after it: two are equal where they are spelled alike, and spellings of one
-/// name stand side by side.
+/// A name compared by its fold first and by its bytes after it: two are equal where they are
+/// spelled alike, and spellings of one name stand side by side.
 #[derive(Clone, Drop)]
 pub struct Exact<T>(pub T);
 
 impl<T: Folded> PartialEq for Exact<T> {
     ghost eq = { on (λ exact. T.spelling exact.0) exactly_same };
 
-    ghost laws = { partial_equiv_from_equiv (on_equiv (λ exact. T.spelling exact.0) exactly_same-equivalence) };
+    ghost laws = { partial_equiv_from_equiv
+        (on_equiv (λ exact. T.spelling exact.0) exactly_same-equivalence) };
 
     fn eq(&self, other: &Self) -> bool {
         self.0.as_bytes() == other.0.as_bytes()

@@ -8,7 +8,8 @@ use irc_rules::{MAX_HOST, copied, is_host};
 use std::alloc::AllocError;
 use std::marker::Model;
 
-/// A host, by name or by address: at most [`MAX_HOST`] bytes that [`is_host`] takes. Two are compared byte by byte.
+/// A host, by name or by address: at most [`MAX_HOST`] bytes that [`is_host`] takes. Two are
+/// compared byte by byte.
 #[derive(Drop, Eq, Hash, Ord, PartialEq, PartialOrd)]
 pub struct Host(ArrayVec<u8, MAX_HOST>);
 

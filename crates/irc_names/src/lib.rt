@@ -1,4 +1,5 @@
-//! Names of an IRC network, each kind a type of its own. The rules of names are irc_rules', passed on here.
+//! Names of an IRC network, each kind a type of its own. The rules of names are irc_rules', passed
+//! on here.
 #![tactic(auto)]
 
 mod ban_mask;

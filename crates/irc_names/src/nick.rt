@@ -5,7 +5,8 @@ ghost use Rattle.std.specs.Ordering.{as_partial_cmp};
 ghost use Rattle.std.specs.Cmp.{partial_equiv_from_equiv, po};
 ghost use Rattle.irc_rules.specs.Names.{IsNick};
 ghost use Rattle.irc_rules.specs.Fold.{same, name_cmp};
-ghost use Rattle.irc_rules.specs.FoldLaws.{same-equivalence, name_cmp-total, same-ties, folds_fed, same-fed};
+ghost use Rattle.irc_rules.specs.FoldLaws.{same-equivalence, name_cmp-total, same-ties, folds_fed};
+ghost use Rattle.irc_rules.specs.FoldLaws.{same-fed};
 
 use arrayvec::ArrayVec;
 use irc_rules::{MAX_NICK, compare, copied, hash_folds, is_nick, same};

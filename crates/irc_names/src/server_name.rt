@@ -8,7 +8,8 @@ use irc_rules::{MAX_SERVER, copied, is_server};
 use std::alloc::AllocError;
 use std::marker::Model;
 
-/// The name of a server: at most [`MAX_SERVER`] bytes that [`is_server`] takes. Two are compared byte by byte.
+/// The name of a server: at most [`MAX_SERVER`] bytes that [`is_server`] takes. Two are compared
+/// byte by byte.
 #[derive(Drop, Eq, Hash, Ord, PartialEq, PartialOrd)]
 pub struct ServerName(ArrayVec<u8, MAX_SERVER>);
 

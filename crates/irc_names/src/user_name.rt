@@ -6,8 +6,8 @@ use arrayvec::ArrayVec;
 use irc_rules::{MAX_USER_NAME, copied, cut_copy, is_user_byte};
 use std::marker::Model;
 
-/// A user name: at most [`MAX_USER_NAME`] bytes that are letters, digits, `-`, `.`, `_` or `~` (our own choice; RFC 2812
-/// section 2.3.1 takes more).
+/// A user name: at most [`MAX_USER_NAME`] bytes that are letters, digits, `-`, `.`, `_` or `~` (our
+/// own choice; RFC 2812 section 2.3.1 takes more).
 #[derive(Drop)]
 pub struct UserName(ArrayVec<u8, MAX_USER_NAME>);
 
@@ -26,7 +26,8 @@ impl Model for UserName {
 }
 
 impl UserName {
-    /// The user name made of any bytes: those past [`MAX_USER_NAME`] are cut off, and each that may not stand in it becomes `_`.
+    /// The user name made of any bytes: those past [`MAX_USER_NAME`] are cut off, and each that may
+    /// not stand in it becomes `_`.
     pub fn clean(bytes: &[u8]) -> Self
         ensures { result ≡ clean_user bytes.now }
     {

@@ -1,9 +1,13 @@
 -- The network that configurations without a fault make is new.
-use Rattle.std.proofs.Common.{◌≡◌, ◌≤◌, ◌<◌, ◌+◌, ℕ, zero, suc, Bool, true, false, true≢false, ◌&&◌, ◌||◌, not, cond, Option, Some, None, is_some, unwrap_or, List, [], ◌∷◌, refl, sym, ◌∙◌, ap, subst, arith, length, map, replicate, count_by, if◌then◌else◌}
+use Rattle.std.proofs.Common.{◌≡◌, ◌≤◌, ◌<◌, ◌+◌, ℕ, zero, suc, Bool, true, false, true≢false, ◌&&◌}
+use Rattle.std.proofs.Common.{◌||◌, not, cond, Option, Some, None, is_some, unwrap_or, List, []}
+use Rattle.std.proofs.Common.{◌∷◌, refl, sym, ◌∙◌, ap, subst, arith, length, map, replicate}
+use Rattle.std.proofs.Common.{count_by, if◌then◌else◌}
 use Rattle.std.proofs.lemmas.Bool.{leb-true, or_parts}
 use Rattle.std.proofs.lemmas.List.{length-map}
 use Rattle.std.proofs.lemmas.List.Quantifiers.{position-Some}
-use Rattle.std.proofs.lemmas.List.Sorted.{IsPermutation-map, list_any-IsPermutation, sum_by-IsPermutation}
+use Rattle.std.proofs.lemmas.List.Sorted.{IsPermutation-map, list_any-IsPermutation}
+use Rattle.std.proofs.lemmas.List.Sorted.{sum_by-IsPermutation}
 use Rattle.std.proofs.lemmas.List.Sums.{sum_by-cons}
 use Rattle.std.specs.FinMap.{empty}
 use Rattle.std.specs.List.{list_all, list_any, slice_get, AllByRecursion}
@@ -25,9 +29,11 @@ use Rattle.irc_stage.specs.declared.peer.Peer.{Peer}
 use Rattle.irc_byte_network.specs.ByteNetwork.{ByteNetwork}
 use Rattle.irc_byte_network.specs.Whole.{no_wires}
 use Rattle.irc_network.specs.Network.{Network, Site, server_place, site_at}
-use Rattle.irc_items.specs.SetUp.{named_at, no_view, view_at, HasPassword, IsConfigured, IsNew, IsNewServer}
+use Rattle.irc_items.specs.SetUp.{named_at, no_view, view_at, HasPassword, IsConfigured, IsNew}
+use Rattle.irc_items.specs.SetUp.{IsNewServer}
 use Rattle.irc_items.specs.Lemmas.SetUpFacts.{placed_if}
-use Rattle.irc_net.specs.Making.{config_name, configs_fault, has_name_twice, is_bad_config, is_bad_name, is_config_of, made_of, new_site}
+use Rattle.irc_net.specs.Making.{config_name, configs_fault, has_name_twice, is_bad_config}
+use Rattle.irc_net.specs.Making.{is_bad_name, is_config_of, made_of, new_site}
 use Rattle.irc_net.proofs.Named.{ordered_few, without_fault}
 
 -- ---- no name is there twice
@@ -35,32 +41,41 @@ use Rattle.irc_net.proofs.Named.{ordered_few, without_fault}
 counted : (server first : Name) (names : List Name) (b : Bool) → same server first ≡ b
     → count_by (same server) (first ∷ names) ≡ cond b 1 0 + count_by (same server) names
 counted server first names b is =
-    sum_by-cons (λ x. cond (same server x) 1 0) first names ∙ ap (λ c. cond c 1 0 + count_by (same server) names) is
+    sum_by-cons (λ x. cond (same server x) 1 0) first names
+    ∙ ap (λ c. cond c 1 0 + count_by (same server) names) is
 
 uncounted : (k n : ℕ) → n ≡ 0 + k → k ≡ 0 → n ≡ 0
 uncounted k n is none = omega (arith, is, none)
 
 -- the name of none of these is counted among theirs
-none_counted : (server : Name) (configs : List Config) → list_any (is_config_of server) configs ≡ false → count_by (same server) (map config_name configs) ≡ 0
+none_counted : (server : Name) (configs : List Config) → list_any (is_config_of server) configs
+    ≡ false → count_by (same server) (map config_name configs) ≡ 0
 none_counted server [] none = refl
 none_counted server (config ∷ configs) none =
-    uncounted (count_by (same server) (map config_name configs)) (count_by (same server) (map config_name (config ∷ configs)))
-    (counted server (config_name config) (map config_name configs) false (other (tell (config_name config) server))) (none_counted server configs parts.1)
+    uncounted (count_by (same server) (map config_name configs))
+    (count_by (same server) (map config_name (config ∷ configs)))
+    (counted server (config_name config) (map config_name configs) false
+    (other (tell (config_name config) server))) (none_counted server configs parts.1)
   where
-    parts : (same (config_name config) server ≡ false) × (list_any (is_config_of server) configs ≡ false)
-    parts = or_parts (same (config_name config) server) (list_any (is_config_of server) configs) none
+    parts : (same (config_name config) server ≡ false)
+        × (list_any (is_config_of server) configs ≡ false)
+    parts =
+        or_parts (same (config_name config) server) (list_any (is_config_of server) configs) none
 
     other : Telling (config_name config) server → same server (config_name config) ≡ false
     other (alike is _) = absurd (true≢false (sym is ∙ parts.0))
     other (unlike _ two) = same_unless server (config_name config) (λ e. two (sym e))
 
-counted_once : (configs : List Config) → has_name_twice configs ≡ false → (server : Name) → IsAmong (map config_name configs) server
-    → count_by (same server) (map config_name configs) ≡ 1
+counted_once : (configs : List Config) → has_name_twice configs ≡ false → (server : Name) → IsAmong
+    (map config_name configs) server → count_by (same server) (map config_name configs) ≡ 1
 counted_once [] none server among = absurd (true≢false (sym among))
-counted_once (config ∷ configs) none server among = by (tell server (config_name config)) (counted_once configs parts.1 server)
+counted_once (config ∷ configs) none server among =
+    by (tell server (config_name config)) (counted_once configs parts.1 server)
   where
-    parts : (list_any (is_config_of (config_name config)) configs ≡ false) × (has_name_twice configs ≡ false)
-    parts = or_parts (list_any (is_config_of (config_name config)) configs) (has_name_twice configs) none
+    parts : (list_any (is_config_of (config_name config)) configs ≡ false)
+        × (has_name_twice configs ≡ false)
+    parts = or_parts (list_any (is_config_of (config_name config)) configs)
+        (has_name_twice configs) none
 
     first : (k n : ℕ) → n ≡ 1 + k → k ≡ 0 → n ≡ 1
     first k n is none_more = omega (arith, is, none_more)
@@ -68,23 +83,30 @@ counted_once (config ∷ configs) none server among = by (tell server (config_na
     later : (k n : ℕ) → n ≡ 0 + k → k ≡ 1 → n ≡ 1
     later k n is once = omega (arith, is, once)
 
-    by : Telling server (config_name config) → (IsAmong (map config_name configs) server → count_by (same server) (map config_name configs) ≡ 1)
+    by : Telling server (config_name config) → (IsAmong (map config_name configs) server
+        → count_by (same server) (map config_name configs) ≡ 1)
         → count_by (same server) (map config_name (config ∷ configs)) ≡ 1
     by (alike is e) rest =
-        first (count_by (same server) (map config_name configs)) (count_by (same server) (map config_name (config ∷ configs)))
+        first (count_by (same server) (map config_name configs))
+        (count_by (same server) (map config_name (config ∷ configs)))
         (counted server (config_name config) (map config_name configs) true is)
-        (none_counted server configs (ap (λ name. list_any (is_config_of name) configs) e ∙ parts.0))
+        (none_counted server configs (ap (λ name. list_any (is_config_of name) configs) e
+        ∙ parts.0))
     by (unlike is _) rest =
-        later (count_by (same server) (map config_name configs)) (count_by (same server) (map config_name (config ∷ configs)))
+        later (count_by (same server) (map config_name configs))
+        (count_by (same server) (map config_name (config ∷ configs)))
         (counted server (config_name config) (map config_name configs) false is)
         (rest (sym (ap (λ b. b || list_any (same server) (map config_name configs)) is) ∙ among))
 
 -- the order of servers is no matter
-ordered_once : (configs ordered : List Config) → IsPermutation configs ordered → has_name_twice configs ≡ false → (server : Name)
-    → IsAmong (map config_name ordered) server → count_by (same server) (map config_name ordered) ≡ 1
+ordered_once : (configs ordered : List Config) → IsPermutation configs ordered
+    → has_name_twice configs ≡ false → (server : Name) → IsAmong (map config_name ordered) server
+    → count_by (same server) (map config_name ordered) ≡ 1
 ordered_once configs ordered ones none server among =
-    sum_by-IsPermutation (λ x. cond (same server x) 1 0) (map config_name configs) (map config_name ordered) names
-    ∙ counted_once configs none server (list_any-IsPermutation (same server) (map config_name configs) (map config_name ordered) names ∙ among)
+    sum_by-IsPermutation (λ x. cond (same server x) 1 0) (map config_name configs)
+    (map config_name ordered) names
+    ∙ counted_once configs none server (list_any-IsPermutation (same server)
+    (map config_name configs) (map config_name ordered) names ∙ among)
   where
     names : IsPermutation (map config_name configs) (map config_name ordered)
     names = IsPermutation-map config_name configs ordered ones
@@ -97,21 +119,26 @@ pub record AreRules (named known dated peered : Bool) : Type 0 where
   pub dated_so : dated ≡ true
   pub peered_so : peered ≡ true
 
-all_rules : (a b c d twice : Bool) → is_bad_name (if not ((a && b && c) && d) then Some one.BadName else (if twice then Some one.DoubleName else None)) ≡ false
-    → AreRules a b c d
+all_rules : (a b c d twice : Bool) → is_bad_name (if not ((a && b && c) && d) then Some one.BadName
+    else (if twice then Some one.DoubleName else None)) ≡ false → AreRules a b c d
 all_rules false b c d twice good = absurd (true≢false good)
 all_rules true false c d twice good = absurd (true≢false good)
 all_rules true true false d twice good = absurd (true≢false good)
 all_rules true true true false twice good = absurd (true≢false good)
-all_rules true true true true twice good = record { named_so = refl; known_so = refl; dated_so = refl; peered_so = refl }
+all_rules true true true true twice good =
+    record { named_so = refl; known_so = refl; dated_so = refl; peered_so = refl }
 
 both : (a b : Bool) → (a && b) ≡ true → (a ≡ true) × (b ≡ true)
 both true b is = (refl, is)
 both false b is = absurd (true≢false (sym is))
 
-passwords_kept : (peers : List Peer) → list_all is_peer peers ≡ true → AllByRecursion HasPassword (map known_peer peers)
+passwords_kept : (peers : List Peer) → list_all is_peer peers ≡ true
+    → AllByRecursion HasPassword (map known_peer peers)
 passwords_kept [] all = tt
-passwords_kept (peer ∷ peers) all = ((both (is_server peer.name.items) (is_password peer.password.items) now.0).1, passwords_kept peers now.1)
+passwords_kept (peer ∷ peers) all = (
+  (both (is_server peer.name.items) (is_password peer.password.items) now.0).1,
+  passwords_kept peers now.1,
+)
   where
     now : (is_peer peer ≡ true) × (list_all is_peer peers ≡ true)
     now = both (is_peer peer) (list_all is_peer peers) all
@@ -121,17 +148,21 @@ configured config good = record {
   name = rules.named_so;
   info = rules.known_so;
   created = leb-true (length config.own.created.items) max_created
-      (both (is_some_text config.own.created.items) (fits max_created config.own.created.items) rules.dated_so).1;
+      (both (is_some_text config.own.created.items)
+      (fits max_created config.own.created.items) rules.dated_so).1;
   passwords = passwords_kept config.peers.items rules.peered_so;
 }
   where
     rules : AreRules (is_server config.own.name.items) (is_info config.own.info.items)
-        (is_some_text config.own.created.items && fits max_created config.own.created.items) (list_all is_peer config.peers.items)
+        (is_some_text config.own.created.items && fits max_created config.own.created.items)
+        (list_all is_peer config.peers.items)
     rules = all_rules (is_server config.own.name.items) (is_info config.own.info.items)
-        (is_some_text config.own.created.items && fits max_created config.own.created.items) (list_all is_peer config.peers.items)
+        (is_some_text config.own.created.items && fits max_created config.own.created.items)
+        (list_all is_peer config.peers.items)
         (is_among config.own.name.items config.peers.items || has_double config.peers.items) good
 
-all_configured : (configs : List Config) → list_any is_bad_config configs ≡ false → AllByRecursion (λ (config : Config). IsConfigured (made_view config)) configs
+all_configured : (configs : List Config) → list_any is_bad_config configs ≡ false
+    → AllByRecursion (λ (config : Config). IsConfigured (made_view config)) configs
 all_configured [] good = tt
 all_configured (config ∷ configs) good = (configured config parts.0, all_configured configs parts.1)
   where
@@ -140,49 +171,65 @@ all_configured (config ∷ configs) good = (configured config parts.0, all_confi
 
 -- ---- each is there
 
-sites_named : (configs : List Config) → map named_at (map new_site configs) ≡ map Some (map config_name configs)
+sites_named : (configs : List Config)
+    → map named_at (map new_site configs) ≡ map Some (map config_name configs)
 sites_named [] = refl
-sites_named (config ∷ configs) = ap (λ names. Some (config_name config) ∷ names) (sites_named configs)
+sites_named (config ∷ configs) =
+    ap (λ names. Some (config_name config) ∷ names) (sites_named configs)
 
-none_queued : (configs : List Config) → AllByRecursion (λ (site : Site). site.queues ≡ empty) (map new_site configs)
+none_queued : (configs : List Config)
+    → AllByRecursion (λ (site : Site). site.queues ≡ empty) (map new_site configs)
 none_queued [] = tt
 none_queued (config ∷ configs) = (refl, none_queued configs)
 
 -- what is so of each server at a place is so of the one of each name
-made_there : (P : View → Type 0) (configs : List Config) (place : ℕ) → AllByRecursion (λ (config : Config). P (made_view config)) configs
-    → place < length configs → P (unwrap_or (option_and_then (λ (site : Site). site.server) (slice_get (map new_site configs) place)) no_view)
+made_there : (P : View → Type 0) (configs : List Config) (place : ℕ)
+    → AllByRecursion (λ (config : Config). P (made_view config)) configs
+    → place < length configs → P (unwrap_or (option_and_then (λ (site : Site). site.server)
+    (slice_get (map new_site configs) place)) no_view)
 made_there P [] place all within = absurd (omega (arith, within))
 made_there P (config ∷ configs) zero all within = all.0
-made_there P (config ∷ configs) (suc place) all within = made_there P configs place all.1 (omega (arith, within))
+made_there P (config ∷ configs) (suc place) all within =
+    made_there P configs place all.1 (omega (arith, within))
 
 -- the server at a place that was found
 abbrev seen : List Config → Option ℕ → View
-seen configs o = unwrap_or (option_and_then (λ (site : Site). site.server) (option_and_then (site_at (made_of configs)) o)) no_view
+seen configs o = unwrap_or (option_and_then (λ (site : Site). site.server)
+    (option_and_then (site_at (made_of configs)) o)) no_view
 
-made_at : (P : View → Type 0) (configs : List Config) (server : Name) → AllByRecursion (λ (config : Config). P (made_view config)) configs
+made_at : (P : View → Type 0) (configs : List Config) (server : Name)
+    → AllByRecursion (λ (config : Config). P (made_view config)) configs
     → IsAmong (map config_name configs) server → P (view_at (made_of configs) server)
 made_at P configs server all among = by (server_place (made_of configs) server) refl
   where
-    by : (o : Option ℕ) → server_place (made_of configs) server ≡ o → P (seen configs (server_place (made_of configs) server))
-    by None is = absurd (true≢false (sym (sym (ap is_some is) ∙ placed_if (map config_name configs) server ∙ among)))
+    by : (o : Option ℕ) → server_place (made_of configs) server ≡ o
+        → P (seen configs (server_place (made_of configs) server))
+    by None is = absurd (true≢false
+        (sym (sym (ap is_some is) ∙ placed_if (map config_name configs) server ∙ among)))
     by (Some place) is = subst (λ o. P (seen configs o)) (sym is)
         (made_there P configs place all
-        (subst (λ n. place < n) (length-map configs config_name) (position-Some (λ (known : Name). same known server) (map config_name configs) place [] is).0))
+        (subst (λ n. place < n) (length-map configs config_name) (position-Some
+        (λ (known : Name). same known server) (map config_name configs) place [] is).0))
 
-all_new : (configs : List Config) → AllByRecursion (λ (config : Config). IsNewServer (made_view config)) configs
+all_new : (configs : List Config)
+    → AllByRecursion (λ (config : Config). IsNewServer (made_view config)) configs
 all_new [] = tt
-all_new (config ∷ configs) = (record { no_rows = refl; no_ends = refl; no_clients = refl; nobody = refl }, all_new configs)
+all_new (config ∷ configs) =
+    (record { no_rows = refl; no_ends = refl; no_clients = refl; nobody = refl }, all_new configs)
 
 -- ---- all of it
 
-pub made_is_new : (configs ordered : List Config) → configs_fault configs ≡ None → IsPermutation configs ordered → IsNew (made_of ordered)
+pub made_is_new : (configs ordered : List Config) → configs_fault configs ≡ None
+    → IsPermutation configs ordered → IsNew (made_of ordered)
 made_is_new configs ordered none ones = record {
   set_up = record {
     named = sites_named ordered;
     once = ordered_once configs ordered ones (without_fault configs none).twice_none;
-    few = subst (λ n. n ≤ 256) (sym (length-map ordered config_name)) (ordered_few configs ordered none ones);
+    few = subst (λ n. n ≤ 256) (sym (length-map ordered config_name))
+        (ordered_few configs ordered none ones);
     configured = λ server among. made_at IsConfigured ordered server
-        (all_configured ordered (sym (list_any-IsPermutation is_bad_config configs ordered ones) ∙ (without_fault configs none).bad_none)) among;
+        (all_configured ordered (sym (list_any-IsPermutation is_bad_config configs ordered ones)
+        ∙ (without_fault configs none).bad_none)) among;
   };
   servers = λ server among. made_at IsNewServer ordered server (all_new ordered) among;
   queues = none_queued ordered;
@@ -194,16 +241,28 @@ made_is_new configs ordered none ones = record {
 }
 
 -- and nothing is on its way in it
-pub new_made : {one other : Network} (net : ByteNetwork) (count : ℕ) → net ≡ record { network = one; wires = replicate count empty } → count ≡ length one.sites
+pub new_made : {one other : Network} (net : ByteNetwork) (count : ℕ)
+    → net ≡ record { network = one; wires = replicate count empty } → count ≡ length one.sites
     → one ≡ other → net ≡ no_wires other
-new_made {one = one} net count is counted same = is ∙ ap (λ n. record { network = one; wires = replicate n empty }) counted ∙ ap no_wires same
+new_made {one = one} net count is counted same =
+    is ∙ ap (λ n. record { network = one; wires = replicate n empty }) counted ∙ ap no_wires same
 
 abbrev pub made_with : Forest → List Site → Network
-made_with forest sites = record { names = forest.names; sites = sites; links = forest.links; homes = []; received = []; items = []; taken = 0 }
+made_with forest sites = record {
+  names = forest.names;
+  sites = sites;
+  links = forest.links;
+  homes = [];
+  received = [];
+  items = [];
+  taken = 0;
+}
 
 -- a network of their forest and their sites is what they make
-pub network_made : (ordered configs : List Config) (forest : Forest) (sites : List Site) → configs ≡ ordered
-    → forest ≡ record { names = map config_name configs; links = [] } → sites ≡ map new_site ordered → made_with forest sites ≡ made_of ordered
+pub network_made : (ordered configs : List Config) (forest : Forest) (sites : List Site)
+    → configs ≡ ordered → forest ≡ record { names = map config_name configs; links = [] }
+    → sites ≡ map new_site ordered → made_with forest sites ≡ made_of ordered
 network_made ordered configs forest sites ones named placed =
-    ap (λ f. made_with f sites) (named ∙ ap (λ cs. record { names = map config_name cs; links = [] }) ones)
+    ap (λ f. made_with f sites)
+    (named ∙ ap (λ cs. record { names = map config_name cs; links = [] }) ones)
     ∙ ap (made_with (record { names = map config_name ordered; links = [] })) placed

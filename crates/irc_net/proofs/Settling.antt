@@ -1,15 +1,19 @@
 -- Bytes that come in turn until nothing is on its way.
-use Rattle.std.proofs.Common.{◌≡◌, ℕ, true, zero, suc, ◌+◌, ◌<◌, ◌≤◌, min, List, Option, Some, None, option_map, refl, sym, subst, ◌∙◌, ap, arith}
+use Rattle.std.proofs.Common.{◌≡◌, ℕ, true, zero, suc, ◌+◌, ◌<◌, ◌≤◌, min, List, Option, Some, None}
+use Rattle.std.proofs.Common.{option_map, refl, sym, subst, ◌∙◌, ap, arith}
 use Rattle.irc_items.specs.Kept.{TurnLeavesFewer}
 use Rattle.irc_items.specs.Sound.{most_now}
-use Rattle.irc_byte_network.specs.ByteNetwork.{ByteCourse, ByteNetwork, byte_begun, course_in_lines, net_in_lines, is_byte_rest}
-use Rattle.irc_byte_network.specs.Turns.{ComesToLine, GoesToLine, TurnsGo, lines_in_turn, none_yet, turn_first, turn_in, turn_taken}
+use Rattle.irc_byte_network.specs.ByteNetwork.{ByteCourse, ByteNetwork, byte_begun, course_in_lines}
+use Rattle.irc_byte_network.specs.ByteNetwork.{net_in_lines, is_byte_rest}
+use Rattle.irc_byte_network.specs.Turns.{ComesToLine, GoesToLine, TurnsGo, lines_in_turn, none_yet}
+use Rattle.irc_byte_network.specs.Turns.{turn_first, turn_in, turn_taken}
 use Rattle.irc_byte_network.specs.Whole.{ComesToSome, EachComesToLine, NoByteRests}
 use Rattle.irc_net.specs.Calls.{NetView, Settles, standing}
 use Rattle.irc_net.specs.Running.{SettlesOnce}
 use Rattle.irc_net.specs.Loops.Settling.{GoesCounted, SettlesAt}
 use Rattle.irc_net.specs.OneRoom.{IsKeptSound}
-use Rattle.irc_net.proofs.StaysOneRoom.{AreTurning, IsTurnOf, next_line, nothing, turn_is, turns_kept}
+use Rattle.irc_net.proofs.StaysOneRoom.{AreTurning, IsTurnOf, next_line, nothing, turn_is}
+use Rattle.irc_net.proofs.StaysOneRoom.{turns_kept}
 use Rattle.irc_network.specs.Network.{Receipt, lines_left, max_count, next_in_turn}
 use Rattle.irc_wires.specs.Wires.{Direction, first_direction}
 
@@ -18,15 +22,19 @@ use Rattle.irc_wires.specs.Wires.{Direction, first_direction}
 none_first : (n : ℕ) → n ≡ 0 + n
 none_first n = omega arith
 
-pub turns_both : {one other : ℕ} {a b c : ByteCourse} → TurnsGo one a b → TurnsGo other b c → TurnsGo (one + other) a c
-turns_both {other = other} {a = a} {c = c} none_yet more = subst (λ n. TurnsGo n a c) (none_first other) more
-turns_both {one = one} {other = other} {a = a} {c = c} (turn_first {count = count} turn all_is rest) more =
+pub turns_both : {one other : ℕ} {a b c : ByteCourse} → TurnsGo one a b → TurnsGo other b c
+    → TurnsGo (one + other) a c
+turns_both {other = other} {a = a} {c = c} none_yet more =
+    subst (λ n. TurnsGo n a c) (none_first other) more
+turns_both {one = one} {other = other} {a = a} {c = c}
+    (turn_first {count = count} turn all_is rest) more =
     turn_first turn (behind one (lines_in_turn a.net) count other all_is) (turns_both rest more)
   where
     behind : (x y n m : ℕ) → x ≡ y + n → x + m ≡ y + (n + m)
     behind x y n m is = omega (arith, is)
 
-pub one_turn : (lines : ℕ) (old new : ByteCourse) → turn_taken old ≡ Some new → lines ≡ lines_in_turn old.net → TurnsGo lines old new
+pub one_turn : (lines : ℕ) (old new : ByteCourse) → turn_taken old ≡ Some new
+    → lines ≡ lines_in_turn old.net → TurnsGo lines old new
 one_turn lines old new turn is = turn_first turn (is ∙ alone (lines_in_turn old.net)) none_yet
   where
     alone : (n : ℕ) → n ≡ n + 0
@@ -34,14 +42,16 @@ one_turn lines old new turn is = turn_first turn (is ∙ alone (lines_in_turn ol
 
 pub to_line : (lines : ℕ) (old new : ByteCourse) → GoesToLine lines old new → TurnsGo lines old new
 to_line lines old new goes =
-    subst (λ n. TurnsGo n old new) (sym (none_first lines)) (turns_both goes.goes (one_turn lines goes.between new goes.turn goes.lines_are))
+    subst (λ n. TurnsGo n old new) (sym (none_first lines))
+    (turns_both goes.goes (one_turn lines goes.between new goes.turn goes.lines_are))
 
 -- ---- as the code counts them
 
 pub none_counted : (course : ByteCourse) → GoesCounted 0 course course
 none_counted course = record { count = 0; goes = none_yet; counts = omega arith }
 
-pub lines_counted : {first : ByteCourse} (old new : ByteCourse) (counted lines more : ℕ) → GoesCounted counted first old → GoesToLine lines old new
+pub lines_counted : {first : ByteCourse} (old new : ByteCourse) (counted lines more : ℕ)
+    → GoesCounted counted first old → GoesToLine lines old new
     → more ≡ min (counted + lines) max_count → GoesCounted more first new
 lines_counted old new counted lines more turns goes is = record {
   count = turns.count + lines;
@@ -49,19 +59,22 @@ lines_counted old new counted lines more turns goes is = record {
   counts = added turns.count counted lines more max_count turns.counts is;
 }
   where
-    added : (count counted lines more most : ℕ) → counted ≡ min count most → more ≡ min (counted + lines) most → more ≡ min (count + lines) most
+    added : (count counted lines more most : ℕ) → counted ≡ min count most
+        → more ≡ min (counted + lines) most → more ≡ min (count + lines) most
     added count counted lines more most before one = omega (arith, before, one)
 
 -- ---- no byte is left
 
-no_direction : (course : ByteCourse) → turn_taken course ≡ None → first_direction course.net.wires ≡ None
+no_direction : (course : ByteCourse) → turn_taken course ≡ None
+    → first_direction course.net.wires ≡ None
 no_direction course none = by (first_direction course.net.wires) none
   where
     by : (o : Option Direction) → option_map (turn_in course) o ≡ None → o ≡ None
     by None is = refl
     by (Some d) is = cc is
 
-pub rests : NoByteRests → (course : ByteCourse) → IsKeptSound course.net → turn_taken course ≡ None → is_byte_rest course.net ≡ true
+pub rests : NoByteRests → (course : ByteCourse) → IsKeptSound course.net → turn_taken course ≡ None
+    → is_byte_rest course.net ≡ true
 rests no_byte course kept none = no_byte course.net kept.whole (no_direction course none)
 
 -- ---- each line leaves fewer
@@ -71,53 +84,66 @@ none_then n m is = (omega (arith, is), omega (arith, is))
 
 module _ (laws : AreTurning) where
   -- turns that complete nothing change nothing where links carry lines
-  pub same_lines : {count : ℕ} {old new : ByteCourse} → TurnsGo count old new → count ≡ 0 → IsKeptSound old.net → course_in_lines new ≡ course_in_lines old
+  pub same_lines : {count : ℕ} {old new : ByteCourse} → TurnsGo count old new → count ≡ 0
+      → IsKeptSound old.net → course_in_lines new ≡ course_in_lines old
   same_lines none_yet is kept = refl
-  same_lines {old = old} {new = new} (turn_first {count = left} {between = between} turn all_is rest) is kept =
+  same_lines {old = old} {new = new}
+      (turn_first {count = left} {between = between} turn all_is rest) is kept =
       let none = none_then (lines_in_turn old.net) left (sym is ∙ all_is) in
-      same_lines rest none.1 (turns_kept laws (one_turn (lines_in_turn old.net) old between turn refl) kept).kept
+      same_lines rest none.1
+      (turns_kept laws (one_turn (lines_in_turn old.net) old between turn refl) kept).kept
       ∙ by (turn_is laws old between kept turn) none.0
     where
-      by : IsTurnOf old between → lines_in_turn old.net ≡ 0 → course_in_lines between ≡ course_in_lines old
+      by : IsTurnOf old between → lines_in_turn old.net ≡ 0
+          → course_in_lines between ≡ course_in_lines old
       by (nothing none same) zero_is = same
       by (next_line one next) zero_is = cc (sym one ∙ zero_is)
 
-  pub leaves_fewer : TurnLeavesFewer → (most lines : ℕ) (old new : ByteCourse) → IsKeptSound old.net → most_now (net_in_lines old.net) ≤ most
-      → GoesToLine lines old new → lines_left most (course_in_lines new) < lines_left most (course_in_lines old)
-  leaves_fewer fewer most lines old new kept few goes = by (turn_is laws goes.between new (turns_kept laws goes.goes kept).kept goes.turn)
+  pub leaves_fewer : TurnLeavesFewer → (most lines : ℕ) (old new : ByteCourse)
+      → IsKeptSound old.net → most_now (net_in_lines old.net) ≤ most → GoesToLine lines old new
+      → lines_left most (course_in_lines new) < lines_left most (course_in_lines old)
+  leaves_fewer fewer most lines old new kept few goes =
+      by (turn_is laws goes.between new (turns_kept laws goes.goes kept).kept goes.turn)
     where
       never : (n : ℕ) → n ≡ 0 → 0 < n → ⊥
       never n is some = omega (arith, is, some)
 
-      by : IsTurnOf goes.between new → lines_left most (course_in_lines new) < lines_left most (course_in_lines old)
+      by : IsTurnOf goes.between new
+          → lines_left most (course_in_lines new) < lines_left most (course_in_lines old)
       by (nothing none alike) = absurd (never lines (goes.lines_are ∙ none) goes.some)
       by (next_line one next) =
           let same = same_lines goes.goes refl kept in
-          fewer most (course_in_lines old) (course_in_lines new) kept.sound few (sym (ap next_in_turn same) ∙ next)
+          fewer most (course_in_lines old) (course_in_lines new) kept.sound few
+          (sym (ap next_in_turn same) ∙ next)
 
-  pub kept_settled : (net last : ByteNetwork) (counted : ℕ) (receipts : List Receipt) → IsKeptSound net → Settles net counted receipts (standing last)
-      → IsKeptSound last
+  pub kept_settled : (net last : ByteNetwork) (counted : ℕ) (receipts : List Receipt)
+      → IsKeptSound net → Settles net counted receipts (standing last) → IsKeptSound last
   kept_settled net last counted receipts kept settles =
-      subst IsKeptSound (sym (ap (λ (v : NetView). v.network) settles.after)) (turns_kept laws settles.goes kept).kept
+      subst IsKeptSound (sym (ap (λ (v : NetView). v.network) settles.after))
+      (turns_kept laws settles.goes kept).kept
 
   -- ---- as the code counts them
 
-  pub counted_kept : {first : ByteCourse} (now : ByteCourse) (counted : ℕ) → IsKeptSound first.net → GoesCounted counted first now → IsKeptSound now.net
+  pub counted_kept : {first : ByteCourse} (now : ByteCourse) (counted : ℕ) → IsKeptSound first.net
+      → GoesCounted counted first now → IsKeptSound now.net
   counted_kept now counted kept turns = (turns_kept laws turns.goes kept).kept
 
-  pub counted_fewer : TurnLeavesFewer → {first : ByteCourse} (old new : ByteCourse) (counted lines : ℕ) → IsKeptSound first.net
-      → GoesCounted counted first old → GoesToLine lines old new
-      → lines_left (most_now (net_in_lines first.net)) (course_in_lines new) < lines_left (most_now (net_in_lines first.net)) (course_in_lines old)
+  pub counted_fewer : TurnLeavesFewer → {first : ByteCourse} (old new : ByteCourse)
+      (counted lines : ℕ) → IsKeptSound first.net → GoesCounted counted first old
+      → GoesToLine lines old new → lines_left (most_now (net_in_lines first.net))
+      (course_in_lines new) < lines_left (most_now (net_in_lines first.net)) (course_in_lines old)
   counted_fewer fewer {first = first} old new counted lines kept turns goes =
       let now = turns_kept laws turns.goes kept in
-      leaves_fewer fewer (most_now (net_in_lines first.net)) lines old new now.kept (same (most_now (net_in_lines old.net)) (most_now (net_in_lines first.net)) now.keeps.most) goes
+      leaves_fewer fewer (most_now (net_in_lines first.net)) lines old new now.kept (same (most_now
+      (net_in_lines old.net)) (most_now (net_in_lines first.net)) now.keeps.most) goes
     where
       same : (a b : ℕ) → a ≡ b → a ≤ b
       same a b is = omega (arith, is)
 
   -- none is left
-  pub settles_at : NoByteRests → {first : ByteCourse} (old new : ByteCourse) (counted : ℕ) → IsKeptSound first.net → GoesCounted counted first old
-      → ComesToLine None old new → SettlesAt counted first new
+  pub settles_at : NoByteRests → {first : ByteCourse} (old new : ByteCourse) (counted : ℕ)
+      → IsKeptSound first.net → GoesCounted counted first old → ComesToLine None old new
+      → SettlesAt counted first new
   settles_at no_byte {first = first} old new counted kept turns so = record {
     turns = record {
       count = turns.count + 0;
@@ -138,9 +164,11 @@ module _ (laws : AreTurning) where
     goes : TurnsGo count course last
     rest : is_byte_rest last.net ≡ true
 
-  settling : TurnLeavesFewer → EachComesToLine → NoByteRests → (fuel most : ℕ) (course : ByteCourse) → IsKeptSound course.net
-      → most_now (net_in_lines course.net) ≤ most → lines_left most (course_in_lines course) < fuel → Settling course
-  settling fewer comes no_byte zero most course kept few less = absurd (nothing_less (lines_left most (course_in_lines course)) less)
+  settling : TurnLeavesFewer → EachComesToLine → NoByteRests → (fuel most : ℕ) (course : ByteCourse)
+      → IsKeptSound course.net → most_now (net_in_lines course.net) ≤ most
+      → lines_left most (course_in_lines course) < fuel → Settling course
+  settling fewer comes no_byte zero most course kept few less =
+      absurd (nothing_less (lines_left most (course_in_lines course)) less)
     where
       nothing_less : (n : ℕ) → n < 0 → ⊥
       nothing_less n less = omega (arith, less)
@@ -151,14 +179,20 @@ module _ (laws : AreTurning) where
       further a b n one other = omega (arith, one, other)
 
       at : (lines : Option ℕ) (new : ByteCourse) → ComesToLine lines course new
-          → ((next : ByteCourse) → IsKeptSound next.net → most_now (net_in_lines next.net) ≤ most → lines_left most (course_in_lines next) < fuel → Settling next)
-          → Settling course
-      at None new so on = record { count = 0; last = new; goes = so.0; rest = rests no_byte new (turns_kept laws so.0 kept).kept so.1 }
+          → ((next : ByteCourse) → IsKeptSound next.net → most_now (net_in_lines next.net) ≤ most
+          → lines_left most (course_in_lines next) < fuel → Settling next) → Settling course
+      at None new so on = record {
+        count = 0;
+        last = new;
+        goes = so.0;
+        rest = rests no_byte new (turns_kept laws so.0 kept).kept so.1;
+      }
       at (Some lines) new so on =
           let now = turns_kept laws (to_line lines course new so) kept in
           let less_now = leaves_fewer fewer most lines course new kept few so in
           let more = on new now.kept (subst (λ n. n ≤ most) (sym now.keeps.most) few)
-          (further (lines_left most (course_in_lines new)) (lines_left most (course_in_lines course)) fuel less_now less) in
+          (further (lines_left most (course_in_lines new))
+          (lines_left most (course_in_lines course)) fuel less_now less) in
           record {
             count = lines + more.count;
             last = more.last;
@@ -167,19 +201,30 @@ module _ (laws : AreTurning) where
           }
 
       by : ComesToSome course
-          → ((next : ByteCourse) → IsKeptSound next.net → most_now (net_in_lines next.net) ≤ most → lines_left most (course_in_lines next) < fuel → Settling next)
-          → Settling course
+          → ((next : ByteCourse) → IsKeptSound next.net → most_now (net_in_lines next.net) ≤ most
+          → lines_left most (course_in_lines next) < fuel → Settling next) → Settling course
       by some on = at some.lines some.new some.comes on
 
-  pub each_settles : TurnLeavesFewer → EachComesToLine → NoByteRests → (net : ByteNetwork) → IsKeptSound net → SettlesOnce net
+  pub each_settles : TurnLeavesFewer → EachComesToLine → NoByteRests → (net : ByteNetwork)
+      → IsKeptSound net → SettlesOnce net
   each_settles fewer comes no_byte net kept =
       let most = most_now (net_in_lines net) in
-      let so = settling fewer comes no_byte (suc (lines_left most (course_in_lines (byte_begun net)))) most (byte_begun net) kept (same most) (less _) in
+      let so =
+      settling fewer comes no_byte (suc (lines_left most (course_in_lines (byte_begun net))))
+      most (byte_begun net) kept (same most) (less _) in
       record {
         counted = min so.count max_count;
         receipts = so.last.receipts;
         last = so.last.net;
-        settles = record { count = so.count; last = so.last; goes = so.goes; rest = so.rest; counts = refl; received = refl; after = refl };
+        settles = record {
+          count = so.count;
+          last = so.last;
+          goes = so.goes;
+          rest = so.rest;
+          counts = refl;
+          received = refl;
+          after = refl;
+        };
       }
     where
       same : (n : ℕ) → n ≤ n

@@ -1,16 +1,21 @@
 -- How servers are set up, and what was given: both stay, whatever servers are asked for.
-use Rattle.std.proofs.Common.{◌≡◌, ℕ, zero, suc, Bool, true, false, Option, Some, None, List, [], ◌∷◌, ◌++◌, map, unwrap_or, option_map, refl, sym, ◌∙◌, ap, if◌then◌else◌}
+use Rattle.std.proofs.Common.{◌≡◌, ℕ, zero, suc, Bool, true, false, Option, Some, None, List, []}
+use Rattle.std.proofs.Common.{◌∷◌, ◌++◌, map, unwrap_or, option_map, refl, sym, ◌∙◌, ap}
+use Rattle.std.proofs.Common.{if◌then◌else◌}
 use Rattle.std.specs.FinMap.{get, insert}
 use Rattle.std.specs.List.{cons_option, filter_map, slice_get, slice_set}
 use Rattle.std.specs.Option.{option_map_or}
 use Rattle.irc_batch.specs.Batches.{Sent, line_to, end_of, line_on, end_of_link}
 use Rattle.irc_line.specs.Reading.{read_of}
-use Rattle.irc_server.specs.Served.{IsSetAlike, Occurrence, ServedKeepsItsSetting, link_says, served}
+use Rattle.irc_server.specs.Served.{IsSetAlike, Occurrence, ServedKeepsItsSetting, link_says}
+use Rattle.irc_server.specs.Served.{served}
 use Rattle.irc_server.specs.declared.config.Config.{Config}
 use Rattle.irc_stage.specs.View.{View}
 use Rattle.irc_world.specs.Stepping.{Item}
 use Rattle.irc_byte_network.specs.Behind.{Ahead, emptied, emptied_site, sites_behind}
-use Rattle.irc_byte_network.specs.ByteNetwork.{ByteCourse, ByteNetwork, all_heard, byte_begun, bytes_come, completed_in, course_without_wires, item_given, lines_ahead, net_in_lines}
+use Rattle.irc_byte_network.specs.ByteNetwork.{ByteCourse, ByteNetwork, all_heard, byte_begun}
+use Rattle.irc_byte_network.specs.ByteNetwork.{bytes_come, completed_in, course_without_wires}
+use Rattle.irc_byte_network.specs.ByteNetwork.{item_given, lines_ahead, net_in_lines}
 use Rattle.irc_byte_network.specs.Turns.{TurnsGo, none_yet, turn_first, turn_in, turn_taken}
 use Rattle.irc_items.specs.Laws.{GivenKeepsSettings}
 use Rattle.irc_items.specs.SetUp.{setting_at, setting_now, settings_of}
@@ -18,28 +23,36 @@ use Rattle.irc_net.specs.Calls.{NetView, Settles, standing}
 use Rattle.irc_net.specs.Laws.{BeginsSetUp, SettingsStay, StaysSetUp}
 use Rattle.irc_net.specs.Making.{IsMadeOf, new_site, setting_given}
 use Rattle.irc_network.specs.Laws.{GivenIsKept}
-use Rattle.irc_network.specs.Network.{Course, Network, Receipt, Reply, Site, all_sent_out, asked_at, given, has_received, has_received_at, heard, line_body, line_counted, line_queued, reply, sent_out, serves_occurrence, site_asked, site_at, site_changed_at, with_reply, with_site}
+use Rattle.irc_network.specs.Network.{Course, Network, Receipt, Reply, Site, all_sent_out, asked_at}
+use Rattle.irc_network.specs.Network.{given, has_received, has_received_at, heard, line_body}
+use Rattle.irc_network.specs.Network.{line_counted, line_queued, reply, sent_out, serves_occurrence}
+use Rattle.irc_network.specs.Network.{site_asked, site_at, site_changed_at, with_reply, with_site}
 use Rattle.irc_wires.specs.Wires.{Direction, first_direction}
 
 -- What is read of a network, where neither what clients receive nor a server that is set up as
 -- before makes a difference to it.
 pub record IsLeft {X : Type 0} (read : Network → X) : Type 0 where
-  pub set : (place : ℕ) (site after : Site) (net : Network) → site_at net place ≡ Some site → setting_at after ≡ setting_at site
-      → read (with_site place after net) ≡ read net
-  pub told : (net : Network) (received : List (List (List ℕ))) → read (record net { received = received }) ≡ read net
+  pub set : (place : ℕ) (site after : Site) (net : Network) → site_at net place ≡ Some site
+      → setting_at after ≡ setting_at site → read (with_site place after net) ≡ read net
+  pub told : (net : Network) (received : List (List (List ℕ)))
+      → read (record net { received = received }) ≡ read net
   pub counted : (net : Network) → read (line_counted net) ≡ read net
   pub emptied_too : (net : Network) → read (emptied net) ≡ read net
 
 -- ---- one of these is how servers are set up
 
-set_there : (sites : List Site) (place : ℕ) (site after : Site) → slice_get sites place ≡ Some site → setting_at after ≡ setting_at site
+set_there : (sites : List Site) (place : ℕ) (site after : Site)
+    → slice_get sites place ≡ Some site → setting_at after ≡ setting_at site
     → filter_map setting_at (slice_set sites place after) ≡ filter_map setting_at sites
 set_there [] place site after is same = refl
 set_there (first ∷ sites) zero site after is same =
-    ap (λ o. cons_option o (filter_map setting_at sites)) (same ∙ ap (λ o. setting_at (unwrap_or o first)) (sym is))
-set_there (first ∷ sites) (suc place) site after is same = ap (cons_option (setting_at first)) (set_there sites place site after is same)
+    ap (λ o. cons_option o (filter_map setting_at sites))
+    (same ∙ ap (λ o. setting_at (unwrap_or o first)) (sym is))
+set_there (first ∷ sites) (suc place) site after is same =
+    ap (cons_option (setting_at first)) (set_there sites place site after is same)
 
-emptied_alike : (sites : List Site) → filter_map setting_at (map emptied_site sites) ≡ filter_map setting_at sites
+emptied_alike : (sites : List Site)
+    → filter_map setting_at (map emptied_site sites) ≡ filter_map setting_at sites
 emptied_alike [] = refl
 emptied_alike (site ∷ sites) = ap (cons_option (setting_at site)) (emptied_alike sites)
 
@@ -65,16 +78,20 @@ items_left = record {
 
 -- ---- where links carry lines, both are the same
 
-behind_alike : (ahead : Ahead) (sites : List Site) → filter_map setting_at (sites_behind ahead sites) ≡ filter_map setting_at sites
+behind_alike : (ahead : Ahead) (sites : List Site)
+    → filter_map setting_at (sites_behind ahead sites) ≡ filter_map setting_at sites
 behind_alike ahead [] = refl
-behind_alike ahead (site ∷ sites) = ap (cons_option (setting_at site)) (behind_alike (λ place. ahead (suc place)) sites)
+behind_alike ahead (site ∷ sites) =
+    ap (cons_option (setting_at site)) (behind_alike (λ place. ahead (suc place)) sites)
 
-pub settings_in_lines : (net : ByteNetwork) → settings_of (net_in_lines net) ≡ settings_of net.network
+pub settings_in_lines : (net : ByteNetwork)
+    → settings_of (net_in_lines net) ≡ settings_of net.network
 settings_in_lines net = behind_alike (lines_ahead net.wires) net.network.sites
 
 -- ---- a server is asked
 
-queued_alike : (to : ℕ) (text : List ℕ) (site : Site) → setting_at (line_queued to text site) ≡ setting_at site
+queued_alike : (to : ℕ) (text : List ℕ) (site : Site)
+    → setting_at (line_queued to text site) ≡ setting_at site
 queued_alike to text site = by (get site.queues to)
   where
     queued : List (List ℕ) → Site
@@ -84,99 +101,129 @@ queued_alike to text site = by (get site.queues to)
     by None = refl
     by (Some lines) = refl
 
-reply_alike : ServedKeepsItsSetting → (view : View) (occurrence : Occurrence) → setting_now (reply view occurrence).view ≡ setting_now view
+reply_alike : ServedKeepsItsSetting → (view : View) (occurrence : Occurrence)
+    → setting_now (reply view occurrence).view ≡ setting_now view
 reply_alike kept view occurrence = by (serves_occurrence view occurrence)
   where
     answer : Bool → Reply
-    answer b = if b then record { view = (served view occurrence).view; out = (served view occurrence).out } else record { view = view; out = [] }
+    answer b = if b then record {
+      view = (served view occurrence).view;
+      out = (served view occurrence).out;
+    } else record { view = view; out = [] }
 
-    alike : IsSetAlike view (served view occurrence).view → setting_now (served view occurrence).view ≡ setting_now view
-    alike so i = record { name = so.name i; info = so.info i; created = so.created i; peers = so.peers i }
+    alike : IsSetAlike view (served view occurrence).view
+        → setting_now (served view occurrence).view ≡ setting_now view
+    alike so i =
+        record { name = so.name i; info = so.info i; created = so.created i; peers = so.peers i }
 
     by : (b : Bool) → setting_now (answer b).view ≡ setting_now view
     by true = alike (kept view occurrence)
     by false = refl
 
 module _ {X : Type 0} (read : Network → X) (left : IsLeft read) where
-  changed : (place : ℕ) (change : Site → Site) → ((site : Site) → setting_at (change site) ≡ setting_at site) → (net : Network)
+  changed : (place : ℕ) (change : Site → Site)
+      → ((site : Site) → setting_at (change site) ≡ setting_at site) → (net : Network)
       → read (site_changed_at place change net) ≡ read net
   changed place change same net = by (site_at net place) refl
     where
-      by : (o : Option Site) → site_at net place ≡ o → read (option_map_or (λ site. with_site place (change site) net) o net) ≡ read net
+      by : (o : Option Site) → site_at net place ≡ o
+          → read (option_map_or (λ site. with_site place (change site) net) o net) ≡ read net
       by None e = refl
       by (Some site) e = left.set place site (change site) net e (same site)
 
-  received_more : (client : ℕ) (text : List ℕ) (course : Course) → read (has_received client text course).net ≡ read course.net
+  received_more : (client : ℕ) (text : List ℕ) (course : Course)
+      → read (has_received client text course).net ≡ read course.net
   received_more zero text course = refl
   received_more (suc earlier) text course = by (slice_get course.net.received earlier)
     where
-      by : (o : Option (List (List ℕ))) → read (option_map_or (has_received_at earlier text course) o course).net ≡ read course.net
+      by : (o : Option (List (List ℕ))) → read
+          (option_map_or (has_received_at earlier text course) o course).net ≡ read course.net
       by None = refl
-      by (Some lines) = left.told course.net (slice_set course.net.received earlier (lines ++ text ∷ []))
+      by (Some lines) =
+          left.told course.net (slice_set course.net.received earlier (lines ++ text ∷ []))
 
-  sent_keeps : (place : ℕ) (sent : Sent) (course : Course) → read (sent_out place sent course).net ≡ read course.net
+  sent_keeps : (place : ℕ) (sent : Sent) (course : Course)
+      → read (sent_out place sent course).net ≡ read course.net
   sent_keeps place (line_to client text) course = received_more client text course
   sent_keeps place (end_of client) course = refl
-  sent_keeps place (line_on to text) course = changed place (line_queued to text) (queued_alike to text) course.net
+  sent_keeps place (line_on to text) course =
+      changed place (line_queued to text) (queued_alike to text) course.net
   sent_keeps place (end_of_link to reason) course = refl
 
-  all_sent_keep : (place : ℕ) (out : List Sent) (course : Course) → read (all_sent_out place out course).net ≡ read course.net
+  all_sent_keep : (place : ℕ) (out : List Sent) (course : Course)
+      → read (all_sent_out place out course).net ≡ read course.net
   all_sent_keep place [] course = refl
-  all_sent_keep place (sent ∷ out) course = all_sent_keep place out (sent_out place sent course) ∙ sent_keeps place sent course
+  all_sent_keep place (sent ∷ out) course = all_sent_keep place out (sent_out place sent course)
+      ∙ sent_keeps place sent course
 
   module _ (kept : ServedKeepsItsSetting) where
-    replied_keeps : (place : ℕ) (occurrence : Occurrence) (course : Course) (site : Site) (view : View) → site_at course.net place ≡ Some site
-        → site.server ≡ Some view → read (with_reply place course site (reply view occurrence)).net ≡ read course.net
+    replied_keeps : (place : ℕ) (occurrence : Occurrence) (course : Course) (site : Site)
+        (view : View) → site_at course.net place ≡ Some site → site.server ≡ Some view
+        → read (with_reply place course site (reply view occurrence)).net ≡ read course.net
     replied_keeps place occurrence course site view is server =
         all_sent_keep place (reply view occurrence).out _
-        ∙ left.set place site (record site { server = Some (reply view occurrence).view }) course.net is
+        ∙ left.set place site
+        (record site { server = Some (reply view occurrence).view }) course.net is
         (ap Some (reply_alike kept view occurrence) ∙ sym (ap (option_map setting_now) server))
 
-    asked_keeps : (place : ℕ) (occurrence : Occurrence) (course : Course) → read (site_asked place occurrence course).net ≡ read course.net
+    asked_keeps : (place : ℕ) (occurrence : Occurrence) (course : Course)
+        → read (site_asked place occurrence course).net ≡ read course.net
     unfolding site_asked
     asked_keeps place occurrence course = by (site_at course.net place) refl
       where
-        at : (site : Site) → site_at course.net place ≡ Some site → (o : Option View) → site.server ≡ o
-            → read (option_map_or (λ (view : View). with_reply place course site (reply view occurrence)) o course).net ≡ read course.net
+        at : (site : Site) → site_at course.net place ≡ Some site → (o : Option View)
+            → site.server ≡ o → read (option_map_or (λ (view : View). with_reply place course site
+            (reply view occurrence)) o course).net ≡ read course.net
         at site is None e = refl
         at site is (Some view) e = replied_keeps place occurrence course site view is e
 
-        by : (o : Option Site) → site_at course.net place ≡ o → read (option_map_or (asked_at place occurrence course) o course).net ≡ read course.net
+        by : (o : Option Site) → site_at course.net place ≡ o
+            → read (option_map_or (asked_at place occurrence course) o course).net ≡ read course.net
         by None e = refl
         by (Some site) e = at site e site.server refl
 
     -- ---- bytes come
 
-    heard_keep : (from to : ℕ) (lines : List (List ℕ)) (course : Course) → read (all_heard from to course lines).net ≡ read course.net
+    heard_keep : (from to : ℕ) (lines : List (List ℕ)) (course : Course)
+        → read (all_heard from to course lines).net ≡ read course.net
     heard_keep from to [] course = refl
     heard_keep from to (line ∷ lines) course =
         heard_keep from to lines (heard from to course line)
-        ∙ asked_keeps to (link_says from (read_of line)) (record course { net = line_counted course.net }) ∙ left.counted course.net
+        ∙ asked_keeps to (link_says from (read_of line))
+        (record course { net = line_counted course.net }) ∙ left.counted course.net
 
-    come_keeps : (from to count : ℕ) (course : ByteCourse) → read (bytes_come from to count course).net.network ≡ read course.net.network
+    come_keeps : (from to count : ℕ) (course : ByteCourse)
+        → read (bytes_come from to count course).net.network ≡ read course.net.network
     unfolding bytes_come
     come_keeps from to count course =
-        left.emptied_too (all_heard from to (course_without_wires course) (completed_in course.net from to count)).net
+        left.emptied_too (all_heard from to (course_without_wires course)
+        (completed_in course.net from to count)).net
         ∙ heard_keep from to (completed_in course.net from to count) (course_without_wires course)
 
-    turn_keeps : (old new : ByteCourse) → turn_taken old ≡ Some new → read new.net.network ≡ read old.net.network
+    turn_keeps : (old new : ByteCourse) → turn_taken old ≡ Some new
+        → read new.net.network ≡ read old.net.network
     turn_keeps old new turn = by (first_direction old.net.wires) turn
       where
         same_some : (a b : ByteCourse) → Some a ≡ Some b → a ≡ b
         same_some a b is = cc is
 
-        by : (o : Option Direction) → option_map (turn_in old) o ≡ Some new → read new.net.network ≡ read old.net.network
+        by : (o : Option Direction) → option_map (turn_in old) o ≡ Some new
+            → read new.net.network ≡ read old.net.network
         by None none = absurd (cc none)
         by (Some d) some =
-            ap (λ (c : ByteCourse). read c.net.network) (sym (same_some (turn_in old d) new some)) ∙ come_keeps d.from d.to _ old
+            ap (λ (c : ByteCourse). read c.net.network) (sym (same_some (turn_in old d) new some))
+            ∙ come_keeps d.from d.to _ old
 
-    turns_keep : {count : ℕ} {old new : ByteCourse} → TurnsGo count old new → read new.net.network ≡ read old.net.network
+    turns_keep : {count : ℕ} {old new : ByteCourse} → TurnsGo count old new
+        → read new.net.network ≡ read old.net.network
     turns_keep none_yet = refl
-    turns_keep {old = old} (turn_first {between = between} turn all_is rest) = turns_keep rest ∙ turn_keeps old between turn
+    turns_keep {old = old} (turn_first {between = between} turn all_is rest) = turns_keep rest
+        ∙ turn_keeps old between turn
 
-    settled_keeps : (net last : ByteNetwork) (counted : ℕ) (receipts : List Receipt) → Settles net counted receipts (standing last)
-        → read last.network ≡ read net.network
-    settled_keeps net last counted receipts settles = ap (λ (n : NetView). read n.network.network) settles.after ∙ turns_keep settles.goes
+    settled_keeps : (net last : ByteNetwork) (counted : ℕ) (receipts : List Receipt)
+        → Settles net counted receipts (standing last) → read last.network ≡ read net.network
+    settled_keeps net last counted receipts settles =
+        ap (λ (n : NetView). read n.network.network) settles.after ∙ turns_keep settles.goes
 
 -- ---- an item
 
@@ -190,17 +237,21 @@ given_stays keeps kept net item = record {
 
 -- ---- a new network
 
-made_alike : (configs : List Config) → filter_map setting_at (map new_site configs) ≡ map setting_given configs
+made_alike : (configs : List Config)
+    → filter_map setting_at (map new_site configs) ≡ map setting_given configs
 made_alike [] = refl
-made_alike (config ∷ configs) = ap (λ settings. setting_given config ∷ settings) (made_alike configs)
+made_alike (config ∷ configs) =
+    ap (λ settings. setting_given config ∷ settings) (made_alike configs)
 
-begins_set_up : (configs : List Config) (net : ByteNetwork) → IsMadeOf configs net → BeginsSetUp configs net
+begins_set_up : (configs : List Config) (net : ByteNetwork) → IsMadeOf configs net
+    → BeginsSetUp configs net
 begins_set_up configs net made = record {
   settings = record {
     ordered = made.ordered;
     same_ones = made.same_ones;
     in_order = made.in_order;
-    settings_are = ap (λ (n : ByteNetwork). settings_of n.network) made.network_is ∙ made_alike made.ordered;
+    settings_are =
+        ap (λ (n : ByteNetwork). settings_of n.network) made.network_is ∙ made_alike made.ordered;
   };
   items_are = ap (λ (n : ByteNetwork). n.network.items) made.network_is;
 }

@@ -1,5 +1,7 @@
--- What comes of each call of a network. Where memory ran out nothing is promised of it but that it refuses everything from then on.
-use Rattle.std.specs.Prelude.{◌≡◌, ⊤, ℕ, Bool, true, false, Option, Some, None, Result, Ok, Err, List, [], ◌∷◌, ◌++◌, length, min, if◌then◌else◌}
+-- What comes of each call of a network. Where memory ran out nothing is promised of it but that it
+-- refuses everything from then on.
+use Rattle.std.specs.Prelude.{◌≡◌, ⊤, ℕ, Bool, true, false, Option, Some, None, Result, Ok, Err}
+use Rattle.std.specs.Prelude.{List, [], ◌∷◌, ◌++◌, length, min, if◌then◌else◌}
 use Rattle.std.specs.List.{AllByRecursion}
 use Rattle.std.specs.Option.{option_and_then, option_map_or}
 use Rattle.irc_line.specs.Carried.{IsCarried}
@@ -11,12 +13,14 @@ use Rattle.irc_net.specs.declared.fault.NetFault.TheVariants.{Memory, Failed}
 use Rattle.irc_net.specs.declared.step.Step.{Step}
 use Rattle.irc_net.specs.declared.step.Step.TheVariants.{Bytes, Deliver, Give, Settle}
 use Rattle.irc_net.specs.declared.step.StepAnswer.{StepAnswer}
-use Rattle.irc_net.specs.declared.step.StepAnswer.TheVariants.{Delivered, Given, Refused, Settled, Taken}
+use Rattle.irc_net.specs.declared.step.StepAnswer.TheVariants.{Delivered, Given, Refused, Settled}
+use Rattle.irc_net.specs.declared.step.StepAnswer.TheVariants.{Taken}
 use Rattle.irc_net.specs.Faults.{deliver_fault, is_refusal, item_fault}
 use Rattle.irc_network.specs.Network.{LinkPlaces, Receipt, link_places, max_count, number_given}
 use Rattle.irc_network.specs.Views.{item_of, receipts_of}
 use Rattle.irc_wires.specs.Wires.{Wire, has_byte, through_line_feed, wire_at}
-use Rattle.irc_byte_network.specs.ByteNetwork.{ByteCourse, ByteNetwork, byte_begun, bytes_come, is_byte_rest, item_given}
+use Rattle.irc_byte_network.specs.ByteNetwork.{ByteCourse, ByteNetwork, byte_begun, bytes_come}
+use Rattle.irc_byte_network.specs.ByteNetwork.{is_byte_rest, item_given}
 use Rattle.irc_byte_network.specs.Turns.{TurnsGo}
 
 -- a network, and whether memory ran out for it
@@ -31,7 +35,8 @@ standing network = record { failed = false; network = network }
 -- ---- an item
 
 -- A line that a client says holds no NUL, CR or LF. It is the one thing that is asked of a caller:
--- that a line has at most 510 bytes is the bound of its type, and that it has any byte is not asked.
+-- that a line has at most 510 bytes is the bound of its type, and that it has any byte is not
+-- asked.
 abbrev pub IsGivable : Item → Type 0
 IsGivable (line client bytes) = IsCarried bytes
 IsGivable other = ⊤
@@ -51,13 +56,14 @@ pub record Gives (net : ByteNetwork) (item : Item) (answer : Answer) (new : NetV
   pub receipts : receipts_of answer.lines.items ≡ (item_given item net).receipts
 
 pub data IsGiven : NetView → Item → Result Answer NetFault → NetView → Type 0 where
-  given_it : {old new : NetView} {item : Item} {answer : Answer} → old.failed ≡ false → Gives old.network item answer new
-      → IsGiven old item (Ok answer) new
-  given_refused : {old : NetView} {item : Item} {fault : NetFault} → old.failed ≡ false → item_fault old.network item ≡ Some fault
-      → IsGiven old item (Err fault) old
-  given_wants_memory : {old new : NetView} {item : Item} → old.failed ≡ false → item_fault old.network item ≡ None → new.failed ≡ true
-      → IsGiven old item (Err Memory) new
-  given_to_failed : {old : NetView} {item : Item} → old.failed ≡ true → IsGiven old item (Err Failed) old
+  given_it : {old new : NetView} {item : Item} {answer : Answer} → old.failed ≡ false
+      → Gives old.network item answer new → IsGiven old item (Ok answer) new
+  given_refused : {old : NetView} {item : Item} {fault : NetFault} → old.failed ≡ false
+      → item_fault old.network item ≡ Some fault → IsGiven old item (Err fault) old
+  given_wants_memory : {old new : NetView} {item : Item} → old.failed ≡ false
+      → item_fault old.network item ≡ None → new.failed ≡ true → IsGiven old item (Err Memory) new
+  given_to_failed : {old : NetView} {item : Item} → old.failed ≡ true
+      → IsGiven old item (Err Failed) old
 
 -- ---- bytes that come
 
@@ -70,7 +76,8 @@ abbrev pub piece_between : ℕ → ByteNetwork → LinkPlaces → ByteCourse
 piece_between count net ends = bytes_come ends.near ends.far count (byte_begun net)
 
 abbrev pub piece : ℕ → ByteNetwork → Name → Name → ByteCourse
-piece count net from to = option_map_or (piece_between count net) (link_places net.network from to) (byte_begun net)
+piece count net from to =
+    option_map_or (piece_between count net) (link_places net.network from to) (byte_begun net)
 
 -- how many come
 abbrev pub count_between : ℕ → ByteNetwork → LinkPlaces → ℕ
@@ -78,30 +85,38 @@ count_between count net ends = min count (length (wire_between net ends).bytes)
 
 -- between names that are no servers none come
 abbrev pub piece_count : ℕ → ByteNetwork → Name → Name → ℕ
-piece_count count net from to = option_map_or (count_between count net) (link_places net.network from to) 0
+piece_count count net from to =
+    option_map_or (count_between count net) (link_places net.network from to) 0
 
 -- how many came, and what clients received by them
-pub record Takes (net : ByteNetwork) (from to : Name) (count taken : ℕ) (receipts : List Receipt) (new : NetView) : Type 0 where
+pub record Takes (net : ByteNetwork) (from to : Name) (count taken : ℕ) (receipts : List Receipt)
+    (new : NetView) : Type 0 where
   pub none : deliver_fault net from to ≡ None
   pub taken_is : taken ≡ piece_count count net from to
   pub received : receipts ≡ (piece count net from to).receipts
   pub after : new ≡ standing (piece count net from to).net
 
-pub data BytesTaken : NetView → Name → Name → ℕ → Result (ℕ × List Receipt) NetFault → NetView → Type 0 where
-  takes_them : {old new : NetView} {from to : Name} {count taken : ℕ} {receipts : List Receipt} → old.failed ≡ false
-      → Takes old.network from to count taken receipts new → BytesTaken old from to count (Ok (taken, receipts)) new
-  taking_refused : {old : NetView} {from to : Name} {count : ℕ} {fault : NetFault} → old.failed ≡ false
-      → deliver_fault old.network from to ≡ Some fault → BytesTaken old from to count (Err fault) old
-  taking_wants_memory : {old new : NetView} {from to : Name} {count : ℕ} → old.failed ≡ false → deliver_fault old.network from to ≡ None
-      → new.failed ≡ true → BytesTaken old from to count (Err Memory) new
-  taking_by_failed : {old : NetView} {from to : Name} {count : ℕ} → old.failed ≡ true → BytesTaken old from to count (Err Failed) old
+pub data BytesTaken : NetView → Name → Name → ℕ → Result (ℕ × List Receipt) NetFault → NetView
+    → Type 0 where
+  takes_them : {old new : NetView} {from to : Name} {count taken : ℕ} {receipts : List Receipt}
+      → old.failed ≡ false → Takes old.network from to count taken receipts new
+      → BytesTaken old from to count (Ok (taken, receipts)) new
+  taking_refused : {old : NetView} {from to : Name} {count : ℕ} {fault : NetFault}
+      → old.failed ≡ false → deliver_fault old.network from to ≡ Some fault
+      → BytesTaken old from to count (Err fault) old
+  taking_wants_memory : {old new : NetView} {from to : Name} {count : ℕ}
+      → old.failed ≡ false → deliver_fault old.network from to ≡ None → new.failed ≡ true
+      → BytesTaken old from to count (Err Memory) new
+  taking_by_failed : {old : NetView} {from to : Name} {count : ℕ} → old.failed ≡ true
+      → BytesTaken old from to count (Err Failed) old
 
 -- ---- a delivery
 
 -- all bytes up to and with the next LF
 abbrev pub line_between : ByteNetwork → LinkPlaces → Option ByteCourse
 line_between net ends =
-    if has_byte (wire_between net ends) then Some (piece_between (through_line_feed (wire_between net ends).bytes) net ends) else None
+    if has_byte (wire_between net ends) then Some
+    (piece_between (through_line_feed (wire_between net ends).bytes) net ends) else None
 
 -- none where no byte is on its way from one server to another
 abbrev pub delivery : ByteNetwork → Name → Name → Option ByteCourse
@@ -109,23 +124,31 @@ delivery net from to = option_and_then (line_between net) (link_places net.netwo
 
 -- whether some came, and what clients received by them
 abbrev pub Delivers : Option ByteCourse → ByteNetwork → Bool → List Receipt → NetView → Type 0
-Delivers None net was_taken receipts new = (was_taken ≡ false) × (receipts ≡ []) × (new ≡ standing net)
-Delivers (Some course) net was_taken receipts new = (was_taken ≡ true) × (receipts ≡ course.receipts) × (new ≡ standing course.net)
+Delivers None net was_taken receipts new =
+    (was_taken ≡ false) × (receipts ≡ []) × (new ≡ standing net)
+Delivers (Some course) net was_taken receipts new =
+    (was_taken ≡ true) × (receipts ≡ course.receipts) × (new ≡ standing course.net)
 
-pub data IsDelivered : NetView → Name → Name → Result (Bool × List Receipt) NetFault → NetView → Type 0 where
-  delivers_it : {old new : NetView} {from to : Name} {was_taken : Bool} {receipts : List Receipt} → old.failed ≡ false
-      → deliver_fault old.network from to ≡ None → Delivers (delivery old.network from to) old.network was_taken receipts new
+pub data IsDelivered : NetView → Name → Name → Result (Bool × List Receipt) NetFault → NetView
+    → Type 0 where
+  delivers_it : {old new : NetView} {from to : Name} {was_taken : Bool} {receipts : List Receipt}
+      → old.failed ≡ false → deliver_fault old.network from to ≡ None
+      → Delivers (delivery old.network from to) old.network was_taken receipts new
       → IsDelivered old from to (Ok (was_taken, receipts)) new
-  delivery_refused : {old : NetView} {from to : Name} {fault : NetFault} → old.failed ≡ false → deliver_fault old.network from to ≡ Some fault
-      → IsDelivered old from to (Err fault) old
-  delivery_wants_memory : {old new : NetView} {from to : Name} → old.failed ≡ false → deliver_fault old.network from to ≡ None → new.failed ≡ true
+  delivery_refused : {old : NetView} {from to : Name} {fault : NetFault} → old.failed ≡ false
+      → deliver_fault old.network from to ≡ Some fault → IsDelivered old from to (Err fault) old
+  delivery_wants_memory : {old new : NetView} {from to : Name} → old.failed ≡ false
+      → deliver_fault old.network from to ≡ None → new.failed ≡ true
       → IsDelivered old from to (Err Memory) new
-  delivery_by_failed : {old : NetView} {from to : Name} → old.failed ≡ true → IsDelivered old from to (Err Failed) old
+  delivery_by_failed : {old : NetView} {from to : Name} → old.failed ≡ true
+      → IsDelivered old from to (Err Failed) old
 
 -- ---- settling
 
--- Bytes come in turn until nothing is on its way. The lines that they complete are counted up to 2^64 - 1.
-pub record Settles (net : ByteNetwork) (counted : ℕ) (receipts : List Receipt) (new : NetView) : Type 0 where
+-- Bytes come in turn until nothing is on its way. The lines that they complete are counted up to
+-- 2^64 - 1.
+pub record Settles (net : ByteNetwork) (counted : ℕ) (receipts : List Receipt)
+    (new : NetView) : Type 0 where
   pub count : ℕ
   pub last : ByteCourse
   pub goes : TurnsGo count (byte_begun net) last
@@ -135,9 +158,10 @@ pub record Settles (net : ByteNetwork) (counted : ℕ) (receipts : List Receipt)
   pub after : new ≡ standing last.net
 
 pub data IsSettled : NetView → Result (ℕ × List Receipt) NetFault → NetView → Type 0 where
-  settles_it : {old new : NetView} {counted : ℕ} {receipts : List Receipt} → old.failed ≡ false → Settles old.network counted receipts new
-      → IsSettled old (Ok (counted, receipts)) new
-  settling_wants_memory : {old new : NetView} → old.failed ≡ false → new.failed ≡ true → IsSettled old (Err Memory) new
+  settles_it : {old new : NetView} {counted : ℕ} {receipts : List Receipt} → old.failed ≡ false
+      → Settles old.network counted receipts new → IsSettled old (Ok (counted, receipts)) new
+  settling_wants_memory : {old new : NetView} → old.failed ≡ false → new.failed ≡ true
+      → IsSettled old (Err Memory) new
   settling_by_failed : {old : NetView} → old.failed ≡ true → IsSettled old (Err Failed) old
 
 -- ---- steps
@@ -145,12 +169,18 @@ pub data IsSettled : NetView → Result (ℕ × List Receipt) NetFault → NetVi
 -- a step is done, or refused and nothing changes
 abbrev pub IsStep : NetView → Step → StepAnswer → NetView → Type 0
 IsStep old (Give item) (Given answer) new = IsGiven old (item_of item) (Ok answer) new
-IsStep old (Give item) (Refused fault) new = IsGiven old (item_of item) (Err fault) new × (is_refusal fault ≡ true)
-IsStep old (Deliver from to) (Delivered was_taken lines) new = IsDelivered old from to (Ok (was_taken, receipts_of lines.items)) new
-IsStep old (Deliver from to) (Refused fault) new = IsDelivered old from to (Err fault) new × (is_refusal fault ≡ true)
-IsStep old (Bytes from to count) (Taken taken lines) new = BytesTaken old from to count (Ok (taken, receipts_of lines.items)) new
-IsStep old (Bytes from to count) (Refused fault) new = BytesTaken old from to count (Err fault) new × (is_refusal fault ≡ true)
-IsStep old Settle (Settled counted lines) new = IsSettled old (Ok (counted, receipts_of lines.items)) new
+IsStep old (Give item) (Refused fault) new =
+    IsGiven old (item_of item) (Err fault) new × (is_refusal fault ≡ true)
+IsStep old (Deliver from to) (Delivered was_taken lines) new =
+    IsDelivered old from to (Ok (was_taken, receipts_of lines.items)) new
+IsStep old (Deliver from to) (Refused fault) new =
+    IsDelivered old from to (Err fault) new × (is_refusal fault ≡ true)
+IsStep old (Bytes from to count) (Taken taken lines) new =
+    BytesTaken old from to count (Ok (taken, receipts_of lines.items)) new
+IsStep old (Bytes from to count) (Refused fault) new =
+    BytesTaken old from to count (Err fault) new × (is_refusal fault ≡ true)
+IsStep old Settle (Settled counted lines) new =
+    IsSettled old (Ok (counted, receipts_of lines.items)) new
 IsStep old step answer new = ⊥
 
 -- what comes of a step for which memory runs out, or ran out before
@@ -172,12 +202,14 @@ IsStepDone old step (Err fault) new = Breaks old step fault new × (is_refusal f
 -- steps are done one after another
 pub data PlaysSteps : NetView → List Step → List StepAnswer → NetView → Type 0 where
   none_yet : {net : NetView} → PlaysSteps net [] [] net
-  then_one : {first between last : NetView} {steps all : List Step} {answers more : List StepAnswer} (step : Step) (answer : StepAnswer)
-      → PlaysSteps first steps answers between → IsStep between step answer last → all ≡ steps ++ step ∷ [] → more ≡ answers ++ answer ∷ []
+  then_one : {first between last : NetView} {steps all : List Step} {answers more : List StepAnswer}
+      (step : Step) (answer : StepAnswer) → PlaysSteps first steps answers between
+      → IsStep between step answer last → all ≡ steps ++ step ∷ [] → more ≡ answers ++ answer ∷ []
       → PlaysSteps first all more last
 
 -- some of them were done, and the next one broke
-pub record StopsAt (first : NetView) (steps : List Step) (fault : NetFault) (last : NetView) : Type 0 where
+pub record StopsAt (first : NetView) (steps : List Step) (fault : NetFault)
+    (last : NetView) : Type 0 where
   pub done : List Step
   pub step : Step
   pub left : List Step
@@ -189,7 +221,11 @@ pub record StopsAt (first : NetView) (steps : List Step) (fault : NetFault) (las
   pub is_want : is_refusal fault ≡ false
 
 -- all steps are done, one broke, or there was no memory for the answers, and the network has failed
-pub data ArePlayed : NetView → List Step → Result (List StepAnswer) NetFault → NetView → Type 0 where
-  plays_them : {old new : NetView} {steps : List Step} {answers : List StepAnswer} → PlaysSteps old steps answers new → ArePlayed old steps (Ok answers) new
-  stops_at : {old new : NetView} {steps : List Step} {fault : NetFault} → StopsAt old steps fault new → ArePlayed old steps (Err fault) new
-  answers_want_memory : {old new : NetView} {steps : List Step} → new.failed ≡ true → ArePlayed old steps (Err Memory) new
+pub data ArePlayed : NetView → List Step → Result (List StepAnswer) NetFault → NetView
+    → Type 0 where
+  plays_them : {old new : NetView} {steps : List Step} {answers : List StepAnswer}
+      → PlaysSteps old steps answers new → ArePlayed old steps (Ok answers) new
+  stops_at : {old new : NetView} {steps : List Step} {fault : NetFault}
+      → StopsAt old steps fault new → ArePlayed old steps (Err fault) new
+  answers_want_memory : {old new : NetView} {steps : List Step} → new.failed ≡ true
+      → ArePlayed old steps (Err Memory) new

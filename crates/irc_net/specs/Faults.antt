@@ -1,8 +1,10 @@
--- Why what is given to a network is not taken, in the order in which causes are looked for: by what is there alone.
+-- Why what is given to a network is not taken, in the order in which causes are looked for: by what
+-- is there alone.
 use Rattle.std.specs.Prelude.{Bool, true, false, Option, Some, if◌then◌else◌}
 use Rattle.std.specs.Option.{option_map}
 use Rattle.irc_relay.specs.Links.{Name}
-use Rattle.irc_world.specs.Refused.{Refusal, link_refused, no_such_client, no_such_server, not_linked}
+use Rattle.irc_world.specs.Refused.{Refusal, link_refused, no_such_client, no_such_server}
+use Rattle.irc_world.specs.Refused.{not_linked}
 use Rattle.irc_world.specs.Stepping.{Item}
 use Rattle.irc_net.specs.declared.fault.NetFault.{NetFault}
 use Rattle.irc_net.specs.declared.fault.NetFault.TheVariants as fault
@@ -19,7 +21,8 @@ fault_by link_refused = fault.LinkRefused
 
 -- Nothing is taken while a byte is on its way, or a part of a line has come somewhere.
 unfoldable pub item_fault : ByteNetwork → Item → Option NetFault
-item_fault net item = if is_byte_rest net then option_map fault_by (fault_at_rest net.network item) else Some fault.NotAtRest
+item_fault net item = if is_byte_rest net then option_map fault_by (fault_at_rest net.network item)
+    else Some fault.NotAtRest
 
 -- bytes come between two servers that are linked, at rest or not
 unfoldable pub deliver_fault : ByteNetwork → Name → Name → Option NetFault

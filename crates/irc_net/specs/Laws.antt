@@ -8,7 +8,8 @@ use Rattle.irc_server.specs.declared.config.Config.{Config}
 use Rattle.irc_byte_network.specs.ByteNetwork.{ByteNetwork, byte_begun, bytes_come, item_given}
 use Rattle.irc_byte_network.specs.Whole.{no_wires}
 use Rattle.irc_net.specs.declared.answer.Answer.{Answer}
-use Rattle.irc_net.specs.Calls.{BytesTaken, IsDelivered, IsGiven, IsSettled, NetView, Settles, standing}
+use Rattle.irc_net.specs.Calls.{BytesTaken, IsDelivered, IsGiven, IsSettled, NetView, Settles}
+use Rattle.irc_net.specs.Calls.{standing}
 use Rattle.irc_net.specs.Faults.{item_fault}
 use Rattle.irc_net.specs.Making.{AreSettingsOf, IsMadeOf}
 use Rattle.irc_net.specs.OneRoom.{IsKeptSound, IsOwed}
@@ -20,18 +21,21 @@ use Rattle.irc_network.specs.Views.{receipts_of}
 
 -- Each client has received just its lines among these, behind all that it had.
 abbrev pub HasReceived : ByteNetwork → ByteNetwork → List Receipt → Type 0
-HasReceived old new receipts = (client : ℕ) → received_by new.network client ≡ received_by old.network client ++ lines_of_client client receipts
+HasReceived old new receipts = (client : ℕ) → received_by new.network client
+    ≡ received_by old.network client ++ lines_of_client client receipts
 
 -- What a call answers is what clients have received by it.
 pub record AnswersAreReceived : Type 0 where
   pub given : (old new : NetView) (item : Item) (answer : Answer) → IsGiven old item (Ok answer) new
       → HasReceived old.network new.network (receipts_of answer.lines.items)
-  pub taken : (old new : NetView) (from to : Name) (count taken : ℕ) (receipts : List Receipt) → BytesTaken old from to count (Ok (taken, receipts)) new
+  pub taken : (old new : NetView) (from to : Name) (count taken : ℕ) (receipts : List Receipt)
+      → BytesTaken old from to count (Ok (taken, receipts)) new
       → HasReceived old.network new.network receipts
-  pub delivered : (old new : NetView) (from to : Name) (was_taken : Bool) (receipts : List Receipt) → IsDelivered old from to (Ok (was_taken, receipts)) new
+  pub delivered : (old new : NetView) (from to : Name) (was_taken : Bool) (receipts : List Receipt)
+      → IsDelivered old from to (Ok (was_taken, receipts)) new
       → HasReceived old.network new.network receipts
-  pub settled : (old new : NetView) (counted : ℕ) (receipts : List Receipt) → IsSettled old (Ok (counted, receipts)) new
-      → HasReceived old.network new.network receipts
+  pub settled : (old new : NetView) (counted : ℕ) (receipts : List Receipt)
+      → IsSettled old (Ok (counted, receipts)) new → HasReceived old.network new.network receipts
 
 -- ---- how servers are set up, and what was given
 
@@ -49,21 +53,27 @@ pub record StaysSetUp (old new : ByteNetwork) (items : List Item) : Type 0 where
 -- given, comes or settles. An item that is given stands behind those before it, and nothing else
 -- changes them.
 pub record SettingsStay : Type 0 where
-  pub made : (configs : List Config) (net : ByteNetwork) → IsMadeOf configs net → BeginsSetUp configs net
-  pub given : (net : ByteNetwork) (item : Item) → StaysSetUp net (item_given item net).net (net.network.items ++ item ∷ [])
-  pub come : (net : ByteNetwork) (from to count : ℕ) → StaysSetUp net (bytes_come from to count (byte_begun net)).net net.network.items
-  pub settled : (net last : ByteNetwork) (counted : ℕ) (receipts : List Receipt) → Settles net counted receipts (standing last)
-      → StaysSetUp net last net.network.items
+  pub made : (configs : List Config) (net : ByteNetwork) → IsMadeOf configs net
+      → BeginsSetUp configs net
+  pub given : (net : ByteNetwork) (item : Item)
+      → StaysSetUp net (item_given item net).net (net.network.items ++ item ∷ [])
+  pub come : (net : ByteNetwork) (from to count : ℕ)
+      → StaysSetUp net (bytes_come from to count (byte_begun net)).net net.network.items
+  pub settled : (net last : ByteNetwork) (counted : ℕ) (receipts : List Receipt)
+      → Settles net counted receipts (standing last) → StaysSetUp net last net.network.items
 
 -- ---- what is kept
 
--- A new network is sound, and it stays so by each item that is taken, by bytes that come, and as it settles.
+-- A new network is sound, and it stays so by each item that is taken, by bytes that come, and as it
+-- settles.
 pub record StaysKept : Type 0 where
   pub new : (net : Network) → IsNew net → IsKeptSound (no_wires net)
-  pub given : (net : ByteNetwork) (item : Item) → IsKeptSound net → item_fault net item ≡ None → IsItemWithin item → IsKeptSound (item_given item net).net
-  pub come : (net : ByteNetwork) (from to count : ℕ) → IsKeptSound net → IsKeptSound (bytes_come from to count (byte_begun net)).net
-  pub settled : (net last : ByteNetwork) (counted : ℕ) (receipts : List Receipt) → IsKeptSound net → Settles net counted receipts (standing last)
-      → IsKeptSound last
+  pub given : (net : ByteNetwork) (item : Item) → IsKeptSound net → item_fault net item ≡ None
+      → IsItemWithin item → IsKeptSound (item_given item net).net
+  pub come : (net : ByteNetwork) (from to count : ℕ) → IsKeptSound net
+      → IsKeptSound (bytes_come from to count (byte_begun net)).net
+  pub settled : (net last : ByteNetwork) (counted : ℕ) (receipts : List Receipt) → IsKeptSound net
+      → Settles net counted receipts (standing last) → IsKeptSound last
 
 -- and it does settle
 abbrev pub EachSettles : Type 0
@@ -71,15 +81,18 @@ EachSettles = (net : ByteNetwork) → IsKeptSound net → SettlesOnce net
 
 -- What a client has received of a network that is kept so is what it is owed there.
 abbrev pub KeptIsOwed : Type 0
-KeptIsOwed = (net : ByteNetwork) (client : ℕ) → IsKeptSound net → IsOwed (standing net) client (received_by net.network client)
+KeptIsOwed = (net : ByteNetwork) (client : ℕ) → IsKeptSound net
+    → IsOwed (standing net) client (received_by net.network client)
 
 -- ---- all of it
 
 -- Whatever a network of some configurations has run to is kept sound.
 abbrev pub EveryRunIsKept : Type 0
-EveryRunIsKept = (configs : List Config) (items : List Item) (net : NetView) → HasRun configs items net → IsKeptSound net.network
+EveryRunIsKept = (configs : List Config) (items : List Item) (net : NetView)
+    → HasRun configs items net → IsKeptSound net.network
 
 -- Whatever was given to a network of some configurations, and however lines were delivered, it is
 -- one room.
 abbrev pub EveryNetworkIsOneRoom : Type 0
-EveryNetworkIsOneRoom = (configs : List Config) (items : List Item) (net : NetView) → HasRun configs items net → IsOneRoomOf configs items net
+EveryNetworkIsOneRoom = (configs : List Config) (items : List Item) (net : NetView)
+    → HasRun configs items net → IsOneRoomOf configs items net

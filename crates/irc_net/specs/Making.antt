@@ -1,5 +1,6 @@
 -- Of which configurations a network is made.
-use Rattle.std.specs.Prelude.{◌≡◌, Bool, true, false, ◌||◌, Option, Some, None, Result, Ok, Err, List, [], ◌∷◌, length, map, nat_lt, if◌then◌else◌}
+use Rattle.std.specs.Prelude.{◌≡◌, Bool, true, false, ◌||◌, Option, Some, None, Result, Ok, Err}
+use Rattle.std.specs.Prelude.{List, [], ◌∷◌, length, map, nat_lt, if◌then◌else◌}
 use Rattle.std.specs.List.{list_any}
 use Rattle.std.specs.List.Sorted.{IsPermutation, IsSortedByKey}
 use Rattle.std.specs.FinMap.{empty}
@@ -13,7 +14,8 @@ use Rattle.irc_server.specs.declared.config.ConfigFault.TheVariants as one
 use Rattle.irc_stage.specs.View.{known_peer}
 use Rattle.irc_world.specs.World.{Setting}
 use Rattle.irc_net.specs.declared.making.NetConfigFault.{NetConfigFault}
-use Rattle.irc_net.specs.declared.making.NetConfigFault.TheVariants.{BadName, DoubleName, TooMany, Memory}
+use Rattle.irc_net.specs.declared.making.NetConfigFault.TheVariants.{BadName, DoubleName, TooMany}
+use Rattle.irc_net.specs.declared.making.NetConfigFault.TheVariants.{Memory}
 use Rattle.irc_net.specs.Calls.{NetView}
 use Rattle.irc_byte_network.specs.ByteNetwork.{ByteNetwork}
 use Rattle.irc_byte_network.specs.Whole.{no_wires}
@@ -44,7 +46,8 @@ is_config_of name config = same (config_name config) name
 -- two servers have one name
 abbrev pub has_name_twice : List Config → Bool
 has_name_twice [] = false
-has_name_twice (config ∷ configs) = list_any (is_config_of (config_name config)) configs || has_name_twice configs
+has_name_twice (config ∷ configs) =
+    list_any (is_config_of (config_name config)) configs || has_name_twice configs
 
 -- why no network is made of configurations: the causes in the order in which they are looked for
 abbrev pub configs_fault : List Config → Option NetConfigFault
@@ -60,7 +63,15 @@ new_site config = record { server = Some (made_view config); queues = empty }
 
 -- servers in this order: no link, and nobody connected
 abbrev pub made_of : List Config → Network
-made_of ordered = record { names = map config_name ordered; sites = map new_site ordered; links = []; homes = []; received = []; items = []; taken = 0 }
+made_of ordered = record {
+  names = map config_name ordered;
+  sites = map new_site ordered;
+  links = [];
+  homes = [];
+  received = [];
+  items = [];
+  taken = 0;
+}
 
 -- how the server of a configuration is set up
 abbrev pub setting_given : Config → Setting
@@ -87,6 +98,7 @@ pub record IsMadeOf (configs : List Config) (net : ByteNetwork) : Type 0 where
 
 -- what comes of configurations
 abbrev pub IsNetMade : List Config → Result NetView NetConfigFault → Type 0
-IsNetMade configs (Ok net) = (configs_fault configs ≡ None) × (net.failed ≡ false) × IsMadeOf configs net.network
+IsNetMade configs (Ok net) =
+    (configs_fault configs ≡ None) × (net.failed ≡ false) × IsMadeOf configs net.network
 IsNetMade configs (Err Memory) = configs_fault configs ≡ None
 IsNetMade configs (Err fault) = configs_fault configs ≡ Some fault

@@ -12,7 +12,8 @@ abbrev pub map_ok : {A B E : Type 0} → (A → B) → Result A E → Result B E
 map_ok f (Ok a) = Ok (f a)
 map_ok f (Err e) = Err e
 
-abbrev pub delivered_now : Result (Bool × Vec KeptReceipt) NetFault → Result (Bool × List Receipt) NetFault
+abbrev pub delivered_now : Result (Bool × Vec KeptReceipt) NetFault
+    → Result (Bool × List Receipt) NetFault
 delivered_now = map_ok (λ (pair : Bool × Vec KeptReceipt). (pair.0, receipts_of pair.1.items))
 
 -- how many lines or bytes came, and what clients received by them

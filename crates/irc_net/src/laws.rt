@@ -1,7 +1,10 @@
-//! What holds of networks, and of what their calls answer. A law is a function that does nothing, and its contract is the law.
-ghost use Rattle.irc_net.specs.Laws.{AnswersAreReceived, EachSettles, EveryNetworkIsOneRoom, EveryRunIsKept, KeptIsOwed, SettingsStay, StaysKept};
+//! What holds of networks, and of what their calls answer. A law is a function that does nothing,
+//! and its contract is the law.
+ghost use Rattle.irc_net.specs.Laws.{AnswersAreReceived, EachSettles, EveryNetworkIsOneRoom};
+ghost use Rattle.irc_net.specs.Laws.{EveryRunIsKept, KeptIsOwed, SettingsStay, StaysKept};
 
-/// The lines that an item, bytes that come, a delivery or a settling answer are just those that clients have received by it.
+/// The lines that an item, bytes that come, a delivery or a settling answer are just those that
+/// clients have received by it.
 pub fn answers_are_received()
     ensures { AnswersAreReceived }
 {
@@ -18,7 +21,8 @@ pub fn settings_stay()
     irc_items::laws::given_keeps_settings();
 }
 
-/// A new network is sound, and stays so whatever is given to it and whatever comes, in whatever pieces.
+/// A new network is sound, and stays so whatever is given to it and whatever comes, in whatever
+/// pieces.
 pub fn networks_stay_sound()
     ensures { StaysKept }
 {

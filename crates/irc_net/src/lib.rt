@@ -1,4 +1,5 @@
-//! Networks of servers: the servers, the lines that are on their way between them, and what each client has received. Definitions are in `specs/`.
+//! Networks of servers: the servers, the lines that are on their way between them, and what each
+//! client has received. Definitions are in `specs/`.
 #![tactic(auto)]
 
 mod answer;

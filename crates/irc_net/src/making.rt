@@ -4,7 +4,8 @@ ghost use Rattle.std.specs.List.{AllByRecursion, list_any};
 ghost use Rattle.std.specs.List.Sorted.{IsPermutation, IsSortedByKey};
 ghost use Rattle.std.specs.Cmp.Lexicographic.{slice_cmp};
 ghost use Rattle.std.specs.Ordering.{nat_cmp};
-ghost use Rattle.irc_net.specs.Making.{config_name, configs_fault, has_name_twice, is_bad_config, is_config_of, is_double, new_site};
+ghost use Rattle.irc_net.specs.Making.{config_name, configs_fault, has_name_twice, is_bad_config};
+ghost use Rattle.irc_net.specs.Making.{is_config_of, is_double, new_site};
 ghost use Rattle.irc_net.specs.Loops.Ordering.{IsServerConfig, new_forest};
 
 use irc_forest::{Forest, MAX_SERVERS};
@@ -15,7 +16,8 @@ use std::alloc::{AllocError, Global};
 use std::cmp::Ordering;
 use thiserror::Error;
 
-/// Why no network is made of configurations, in the order in which causes are looked for; each has its number.
+/// Why no network is made of configurations, in the order in which causes are looked for; each has
+/// its number.
 #[derive(Clone, Copy, Debug, Drop, Error, PartialEq, Eq)]
 pub enum NetConfigFault {
     /// A name, a text or a password is outside its limits.
@@ -114,7 +116,8 @@ pub(crate) fn in_order(configs: Vec<Config, Global>) -> Vec<Config, Global>
     let mut ordered = configs;
     ordered.sort_unstable_by(
         |one: &Config, other: &Config| -> Ordering
-            ensures { result ≡ slice_cmp nat_cmp (config_name one.entry.now) (config_name other.entry.now) }
+            ensures { result ≡ slice_cmp nat_cmp (config_name one.entry.now)
+                (config_name other.entry.now) }
         { one.own.name.as_slice().cmp(other.own.name.as_slice()) },
     );
     ordered

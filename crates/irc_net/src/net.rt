@@ -3,13 +3,16 @@ ghost use Rattle.std.specs.Prelude.{◌≡◌, true, false, [], ◌∷◌, ◌++
 ghost use Rattle.std.specs.Option.{option_map};
 ghost use Rattle.irc_byte_network.specs.ByteNetwork.{is_byte_rest};
 ghost use Rattle.irc_net.specs.declared.step.Step.TheVariants.{Bytes, Deliver, Give, Settle};
-ghost use Rattle.irc_net.specs.Calls.{step_refused, ArePlayable, ArePlayed, BytesTaken, IsDelivered, IsGivable, IsGiven, IsPlayable, IsSettled, IsStepDone};
+ghost use Rattle.irc_net.specs.Calls.{step_refused, ArePlayable, ArePlayed, BytesTaken};
+ghost use Rattle.irc_net.specs.Calls.{IsDelivered, IsGivable, IsGiven, IsPlayable, IsSettled};
+ghost use Rattle.irc_net.specs.Calls.{IsStepDone};
 ghost use Rattle.irc_net.specs.Faults.{deliver_fault, do_agree, fault_by, item_fault};
 ghost use Rattle.irc_net.specs.Making.{IsNetMade};
 ghost use Rattle.irc_net.specs.Loops.Answering.{KeepsAnswer};
 ghost use Rattle.irc_net.specs.Loops.Coming.{AreLinkedEnds, HaveComeTo};
 ghost use Rattle.irc_net.specs.Loops.Settling.{HasComeToRest};
-ghost use Rattle.irc_net.specs.OneRoom.{IsKeptSound, IsOneRoomNet, IsOwed, RefusesAsTheWorld, TakesFew};
+ghost use Rattle.irc_net.specs.OneRoom.{IsKeptSound, IsOneRoomNet, IsOwed, RefusesAsTheWorld};
+ghost use Rattle.irc_net.specs.OneRoom.{TakesFew};
 ghost use Rattle.irc_net.specs.Views.{answers_now, counted_now, delivered_now};
 ghost use Rattle.irc_network.specs.Network.{received_by};
 ghost use Rattle.irc_network.specs.Views.{item_of, items_of, refusal_of};
@@ -29,8 +32,9 @@ use irc_server::Config;
 use std::alloc::{AllocError, Global};
 use std::marker::Model;
 
-/// A network of servers: what is given to it is done by the servers, each of which knows of the others by the bytes of lines alone, and those come in pieces
-/// and in any order that one asks for. What was given, and what its clients have received, is kept where its history is [`Kept`].
+/// A network of servers: what is given to it is done by the servers, each of which knows of the
+/// others by the bytes of lines alone, and those come in pieces and in any order that one asks for.
+/// What was given, and what its clients have received, is kept where its history is [`Kept`].
 #[derive(Drop)]
 pub struct Net<H: History> {
     alloc: Global,
@@ -55,8 +59,9 @@ impl<H: History> Model for Net<H> {
 }
 
 impl Net<Kept> {
-    /// What a client has received, whole lines; also once it is closed. Nothing for a number that was never given. They are a front of the lines that one
-    /// room machine for its joined part sends it, and at rest all of them.
+    /// What a client has received, whole lines; also once it is closed. Nothing for a number that
+    /// was never given. They are a front of the lines that one room machine for its joined part
+    /// sends it, and at rest all of them.
     pub fn received(&self, client: u64) -> &[Text]
         ensures lines { map line_bytes result.now ≡ received_by self.now.network.network client }
         ensures owed { IsOwed self.now client (map line_bytes result.now) }
@@ -79,7 +84,8 @@ impl<H: History> Net<H> {
     /// Servers that are not linked, and no client.
     ///
     /// # Errors
-    /// [`NetConfigFault`]s 1 to 3 for their causes in this order; [`NetConfigFault::Memory`] where memory runs out.
+    /// [`NetConfigFault`]s 1 to 3 for their causes in this order; [`NetConfigFault::Memory`] where
+    /// memory runs out.
     pub fn new(alloc: Global, configs: Vec<Config, Global>) -> Result<Self, NetConfigFault>
         ensures { IsNetMade configs.items result }
     {
@@ -105,7 +111,8 @@ impl<H: History> Net<H> {
         self.network.is_at_rest()
     }
 
-    /// How many lines were taken since the last item, at most 2^64 - 1. They are no more than servers need to tell each other of that item.
+    /// How many lines were taken since the last item, at most 2^64 - 1. They are no more than
+    /// servers need to tell each other of that item.
     pub fn lines_taken(&self) -> u64
         ensures taken { result ≡ self.now.network.network.taken }
         ensures few { TakesFew self.now result }
@@ -115,14 +122,16 @@ impl<H: History> Net<H> {
     }
 
     /// Whether two servers agree on all channels that both would have if they were linked; false
-    /// where no server has one of these names. A link asks for no agreement: it joins what both have.
+    /// where no server has one of these names. A link asks for no agreement: it joins what both
+    /// have.
     pub fn agrees(&self, one: &ServerName, other: &ServerName) -> bool
         ensures { result ≡ do_agree self.now.network.network one.now other.now }
     {
         self.network.network().agrees(one, other)
     }
 
-    /// An item is given. At rest just that is refused which the network as its people know it refuses.
+    /// An item is given. At rest just that is refused which the network as its people know it
+    /// refuses.
     ///
     /// # Errors
     /// [`NetFault`]s 1 to 5, with nothing changed, and 7 and 8.
@@ -152,11 +161,13 @@ impl<H: History> Net<H> {
         })
     }
 
-    /// The bytes up to and with the next LF come from one server to another, if one is on its way. Answers whether one was, and what clients have received by
-    /// the line that they complete, if they do.
+    /// The bytes up to and with the next LF come from one server to another, if one is on its way.
+    /// Answers whether one was, and what clients have received by the line that they complete, if
+    /// they do.
     ///
     /// # Errors
-    /// [`NetFault::NoSuchServer`], then [`NetFault::NotLinked`], with nothing changed; [`NetFault::Memory`], [`NetFault::Failed`].
+    /// [`NetFault::NoSuchServer`], then [`NetFault::NotLinked`], with nothing changed;
+    /// [`NetFault::Memory`], [`NetFault::Failed`].
     pub fn deliver(
         &mut self,
         from: &ServerName,
@@ -173,11 +184,13 @@ impl<H: History> Net<H> {
         Ok((true, lines))
     }
 
-    /// So many bytes come from one server to another, or all that are on their way where there are fewer. Answers how many came, and what clients have received
-    /// by the lines that they complete.
+    /// So many bytes come from one server to another, or all that are on their way where there are
+    /// fewer. Answers how many came, and what clients have received by the lines that they
+    /// complete.
     ///
     /// # Errors
-    /// [`NetFault::NoSuchServer`], then [`NetFault::NotLinked`], with nothing changed; [`NetFault::Memory`], [`NetFault::Failed`].
+    /// [`NetFault::NoSuchServer`], then [`NetFault::NotLinked`], with nothing changed;
+    /// [`NetFault::Memory`], [`NetFault::Failed`].
     pub fn deliver_bytes(
         &mut self,
         from: &ServerName,
@@ -225,8 +238,9 @@ impl<H: History> Net<H> {
         Ok((came.bytes, desk.lines))
     }
 
-    /// Bytes come in turn, each time those up to and with the next LF in the first direction, by the names of its ends, in which one is on its way, until
-    /// nothing is. Answers how many lines they completed, at most 2^64 - 1, and what clients have received by them.
+    /// Bytes come in turn, each time those up to and with the next LF in the first direction, by
+    /// the names of its ends, in which one is on its way, until nothing is. Answers how many lines
+    /// they completed, at most 2^64 - 1, and what clients have received by them.
     ///
     /// # Errors
     /// [`NetFault::Memory`], [`NetFault::Failed`].
@@ -245,10 +259,12 @@ impl<H: History> Net<H> {
         Ok((count, desk.lines))
     }
 
-    /// At rest a network is one room: each server knows all that there is to know in its part of the network, and each client has received just the lines
-    /// that it is owed: those that one room machine for its joined part sends it. While lines are on their way, that is what it comes to once they are taken,
-    /// in whatever order, and no server closes a link, upon one that is delivered or as the link is made. It is told of every network for which memory never
-    /// ran out, whatever was given to it.
+    /// At rest a network is one room: each server knows all that there is to know in its part of
+    /// the network, and each client has received just the lines that it is owed: those that one
+    /// room machine for its joined part sends it. While lines are on their way, that is what it
+    /// comes to once they are taken, in whatever order, and no server closes a link, upon one that
+    /// is delivered or as the link is made. It is told of every network for which memory never ran
+    /// out, whatever was given to it.
     pub fn one_room(&self)
         ensures { IsOneRoomNet self.now }
     {
@@ -262,8 +278,8 @@ impl<H: History> Net<H> {
     /// Does steps one after another. A refusal 1 to 5 is that step's answer.
     ///
     /// # Errors
-    /// [`NetFault::Memory`], [`NetFault::Failed`]: those before it are done, and those behind it are not. Where it is the answers that memory is wanting
-    /// for, that step is done too.
+    /// [`NetFault::Memory`], [`NetFault::Failed`]: those before it are done, and those behind it
+    /// are not. Where it is the answers that memory is wanting for, that step is done too.
     pub fn play(&mut self, steps: &[Step]) -> Result<Vec<StepAnswer, Global>, NetFault>
         requires lines { ArePlayable steps.now }
         ensures { ArePlayed self.old steps.now (answers_now result) self.new }
@@ -276,7 +292,8 @@ impl<H: History> Net<H> {
         Ok(answers)
     }
 
-    /// Keeps a step's answer behind those before it. Where memory runs out the step is done all the same, and the network has failed.
+    /// Keeps a step's answer behind those before it. Where memory runs out the step is done all the
+    /// same, and the network has failed.
     fn keep_answer(
         &mut self,
         answer: StepAnswer,
@@ -357,8 +374,8 @@ impl<H: History> Net<H> {
     }
 }
 
-/// Lets bytes of a sound network come in turn until nothing is on its way, and counts the lines that they complete. They come to an end since each of those
-/// leaves fewer.
+/// Lets bytes of a sound network come in turn until nothing is on its way, and counts the lines
+/// that they complete. They come to an end since each of those leaves fewer.
 fn take_all<H: History>(network: &mut ByteNetwork<H>, desk: &mut Desk) -> Result<u64, AllocError>
     requires sound { IsKeptSound network.old }
     ensures { IfOk result (λ count. HasComeToRest count network.old desk.old network.new desk.new) }

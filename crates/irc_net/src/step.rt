@@ -12,7 +12,8 @@ pub enum Step {
     Give(Item),
     /// The bytes up to and with the next LF come from the first server to the second.
     Deliver(ServerName, ServerName),
-    /// So many bytes come from the first server to the second, or all that are on their way where there are fewer.
+    /// So many bytes come from the first server to the second, or all that are on their way where
+    /// there are fewer.
     Bytes(ServerName, ServerName, usize),
     /// Bytes come in turn until nothing is on its way.
     Settle,

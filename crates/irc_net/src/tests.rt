@@ -42,7 +42,8 @@ fn config(
     Ok(Config { own, peers })
 }
 
-/// So many servers, the second first; each has the one before it as its peer, and the first the second.
+/// So many servers, the second first; each has the one before it as its peer, and the first the
+/// second.
 fn configs(
     alloc: Global,
     count: usize,

@@ -1,5 +1,7 @@
 -- What stands at a place, and what is put there.
-use Rattle.std.proofs.Common.{◌≡◌, ◌≤◌, ◌<◌, ◌-◌, ℕ, zero, suc, Option, Some, None, Result, Ok, Err, OnErr, OnOk, List, [], ◌∷◌, ◌++◌, refl, sym, ◌∙◌, ap, arith, length, subst}
+use Rattle.std.proofs.Common.{◌≡◌, ◌≤◌, ◌<◌, ◌-◌, ℕ, zero, suc, Option, Some, None, Result, Ok, Err}
+use Rattle.std.proofs.Common.{OnErr, OnOk, List, [], ◌∷◌, ◌++◌, refl, sym, ◌∙◌, ap, arith, length}
+use Rattle.std.proofs.Common.{subst}
 use Rattle.std.proofs.lemmas.List.{map-append}
 use Rattle.std.specs.List.{slice_get, slice_set}
 use Rattle.std.specs.Option.{option_map_or}
@@ -10,7 +12,8 @@ use Rattle.irc_network.specs.declared.receipt.Receipt.{Receipt as KeptReceipt}
 use Rattle.irc_network.specs.Histories.{Becomes, Past, line_behind, with_line}
 use Rattle.irc_network.specs.Loops.Courses.{IsEmptyAt, IsLineTaken, course}
 use Rattle.irc_sites.specs.Loops.Sites.{IsTaken}
-use Rattle.irc_network.specs.Network.{Network, Receipt, Site, site_changed_at, has_received, has_received_at, receipt, with_site}
+use Rattle.irc_network.specs.Network.{Network, Receipt, Site, site_changed_at, has_received}
+use Rattle.irc_network.specs.Network.{has_received_at, receipt, with_site}
 use Rattle.irc_network.specs.Views.{receipt_of, receipts_of}
 
 -- a network as its code has it
@@ -39,7 +42,8 @@ pub number_behind : (client earlier : ℕ) → 1 ≤ client → earlier ≡ clie
 number_behind client earlier some is = omega (arith, some, is)
 
 -- what is put where it was changes nothing
-pub set_again : {X : Type 0} (xs : List X) (i : ℕ) (x : X) → slice_get xs i ≡ Some x → slice_set xs i x ≡ xs
+pub set_again : {X : Type 0} (xs : List X) (i : ℕ) (x : X) → slice_get xs i ≡ Some x
+    → slice_set xs i x ≡ xs
 set_again [] i x is = refl
 set_again (y ∷ xs) zero x is = ap (λ z. z ∷ xs) (sym (given_some y x is))
   where
@@ -49,15 +53,18 @@ set_again (y ∷ xs) (suc i) x is = ap (λ zs. y ∷ zs) (set_again xs i x is)
 
 -- ---- a site is changed
 
-pub changed_there : (net : Network) (place : ℕ) (change : Site → Site) (site new : Site) (sites : List Site) → slice_get net.sites place ≡ Some site
-    → new ≡ change site
-    → sites ≡ slice_set net.sites place new → record net { sites = sites } ≡ site_changed_at place change net
+pub changed_there : (net : Network) (place : ℕ) (change : Site → Site)
+    (site new : Site) (sites : List Site) → slice_get net.sites place ≡ Some site
+    → new ≡ change site → sites ≡ slice_set net.sites place new
+    → record net { sites = sites } ≡ site_changed_at place change net
 changed_there net place change site new sites is so set =
     ap (λ (ss : List Site). record net { sites = ss }) (set ∙ ap (slice_set net.sites place) so)
     ∙ sym (ap (λ o. option_map_or (λ (s : Site). with_site place (change s) net) o net) is)
 
-pub changed_nowhere : (net : Network) (place : ℕ) (change : Site → Site) → slice_get net.sites place ≡ None → net ≡ site_changed_at place change net
-changed_nowhere net place change is = sym (ap (λ o. option_map_or (λ (s : Site). with_site place (change s) net) o net) is)
+pub changed_nowhere : (net : Network) (place : ℕ) (change : Site → Site)
+    → slice_get net.sites place ≡ None → net ≡ site_changed_at place change net
+changed_nowhere net place change is =
+    sym (ap (λ o. option_map_or (λ (s : Site). with_site place (change s) net) o net) is)
 
 -- ---- a line is received
 
@@ -68,29 +75,39 @@ abbrev pub past_of : Network → Past
 past_of net = record { items = net.items; received = net.received }
 
 -- as many clients as homes, so one that has a home has its lines
-pub received_one : (net : Network) (receipts more : List KeptReceipt) (client earlier : ℕ) (text : List ℕ) (past : Past) (kept : KeptReceipt)
-    → length net.received ≡ length net.homes → client ≡ suc earlier → earlier < length net.homes → past ≡ with_line earlier text (past_of net)
-    → more ≡ receipts ++ kept ∷ [] → receipt_of kept ≡ receipt client text
+pub received_one : (net : Network) (receipts more : List KeptReceipt) (client earlier : ℕ)
+    (text : List ℕ) (past : Past) (kept : KeptReceipt) → length net.received ≡ length net.homes
+    → client ≡ suc earlier → earlier < length net.homes → past ≡ with_line earlier text
+    (past_of net) → more ≡ receipts ++ kept ∷ [] → receipt_of kept ≡ receipt client text
     → course (with_past past net) more ≡ has_received client text (course net receipts)
-received_one net receipts more client earlier text past kept each number within put behind kept_is = by (slice_get net.received earlier) refl
+received_one net receipts more client earlier text past kept each number within put behind kept_is =
+    by (slice_get net.received earlier) refl
   where
     told : receipts_of more ≡ receipts_of receipts ++ receipt (suc earlier) text ∷ []
     told =
         ap receipts_of behind ∙ map-append receipt_of receipts (kept ∷ [])
         ∙ ap (λ r. receipts_of receipts ++ r ∷ []) (kept_is ∙ ap (λ n. receipt n text) number)
 
-    by : (o : Option (List (List ℕ))) → slice_get net.received earlier ≡ o → course (with_past past net) more ≡ has_received client text (course net receipts)
+    by : (o : Option (List (List ℕ))) → slice_get net.received earlier ≡ o
+        → course (with_past past net) more ≡ has_received client text (course net receipts)
     by None none = absurd (not_none net.received earlier none (omega (arith, each, within)))
     by (Some lines) is =
-        ap (λ (p : Past). course (with_past p net) more) (put ∙ ap (λ o. option_map_or (line_behind earlier text (past_of net)) o (past_of net)) is)
-        ∙ ap (λ (rs : List Receipt). record { net = with_past (line_behind earlier text (past_of net) lines) net; receipts = rs }) told
-        ∙ sym (ap (λ o. option_map_or (has_received_at earlier text (course net receipts)) o (course net receipts)) is)
+        ap (λ (p : Past). course (with_past p net) more) (put
+        ∙ ap (λ o. option_map_or (line_behind earlier text (past_of net)) o (past_of net)) is)
+        ∙ ap (λ (rs : List Receipt). record {
+          net = with_past
+              (line_behind earlier text (past_of net) lines) net;
+          receipts = rs;
+        }) told
+        ∙ sym (ap (λ o. option_map_or (has_received_at earlier text (course net receipts)) o
+        (course net receipts)) is)
         ∙ ap (λ n. has_received n text (course net receipts)) (sym number)
 
 -- a line is put behind those of a client, or memory ran out
-pub put_behind : {E : Type 0} (result : Result (Unit {0}) E) (past : Past) (earlier : ℕ) (text : List ℕ) (lines new : List (List ℕ))
-    → slice_get past.received earlier ≡ Some lines → OnOk result (new ≡ lines ++ text ∷ []) → OnErr result (new ≡ lines)
-    → Becomes result (with_line earlier text) past (record past { received = slice_set past.received earlier new })
+pub put_behind : {E : Type 0} (result : Result (Unit {0}) E) (past : Past) (earlier : ℕ)
+    (text : List ℕ) (lines new : List (List ℕ)) → slice_get past.received earlier ≡ Some lines
+    → OnOk result (new ≡ lines ++ text ∷ []) → OnErr result (new ≡ lines) → Becomes result
+    (with_line earlier text) past (record past { received = slice_set past.received earlier new })
 put_behind (Ok _) past earlier text lines new is put want =
     ap (λ (ls : List (List ℕ)). record past { received = slice_set past.received earlier ls }) put
     ∙ sym (ap (λ o. option_map_or (line_behind earlier text past) o past) is)
@@ -100,19 +117,23 @@ put_behind (Err _) past earlier text lines new is put want =
 
 -- ---- a line is taken
 
-pub line_taken : (net : Network) (from to : ℕ) (site new : Site) (result : Option (ArrayVec ℕ)) (sites : List Site) → slice_get net.sites from ≡ Some site
-    → IsTaken to result site new → sites ≡ slice_set net.sites from new → IsLineTaken from to result net (record net { sites = sites })
+pub line_taken : (net : Network) (from to : ℕ) (site new : Site) (result : Option (ArrayVec ℕ))
+    (sites : List Site) → slice_get net.sites from ≡ Some site → IsTaken to result site new → sites
+    ≡ slice_set net.sites from new → IsLineTaken from to result net (record net { sites = sites })
 line_taken net from to site new None sites is taken set = (
   subst (IsEmptyAt to) (sym is) taken.0,
-  ap (λ (ss : List Site). record net { sites = ss }) (set ∙ ap (slice_set net.sites from) taken.1 ∙ set_again net.sites from site is),
+  ap (λ (ss : List Site). record net { sites = ss }) (set ∙ ap (slice_set net.sites from) taken.1
+      ∙ set_again net.sites from site is),
 )
 line_taken net from to site new (Some line) sites is taken set = record {
   site = site;
   is_site = is;
   rest = taken.rest;
   waited = taken.waited;
-  new_is = ap (λ (ss : List Site). record net { sites = ss }) (set ∙ ap (slice_set net.sites from) taken.new_is);
+  new_is = ap (λ (ss : List Site). record net { sites = ss })
+      (set ∙ ap (slice_set net.sites from) taken.new_is);
 }
 
-pub nothing_taken : (net : Network) (from to : ℕ) → slice_get net.sites from ≡ None → IsLineTaken from to None net net
+pub nothing_taken : (net : Network) (from to : ℕ) → slice_get net.sites from ≡ None
+    → IsLineTaken from to None net net
 nothing_taken net from to is = (subst (IsEmptyAt to) (sym is) tt, refl)

@@ -10,4 +10,5 @@ course_at net desk = record { net = net; receipts = receipts_of desk.lines.items
 
 -- a server was asked for a line that has come from another, and the line was counted
 abbrev pub IsLineHeard : ℕ → ℕ → List ℕ → Network → Desk → Network → Desk → Type 0
-IsLineHeard from to bytes old before new after = course_at new after ≡ heard from to (course_at old before) bytes
+IsLineHeard from to bytes old before new after =
+    course_at new after ≡ heard from to (course_at old before) bytes

@@ -22,11 +22,13 @@ abbrev pub with_newcomer : Past → Past
 with_newcomer past = record past { received = past.received ++ [] ∷ [] }
 
 abbrev pub line_behind : ℕ → List ℕ → Past → List (List ℕ) → Past
-line_behind earlier text past lines = record past { received = slice_set past.received earlier (lines ++ text ∷ []) }
+line_behind earlier text past lines =
+    record past { received = slice_set past.received earlier (lines ++ text ∷ []) }
 
 -- a line more was received, behind all that its client had, where so many clients are earlier
 abbrev pub with_line : ℕ → List ℕ → Past → Past
-with_line earlier text past = option_map_or (line_behind earlier text past) (slice_get past.received earlier) past
+with_line earlier text past =
+    option_map_or (line_behind earlier text past) (slice_get past.received earlier) past
 
 -- it has become another, or memory ran out and it is as it was
 abbrev pub Becomes : {A E : Type 0} → Result A E → (Past → Past) → Past → Past → Type 0

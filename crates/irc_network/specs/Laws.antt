@@ -1,7 +1,8 @@
 -- What holds of any network of servers.
 use Rattle.std.specs.Prelude.{◌≡◌, ℕ, true, Some, None, List, [], ◌∷◌, ◌++◌}
 use Rattle.irc_world.specs.Stepping.{Item}
-use Rattle.irc_network.specs.Network.{AreReceived, Course, Network, TakesInTurn, begun, delivered, first_direction, given, heard, is_at_rest}
+use Rattle.irc_network.specs.Network.{AreReceived, Course, Network, TakesInTurn, begun, delivered}
+use Rattle.irc_network.specs.Network.{first_direction, given, heard, is_at_rest}
 
 -- where no line is on its way there is none to deliver
 pub record StaysAtRest (course : Course) : Type 0 where
@@ -19,10 +20,13 @@ pub record IsKept (item : Item) (net : Network) : Type 0 where
 abbrev pub GivenIsKept : Type 0
 GivenIsKept = (item : Item) (net : Network) → IsKept item net
 
--- What clients have received by an item, by a line more that a server is asked for, by a delivery and by lines taken in turn is what the network tells of each.
+-- What clients have received by an item, by a line more that a server is asked for, by a delivery
+-- and by lines taken in turn is what the network tells of each.
 pub record ReceiptsAreReceived : Type 0 where
   pub given : (item : Item) (net : Network) → AreReceived net (given item net)
-  pub heard : (from to : ℕ) (bytes : List ℕ) (net : Network) (between : Course) → AreReceived net between
-      → AreReceived net (heard from to between bytes)
-  pub delivered : (from to : ℕ) (net : Network) (new : Course) → delivered from to (begun net) ≡ Some new → AreReceived net new
-  pub in_turn : (count : ℕ) (net : Network) (new : Course) → TakesInTurn count (begun net) new → AreReceived net new
+  pub heard : (from to : ℕ) (bytes : List ℕ) (net : Network) (between : Course)
+      → AreReceived net between → AreReceived net (heard from to between bytes)
+  pub delivered : (from to : ℕ) (net : Network) (new : Course)
+      → delivered from to (begun net) ≡ Some new → AreReceived net new
+  pub in_turn : (count : ℕ) (net : Network) (new : Course) → TakesInTurn count (begun net) new
+      → AreReceived net new

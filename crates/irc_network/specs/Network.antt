@@ -1,10 +1,15 @@
--- A network of servers as it runs: each server, the lines that are on their way from one to another, and what each client has received.
+-- A network of servers as it runs: each server, the lines that are on their way from one to
+-- another, and what each client has received.
 --
--- a.net and b.net are linked; al is client 1 at a.net, bo client 2 at b.net, both in #c. al says hi:
---   given      a.net is asked for the line; `:al PRIVMSG #c :hi` waits on the way from a.net to b.net; bo has received nothing yet
---   delivered  from a.net to b.net: b.net is asked for that line, the oldest that waits there, and bo has received `:al!u@h PRIVMSG #c :hi`
+-- a.net and b.net are linked; al is client 1 at a.net, bo client 2 at b.net, both in #c. al says
+-- hi:
+-- given a.net is asked for the line; `:al PRIVMSG #c :hi` waits on the way from a.net to b.net; bo
+-- has received nothing yet
+-- delivered from a.net to b.net: b.net is asked for that line, the oldest that waits there, and bo
+-- has received `:al!u@h PRIVMSG #c :hi`
 --   at rest    no line is on its way
-use Rattle.std.specs.Prelude.{◌≡◌, ℕ, zero, suc, ◌+◌, min, Bool, Option, Some, None, List, [], ◌∷◌, ◌++◌, length, unwrap_or, nat_eq, if◌then◌else◌}
+use Rattle.std.specs.Prelude.{◌≡◌, ℕ, zero, suc, ◌+◌, min, Bool, Option, Some, None, List, [], ◌∷◌}
+use Rattle.std.specs.Prelude.{◌++◌, length, unwrap_or, nat_eq, if◌then◌else◌}
 use Rattle.std.specs.List.{filter_map, list_all, slice_get, slice_set}
 use Rattle.std.specs.Option.{option_and_then, option_map, option_map_or}
 use Rattle.irc_batch.specs.Batches.{Sent, line_to, end_of, line_on, end_of_link}
@@ -16,10 +21,13 @@ use Rattle.irc_stage.specs.View.{View}
 use Rattle.irc_server.specs.Served.{Occurrence, of_client, link_up, link_says, link_down}
 use Rattle.irc_world.specs.Stepping.{Item, connect, line, gone, link, cut}
 use Rattle.irc_world.specs.World.{home_in}
-pub use Rattle.irc_sites.specs.Site.{Reply, Site, line_body, first_way, is_nothing, is_quiet, serves_occurrence, left, line_queued, reply, waiting, waits, with_way, without_way}
+pub use Rattle.irc_sites.specs.Site.{Reply, Site, line_body, first_way, is_nothing, is_quiet}
+pub use Rattle.irc_sites.specs.Site.{serves_occurrence, left, line_queued, reply, waiting, waits}
+pub use Rattle.irc_sites.specs.Site.{with_way, without_way}
 
--- The servers' names in order, and the servers in the order of their names; the links, the newest first; the home of each client, in the order of their
--- numbers, which begin with 1, and what it has received, whole lines; what was given, in turn; how many lines were taken since.
+-- The servers' names in order, and the servers in the order of their names; the links, the newest
+-- first; the home of each client, in the order of their numbers, which begin with 1, and what it
+-- has received, whole lines; what was given, in turn; how many lines were taken since.
 pub record Network : Type 0 where
   pub names : List Name
   pub sites : List Site
@@ -32,7 +40,15 @@ pub record Network : Type 0 where
 -- these servers as they begin: no client, and nothing given yet
 abbrev pub new_network : Forest → List Site → Network
 new_network forest sites =
-    record { names = forest.names; sites = sites; links = forest.links; homes = []; received = []; items = []; taken = 0 }
+    record {
+      names = forest.names;
+      sites = sites;
+      links = forest.links;
+      homes = [];
+      received = [];
+      items = [];
+      taken = 0;
+    }
 
 -- a line that a client receives, whole
 pub record Receipt : Type 0 where
@@ -78,7 +94,8 @@ with_site place site net = record net { sites = slice_set net.sites place site }
 
 -- where no server is at the place, nothing is changed
 abbrev pub site_changed_at : ℕ → (Site → Site) → Network → Network
-site_changed_at place change net = option_map_or (λ site. with_site place (change site) net) (site_at net place) net
+site_changed_at place change net =
+    option_map_or (λ site. with_site place (change site) net) (site_at net place) net
 
 -- ---- what a server puts out
 
@@ -96,13 +113,15 @@ has_received_at earlier text course lines = record {
 abbrev pub has_received : ℕ → List ℕ → Course → Course
 has_received zero text course = course
 has_received (suc earlier) text course =
-    option_map_or (has_received_at earlier text course) (slice_get course.net.received earlier) course
+    option_map_or (has_received_at earlier text course)
+    (slice_get course.net.received earlier) course
 
 -- a line to a client is received, one on a link waits there; of an end nothing is left to be done
 abbrev pub sent_out : ℕ → Sent → Course → Course
 sent_out place (line_to client text) course = has_received client text course
 sent_out place (end_of client) course = course
-sent_out place (line_on to text) course = record course { net = site_changed_at place (line_queued to text) course.net }
+sent_out place (line_on to text) course =
+    record course { net = site_changed_at place (line_queued to text) course.net }
 sent_out place (end_of_link to reason) course = course
 
 abbrev pub all_sent_out : ℕ → List Sent → Course → Course
@@ -111,15 +130,18 @@ all_sent_out place (sent ∷ more) course = all_sent_out place more (sent_out pl
 
 abbrev pub with_reply : ℕ → Course → Site → Reply → Course
 with_reply place course site r =
-    all_sent_out place r.out (record course { net = with_site place (record site { server = Some r.view }) course.net })
+    all_sent_out place r.out
+    (record course { net = with_site place (record site { server = Some r.view }) course.net })
 
 abbrev pub asked_at : ℕ → Occurrence → Course → Site → Course
 asked_at place occurrence course site =
-    option_map_or (λ (view : View). with_reply place course site (reply view occurrence)) site.server course
+    option_map_or
+    (λ (view : View). with_reply place course site (reply view occurrence)) site.server course
 
 -- a server is asked for something that happens, and what it puts out goes its way
 unfoldable pub site_asked : ℕ → Occurrence → Course → Course
-site_asked place occurrence course = option_map_or (asked_at place occurrence course) (site_at course.net place) course
+site_asked place occurrence course =
+    option_map_or (asked_at place occurrence course) (site_at course.net place) course
 
 -- ---- a line is delivered
 
@@ -133,16 +155,20 @@ line_counted net = record net { taken = min (net.taken + 1) max_count }
 
 -- a server is asked for a line that has come from another, and the line is counted
 abbrev pub heard : ℕ → ℕ → Course → List ℕ → Course
-heard from to course bytes = site_asked to (link_says from (read_of bytes)) (record course { net = line_counted course.net })
+heard from to course bytes =
+    site_asked to (link_says from (read_of bytes)) (record course { net = line_counted course.net })
 
 abbrev pub taken_of : ℕ → ℕ → Course → Site → List (List ℕ) → Option Course
 taken_of from to course site [] = None
 taken_of from to course site (first ∷ rest) =
-    Some (site_asked to (link_says from (read_of first)) (record course { net = line_counted (with_site from (left to rest site) course.net) }))
+    Some (site_asked to (link_says from (read_of first))
+    (record course { net = line_counted (with_site from (left to rest site) course.net) }))
 
--- The oldest line from one server to another is taken, and the other is asked for it. None: no line waits there.
+-- The oldest line from one server to another is taken, and the other is asked for it. None: no line
+-- waits there.
 unfoldable pub delivered : ℕ → ℕ → Course → Option Course
-delivered from to course = option_and_then (λ (site : Site). taken_of from to course site (waiting site to)) (site_at course.net from)
+delivered from to course = option_and_then
+    (λ (site : Site). taken_of from to course site (waiting site to)) (site_at course.net from)
 
 pub record Direction : Type 0 where
   pub from : ℕ
@@ -154,32 +180,37 @@ direction from to = record { from = from; to = to }
 -- the first way on which a line waits, by the place that it is from and then the one where it goes
 abbrev pub first_among : ℕ → List Site → Option Direction
 first_among place [] = None
-first_among place (site ∷ sites) = option_map_or (λ to. Some (direction place to)) (first_way site) (first_among (place + 1) sites)
+first_among place (site ∷ sites) =
+    option_map_or (λ to. Some (direction place to)) (first_way site) (first_among (place + 1) sites)
 
 abbrev pub first_direction : Network → Option Direction
 first_direction net = first_among 0 net.sites
 
 -- the oldest line of the first direction is taken; None: no line waits
 abbrev pub next_in_turn : Course → Option Course
-next_in_turn course = option_and_then (λ (d : Direction). delivered d.from d.to course) (first_direction course.net)
+next_in_turn course =
+    option_and_then (λ (d : Direction). delivered d.from d.to course) (first_direction course.net)
 
 -- how many lines can be taken in turn, of a number at most
 abbrev pub lines_left : ℕ → Course → ℕ
 lines_left zero course = 0
-lines_left (suc most) course = option_map_or (λ next. suc (lines_left most next)) (next_in_turn course) 0
+lines_left (suc most) course =
+    option_map_or (λ next. suc (lines_left most next)) (next_in_turn course) 0
 
 -- So many lines are taken, each time the oldest of the first direction.
 pub data TakesInTurn : ℕ → Course → Course → Type 0 where
   none_yet : {course : Course} → TakesInTurn 0 course course
   then_one : {count : ℕ} {course between last : Course} {direction : Direction}
       → TakesInTurn count course between → first_direction between.net ≡ Some direction
-      → delivered direction.from direction.to between ≡ Some last → TakesInTurn (suc count) course last
+      → delivered direction.from direction.to between ≡ Some last
+      → TakesInTurn (suc count) course last
 
 -- ---- what is given
 
 -- a client more; its number is the next
 abbrev pub with_client : Name → Network → Network
-with_client home net = record net { homes = net.homes ++ home ∷ []; received = net.received ++ [] ∷ [] }
+with_client home net =
+    record net { homes = net.homes ++ home ∷ []; received = net.received ++ [] ∷ [] }
 
 -- a server is asked, if it is there
 abbrev pub site_asked_if : Option ℕ → Occurrence → Course → Course
@@ -198,20 +229,24 @@ pub record LinkPlaces : Type 0 where
 -- none unless both are servers
 abbrev pub link_places : Network → Name → Name → Option LinkPlaces
 link_places net near far =
-    option_and_then (λ one. option_map (λ other. record { near = one; far = other }) (server_place net far)) (server_place net near)
+    option_and_then (λ one. option_map (λ other. record { near = one; far = other })
+    (server_place net far)) (server_place net near)
 
--- Two servers are linked, the first connecting; a link between two is lost, at the first of them first.
+-- Two servers are linked, the first connecting; a link between two is lost, at the first of them
+-- first.
 abbrev pub servers_linked : Name → Name → Network → LinkPlaces → Course
 servers_linked near far net ends =
     site_asked ends.far (link_up ends.near None) (site_asked ends.near (link_up ends.far (Some far))
-    (begun (site_changed_at ends.far (with_way ends.near) (site_changed_at ends.near (with_way ends.far)
+    (begun (site_changed_at ends.far (with_way ends.near)
+    (site_changed_at ends.near (with_way ends.far)
     (record net { links = record { near = near; far = far } ∷ net.links })))))
 
 -- The way between them is gone before they are asked, with what waits on it.
 abbrev pub servers_parted : Name → Name → Network → LinkPlaces → Course
 servers_parted near far net ends =
     site_asked ends.far (link_down ends.near) (site_asked ends.near (link_down ends.far)
-    (begun (site_changed_at ends.far (without_way ends.near) (site_changed_at ends.near (without_way ends.far)
+    (begun (site_changed_at ends.far (without_way ends.near)
+    (site_changed_at ends.near (without_way ends.far)
     (record net { links = links_without net.links near far })))))
 
 -- clients are numbered from 1, in the order in which they connect
@@ -221,15 +256,21 @@ next_client net = length net.homes + 1
 -- what an item does at once; the lines that it sets on their way are delivered later
 abbrev pub done_by : Item → Network → Course
 done_by (connect server host) net =
-    site_asked_if (server_place net server) (of_client (connects (next_client net) host)) (begun (with_client server net))
-done_by (line client bytes) net = site_asked_if (home_place net client) (of_client (says client (read_of bytes))) (begun net)
-done_by (gone client) net = site_asked_if (home_place net client) (of_client (goes client)) (begun net)
-done_by (link near far) net = option_map_or (servers_linked near far net) (link_places net near far) (begun net)
-done_by (cut near far) net = option_map_or (servers_parted near far net) (link_places net near far) (begun net)
+    site_asked_if (server_place net server) (of_client (connects (next_client net) host))
+    (begun (with_client server net))
+done_by (line client bytes) net =
+    site_asked_if (home_place net client) (of_client (says client (read_of bytes))) (begun net)
+done_by (gone client) net =
+    site_asked_if (home_place net client) (of_client (goes client)) (begun net)
+done_by (link near far) net =
+    option_map_or (servers_linked near far net) (link_places net near far) (begun net)
+done_by (cut near far) net =
+    option_map_or (servers_parted near far net) (link_places net near far) (begun net)
 
 -- it is kept, and lines are counted anew
 abbrev pub item_kept : Item → Course → Course
-item_kept item course = record course { net = record course.net { items = course.net.items ++ item ∷ []; taken = 0 } }
+item_kept item course =
+    record course { net = record course.net { items = course.net.items ++ item ∷ []; taken = 0 } }
 
 unfoldable pub given : Item → Network → Course
 given item net = item_kept item (done_by item net)
@@ -256,6 +297,8 @@ line_received client receipt = if nat_eq receipt.client client then Some receipt
 abbrev pub lines_of_client : ℕ → List Receipt → List (List ℕ)
 lines_of_client client = filter_map (line_received client)
 
--- By something that is done to a network each client has received just its lines among the receipts, behind all that it had.
+-- By something that is done to a network each client has received just its lines among the
+-- receipts, behind all that it had.
 abbrev pub AreReceived : Network → Course → Type 0
-AreReceived old new = (client : ℕ) → received_by new.net client ≡ received_by old client ++ lines_of_client client new.receipts
+AreReceived old new = (client : ℕ) → received_by new.net client ≡ received_by old client
+    ++ lines_of_client client new.receipts

@@ -1,4 +1,5 @@
--- Why what is given to a network at rest is not taken, in the order in which causes are looked for: by what is there alone.
+-- Why what is given to a network at rest is not taken, in the order in which causes are looked for:
+-- by what is there alone.
 use Rattle.std.specs.Prelude.{ℕ, Bool, false, not, ◌||◌, Option, Some, None, is_some, if◌then◌else◌}
 use Rattle.std.specs.FinMap.{get}
 use Rattle.std.specs.Option.{option_and_then, option_map_or}
@@ -6,7 +7,8 @@ use Rattle.irc_merge.specs.Agreeing.{agree}
 use Rattle.irc_relay.specs.Links.{Name, joined}
 use Rattle.irc_relay.specs.Links.{linked as are_linked}
 use Rattle.irc_stage.specs.View.{View, password_for}
-use Rattle.irc_world.specs.Refused.{Refusal, are_equal, link_refused, no_such_client, no_such_server, not_linked}
+use Rattle.irc_world.specs.Refused.{Refusal, are_equal, link_refused, no_such_client}
+use Rattle.irc_world.specs.Refused.{no_such_server, not_linked}
 use Rattle.irc_world.specs.Stepping.{Item, connect, line, gone, link, cut}
 use Rattle.irc_world.specs.World.{home_in}
 use Rattle.irc_network.specs.Network.{Network, server_place, site_view}
@@ -17,7 +19,8 @@ has_client client view = is_some (get view.clients client)
 
 -- whether a client of this number is connected at its home
 abbrev pub is_there : Network → ℕ → Bool
-is_there net client = option_map_or (has_client client) (option_and_then (site_view net) (home_in net.homes client)) false
+is_there net client = option_map_or (has_client client)
+    (option_and_then (site_view net) (home_in net.homes client)) false
 
 -- only a client that is connected says something, or goes
 abbrev pub client_fault : Network → ℕ → Option Refusal
@@ -25,7 +28,8 @@ client_fault net client = if is_there net client then None else Some no_such_cli
 
 -- whether two servers keep one password for each other
 abbrev pub are_peers : Name → Name → View → View → Bool
-are_peers one other one_view other_view = are_equal (password_for one_view other) (password_for other_view one)
+are_peers one other one_view other_view =
+    are_equal (password_for one_view other) (password_for other_view one)
 
 -- The two are in one part, or are no peers.
 abbrev pub meeting_fault : Network → Name → Name → View → View → Option Refusal
@@ -35,7 +39,8 @@ meeting_fault net near far near_view far_view =
 
 -- that both are servers is looked at before what each holds of the other
 abbrev pub link_fault : Network → Name → Name → Option View → Option View → Option Refusal
-link_fault net near far (Some near_view) (Some far_view) = meeting_fault net near far near_view far_view
+link_fault net near far (Some near_view) (Some far_view) =
+    meeting_fault net near far near_view far_view
 link_fault net near far near_view far_view = Some no_such_server
 
 -- whoever has a place in the network is a server, linked or not

@@ -1,10 +1,12 @@
 -- What the code's items, receipts and refusals say.
 use Rattle.std.specs.Prelude.{List, map}
-use Rattle.irc_world.specs.Refused.{Refusal, link_refused, no_such_client, no_such_server, not_linked}
+use Rattle.irc_world.specs.Refused.{Refusal, link_refused, no_such_client, no_such_server}
+use Rattle.irc_world.specs.Refused.{not_linked}
 use Rattle.irc_world.specs.Stepping.{Item, connect, line, gone, link, cut}
 use Rattle.irc_network.specs.declared.receipt.Receipt.{Receipt as KeptReceipt}
 use Rattle.irc_network.specs.declared.refusal.Refusal.{Refusal as GivenRefusal}
-use Rattle.irc_network.specs.declared.refusal.Refusal.TheVariants.{NoSuchServer, NoSuchClient, NotLinked, LinkRefused}
+use Rattle.irc_network.specs.declared.refusal.Refusal.TheVariants.{NoSuchServer, NoSuchClient}
+use Rattle.irc_network.specs.declared.refusal.Refusal.TheVariants.{NotLinked, LinkRefused}
 use Rattle.irc_network.specs.declared.item.Item.{Item as GivenItem}
 use Rattle.irc_network.specs.declared.item.Item.TheVariants.{Connect, Line, Gone, Link, Cut}
 use Rattle.irc_network.specs.Network.{Receipt, receipt}

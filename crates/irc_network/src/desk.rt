@@ -5,7 +5,8 @@ use crate::receipt::Receipt;
 use irc_batch::Batch;
 use std::alloc::Global;
 
-/// What a call of a network works with: what a server has put out just now, and what clients have received by the call so far. A call begins with a new one.
+/// What a call of a network works with: what a server has put out just now, and what clients have
+/// received by the call so far. A call begins with a new one.
 #[derive(Drop)]
 pub struct Desk {
     /// What a server has put out.

@@ -3,7 +3,8 @@ ghost use Rattle.std.specs.Prelude.{◌≡◌, ◌<◌, ◌≤◌, length, IfSom
 ghost use Rattle.std.specs.Option.{option_map};
 ghost use Rattle.irc_line.specs.Limits.{max_text};
 ghost use Rattle.irc_network.specs.Calls.{IsLineHeard};
-ghost use Rattle.irc_network.specs.Loops.Courses.{direction_now, AreSentOut, IsAsked, IsFirstTaken, IsLineTaken, IsReceived, IsSentAt};
+ghost use Rattle.irc_network.specs.Loops.Courses.{direction_now, AreSentOut, IsAsked, IsFirstTaken};
+ghost use Rattle.irc_network.specs.Loops.Courses.{IsLineTaken, IsReceived, IsSentAt};
 ghost use Rattle.irc_network.specs.Loops.Waiting.{lines_waiting};
 ghost use Rattle.irc_network.specs.Network.{first_direction, line_queued, site_changed_at};
 
@@ -96,10 +97,12 @@ impl<H: History> Network<H> {
         site.queue(to, text)
     }
 
-    /// A server is asked for a line that has come from another, and the line is counted. What clients receive by it is on the desk, behind what was there.
+    /// A server is asked for a line that has come from another, and the line is counted. What
+    /// clients receive by it is on the desk, behind what was there.
     ///
     /// # Errors
-    /// Where memory runs out: nothing is promised of the network then, and nothing more is to be asked of it.
+    /// Where memory runs out: nothing is promised of the network then, and nothing more is to be
+    /// asked of it.
     pub fn hear(
         &mut self,
         from: usize,
@@ -113,7 +116,8 @@ impl<H: History> Network<H> {
         self.ask(to, &Event::LinkLine(from as u64, line), desk)
     }
 
-    /// Takes the oldest line of the first way on which one waits, by the place that it is from and then that where it goes; none where none waits.
+    /// Takes the oldest line of the first way on which one waits, by the place that it is from and
+    /// then that where it goes; none where none waits.
     pub fn take_put_out(&mut self) -> Option<PutOut>
         ensures taken { IsFirstTaken result self.old self.new }
         ensures fewer { IfSome result (λ _. lines_waiting self.new < lines_waiting self.old) }
@@ -136,7 +140,8 @@ impl<H: History> Network<H> {
         site.take_line(to as u64)
     }
 
-    /// The first way on which a line waits, by the place that it is from and then that where it goes.
+    /// The first way on which a line waits, by the place that it is from and then that where it
+    /// goes.
     fn first_direction(&self) -> Option<(usize, usize)>
         ensures { option_map direction_now result ≡ first_direction self.now }
     {

@@ -16,10 +16,12 @@ use irc_server::Event;
 use std::alloc::AllocError;
 
 impl<H: History> Network<H> {
-    /// An item that is not refused is taken, and kept. What clients receive by it is on the desk, on which nothing is before.
+    /// An item that is not refused is taken, and kept. What clients receive by it is on the desk,
+    /// on which nothing is before.
     ///
     /// # Errors
-    /// Where memory runs out: nothing is promised of the network then, and nothing more is to be asked of it.
+    /// Where memory runs out: nothing is promised of the network then, and nothing more is to be
+    /// asked of it.
     pub fn give(&mut self, item: Item, desk: &mut Desk) -> Result<(), AllocError>
         requires begins { desk.old.lines.items ≡ [] }
         ensures { OnOk result (course_at self.new desk.new ≡ given (item_of item) self.old) }
@@ -104,7 +106,8 @@ impl<H: History> Network<H> {
         self.ask(ends.far, &Event::LinkUp(ends.near as u64, None), desk)
     }
 
-    /// The link between two servers is lost, at the first of them first, with all that is on its way there.
+    /// The link between two servers is lost, at the first of them first, with all that is on its
+    /// way there.
     fn cut(
         &mut self,
         near: &ServerName,

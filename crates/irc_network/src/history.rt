@@ -1,7 +1,8 @@
 //! What is kept of what has been.
 ghost use Rattle.std.specs.Prelude.{◌≡◌, ◌≤◌, length};
 ghost use Rattle.irc_line.specs.Limits.{max_text};
-ghost use Rattle.irc_network.specs.Histories.{Becomes, Past, no_past, with_item, with_line, with_newcomer};
+ghost use Rattle.irc_network.specs.Histories.{Becomes, Past, no_past, with_item, with_line};
+ghost use Rattle.irc_network.specs.Histories.{with_newcomer};
 ghost use Rattle.irc_network.specs.Views.{item_of};
 
 use crate::item::Item;

@@ -1,4 +1,5 @@
-//! A network of servers as it runs: the servers, the lines that are on their way between them, and what each client has received. Definitions are in `specs/`.
+//! A network of servers as it runs: the servers, the lines that are on their way between them, and
+//! what each client has received. Definitions are in `specs/`.
 #![tactic(auto)]
 
 mod desk;

@@ -4,7 +4,8 @@ ghost use Rattle.std.specs.Option.{option_copied, option_map};
 ghost use Rattle.irc_forest.specs.Forests.{name_at};
 ghost use Rattle.irc_network.specs.Loops.Courses.{AreNamed, AreWithin, ends_now, inbox_of};
 ghost use Rattle.irc_sites.specs.Loops.Queues.{line_bytes};
-ghost use Rattle.irc_network.specs.Network.{home_place, link_places, new_network, next_client, number_given, received_by, server_place, site_at};
+ghost use Rattle.irc_network.specs.Network.{home_place, link_places, new_network, next_client};
+ghost use Rattle.irc_network.specs.Network.{number_given, received_by, server_place, site_at};
 ghost use Rattle.irc_network.specs.Views.{item_of, items_of};
 ghost use Rattle.irc_world.specs.World.{home_in};
 
@@ -53,7 +54,15 @@ impl<H: History> Model for Network<H> {
 
     ghost coded = { network_code };
 
-    ghost view = { λ n. record { names = n.forest.names; sites = n.sites.items; links = n.forest.links; homes = n.homes.items; received = (H.past n.history).received; items = (H.past n.history).items; taken = n.taken } };
+    ghost view = { λ n. record {
+      names = n.forest.names;
+      sites = n.sites.items;
+      links = n.forest.links;
+      homes = n.homes.items;
+      received = (H.past n.history).received;
+      items = (H.past n.history).items;
+      taken = n.taken;
+    } };
 
     ghost invariant = { λ n. length (H.past n.history).received ≡ length n.homes.items };
 }
@@ -66,7 +75,8 @@ impl Network<Kept> {
         self.history.items.as_slice()
     }
 
-    /// What a client has received, whole lines, the oldest first; also once it is closed. Nothing for a number that was never given.
+    /// What a client has received, whole lines, the oldest first; also once it is closed. Nothing
+    /// for a number that was never given.
     pub fn received(&self, client: u64) -> &[Text]
         ensures { map line_bytes result.now ≡ received_by self.now client }
     {
@@ -85,7 +95,8 @@ impl Network<Kept> {
 }
 
 impl<H: History> Network<H> {
-    /// Servers that are not linked, and no client. The sites are in turn those of the forest's names, in the order of the names.
+    /// Servers that are not linked, and no client. The sites are in turn those of the forest's
+    /// names, in the order of the names.
     pub fn new(alloc: Global, forest: Forest, sites: Vec<Site, Global>) -> Self
         ensures { result ≡ new_network forest sites.items }
     {
@@ -113,7 +124,8 @@ impl<H: History> Network<H> {
         self.homes.len() as u64 + 1
     }
 
-    /// The number that an item gives to a client, which is the one that connects by it; none where nobody does.
+    /// The number that an item gives to a client, which is the one that connects by it; none where
+    /// nobody does.
     pub fn number_given(&self, item: &Item) -> Option<u64>
         ensures { result ≡ number_given self.now (item_of item.now) }
     {

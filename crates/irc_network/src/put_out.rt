@@ -1,7 +1,8 @@
 //! What a server has put out on a link.
 use irc_line::Line;
 
-/// A line that a server has put out on a link, by the places of the servers at its ends, without its CR LF.
+/// A line that a server has put out on a link, by the places of the servers at its ends, without
+/// its CR LF.
 #[derive(Drop)]
 pub struct PutOut {
     /// Where the server is that has put it out.

@@ -1,6 +1,7 @@
 //! Why a network at rest refuses what it is asked for.
 
-/// Why a network at rest refuses what it is asked for, in the order in which causes are looked for. A refusal changes nothing.
+/// Why a network at rest refuses what it is asked for, in the order in which causes are looked for.
+/// A refusal changes nothing.
 #[derive(Clone, Copy, Debug, Drop, PartialEq, Eq)]
 pub enum Refusal {
     /// No server has this name.

@@ -1,8 +1,10 @@
 //! What a network refuses.
 ghost use Rattle.std.specs.Prelude.{◌≡◌};
 ghost use Rattle.std.specs.Option.{option_copied, option_map};
-ghost use Rattle.irc_network.specs.Refusing.{are_agreed, client_fault, fault_at_rest, is_there, server_fault, way_fault};
-ghost use Rattle.irc_network.specs.Loops.Parties.{home_site, linking_fault, parties_fault, have_one_password, IsParty, IsPartyOf};
+ghost use Rattle.irc_network.specs.Refusing.{are_agreed, client_fault, fault_at_rest, is_there};
+ghost use Rattle.irc_network.specs.Refusing.{server_fault, way_fault};
+ghost use Rattle.irc_network.specs.Loops.Parties.{home_site, linking_fault, parties_fault};
+ghost use Rattle.irc_network.specs.Loops.Parties.{have_one_password, IsParty, IsPartyOf};
 ghost use Rattle.irc_network.specs.Network.{site_view};
 ghost use Rattle.irc_network.specs.Views.{item_of, refusal_of};
 
@@ -25,7 +27,8 @@ struct Party<'a> {
 }
 
 impl<H: History> Network<H> {
-    /// Why an item is not taken where no line is on its way, if it is not: the first cause that there is.
+    /// Why an item is not taken where no line is on its way, if it is not: the first cause that
+    /// there is.
     pub fn refusal(&self, item: &Item) -> Option<Refusal>
         ensures { option_map refusal_of result ≡ fault_at_rest self.now (item_of item.now) }
     {
@@ -75,7 +78,8 @@ impl<H: History> Network<H> {
         self.sites.get(self.home_place(client)?)
     }
 
-    /// Why no line goes from one server to another, if none does: one of them is not there, or no link is between them.
+    /// Why no line goes from one server to another, if none does: one of them is not there, or no
+    /// link is between them.
     pub fn way_refusal(&self, from: &ServerName, to: &ServerName) -> Option<Refusal>
         ensures { option_map refusal_of result ≡ way_fault self.now from.now to.now }
     {

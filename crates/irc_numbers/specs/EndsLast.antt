@@ -1,6 +1,7 @@
 -- Nothing is put out to a client behind its end.
 --
--- a.net has al as connection 9, and a KILL of al comes by a link:   line_to 9 `ERROR :..`, end_of 9, and to 9 nothing more
+-- a.net has al as connection 9, and a KILL of al comes by a link: line_to 9 `ERROR :..`, end_of 9,
+-- and to 9 nothing more
 use Rattle.std.specs.Prelude.{◌≡◌, ℕ, Bool, true, false, Option, Some, None, List, [], ◌∷◌}
 use Rattle.irc_stage.specs.View.{View}
 use Rattle.irc_server.specs.Served.{Occurrence, served}
@@ -15,4 +16,5 @@ ends_last (None ∷ (next ∷ part)) = false
 
 -- Whatever is served, it is so of each client's part.
 abbrev pub NothingIsBehindAnEnd : Type 0
-NothingIsBehindAnEnd = (view : View) (occurrence : Occurrence) (conn : ℕ) → ends_last (client_part conn (served view occurrence).out) ≡ true
+NothingIsBehindAnEnd = (view : View) (occurrence : Occurrence) (conn : ℕ)
+    → ends_last (client_part conn (served view occurrence).out) ≡ true

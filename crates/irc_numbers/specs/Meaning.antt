@@ -6,7 +6,10 @@ use Rattle.irc_stage.specs.View.{End, View}
 use Rattle.irc_deeds.specs.Heard.{heard}
 use Rattle.irc_numbers.specs.Alike.{AreAlike, AreApart, Numbers}
 
--- It is the same to both, at an end of which both know the same: the first half of serving it alike. What it then does is the second.
+-- It is the same to both, at an end of which both know the same: the first half of serving it
+-- alike. What it then does is the second.
 abbrev pub LinesAreHeardAlike : Type 0
-LinesAreHeardAlike = (numbers : Numbers) (own other : View) (place conn : ℕ) (end : End) (read : Result Parsed LineFault) → AreApart numbers
-    → AreAlike numbers own other → numbers.link place ≡ Some conn → heard other place end read ≡ heard own conn end read
+LinesAreHeardAlike = (numbers : Numbers) (own other : View) (place conn : ℕ) (end : End)
+    (read : Result Parsed LineFault) → AreApart numbers
+    → AreAlike numbers own other → numbers.link place ≡ Some conn
+    → heard other place end read ≡ heard own conn end read

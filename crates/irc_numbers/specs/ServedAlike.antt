@@ -1,8 +1,12 @@
--- Two servers that are alike but for numbers do the same, whatever happens to both: they are alike again, and have put out the same to each client and on each link.
+-- Two servers that are alike but for numbers do the same, whatever happens to both: they are alike
+-- again, and have put out the same to each client and on each link.
 --
--- a.net (place 0) has the link 7 to b.net (place 1) and the link 5 to c.net (place 2), and al as connection 9, which is client 1 of the network:
---   al says hi in #c   the engine's server puts the line out on 5 and then on 7, the network's on 1 and then on 2: on each link the same, in another order
-use Rattle.std.specs.Prelude.{◌≡◌, ℕ, ⊤, nat_eq, Option, Some, None, Result, Ok, Err, List, [], ◌∷◌, if◌then◌else◌}
+-- a.net (place 0) has the link 7 to b.net (place 1) and the link 5 to c.net (place 2), and al as
+-- connection 9, which is client 1 of the network:
+-- al says hi in #c the engine's server puts the line out on 5 and then on 7, the network's on 1 and
+-- then on 2: on each link the same, in another order
+use Rattle.std.specs.Prelude.{◌≡◌, ℕ, ⊤, nat_eq, Option, Some, None, Result, Ok, Err, List, [], ◌∷◌}
+use Rattle.std.specs.Prelude.{if◌then◌else◌}
 use Rattle.std.specs.List.{flat_map}
 use Rattle.irc_batch.specs.Batches.{Sent, end_of, end_of_link, line_on, line_to}
 use Rattle.irc_batch.specs.declared.close_reason.CloseReason.{CloseReason}
@@ -34,10 +38,13 @@ link_part link outs = flat_map (by_link link) outs
 
 -- ---- both have done the same
 
--- the same is put out to each client and on each link, each under its numbers; and an engine's server puts nothing out to a number that is nobody's
+-- the same is put out to each client and on each link, each under its numbers; and an engine's
+-- server puts nothing out to a number that is nobody's
 pub record ArePutOutAlike (numbers : Numbers) (own other : List Sent) : Type 0 where
-  pub to_clients : (client conn : ℕ) → numbers.client client ≡ Some conn → client_part conn own ≡ client_part client other
-  pub on_links : (place conn : ℕ) → numbers.link place ≡ Some conn → link_part conn own ≡ link_part place other
+  pub to_clients : (client conn : ℕ) → numbers.client client ≡ Some conn
+      → client_part conn own ≡ client_part client other
+  pub on_links : (place conn : ℕ) → numbers.link place ≡ Some conn
+      → link_part conn own ≡ link_part place other
   pub to_no_other : (conn : ℕ) → (IsAmong numbers.client conn → ⊥) → client_part conn own ≡ []
   pub on_no_other : (conn : ℕ) → (IsAmong numbers.link conn → ⊥) → link_part conn own ≡ []
 
@@ -47,7 +54,8 @@ pub record AreServedAlike (numbers : Numbers) (own other : Served) : Type 0 wher
 
 -- what is done to two servers leaves them alike
 abbrev pub StaysAlike : Numbers → (Served → Served) → (Served → Served) → Type 0
-StaysAlike numbers serve serves = (own other : Served) → AreServedAlike numbers own other → AreServedAlike numbers (serve own) (serves other)
+StaysAlike numbers serve serves = (own other : Served) → AreServedAlike numbers own other
+    → AreServedAlike numbers (serve own) (serves other)
 
 -- a line came by the same link to both, or from a client
 abbrev pub AreArrivalsAlike : Numbers → Option ℕ → Option ℕ → Type 0
@@ -76,8 +84,11 @@ renumbered conn (link_up place starts) = link_up conn starts
 renumbered conn (link_says place read) = link_says conn read
 renumbered conn (link_down place) = link_down conn
 
--- Numbers are nothing to a server. Who connects, and a link that is made, have their numbers already: `AreAlike` holds under these too.
+-- Numbers are nothing to a server. Who connects, and a link that is made, have their numbers
+-- already: `AreAlike` holds under these too.
 abbrev pub NumbersAreNothing : Type 0
 NumbersAreNothing =
-    (numbers : Numbers) (own other : View) (occurrence : Occurrence) (conn : ℕ) → AreApart numbers → AreAlike numbers own other
-    → happens_at numbers occurrence ≡ Some conn → AreServedAlike numbers (served own (renumbered conn occurrence)) (served other occurrence)
+    (numbers : Numbers) (own other : View) (occurrence : Occurrence) (conn : ℕ) → AreApart numbers
+    → AreAlike numbers own other
+    → happens_at numbers occurrence ≡ Some conn
+    → AreServedAlike numbers (served own (renumbered conn occurrence)) (served other occurrence)

@@ -1,11 +1,14 @@
 -- How long the parts of a reply are.
-use Rattle.std.proofs.Common.{◌≡◌, ℕ, ◌+◌, ◌-◌, ◌*◌, ◌^◌, ◌<◌, ◌≤◌, true, false, Option, Some, None, List, [], ◌∷◌, ◌++◌, map, length, refl, ap, arith, rules, length-append, lit≤, codes}
+use Rattle.std.proofs.Common.{◌≡◌, ℕ, ◌+◌, ◌-◌, ◌*◌, ◌^◌, ◌<◌, ◌≤◌, true, false, Option, Some, None}
+use Rattle.std.proofs.Common.{List, [], ◌∷◌, ◌++◌, map, length, refl, ap, arith, rules}
+use Rattle.std.proofs.Common.{length-append, lit≤, codes}
 use Rattle.std.specs.Prelude.{decimal, IfSome}
 use Rattle.std.specs.List.{AllByRecursion}
 use Rattle.std.proofs.lemmas.Fmt.{length-decimal-le}
 use Rattle.irc_line.specs.Limits.{max_line}
 use Rattle.irc_line.specs.Bytes.{space, colon, crlf}
-use Rattle.irc_line.specs.Messages.{joined_text, line_text, middle_text, last_text, prefix_text, prefix_of, named}
+use Rattle.irc_line.specs.Messages.{joined_text, line_text, middle_text, last_text, prefix_text}
+use Rattle.irc_line.specs.Messages.{prefix_of, named}
 use Rattle.irc_line.specs.Lemmas.CutLaws.{cut_all}
 use Rattle.irc_names.specs.Limits.{max_nick, max_channel, max_server}
 use Rattle.irc_numerics.specs.Limits.{max_names}
@@ -16,8 +19,33 @@ use Rattle.irc_numerics.specs.declared.replies.Visibility.TheVariants.{Public, P
 use Rattle.irc_numerics.specs.declared.replies.Listed.{Listed}
 use Rattle.irc_numerics.specs.declared.replies.OnChannel.{OnChannel}
 use Rattle.irc_numerics.specs.declared.replies.Reply.{Reply}
-use Rattle.irc_numerics.specs.declared.replies.Reply.TheVariants.{Welcome, YourHost, Created, MyInfo, UserModeIs, LuserClient, LuserChannels, LuserMe, IsOn, WhoisUser, WhoisServer, EndOfWho, EndOfWhois, WhoisChannels, List as ListRow, ListEnd, ChannelModeIs, NoTopic, Topic, Inviting, WhoReply, NamReply, EndOfNames, BanList, EndOfBanList, NoSuchNick, NoSuchChannel, CannotSendToChan, TooManyChannels, TooManyTargets, NoOrigin, NoRecipient, NoTextToSend, UnknownCommand, NoMotd, NoNicknameGiven, ErroneousNickname, NicknameInUse, UserNotInChannel, NotOnChannel, UserOnChannel, NotRegistered, NeedMoreParams, AlreadyRegistered, KeySet, ChannelIsFull, UnknownMode, InviteOnlyChan, BannedFromChan, BadChannelKey, BanListFull, ChanOPrivsNeeded, UModeUnknownFlag, UsersDontMatch}
-use Rattle.irc_numerics.specs.Replies.{ReplyWords, reply_number, words, table, numbered, reply_parts, reply_name, spaced, in_a_row, mark_text, marked_nick, on_channel}
+use Rattle.irc_numerics.specs.declared.replies.Reply.TheVariants.{Welcome, YourHost, Created}
+use Rattle.irc_numerics.specs.declared.replies.Reply.TheVariants.{MyInfo, UserModeIs, LuserClient}
+use Rattle.irc_numerics.specs.declared.replies.Reply.TheVariants.{LuserChannels, LuserMe, IsOn}
+use Rattle.irc_numerics.specs.declared.replies.Reply.TheVariants.{WhoisUser, WhoisServer, EndOfWho}
+use Rattle.irc_numerics.specs.declared.replies.Reply.TheVariants.{EndOfWhois, WhoisChannels}
+use Rattle.irc_numerics.specs.declared.replies.Reply.TheVariants.{List as ListRow, ListEnd}
+use Rattle.irc_numerics.specs.declared.replies.Reply.TheVariants.{ChannelModeIs, NoTopic, Topic}
+use Rattle.irc_numerics.specs.declared.replies.Reply.TheVariants.{Inviting, WhoReply, NamReply}
+use Rattle.irc_numerics.specs.declared.replies.Reply.TheVariants.{EndOfNames, BanList, EndOfBanList}
+use Rattle.irc_numerics.specs.declared.replies.Reply.TheVariants.{NoSuchNick, NoSuchChannel}
+use Rattle.irc_numerics.specs.declared.replies.Reply.TheVariants.{CannotSendToChan, TooManyChannels}
+use Rattle.irc_numerics.specs.declared.replies.Reply.TheVariants.{TooManyTargets, NoOrigin}
+use Rattle.irc_numerics.specs.declared.replies.Reply.TheVariants.{NoRecipient, NoTextToSend}
+use Rattle.irc_numerics.specs.declared.replies.Reply.TheVariants.{UnknownCommand, NoMotd}
+use Rattle.irc_numerics.specs.declared.replies.Reply.TheVariants.{NoNicknameGiven}
+use Rattle.irc_numerics.specs.declared.replies.Reply.TheVariants.{ErroneousNickname, NicknameInUse}
+use Rattle.irc_numerics.specs.declared.replies.Reply.TheVariants.{UserNotInChannel, NotOnChannel}
+use Rattle.irc_numerics.specs.declared.replies.Reply.TheVariants.{UserOnChannel, NotRegistered}
+use Rattle.irc_numerics.specs.declared.replies.Reply.TheVariants.{NeedMoreParams, AlreadyRegistered}
+use Rattle.irc_numerics.specs.declared.replies.Reply.TheVariants.{KeySet, ChannelIsFull}
+use Rattle.irc_numerics.specs.declared.replies.Reply.TheVariants.{UnknownMode, InviteOnlyChan}
+use Rattle.irc_numerics.specs.declared.replies.Reply.TheVariants.{BannedFromChan, BadChannelKey}
+use Rattle.irc_numerics.specs.declared.replies.Reply.TheVariants.{BanListFull, ChanOPrivsNeeded}
+use Rattle.irc_numerics.specs.declared.replies.Reply.TheVariants.{UModeUnknownFlag, UsersDontMatch}
+use Rattle.irc_numerics.specs.Replies.{ReplyWords, reply_number, words, table, numbered}
+use Rattle.irc_numerics.specs.Replies.{reply_parts, reply_name, spaced, in_a_row, mark_text}
+use Rattle.irc_numerics.specs.Replies.{marked_nick, on_channel}
 use Rattle.irc_numerics.specs.Laws.{IsWithinLimits, IsWhole, NamesAreShort, uncut_reply}
 
 -- the words, each behind a space
@@ -34,7 +62,8 @@ length-middle_text : (ws : List (List ℕ)) → length (middle_text ws) ≡ size
 length-middle_text [] = refl
 length-middle_text (w ∷ ws) =
     let rest : length (middle_text ws) ≡ sizes ws = length-middle_text ws in
-    let parts : length ((space ∷ w) ++ middle_text ws) ≡ length (space ∷ w) + length (middle_text ws) = length-append
+    let parts : length ((space ∷ w) ++ middle_text ws) ≡ length (space ∷ w) + length
+    (middle_text ws) = length-append
     (space ∷ w) (middle_text ws) in
     omega arith
 
@@ -47,16 +76,18 @@ length-in_a_row : (ps : List (List ℕ)) → length (in_a_row ps) ≤ sizes ps
 length-in_a_row [] = lit≤ tt
 length-in_a_row (p ∷ ps) =
     let rest : length (in_a_row ps) ≤ sizes ps = length-in_a_row ps in
-    let parts : length (p ++ in_a_row ps) ≡ length p + length (in_a_row ps) = length-append p (in_a_row ps) in
+    let parts : length (p ++ in_a_row ps) ≡ length p + length (in_a_row ps) =
+    length-append p (in_a_row ps) in
     omega arith
 
 -- what the longest server name and nickname, with a colon and two spaces, leave of a line
 abbrev most_said : ℕ
 most_said = max_line - (3 + max_server + max_nick)
 
-row_fits : (digits : List ℕ) (ws ps : List (List ℕ)) → length digits + sizes ws + (2 + sizes ps) ≤ most_said
-    → length digits + sizes ws + (2 + length (in_a_row ps)) ≤ most_said
-row_fits digits ws ps short = let row : length (in_a_row ps) ≤ sizes ps = length-in_a_row ps in omega arith
+row_fits : (digits : List ℕ) (ws ps : List (List ℕ)) → length digits + sizes ws + (2 + sizes ps)
+    ≤ most_said → length digits + sizes ws + (2 + length (in_a_row ps)) ≤ most_said
+row_fits digits ws ps short = let row : length (in_a_row ps) ≤ sizes ps = length-in_a_row ps in
+    omega arith
 
 digits : (n : ℕ) → n < 2 ^ 64 → length (decimal n) ≤ 20
 digits n small = search (rules, length-decimal-le 20)
@@ -77,13 +108,15 @@ between-fits entry most x (y ∷ rest) fit =
     let parts = length-append (entry x) (space ∷ spaced (map entry (y ∷ rest))) in
     omega arith
 
-spaced-fits : {A : Type 0} (entry : A → List ℕ) (most : ℕ) (items : List A) → AllByRecursion (λ item. length
+spaced-fits : {A : Type 0} (entry : A → List ℕ) (most : ℕ) (items : List A)
+    → AllByRecursion (λ item. length
     (entry item) ≤ most) items
     → length (spaced (map entry items)) ≤ length items * (most + 1)
 spaced-fits entry most [] fit = omega arith
 spaced-fits entry most (x ∷ rest) fit = let row = between-fits entry most x rest fit in omega arith
 
-members_fit : (names : List Listed) → AllByRecursion (λ member. length member.nick ≤ max_nick) names → AllByRecursion
+members_fit : (names : List Listed) → AllByRecursion (λ member. length member.nick ≤ max_nick) names
+    → AllByRecursion
     (λ member. length (marked_nick member) ≤ 1 + max_nick) names
 members_fit [] fit = fit
 members_fit (x ∷ xs) fit =
@@ -92,7 +125,8 @@ members_fit (x ∷ xs) fit =
     let parts = length-append (mark_text x.mark) (x.nick) in
     (omega arith, members_fit xs fit.1)
 
-places_fit : (places : List OnChannel) → AllByRecursion (λ place. length place.channel ≤ max_channel) places
+places_fit : (places : List OnChannel)
+    → AllByRecursion (λ place. length place.channel ≤ max_channel) places
     → AllByRecursion (λ place. length (on_channel place) ≤ 51) places
 places_fit [] fit = fit
 places_fit (x ∷ xs) fit =
@@ -102,15 +136,18 @@ places_fit (x ∷ xs) fit =
     (omega arith, places_fit xs fit.1)
 
 -- what a reply within its limits says leaves room for the longest server name and nickname
-short : (reply : Reply) → IsWithinLimits reply → length (reply_number reply) + sizes ((words reply).middle) + last_size
+short : (reply : Reply) → IsWithinLimits reply
+    → length (reply_number reply) + sizes ((words reply).middle) + last_size
     ((words reply).last) ≤ most_said
 unfolding reply_number words table
 short (Welcome nick user host) limits =
     row_fits (codes "001") []
-    (codes "Welcome to the Internet Relay Network " ∷ nick ∷ codes "!" ∷ user ∷ codes "@" ∷ host ∷ [])
+    (codes "Welcome to the Internet Relay Network " ∷ nick ∷ codes "!" ∷ user ∷ codes "@"
+    ∷ host ∷ [])
     (omega arith)
 short (YourHost server) limits =
-    row_fits (codes "002") [] (codes "Your host is " ∷ server ∷ codes ", running version treeircd-1" ∷ []) (omega arith)
+    row_fits (codes "002") []
+    (codes "Your host is " ∷ server ∷ codes ", running version treeircd-1" ∷ []) (omega arith)
 short (Created created) limits =
     row_fits (codes "003") [] (codes "This server was created " ∷ created.items ∷ []) (omega arith)
 short (MyInfo server) limits = omega arith
@@ -118,12 +155,14 @@ short (UserModeIs true) limits = lit≤ tt
 short (UserModeIs false) limits = lit≤ tt
 short (LuserClient users servers) limits =
     row_fits (codes "251") []
-    (codes "There are " ∷ decimal users ∷ codes " users and 0 services on " ∷ decimal servers ∷ codes " servers" ∷ [])
+    (codes "There are " ∷ decimal users ∷ codes " users and 0 services on " ∷ decimal servers
+    ∷ codes " servers" ∷ [])
     (omega (arith, digits users limits.0, digits servers limits.1))
 short (LuserChannels channels) limits = omega (arith, digits channels limits)
 short (LuserMe clients links) limits =
     row_fits (codes "255") []
-    (codes "I have " ∷ decimal clients ∷ codes " clients and " ∷ decimal links ∷ codes " servers" ∷ []) (omega
+    (codes "I have " ∷ decimal clients ∷ codes " clients and " ∷ decimal links ∷ codes " servers"
+    ∷ []) (omega
     (arith, digits clients limits.0, digits links limits.1))
 short (IsOn _) limits = absurd limits
 short (WhoisUser nick user host real) limits = omega arith
@@ -140,16 +179,21 @@ short ListEnd limits = lit≤ tt
 short (ChannelModeIs channel modes None None) limits = omega arith
 short (ChannelModeIs channel modes None (Some n)) limits = omega (arith, digits n limits.3)
 short (ChannelModeIs channel modes (Some k) None) limits = omega (arith, limits.2)
-short (ChannelModeIs channel modes (Some k) (Some n)) limits = omega (arith, digits n limits.3, limits.2)
+short (ChannelModeIs channel modes (Some k) (Some n)) limits =
+    omega (arith, digits n limits.3, limits.2)
 short (NoTopic channel) limits = omega arith
 short (Topic channel topic) limits = omega arith
 short (Inviting channel nick) limits = omega arith
 short (WhoReply None user host server nick mark hops real) limits =
-    row_fits (codes "352") (codes "*" ∷ user ∷ host ∷ server ∷ nick ∷ (codes "H" ++ mark_text mark) ∷ [])
-    (decimal hops ∷ codes " " ∷ real ∷ []) (omega (arith, digits hops limits.5, length-mark_text mark))
+    row_fits (codes "352")
+    (codes "*" ∷ user ∷ host ∷ server ∷ nick ∷ (codes "H" ++ mark_text mark) ∷ [])
+    (decimal hops ∷ codes " " ∷ real ∷ [])
+    (omega (arith, digits hops limits.5, length-mark_text mark))
 short (WhoReply (Some place) user host server nick mark hops real) limits =
-    row_fits (codes "352") (place ∷ user ∷ host ∷ server ∷ nick ∷ (codes "H" ++ mark_text mark) ∷ [])
-    (decimal hops ∷ codes " " ∷ real ∷ []) (omega (arith, digits hops limits.5, length-mark_text mark, limits.0))
+    row_fits (codes "352")
+    (place ∷ user ∷ host ∷ server ∷ nick ∷ (codes "H" ++ mark_text mark) ∷ [])
+    (decimal hops ∷ codes " " ∷ real ∷ [])
+    (omega (arith, digits hops limits.5, length-mark_text mark, limits.0))
 short (NamReply Public channel names) limits = omega (
   arith,
   spaced-fits marked_nick (1 + max_nick) names
@@ -190,7 +234,8 @@ short AlreadyRegistered limits = lit≤ tt
 short (KeySet channel) limits = omega arith
 short (ChannelIsFull channel) limits = omega arith
 short (UnknownMode mode channel) limits =
-    row_fits (codes "472") ((mode ∷ []) ∷ []) (codes "is unknown mode char to me for " ∷ channel ∷ []) (omega arith)
+    row_fits (codes "472") ((mode ∷ []) ∷ [])
+    (codes "is unknown mode char to me for " ∷ channel ∷ []) (omega arith)
 short (InviteOnlyChan channel) limits = omega arith
 short (BannedFromChan channel) limits = omega arith
 short (BadChannelKey channel) limits = omega arith
@@ -214,13 +259,14 @@ length-joined server name digits said =
     let f = length-last_text said.last in
     omega arith
 
-reply_name_fits : (nick : Option (List ℕ)) → IfSome nick (λ n. length n ≤ max_nick) → length (reply_name nick) ≤ max_nick
+reply_name_fits : (nick : Option (List ℕ)) → IfSome nick (λ n. length n ≤ max_nick)
+    → length (reply_name nick) ≤ max_nick
 reply_name_fits None fits = lit≤ tt
 reply_name_fits (Some nick) fits = fits
 
-pub within_limits_is_whole : (server : List ℕ) (nick : Option (List ℕ)) (reply : Reply) → length server ≤ max_server
-    → IfSome nick (λ n. length n ≤ max_nick)
-    → IsWithinLimits reply → IsWhole server nick reply
+pub within_limits_is_whole : (server : List ℕ) (nick : Option (List ℕ)) (reply : Reply)
+    → length server ≤ max_server → IfSome nick (λ n. length n ≤ max_nick) → IsWithinLimits reply
+    → IsWhole server nick reply
 unfolding numbered line_text
 within_limits_is_whole server nick reply server_fits nick_fits limits =
     let name = reply_name nick in
@@ -234,15 +280,19 @@ within_limits_is_whole server nick reply server_fits nick_fits limits =
 abbrev most_names : ℕ
 most_names = max_names * (max_nick + 2) - 1
 
-spaced_names : (names : List Listed) → length names ≤ max_names → AllByRecursion (λ member. length member.nick ≤ max_nick) names
+spaced_names : (names : List Listed) → length names ≤ max_names
+    → AllByRecursion (λ member. length member.nick ≤ max_nick) names
     → length (spaced (map marked_nick names)) ≤ most_names
 spaced_names [] few fit = lit≤ tt
-spaced_names (x ∷ rest) few fit = let row = between-fits marked_nick (1 + max_nick) x rest (members_fit (x ∷ rest) fit) in omega arith
+spaced_names (x ∷ rest) few fit = let row =
+    between-fits marked_nick (1 + max_nick) x rest (members_fit (x ∷ rest) fit) in omega arith
 
 -- what a 353 says: three digits, the mark of a channel, the channel, and the names
-names_short : (visibility : Visibility) (channel : List ℕ) (names : List Listed) → IsWithinLimits (NamReply visibility channel names)
-    → length (reply_number (NamReply visibility channel names)) + sizes ((words (NamReply visibility channel names)).middle)
-    + last_size ((words (NamReply visibility channel names)).last) ≤ 3 + 2 + (1 + max_channel) + (2 + most_names)
+names_short : (visibility : Visibility) (channel : List ℕ) (names : List Listed) → IsWithinLimits
+    (NamReply visibility channel names) → length (reply_number (NamReply visibility channel names))
+    + sizes ((words (NamReply visibility channel names)).middle)
+    + last_size ((words (NamReply visibility channel names)).last) ≤ 3 + 2 + (1 + max_channel)
+    + (2 + most_names)
 unfolding reply_number words table
 names_short Public channel names limits = omega (arith, spaced_names names limits.1 limits.2)
 names_short Private channel names limits = omega (arith, spaced_names names limits.1 limits.2)

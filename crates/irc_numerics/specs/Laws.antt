@@ -4,15 +4,41 @@ use Rattle.std.specs.List.{AllByRecursion}
 use Rattle.irc_line.specs.Limits.{max_line}
 use Rattle.irc_line.specs.Bytes.{crlf}
 use Rattle.irc_line.specs.Messages.{joined_text}
-use Rattle.irc_names.specs.Limits.{max_nick, max_channel, max_host, max_server, max_key, max_ban_mask, max_user_name, max_real_name, max_words, max_info, max_created}
+use Rattle.irc_names.specs.Limits.{max_nick, max_channel, max_host, max_server, max_key}
+use Rattle.irc_names.specs.Limits.{max_ban_mask, max_user_name, max_real_name, max_words, max_info}
+use Rattle.irc_names.specs.Limits.{max_created}
 use Rattle.irc_numerics.specs.Limits.{max_names, max_whois_channels, max_mode_letters}
 use Rattle.irc_numerics.specs.declared.replies.Listed.{Listed}
 use Rattle.irc_numerics.specs.declared.replies.Visibility.{Visibility}
 use Rattle.irc_numerics.specs.declared.replies.Reply.{Reply}
-use Rattle.irc_numerics.specs.declared.replies.Reply.TheVariants.{Welcome, YourHost, Created, MyInfo, UserModeIs, LuserClient, LuserChannels, LuserMe, IsOn, WhoisUser, WhoisServer, EndOfWho, EndOfWhois, WhoisChannels, List as ListRow, ListEnd, ChannelModeIs, NoTopic, Topic, Inviting, WhoReply, NamReply, EndOfNames, BanList, EndOfBanList, NoSuchNick, NoSuchChannel, CannotSendToChan, TooManyChannels, TooManyTargets, NoOrigin, NoRecipient, NoTextToSend, UnknownCommand, NoMotd, NoNicknameGiven, ErroneousNickname, NicknameInUse, UserNotInChannel, NotOnChannel, UserOnChannel, NotRegistered, NeedMoreParams, AlreadyRegistered, KeySet, ChannelIsFull, UnknownMode, InviteOnlyChan, BannedFromChan, BadChannelKey, BanListFull, ChanOPrivsNeeded, UModeUnknownFlag, UsersDontMatch}
+use Rattle.irc_numerics.specs.declared.replies.Reply.TheVariants.{Welcome, YourHost, Created}
+use Rattle.irc_numerics.specs.declared.replies.Reply.TheVariants.{MyInfo, UserModeIs, LuserClient}
+use Rattle.irc_numerics.specs.declared.replies.Reply.TheVariants.{LuserChannels, LuserMe, IsOn}
+use Rattle.irc_numerics.specs.declared.replies.Reply.TheVariants.{WhoisUser, WhoisServer, EndOfWho}
+use Rattle.irc_numerics.specs.declared.replies.Reply.TheVariants.{EndOfWhois, WhoisChannels}
+use Rattle.irc_numerics.specs.declared.replies.Reply.TheVariants.{List as ListRow, ListEnd}
+use Rattle.irc_numerics.specs.declared.replies.Reply.TheVariants.{ChannelModeIs, NoTopic, Topic}
+use Rattle.irc_numerics.specs.declared.replies.Reply.TheVariants.{Inviting, WhoReply, NamReply}
+use Rattle.irc_numerics.specs.declared.replies.Reply.TheVariants.{EndOfNames, BanList, EndOfBanList}
+use Rattle.irc_numerics.specs.declared.replies.Reply.TheVariants.{NoSuchNick, NoSuchChannel}
+use Rattle.irc_numerics.specs.declared.replies.Reply.TheVariants.{CannotSendToChan, TooManyChannels}
+use Rattle.irc_numerics.specs.declared.replies.Reply.TheVariants.{TooManyTargets, NoOrigin}
+use Rattle.irc_numerics.specs.declared.replies.Reply.TheVariants.{NoRecipient, NoTextToSend}
+use Rattle.irc_numerics.specs.declared.replies.Reply.TheVariants.{UnknownCommand, NoMotd}
+use Rattle.irc_numerics.specs.declared.replies.Reply.TheVariants.{NoNicknameGiven}
+use Rattle.irc_numerics.specs.declared.replies.Reply.TheVariants.{ErroneousNickname, NicknameInUse}
+use Rattle.irc_numerics.specs.declared.replies.Reply.TheVariants.{UserNotInChannel, NotOnChannel}
+use Rattle.irc_numerics.specs.declared.replies.Reply.TheVariants.{UserOnChannel, NotRegistered}
+use Rattle.irc_numerics.specs.declared.replies.Reply.TheVariants.{NeedMoreParams, AlreadyRegistered}
+use Rattle.irc_numerics.specs.declared.replies.Reply.TheVariants.{KeySet, ChannelIsFull}
+use Rattle.irc_numerics.specs.declared.replies.Reply.TheVariants.{UnknownMode, InviteOnlyChan}
+use Rattle.irc_numerics.specs.declared.replies.Reply.TheVariants.{BannedFromChan, BadChannelKey}
+use Rattle.irc_numerics.specs.declared.replies.Reply.TheVariants.{BanListFull, ChanOPrivsNeeded}
+use Rattle.irc_numerics.specs.declared.replies.Reply.TheVariants.{UModeUnknownFlag, UsersDontMatch}
 use Rattle.irc_numerics.specs.Replies.{reply_text, reply_name, reply_parts, reply_number, words}
 
--- A reply whose names and texts are as short as their limits say. One with a client's own words has no limit: its line may be cut.
+-- A reply whose names and texts are as short as their limits say. One with a client's own words has
+-- no limit: its line may be cut.
 abbrev pub IsWithinLimits : Reply → Type 0
 IsWithinLimits (Welcome nick user host) = (length nick ≤ max_nick) × (length user ≤ max_user_name) ×
     (length host ≤ max_host)
@@ -24,13 +50,16 @@ IsWithinLimits (LuserClient users servers) = (users < 2 ^ 64) × (servers < 2 ^ 
 IsWithinLimits (LuserChannels channels) = channels < 2 ^ 64
 IsWithinLimits (LuserMe clients links) = (clients < 2 ^ 64) × (links < 2 ^ 64)
 IsWithinLimits (IsOn _) = ⊥
-IsWithinLimits (WhoisUser nick user host real) = (length nick ≤ max_nick) × (length user ≤ max_user_name) ×
+IsWithinLimits (WhoisUser nick user host real) =
+    (length nick ≤ max_nick) × (length user ≤ max_user_name) ×
     (length host ≤ max_host) × (length real ≤ max_real_name)
-IsWithinLimits (WhoisServer nick server info) = (length nick ≤ max_nick) × (length server ≤ max_server) ×
+IsWithinLimits (WhoisServer nick server info) =
+    (length nick ≤ max_nick) × (length server ≤ max_server) ×
     (length info.items ≤ max_info)
 IsWithinLimits (EndOfWho _) = ⊥
 IsWithinLimits (EndOfWhois _) = ⊥
-IsWithinLimits (WhoisChannels nick channels) = (length nick ≤ max_nick) × (length channels.items ≤ max_whois_channels) ×
+IsWithinLimits (WhoisChannels nick channels) =
+    (length nick ≤ max_nick) × (length channels.items ≤ max_whois_channels) ×
     (AllByRecursion (λ place. length place.channel ≤ max_channel) channels.items)
 IsWithinLimits (ListRow channel count topic) = (length channel ≤ max_channel) × (count < 2 ^ 64) ×
     (length topic.items ≤ max_words)
@@ -39,15 +68,20 @@ IsWithinLimits (ChannelModeIs channel modes key limit) = (length channel ≤ max
     (length modes.items ≤ max_mode_letters) × (IfSome key (λ k. length k ≤ max_key)) ×
     (IfSome limit (λ n. n < 2 ^ 64))
 IsWithinLimits (NoTopic channel) = length channel ≤ max_channel
-IsWithinLimits (Topic channel topic) = (length channel ≤ max_channel) × (length topic.items ≤ max_words)
+IsWithinLimits (Topic channel topic) =
+    (length channel ≤ max_channel) × (length topic.items ≤ max_words)
 IsWithinLimits (Inviting channel nick) = (length channel ≤ max_channel) × (length nick ≤ max_nick)
-IsWithinLimits (WhoReply channel user host server nick _ hops real) = (IfSome channel (λ c. length c ≤ max_channel)) ×
-    (length user ≤ max_user_name) × (length host ≤ max_host) × (length server ≤ max_server) × (length nick ≤ max_nick)
+IsWithinLimits (WhoReply channel user host server nick _ hops real) =
+    (IfSome channel (λ c. length c ≤ max_channel)) ×
+    (length user ≤ max_user_name) × (length host ≤ max_host) × (length server ≤ max_server)
+    × (length nick ≤ max_nick)
     × (hops < 2 ^ 64) × (length real ≤ max_real_name)
-IsWithinLimits (NamReply _ channel names) = (length channel ≤ max_channel) × (length names ≤ max_names) ×
+IsWithinLimits (NamReply _ channel names) =
+    (length channel ≤ max_channel) × (length names ≤ max_names) ×
     (AllByRecursion (λ member. length member.nick ≤ max_nick) names)
 IsWithinLimits (EndOfNames _) = ⊥
-IsWithinLimits (BanList channel mask) = (length channel ≤ max_channel) × (length mask ≤ max_ban_mask)
+IsWithinLimits (BanList channel mask) =
+    (length channel ≤ max_channel) × (length mask ≤ max_ban_mask)
 IsWithinLimits (EndOfBanList channel) = length channel ≤ max_channel
 IsWithinLimits (NoSuchNick _) = ⊥
 IsWithinLimits (NoSuchChannel _) = ⊥
@@ -64,7 +98,8 @@ IsWithinLimits (ErroneousNickname _) = ⊥
 IsWithinLimits (NicknameInUse nick) = length nick ≤ max_nick
 IsWithinLimits (UserNotInChannel _ _) = ⊥
 IsWithinLimits (NotOnChannel channel) = length channel ≤ max_channel
-IsWithinLimits (UserOnChannel nick channel) = (length nick ≤ max_nick) × (length channel ≤ max_channel)
+IsWithinLimits (UserOnChannel nick channel) =
+    (length nick ≤ max_nick) × (length channel ≤ max_channel)
 IsWithinLimits NotRegistered = ⊤
 IsWithinLimits (NeedMoreParams _) = ⊥
 IsWithinLimits AlreadyRegistered = ⊤
@@ -91,7 +126,8 @@ pub record IsWhole (server : List ℕ) (nick : Option (List ℕ)) (reply : Reply
 
 -- A reply within its limits, to a client with a nickname or without one, is written whole.
 abbrev pub WithinLimitsIsWhole : Type 0
-WithinLimitsIsWhole = (server : List ℕ) (nick : Option (List ℕ)) (reply : Reply) → length server ≤ max_server → IfSome nick
+WithinLimitsIsWhole = (server : List ℕ) (nick : Option (List ℕ)) (reply : Reply)
+    → length server ≤ max_server → IfSome nick
     (λ n. length n ≤ max_nick)
     → IsWithinLimits reply → IsWhole server nick reply
 

@@ -1,6 +1,7 @@
--- The replies, a row each, in the order of the numbers (RFC 2812 section 5), and how one is written. The numbers are the standard's, the
--- texts our own after it.
-use Rattle.std.specs.Prelude.{ℕ, ◌+◌, ◌/◌, ◌%◌, if◌then◌else◌, Option, Some, None, List, [], ◌∷◌, ◌++◌, map, codes, decimal, option_to_list, unwrap_or}
+-- The replies, a row each, in the order of the numbers (RFC 2812 section 5), and how one is
+-- written. The numbers are the standard's, the texts our own after it.
+use Rattle.std.specs.Prelude.{ℕ, ◌+◌, ◌/◌, ◌%◌, if◌then◌else◌, Option, Some, None, List, [], ◌∷◌}
+use Rattle.std.specs.Prelude.{◌++◌, map, codes, decimal, option_to_list, unwrap_or}
 use Rattle.std.specs.List.{flat_map, join_with_byte}
 use Rattle.std.specs.Option.{option_map}
 use Rattle.irc_line.specs.Bytes.{space}
@@ -12,9 +13,33 @@ use Rattle.irc_numerics.specs.declared.replies.OnChannel.{OnChannel}
 use Rattle.irc_numerics.specs.declared.replies.Reply.{Reply}
 use Rattle.irc_numerics.specs.declared.replies.Mark.TheVariants.{Plain, Voiced, Operator}
 use Rattle.irc_numerics.specs.declared.replies.Visibility.TheVariants.{Public, Private, Secret}
-use Rattle.irc_numerics.specs.declared.replies.Reply.TheVariants.{Welcome, YourHost, Created, MyInfo, UserModeIs, LuserClient, LuserChannels, LuserMe, IsOn, WhoisUser, WhoisServer, EndOfWho, EndOfWhois, WhoisChannels, List as ListRow, ListEnd, ChannelModeIs, NoTopic, Topic, Inviting, WhoReply, NamReply, EndOfNames, BanList, EndOfBanList, NoSuchNick, NoSuchChannel, CannotSendToChan, TooManyChannels, TooManyTargets, NoOrigin, NoRecipient, NoTextToSend, UnknownCommand, NoMotd, NoNicknameGiven, ErroneousNickname, NicknameInUse, UserNotInChannel, NotOnChannel, UserOnChannel, NotRegistered, NeedMoreParams, AlreadyRegistered, KeySet, ChannelIsFull, UnknownMode, InviteOnlyChan, BannedFromChan, BadChannelKey, BanListFull, ChanOPrivsNeeded, UModeUnknownFlag, UsersDontMatch}
+use Rattle.irc_numerics.specs.declared.replies.Reply.TheVariants.{Welcome, YourHost, Created}
+use Rattle.irc_numerics.specs.declared.replies.Reply.TheVariants.{MyInfo, UserModeIs, LuserClient}
+use Rattle.irc_numerics.specs.declared.replies.Reply.TheVariants.{LuserChannels, LuserMe, IsOn}
+use Rattle.irc_numerics.specs.declared.replies.Reply.TheVariants.{WhoisUser, WhoisServer, EndOfWho}
+use Rattle.irc_numerics.specs.declared.replies.Reply.TheVariants.{EndOfWhois, WhoisChannels}
+use Rattle.irc_numerics.specs.declared.replies.Reply.TheVariants.{List as ListRow, ListEnd}
+use Rattle.irc_numerics.specs.declared.replies.Reply.TheVariants.{ChannelModeIs, NoTopic, Topic}
+use Rattle.irc_numerics.specs.declared.replies.Reply.TheVariants.{Inviting, WhoReply, NamReply}
+use Rattle.irc_numerics.specs.declared.replies.Reply.TheVariants.{EndOfNames, BanList, EndOfBanList}
+use Rattle.irc_numerics.specs.declared.replies.Reply.TheVariants.{NoSuchNick, NoSuchChannel}
+use Rattle.irc_numerics.specs.declared.replies.Reply.TheVariants.{CannotSendToChan, TooManyChannels}
+use Rattle.irc_numerics.specs.declared.replies.Reply.TheVariants.{TooManyTargets, NoOrigin}
+use Rattle.irc_numerics.specs.declared.replies.Reply.TheVariants.{NoRecipient, NoTextToSend}
+use Rattle.irc_numerics.specs.declared.replies.Reply.TheVariants.{UnknownCommand, NoMotd}
+use Rattle.irc_numerics.specs.declared.replies.Reply.TheVariants.{NoNicknameGiven}
+use Rattle.irc_numerics.specs.declared.replies.Reply.TheVariants.{ErroneousNickname, NicknameInUse}
+use Rattle.irc_numerics.specs.declared.replies.Reply.TheVariants.{UserNotInChannel, NotOnChannel}
+use Rattle.irc_numerics.specs.declared.replies.Reply.TheVariants.{UserOnChannel, NotRegistered}
+use Rattle.irc_numerics.specs.declared.replies.Reply.TheVariants.{NeedMoreParams, AlreadyRegistered}
+use Rattle.irc_numerics.specs.declared.replies.Reply.TheVariants.{KeySet, ChannelIsFull}
+use Rattle.irc_numerics.specs.declared.replies.Reply.TheVariants.{UnknownMode, InviteOnlyChan}
+use Rattle.irc_numerics.specs.declared.replies.Reply.TheVariants.{BannedFromChan, BadChannelKey}
+use Rattle.irc_numerics.specs.declared.replies.Reply.TheVariants.{BanListFull, ChanOPrivsNeeded}
+use Rattle.irc_numerics.specs.declared.replies.Reply.TheVariants.{UModeUnknownFlag, UsersDontMatch}
 
--- the words behind the reply name: those without a space, and the last, which is written behind a colon
+-- the words behind the reply name: those without a space, and the last, which is written behind a
+-- colon
 pub record ReplyWords : Type 0 where
   pub middle : List (List ℕ)
   pub last : Option (List ℕ)
@@ -61,7 +86,8 @@ on_channel place = mark_text place.mark ++ place.channel
 
 -- a channel and its modes, with its key behind them if there is one, and then its limit
 abbrev pub mode_words : List ℕ → List ℕ → Option (List ℕ) → Option (List ℕ) → List (List ℕ)
-mode_words channel modes key limit = (channel ∷ modes ∷ []) ++ option_to_list key ++ option_to_list limit
+mode_words channel modes key limit =
+    (channel ∷ modes ∷ []) ++ option_to_list key ++ option_to_list limit
 
 -- A row: the number of a reply, and the words behind the reply name.
 pub record ReplyRow : Type 0 where
@@ -79,16 +105,22 @@ bare number parameters = record { number = number; words = plain parameters }
 -- the table: each reply's number, parameters and text
 unfoldable pub table : Reply → ReplyRow
 table (Welcome nick user host) = says 001 []
-    (in_a_row (codes "Welcome to the Internet Relay Network " ∷ nick ∷ codes "!" ∷ user ∷ codes "@" ∷ host ∷ []))
-table (YourHost server) = says 002 [] (in_a_row (codes "Your host is " ∷ server ∷ codes ", running version treeircd-1" ∷ []))
-table (Created created) = says 003 [] (in_a_row (codes "This server was created " ∷ created.items ∷ []))
-table (MyInfo server) = bare 004 (server ∷ codes "treeircd-1" ∷ codes "i" ∷ codes "biklmnopstv" ∷ [])
+    (in_a_row (codes "Welcome to the Internet Relay Network " ∷ nick ∷ codes "!" ∷ user ∷ codes "@"
+    ∷ host ∷ []))
+table (YourHost server) = says 002 []
+    (in_a_row (codes "Your host is " ∷ server ∷ codes ", running version treeircd-1" ∷ []))
+table (Created created) =
+    says 003 [] (in_a_row (codes "This server was created " ∷ created.items ∷ []))
+table (MyInfo server) =
+    bare 004 (server ∷ codes "treeircd-1" ∷ codes "i" ∷ codes "biklmnopstv" ∷ [])
 table (UserModeIs invisible) = bare 221 ((if invisible then codes "+i" else codes "+") ∷ [])
 table (LuserClient users servers) = says 251 []
-    (in_a_row (codes "There are " ∷ decimal users ∷ codes " users and 0 services on " ∷ decimal servers ∷ codes " servers" ∷ []))
+    (in_a_row (codes "There are " ∷ decimal users ∷ codes " users and 0 services on "
+    ∷ decimal servers ∷ codes " servers" ∷ []))
 table (LuserChannels channels) = says 254 (decimal channels ∷ []) (codes "channels formed")
 table (LuserMe clients links) = says 255 []
-    (in_a_row (codes "I have " ∷ decimal clients ∷ codes " clients and " ∷ decimal links ∷ codes " servers" ∷ []))
+    (in_a_row (codes "I have " ∷ decimal clients ∷ codes " clients and " ∷ decimal links
+    ∷ codes " servers" ∷ []))
 table (IsOn nicks) = says 303 [] nicks.items
 table (WhoisUser nick user host real) = says 311 (nick ∷ user ∷ host ∷ codes "*" ∷ []) real
 table (WhoisServer nick server info) = says 312 (nick ∷ server ∷ []) info.items
@@ -103,26 +135,31 @@ table (NoTopic channel) = says 331 (channel ∷ []) (codes "No topic is set")
 table (Topic channel topic) = says 332 (channel ∷ []) topic.items
 table (Inviting channel nick) = bare 341 (channel ∷ nick ∷ [])
 table (WhoReply channel user host server nick mark hops real) = says 352
-    (unwrap_or channel (codes "*") ∷ user ∷ host ∷ server ∷ nick ∷ (codes "H" ++ mark_text mark) ∷ [])
+    (unwrap_or channel (codes "*") ∷ user ∷ host ∷ server ∷ nick
+    ∷ (codes "H" ++ mark_text mark) ∷ [])
     (in_a_row (decimal hops ∷ codes " " ∷ real ∷ []))
-table (NamReply visibility channel names) = says 353 (visibility_text visibility ∷ channel ∷ []) (spaced (map marked_nick names))
+table (NamReply visibility channel names) =
+    says 353 (visibility_text visibility ∷ channel ∷ []) (spaced (map marked_nick names))
 table (EndOfNames name) = says 366 (name.items ∷ []) (codes "End of NAMES list")
 table (BanList channel mask) = bare 367 (channel ∷ mask ∷ [])
 table (EndOfBanList channel) = says 368 (channel ∷ []) (codes "End of channel ban list")
 table (NoSuchNick name) = says 401 (name.items ∷ []) (codes "No such nick/channel")
 table (NoSuchChannel name) = says 403 (name.items ∷ []) (codes "No such channel")
 table (CannotSendToChan channel) = says 404 (channel ∷ []) (codes "Cannot send to channel")
-table (TooManyChannels channel) = says 405 (channel ∷ []) (codes "You have joined too many channels")
+table (TooManyChannels channel) =
+    says 405 (channel ∷ []) (codes "You have joined too many channels")
 table (TooManyTargets target) = says 407 (target.items ∷ []) (codes "Too many targets")
 table NoOrigin = says 409 [] (codes "No origin specified")
-table (NoRecipient command) = says 411 [] (in_a_row (codes "No recipient given (" ∷ command.items ∷ codes ")" ∷ []))
+table (NoRecipient command) =
+    says 411 [] (in_a_row (codes "No recipient given (" ∷ command.items ∷ codes ")" ∷ []))
 table NoTextToSend = says 412 [] (codes "No text to send")
 table (UnknownCommand command) = says 421 (command.items ∷ []) (codes "Unknown command")
 table NoMotd = says 422 [] (codes "MOTD File is missing")
 table NoNicknameGiven = says 431 [] (codes "No nickname given")
 table (ErroneousNickname nick) = says 432 (nick.items ∷ []) (codes "Erroneous nickname")
 table (NicknameInUse nick) = says 433 (nick ∷ []) (codes "Nickname is already in use")
-table (UserNotInChannel nick channel) = says 441 (nick.items ∷ channel ∷ []) (codes "They aren't on that channel")
+table (UserNotInChannel nick channel) =
+    says 441 (nick.items ∷ channel ∷ []) (codes "They aren't on that channel")
 table (NotOnChannel channel) = says 442 (channel ∷ []) (codes "You're not on that channel")
 table (UserOnChannel nick channel) = says 443 (nick ∷ channel ∷ []) (codes "is already on channel")
 table NotRegistered = says 451 [] (codes "You have not registered")
@@ -130,7 +167,8 @@ table (NeedMoreParams command) = says 461 (command.items ∷ []) (codes "Not eno
 table AlreadyRegistered = says 462 [] (codes "Unauthorized command (already registered)")
 table (KeySet channel) = says 467 (channel ∷ []) (codes "Channel key already set")
 table (ChannelIsFull channel) = says 471 (channel ∷ []) (codes "Cannot join channel (+l)")
-table (UnknownMode mode channel) = says 472 ((mode ∷ []) ∷ []) (in_a_row (codes "is unknown mode char to me for " ∷ channel ∷ []))
+table (UnknownMode mode channel) =
+    says 472 ((mode ∷ []) ∷ []) (in_a_row (codes "is unknown mode char to me for " ∷ channel ∷ []))
 table (InviteOnlyChan channel) = says 473 (channel ∷ []) (codes "Cannot join channel (+i)")
 table (BannedFromChan channel) = says 474 (channel ∷ []) (codes "Cannot join channel (+b)")
 table (BadChannelKey channel) = says 475 (channel ∷ []) (codes "Cannot join channel (+k)")
@@ -158,7 +196,12 @@ reply_name (Some nick) = nick
 
 -- the parts of a reply's line: the server, the number, the reply name, the words
 abbrev pub reply_parts : List ℕ → List ℕ → List ℕ → ReplyWords → Written
-reply_parts server name number words = record { sender = named server; command = number; middle = name ∷ words.middle; last = words.last }
+reply_parts server name number words = record {
+  sender = named server;
+  command = number;
+  middle = name ∷ words.middle;
+  last = words.last;
+}
 
 -- a number and words, written as a line for that client
 unfoldable pub numbered : List ℕ → List ℕ → List ℕ → ReplyWords → List ℕ

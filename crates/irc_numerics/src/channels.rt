@@ -86,7 +86,8 @@ fn mode_words_line<'a>(
     limit: Option<&'a [u8]>,
 ) -> Text
     ensures { result.items ≡ line_behind head.entry (codes "324")
-        (plain (mode_words channel.now modes.now (optional_now key.entry) (optional_now limit.entry))) }
+        (plain (mode_words channel.now modes.now (optional_now key.entry)
+        (optional_now limit.entry))) }
 {
     match (key, limit) {
         (None, None) => head.plain(b"324", &[channel, modes]),

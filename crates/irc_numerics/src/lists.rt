@@ -1,9 +1,11 @@
 //! Replies of lists: 352 to 368.
-ghost use Rattle.std.specs.Prelude.{◌≡◌, ◌<◌, [], ◌∷◌, ◌++◌, length, map, codes, decimal, unwrap_or};
+ghost use Rattle.std.specs.Prelude.{◌≡◌, ◌<◌, [], ◌∷◌, ◌++◌, length, map, codes, decimal};
+ghost use Rattle.std.specs.Prelude.{unwrap_or};
 ghost use Rattle.irc_line.specs.Bytes.{cut};
 ghost use Rattle.irc_line.specs.PartViews.{words_now};
 ghost use Rattle.irc_numerics.specs.Loops.Heads.{line_behind};
-ghost use Rattle.irc_numerics.specs.Replies.{reply_number, words, spaced, marked_nick, mark_text, visibility_text, saying, plain, in_a_row};
+ghost use Rattle.irc_numerics.specs.Replies.{reply_number, words, spaced, marked_nick, mark_text};
+ghost use Rattle.irc_numerics.specs.Replies.{visibility_text, saying, plain, in_a_row};
 ghost use Rattle.irc_numerics.specs.Loops.Places.{IsBehindChannels};
 
 use crate::refusals::refusal_line;
@@ -81,7 +83,8 @@ fn names_line<'a>(
     names: &[Listed],
 ) -> Text
     ensures { result.items ≡ line_behind head.entry (codes "353")
-        (saying (visibility_text visibility.now ∷ channel.now ∷ []) (spaced (map marked_nick names.now))) }
+        (saying (visibility_text visibility.now ∷ channel.now ∷ [])
+        (spaced (map marked_nick names.now))) }
 {
     head.cut_text(
         b"353",
@@ -92,7 +95,8 @@ fn names_line<'a>(
 
 /// The line of one ban of a channel.
 fn ban_line<'a>(head: Head<'_>, channel: &'a ChannelName, mask: &'a BanMask) -> Text
-    ensures { result.items ≡ line_behind head.entry (codes "367") (plain (channel.now ∷ mask.now ∷ [])) }
+    ensures { result.items ≡ line_behind head.entry (codes "367")
+        (plain (channel.now ∷ mask.now ∷ [])) }
 {
     head.plain(b"367", &[channel.as_bytes(), mask.as_bytes()])
 }

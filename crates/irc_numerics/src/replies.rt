@@ -125,8 +125,8 @@ impl Default for OnChannel {
     }
 }
 
-/// A numeric reply (RFC 2812 section 5), in the order of the numbers. It owns what it says, so that it outlives changes of what
-/// it was decided on.
+/// A numeric reply (RFC 2812 section 5), in the order of the numbers. It owns what it says, so that
+/// it outlives changes of what it was decided on.
 #[derive(Drop)]
 pub enum Reply {
     /// 001, with the user's full name.

@@ -43,7 +43,8 @@ pub(crate) fn statistics_line(head: Head<'_>, reply: &Reply) -> Text
 /// The first line that a user gets.
 fn welcome_line<'a>(head: Head<'_>, nick: &'a Nick, user: &'a UserName, host: &'a Host) -> Text
     ensures { result.items ≡ line_behind head.entry (codes "001")
-        (said (in_a_row (codes "Welcome to the Internet Relay Network " ∷ nick.now ∷ codes "!" ∷ user.now ∷ codes "@" ∷ host.now ∷ []))) }
+        (said (in_a_row (codes "Welcome to the Internet Relay Network " ∷ nick.now ∷ codes "!"
+        ∷ user.now ∷ codes "@" ∷ host.now ∷ []))) }
 {
     let welcome: &[u8] = b"Welcome to the Internet Relay Network ";
     head.telling(
@@ -63,7 +64,8 @@ fn welcome_line<'a>(head: Head<'_>, nick: &'a Nick, user: &'a UserName, host: &'
 /// The line that names the server.
 fn host_line(head: Head<'_>, server: &ServerName) -> Text
     ensures { result.items ≡ line_behind head.entry (codes "002")
-        (said (in_a_row (codes "Your host is " ∷ server.now ∷ codes ", running version treeircd-1" ∷ []))) }
+        (said (in_a_row
+        (codes "Your host is " ∷ server.now ∷ codes ", running version treeircd-1" ∷ []))) }
 {
     let version: &[u8] = b", running version treeircd-1";
     head.telling(b"002", &[], &[b"Your host is ", server.as_bytes(), version])
@@ -72,7 +74,8 @@ fn host_line(head: Head<'_>, server: &ServerName) -> Text
 /// The line that counts users and servers.
 fn client_line(head: Head<'_>, users: usize, servers: usize) -> Text
     ensures { result.items ≡ line_behind head.entry (codes "251")
-        (said (in_a_row (codes "There are " ∷ decimal users ∷ codes " users and 0 services on " ∷ decimal servers ∷ codes " servers" ∷ []))) }
+        (said (in_a_row (codes "There are " ∷ decimal users ∷ codes " users and 0 services on "
+        ∷ decimal servers ∷ codes " servers" ∷ []))) }
 {
     let mut first = Buffer::new();
     let mut second = Buffer::new();
@@ -85,7 +88,8 @@ fn client_line(head: Head<'_>, users: usize, servers: usize) -> Text
 
 fn client_counts<'a>(head: Head<'_>, users: &'a [u8], servers: &'a [u8]) -> Text
     ensures { result.items ≡ line_behind head.entry (codes "251")
-        (said (in_a_row (codes "There are " ∷ users.now ∷ codes " users and 0 services on " ∷ servers.now ∷ codes " servers" ∷ []))) }
+        (said (in_a_row (codes "There are " ∷ users.now ∷ codes " users and 0 services on "
+        ∷ servers.now ∷ codes " servers" ∷ []))) }
 {
     head.telling(
         b"251",
@@ -103,7 +107,8 @@ fn client_counts<'a>(head: Head<'_>, users: &'a [u8], servers: &'a [u8]) -> Text
 /// The line that counts a server's own clients and links.
 fn own_line(head: Head<'_>, clients: usize, links: usize) -> Text
     ensures { result.items ≡ line_behind head.entry (codes "255")
-        (said (in_a_row (codes "I have " ∷ decimal clients ∷ codes " clients and " ∷ decimal links ∷ codes " servers" ∷ []))) }
+        (said (in_a_row (codes "I have " ∷ decimal clients ∷ codes " clients and " ∷ decimal links
+        ∷ codes " servers" ∷ []))) }
 {
     let mut first = Buffer::new();
     let mut second = Buffer::new();
@@ -116,7 +121,8 @@ fn own_line(head: Head<'_>, clients: usize, links: usize) -> Text
 
 fn own_counts<'a>(head: Head<'_>, clients: &'a [u8], links: &'a [u8]) -> Text
     ensures { result.items ≡ line_behind head.entry (codes "255")
-        (said (in_a_row (codes "I have " ∷ clients.now ∷ codes " clients and " ∷ links.now ∷ codes " servers" ∷ []))) }
+        (said (in_a_row (codes "I have " ∷ clients.now ∷ codes " clients and " ∷ links.now
+        ∷ codes " servers" ∷ []))) }
 {
     head.telling(
         b"255",

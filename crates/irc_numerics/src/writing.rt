@@ -15,8 +15,9 @@ use irc_names::{ChannelName, Nick, ServerName, first_bytes};
 
 const NO_NAME: &[u8] = b"*";
 
-/// The line of a reply to a client, from its own server (RFC 2812 section 5). The reply name is the client's nickname, or `*`
-/// before it has one. A line that would be longer than a line can be is cut.
+/// The line of a reply to a client, from its own server (RFC 2812 section 5). The reply name is the
+/// client's nickname, or `*` before it has one. A line that would be longer than a line can be is
+/// cut.
 pub fn reply_line(server: &ServerName, nick: Option<&Nick>, reply: &Reply) -> Text
     ensures { result.items ≡ reply_text server.now (optional_now nick.entry) reply.now }
 {
@@ -57,14 +58,16 @@ impl Head<'_> {
     /// A reply of words without a space, and a text.
     pub(crate) fn saying(self, number: &[u8], words: &[&[u8]], text: &[u8]) -> Text
         requires { length words.now < MAX_PARAMETERS }
-        ensures { result.items ≡ line_behind self.entry number.now (saying (words_now words.now) text.now) }
+        ensures { result.items ≡ line_behind self.entry number.now
+            (saying (words_now words.now) text.now) }
     {
         self.write(number, words, Some(text))
     }
 
     /// A reply of a channel's name, and a text.
     pub(crate) fn on(self, number: &[u8], channel: &ChannelName, text: &[u8]) -> Text
-        ensures { result.items ≡ line_behind self.entry number.now (saying (channel.now ∷ []) text.now) }
+        ensures { result.items ≡ line_behind self.entry number.now
+            (saying (channel.now ∷ []) text.now) }
     {
         self.saying(number, &[channel.as_bytes()], text)
     }
@@ -82,7 +85,8 @@ impl Head<'_> {
     /// A reply of words without a space, and a text of which no line has room for more.
     pub(crate) fn cut_text(self, number: &[u8], words: &[&[u8]], text: &Line) -> Text
         requires { length words.now < MAX_PARAMETERS }
-        ensures { (whole : List ℕ) → text.now.items ≡ cut whole → result.items ≡ line_behind self.entry number.now
+        ensures { (whole : List ℕ) → text.now.items ≡ cut whole
+            → result.items ≡ line_behind self.entry number.now
             (saying (words_now words.now) whole) }
     {
         self.write(number, words, Some(text.as_slice()))
@@ -136,8 +140,10 @@ fn push(text: &mut Line, bytes: &[u8])
 
 /// Appends an entry of a list, which one space parts from the entry before it.
 pub(crate) fn push_entry(text: &mut Line, place: usize, mark: Mark, name: &[u8])
-    ensures first { place ≡ 0 → text.new.items ≡ cut (text.old.items ++ (mark_text mark ++ name.now)) }
-    ensures later { 0 < place → text.new.items ≡ cut (text.old.items ++ (space ∷ (mark_text mark ++ name.now))) }
+    ensures first { place ≡ 0
+        → text.new.items ≡ cut (text.old.items ++ (mark_text mark ++ name.now)) }
+    ensures later { 0 < place
+        → text.new.items ≡ cut (text.old.items ++ (space ∷ (mark_text mark ++ name.now))) }
 {
     if place == 0 {
         push_marked(text, mark, name);

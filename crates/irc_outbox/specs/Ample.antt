@@ -1,4 +1,5 @@
--- The memory for what connections give and take: that for all steps is taken before the first is served.
+-- The memory for what connections give and take: that for all steps is taken before the first is
+-- served.
 use Rattle.std.specs.Prelude.{◌≡◌, ℕ, ◌+◌, ◌≤◌, nat_eq, Option, Some, None, if◌then◌else◌}
 use Rattle.std.specs.Prelude.{vec_capacity, List, [], ◌∷◌, ◌++◌, length}
 use Rattle.std.specs.List.{sum_by}
@@ -51,8 +52,8 @@ abbrev pub room_of : Option Far → ℕ
 room_of None = 0
 room_of (Some far) = far.room
 
--- There is memory for all that a connection may yet give and take: for what is at hand, for its room,
--- and for what the steps give and let be written that are left.
+-- There is memory for all that a connection may yet give and take: for what is at hand, for its
+-- room, and for what the steps give and let be written that are left.
 abbrev pub IsAmpleAt : ℕ → Option Far → Option ℕ → List ℕ → List WireStep → Type 0
 IsAmpleAt q far hand bytes left =
     (count_in far + at_hand q hand bytes + given_of q left ≤ memory_in far)

@@ -1,12 +1,16 @@
--- What was asked of a wire and what it answered, call by call; and what such an account says of each connection.
-use Rattle.std.specs.Prelude.{ℕ, ⊤, ◌≤◌, Bool, true, false, ◌&&◌, nat_eq, nat_lt, Option, Some, None, Result, Ok, Err, List, [], ◌∷◌, ◌++◌, length, take, count_by, if◌then◌else◌}
+-- What was asked of a wire and what it answered, call by call; and what such an account says of
+-- each connection.
+use Rattle.std.specs.Prelude.{ℕ, ⊤, ◌≤◌, Bool, true, false, ◌&&◌, nat_eq, nat_lt, Option, Some}
+use Rattle.std.specs.Prelude.{None, Result, Ok, Err, List, [], ◌∷◌, ◌++◌, length, take, count_by}
+use Rattle.std.specs.Prelude.{if◌then◌else◌}
 use Rattle.std.specs.List.{flat_map}
 use Rattle.irc_outbox.specs.declared.wire.Ready.{Ready}
 use Rattle.irc_outbox.specs.declared.wire.Got.{Got}
 use Rattle.irc_outbox.specs.declared.wire.Got.TheVariants.{Bytes, Later, End}
 use Rattle.irc_outbox.specs.declared.wire.IoFault.{IoFault}
 
--- One call and its answer. Of a read: how many bytes were wanted at most, and which came. Of a write: the bytes that were offered.
+-- One call and its answer. Of a read: how many bytes were wanted at most, and which came. Of a
+-- write: the bytes that were offered.
 pub data Call : Type 0 where
   asks : (answer : Result Ready IoFault) → Call
   reads : (conn room : ℕ) (answer : Result Got IoFault) (bytes : List ℕ) → Call
@@ -15,7 +19,8 @@ pub data Call : Type 0 where
 
 -- Whatever calls the wire may have answered before, it may have answered these and this one now.
 abbrev pub Adds : {W : Type 0} → (W → List Call → Type 0) → W → Call → W → Type 0
-Adds is_after old call new = (calls : List Call) → is_after old calls → is_after new (calls ++ call ∷ [])
+Adds is_after old call new = (calls : List Call) → is_after old calls
+    → is_after new (calls ++ call ∷ [])
 
 -- Whatever calls the wire may have answered before, it may have answered just these now.
 abbrev pub Keeps : {W : Type 0} → (W → List Call → Type 0) → W → W → Type 0
@@ -44,7 +49,8 @@ abbrev pub last_report : List Call → Option (Result Ready IoFault)
 last_report [] = None
 last_report (asks answer ∷ calls) = later_report (Some answer) (last_report calls)
   where
-    later_report : Option (Result Ready IoFault) → Option (Result Ready IoFault) → Option (Result Ready IoFault)
+    later_report : Option (Result Ready IoFault) → Option (Result Ready IoFault)
+        → Option (Result Ready IoFault)
     later_report first None = first
     later_report first (Some answer) = Some answer
 last_report (call ∷ calls) = last_report calls

@@ -1,5 +1,8 @@
--- What a wire in memory tells of a connection: what it gave and took, whether it was closed, and how it stands.
-use Rattle.std.specs.Prelude.{◌≡◌, ℕ, ◌-◌, ◌≤◌, vec_capacity, ⊤, Bool, true, false, nat_eq, IfSome, Option, Some, None, Result, List, [], ◌∷◌, ◌++◌, length, if◌then◌else◌}
+-- What a wire in memory tells of a connection: what it gave and took, whether it was closed, and
+-- how it stands.
+use Rattle.std.specs.Prelude.{◌≡◌, ℕ, ◌-◌, ◌≤◌, vec_capacity, ⊤, Bool, true, false, nat_eq, IfSome}
+use Rattle.std.specs.Prelude.{Option, Some, None, Result, List, [], ◌∷◌, ◌++◌, length}
+use Rattle.std.specs.Prelude.{if◌then◌else◌}
 use Rattle.std.specs.List.{list_any}
 use Rattle.std.specs.Option.{option_map}
 use Rattle.std.specs.Ordering.{nat_cmp}
@@ -9,8 +12,9 @@ use Rattle.irc_outbox.specs.declared.wire.Got.{Got}
 use Rattle.irc_outbox.specs.declared.wire.IoFault.{IoFault}
 use Rattle.irc_outbox.specs.Calls.{Call, reads, taken, written, is_close_of}
 
--- The bytes that were read from it and those that were written to it; whether it was closed, whether its number was reported, whether it has ended, whether
--- the next read and the next write fail, and how many bytes it takes.
+-- The bytes that were read from it and those that were written to it; whether it was closed,
+-- whether its number was reported, whether it has ended, whether the next read and the next write
+-- fail, and how many bytes it takes.
 pub record WireTold : Type 0 where
   pub taken : List ℕ
   pub written : List ℕ
@@ -99,13 +103,17 @@ pub record KeepsMemory (old new : Far) : Type 0 where
 
 -- what is told of one connection has changed so, if a step names it
 pub data Changes (conn : ℕ) (change : WireTold → WireTold) (old new : BTreeMap ℕ Far) : Type 0 where
-  at_far : (far now : Far) → far_at old conn ≡ Some far → ((q : ℕ) → far_at new q ≡ (if nat_eq conn q then Some now else far_at old q)) → told_by_far now ≡ change (told_by_far far)
-      → KeepsMemory far now → Changes conn change old new
-  no_far : far_at old conn ≡ None → ((q : ℕ) → far_at new q ≡ far_at old q) → Changes conn change old new
+  at_far : (far now : Far) → far_at old conn ≡ Some far
+      → ((q : ℕ) → far_at new q ≡ (if nat_eq conn q then Some now else far_at old q))
+      → told_by_far now ≡ change (told_by_far far) → KeepsMemory far now
+      → Changes conn change old new
+  no_far : far_at old conn ≡ None → ((q : ℕ) → far_at new q ≡ far_at old q)
+      → Changes conn change old new
 
 -- a connection is there from now on
 abbrev pub IsFarAdded : BTreeMap ℕ Far → ℕ → Far → BTreeMap ℕ Far → Type 0
-IsFarAdded old conn far new = (q : ℕ) → far_at new q ≡ (if nat_eq conn q then Some far else far_at old q)
+IsFarAdded old conn far new =
+    (q : ℕ) → far_at new q ≡ (if nat_eq conn q then Some far else far_at old q)
 
 -- whatever was told still is
 abbrev pub StillTold : BTreeMap ℕ Far → BTreeMap ℕ Far → Type 0
@@ -114,4 +122,5 @@ StillTold old new = (calls : List Call) → AllWiresTold old calls → AllWiresT
 -- a connection has given these bytes to a read
 abbrev pub Gives : ℕ → List ℕ → BTreeMap ℕ Far → BTreeMap ℕ Far → Type 0
 Gives conn bytes old new =
-    (calls : List Call) (room : ℕ) (answer : Result Got IoFault) → AllWiresTold old calls → AllWiresTold new (calls ++ reads conn room answer bytes ∷ [])
+    (calls : List Call) (room : ℕ) (answer : Result Got IoFault) → AllWiresTold old calls
+    → AllWiresTold new (calls ++ reads conn room answer bytes ∷ [])

@@ -14,7 +14,8 @@ holding bytes room = record { bytes = bytes; room = room }
 
 -- All of the bytes are behind what was there, or they do not fit and nothing has changed.
 abbrev pub IsPushed : Held → List ℕ → Result (Unit {0}) Overflow → Held → Type 0
-IsPushed old bytes (Ok done) new = (length old.bytes + length bytes ≤ old.room) × (new ≡ holding (old.bytes ++ bytes) old.room)
+IsPushed old bytes (Ok done) new =
+    (length old.bytes + length bytes ≤ old.room) × (new ≡ holding (old.bytes ++ bytes) old.room)
 IsPushed old bytes (Err overflow) new = (old.room < length old.bytes + length bytes) × (new ≡ old)
 
 -- bytes at the front of others; not none of them where there are some
@@ -23,8 +24,10 @@ pub record IsFront (bytes front : List ℕ) : Type 0 where
   pub bytes_are : bytes ≡ front ++ behind
   pub some : 0 < length bytes → 0 < length front
 
--- One write was made, of bytes at the front of the outbox; just those that the wire took have left it.
-pub record WritesSome {W : Type 0} (is_after : W → List Call → Type 0) (conn : ℕ) (old : Held) (wire : W) (result : Result ℕ IoFault) (new : Held) (wire_after : W)
+-- One write was made, of bytes at the front of the outbox; just those that the wire took have left
+-- it.
+pub record WritesSome {W : Type 0} (is_after : W → List Call → Type 0) (conn : ℕ) (old : Held)
+    (wire : W) (result : Result ℕ IoFault) (new : Held) (wire_after : W)
     : Type 0 where
   pub front : List ℕ
   pub is_front : IsFront old.bytes front

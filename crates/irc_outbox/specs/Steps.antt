@@ -1,5 +1,6 @@
 -- The steps of a wire in memory: what each is reported as, and how its connection stands then.
-use Rattle.std.specs.Prelude.{ℕ, ◌+◌, ◌-◌, ◌^◌, Bool, true, false, not, ◌&&◌, min, max, Option, Some, None, List, [], length, if◌then◌else◌}
+use Rattle.std.specs.Prelude.{ℕ, ◌+◌, ◌-◌, ◌^◌, Bool, true, false, not, ◌&&◌, min, max, Option}
+use Rattle.std.specs.Prelude.{Some, None, List, [], length, if◌then◌else◌}
 use Rattle.std.specs.List.{fold}
 use Rattle.std.specs.BTreeMap.{BTreeMap}
 use Rattle.irc_outbox.specs.declared.memory.Far.{Far}
@@ -40,7 +41,8 @@ abbrev pub giver_of : WireStep → Option ℕ
 giver_of (step.Bytes conn bytes) = Some conn
 giver_of step = None
 
--- Whether a step is reported, as its connection stands: one that reports a number, if none did before; any other, if one did, and the connection is not closed.
+-- Whether a step is reported, as its connection stands: one that reports a number, if none did
+-- before; any other, if one did, and the connection is not closed.
 abbrev pub is_reported : WireStep → WireTold → Bool
 is_reported (step.Client conn host) t = not t.known
 is_reported (step.Linked conn name) t = not t.known

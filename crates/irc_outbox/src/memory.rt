@@ -1,8 +1,13 @@
 //! A wire in memory: it serves a list of steps, and keeps what each connection gave and took.
-ghost use Rattle.std.specs.Prelude.{◌≡◌, ◌+◌, ◌≤◌, ◌++◌, [], drop, length, false, min, take, vec_capacity, IfOk, IsSome, OnOk};
-ghost use Rattle.irc_outbox.specs.Ample.{ArePlanned, HasMemoryFor, HasMemoryOut, IsAmple, Plans, PlansAt, StayPlanned};
-ghost use Rattle.irc_outbox.specs.Memory.{ended_at, far_at, fresh_told, same_told, told_by_far, told_at, told_or_none, with_close, with_taken, with_written, AllFresh, Changes, IsFarAdded, KeepsMemory};
-ghost use Rattle.irc_outbox.specs.Steps.{step_bytes, step_conn, failed_once, fails, fails_at, giver_of, is_reported, is_reported_at, meets, step_report};
+ghost use Rattle.std.specs.Prelude.{◌≡◌, ◌+◌, ◌≤◌, ◌++◌, [], drop, length, false, min, take};
+ghost use Rattle.std.specs.Prelude.{vec_capacity, IfOk, IsSome, OnOk};
+ghost use Rattle.irc_outbox.specs.Ample.{ArePlanned, HasMemoryFor, HasMemoryOut, IsAmple, Plans};
+ghost use Rattle.irc_outbox.specs.Ample.{PlansAt, StayPlanned};
+ghost use Rattle.irc_outbox.specs.Memory.{ended_at, far_at, fresh_told, same_told, told_by_far};
+ghost use Rattle.irc_outbox.specs.Memory.{told_at, told_or_none, with_close, with_taken};
+ghost use Rattle.irc_outbox.specs.Memory.{with_written, AllFresh, Changes, IsFarAdded, KeepsMemory};
+ghost use Rattle.irc_outbox.specs.Steps.{step_bytes, step_conn, failed_once, fails, fails_at};
+ghost use Rattle.irc_outbox.specs.Steps.{giver_of, is_reported, is_reported_at, meets, step_report};
 
 use crate::outbox::append;
 use crate::wire::{Got, IoFault, Ready, Unreached, Wire};
@@ -17,7 +22,8 @@ use std::mem::replace;
 pub enum WireStep {
     /// A client connects, from a host, under a number that is new.
     Client(u64, Host),
-    /// A server is connected, under a number that is new; the name is the one that was called, where this side called it.
+    /// A server is connected, under a number that is new; the name is the one that was called,
+    /// where this side called it.
     Linked(u64, Option<ServerName>),
     /// Bytes come from a connection.
     Bytes(u64, Vec<u8, Global>),
@@ -51,8 +57,9 @@ struct Far {
     write_fails: bool,
 }
 
-/// A wire in memory. It serves its steps in order, one for each report. It passes over steps of a number that was not reported yet, or that is
-/// closed, and over those that report a number again. The memory for all that they let it hold is taken at the start.
+/// A wire in memory. It serves its steps in order, one for each report. It passes over steps of a
+/// number that was not reported yet, or that is closed, and over those that report a number again.
+/// The memory for all that they let it hold is taken at the start.
 #[derive(Drop)]
 pub struct MemoryWire {
     steps: Vec<WireStep, Global>,
@@ -210,7 +217,8 @@ impl Far {
     /// Takes what it can of bytes that are written to it, and tells how many.
     fn take(&mut self, bytes: &[u8]) -> usize
         requires { length self.old.written.items + self.old.room ≤ vec_capacity self.old.written }
-        ensures told { told_by_far self.new ≡ with_written (take result bytes.now) (told_by_far self.old) }
+        ensures told { told_by_far self.new ≡ with_written (take result bytes.now)
+            (told_by_far self.old) }
         ensures count { result ≡ min self.old.room (length bytes.now) }
         ensures memory { KeepsMemory self.old self.new }
     {
@@ -223,7 +231,8 @@ impl Far {
 
 impl MemoryWire {
     ghost use Rattle.irc_outbox.specs.Memory.{AllWiresTold, Gives, StillTold};
-    ghost use Rattle.irc_outbox.specs.Serving.{again_of, given_now, is_at_hand, left_of, GivesFirst, Reports, ServesNext};
+    ghost use Rattle.irc_outbox.specs.Serving.{again_of, given_now, is_at_hand, left_of};
+    ghost use Rattle.irc_outbox.specs.Serving.{GivesFirst, Reports, ServesNext};
     ghost use Rattle.irc_outbox.specs.Steps.{longest_of};
 
     /// A wire that serves these steps, with the room for all that they let it hold.
@@ -513,7 +522,8 @@ impl Wire for MemoryWire {
     }
 
     fn read(&mut self, conn: u64, buffer: &mut [u8]) -> Result<Got, IoFault>
-        ensures account { Adds MayHaveAnswered self.old (read_into conn buffer.old result buffer.new) self.new }
+        ensures account { Adds MayHaveAnswered self.old
+            (read_into conn buffer.old result buffer.new) self.new }
         ensures within { FitsIn result (length buffer.old) }
         ensures answer { result ≡ answer_of_read conn (length buffer.old) self.old }
     {

@@ -15,7 +15,8 @@ pub enum Overflow {
     TooLong,
 }
 
-/// Bytes that wait for a connection to take them, in order. There is room for a fixed number of them.
+/// Bytes that wait for a connection to take them, in order. There is room for a fixed number of
+/// them.
 ///
 /// They lie in one piece, so one write offers all of them, and in front of them lie at most as
 /// many that were written. So the next ones begin at the front of the memory where none wait, and
@@ -86,7 +87,8 @@ impl Outbox {
         Ok(())
     }
 
-    /// Writes once to a connection, from the front on, and tells how many bytes the wire took: just these leave the outbox.
+    /// Writes once to a connection, from the front on, and tells how many bytes the wire took: just
+    /// these leave the outbox.
     ///
     /// # Errors
     /// Where the device failed in this write. The outbox is as it was.

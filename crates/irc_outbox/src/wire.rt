@@ -1,6 +1,7 @@
 //! What carries bytes, as sockets do: it tells what is ready, reads, writes and closes.
 ghost use Rattle.std.specs.Prelude.{List, ◌≤◌, length, IfOk};
-ghost use Rattle.irc_outbox.specs.Calls.{Call, asks, read_into, writes, closes, Adds, FitsIn, Keeps};
+ghost use Rattle.irc_outbox.specs.Calls.{Call, asks, read_into, writes, closes, Adds, FitsIn};
+ghost use Rattle.irc_outbox.specs.Calls.{Keeps};
 
 use irc_names::{Host, ServerName};
 use std::io;
@@ -13,7 +14,8 @@ pub enum Ready {
     Idle,
     /// A client has connected, from a host; its connection has this number from now on.
     Client(u64, Host),
-    /// A server is connected, by this number. The name is the one that was called, where this side called it.
+    /// A server is connected, by this number. The name is the one that was called, where this side
+    /// called it.
     Linked(u64, Option<ServerName>),
     /// A connection has bytes, or has ended.
     Readable(u64),
@@ -49,9 +51,11 @@ pub struct Unreached {
     pub error: io::Error,
 }
 
-/// A device with connections, each under a number. Each call is one step in the account of what was asked and answered.
+/// A device with connections, each under a number. Each call is one step in the account of what was
+/// asked and answered.
 pub trait Wire {
-    /// Whether these may be the calls so far, with their answers. A device that keeps no account of them takes any for possible.
+    /// Whether these may be the calls so far, with their answers. A device that keeps no account of
+    /// them takes any for possible.
     ghost is_after: { Self → List Call → Type 0 };
 
     /// Tells one thing that is ready.
@@ -66,11 +70,13 @@ pub trait Wire {
     /// # Errors
     /// Where the device failed in this call.
     fn read(&mut self, conn: u64, buffer: &mut [u8]) -> Result<Got, IoFault>
-        ensures account { Adds is_after self.old (read_into conn buffer.old result buffer.new) self.new }
+        ensures account { Adds is_after self.old
+            (read_into conn buffer.old result buffer.new) self.new }
         ensures within { FitsIn result (length buffer.old) };
 
-    /// Writes bytes to a connection, from their front on, and tells how many it took: 0 where it takes none yet. So many more wait `behind` them,
-    /// which is for a device that slows whoever fills one: it is no part of the account.
+    /// Writes bytes to a connection, from their front on, and tells how many it took: 0 where it
+    /// takes none yet. So many more wait `behind` them, which is for a device that slows whoever
+    /// fills one: it is no part of the account.
     ///
     /// # Errors
     /// Where the device failed in this call: it took none.
@@ -82,12 +88,13 @@ pub trait Wire {
     fn close(&mut self, conn: u64)
         ensures { Adds is_after self.old (closes conn) self.new };
 
-    /// The server that the device would call, if it would call one. Whether that server is known here is to be told by [`Wire::know`], before
-    /// `ready` is asked again.
+    /// The server that the device would call, if it would call one. Whether that server is known
+    /// here is to be told by [`Wire::know`], before `ready` is asked again.
     fn would_call(&self) -> Option<&ServerName>;
 
-    /// Tells whether the server that the device would call is known here, by any way: if it is, it is not called. This side yields where the other
-    /// one should call first. It is no part of the account.
+    /// Tells whether the server that the device would call is known here, by any way: if it is, it
+    /// is not called. This side yields where the other one should call first. It is no part of the
+    /// account.
     fn know(&mut self, is_known: bool, yields: bool)
         ensures { Keeps is_after self.old self.new };
 

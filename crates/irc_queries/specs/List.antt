@@ -1,5 +1,6 @@
 -- LIST.
-use Rattle.std.specs.Prelude.{ℕ, Option, Some, None, List, [], ◌∷◌, ◌++◌, length, map, filter, if◌then◌else◌}
+use Rattle.std.specs.Prelude.{ℕ, Option, Some, None, List, [], ◌∷◌, ◌++◌, length, map, filter}
+use Rattle.std.specs.Prelude.{if◌then◌else◌}
 use Rattle.std.specs.List.{flat_map}
 use Rattle.std.specs.FinMap.{values}
 use Rattle.irc_names.specs.Fold.{key}
@@ -17,7 +18,8 @@ use Rattle.irc_answers.specs.Names.{named_members}
 
 -- a channel, how many of its members NAMES would name to this user, and its topic
 abbrev pub channel_entry : Table User → User → Channel → Act
-channel_entry users me channel = Answer (ListRow channel.name (length (named_members users me channel)) (bytes_kept channel.topic))
+channel_entry users me channel = Answer
+    (ListRow channel.name (length (named_members users me channel)) (bytes_kept channel.topic))
 
 -- of each of these channels that is listed
 abbrev pub listed_entries : Table User → User → List Channel → List Act
@@ -26,7 +28,8 @@ listed_entries users me channels = map (channel_entry users me) (filter (is_list
 -- of a channel that is there and known
 abbrev pub known_entry : Table User → User → Option Channel → List Act
 known_entry users me None = []
-known_entry users me (Some channel) = if is_known me channel then channel_entry users me channel ∷ [] else []
+known_entry users me (Some channel) =
+    if is_known me channel then channel_entry users me channel ∷ [] else []
 
 -- of one name that is asked for; nothing is told of a name that is no channel
 abbrev pub asked_entry : Room → User → List ℕ → List Act
@@ -35,4 +38,5 @@ asked_entry room me name = known_entry room.users me (row room.channels (key nam
 -- what a LIST does (RFC 2812 section 3.2.6)
 unfoldable pub list_steps : Room → User → List (List ℕ) → List Act
 list_steps room me [] = listed_entries room.users me (values room.channels) ++ Answer ListEnd ∷ []
-list_steps room me (list ∷ more) = flat_map (asked_entry room me) (entries list) ++ Answer ListEnd ∷ []
+list_steps room me (list ∷ more) =
+    flat_map (asked_entry room me) (entries list) ++ Answer ListEnd ∷ []

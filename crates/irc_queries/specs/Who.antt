@@ -1,5 +1,6 @@
 -- WHO.
-use Rattle.std.specs.Prelude.{ℕ, Bool, false, ◌&&◌, ◌||◌, Option, Some, None, List, [], ◌∷◌, ◌++◌, codes, map, filter, nat_eq, if◌then◌else◌}
+use Rattle.std.specs.Prelude.{ℕ, Bool, false, ◌&&◌, ◌||◌, Option, Some, None, List, [], ◌∷◌, ◌++◌}
+use Rattle.std.specs.Prelude.{codes, map, filter, nat_eq, if◌then◌else◌}
 use Rattle.std.specs.Cmp.Lexicographic.{pointwise}
 use Rattle.std.specs.List.{filter_map}
 use Rattle.std.specs.Option.{option_and_then, option_map_or}
@@ -29,15 +30,18 @@ hops_to place home = option_map_or (λ server. server.distance) (server_named pl
 -- a user, and what it is in the channel that was asked for, if one was
 abbrev pub user_line : Place → Option (List ℕ) → Mark → User → Act
 user_line place channel mark user =
-    Answer (WhoReply channel user.user user.host user.home user.nick mark (hops_to place user.home) user.real)
+    Answer (WhoReply channel user.user user.host user.home user.nick mark
+    (hops_to place user.home) user.real)
 
 -- a member of a channel, where it is seen
 abbrev pub member_if_seen : Place → (User → Bool) → Channel → Flags → User → Option Act
-member_if_seen place seen channel flags user = if seen user then Some (user_line place (Some channel.name) (mark_of flags) user) else None
+member_if_seen place seen channel flags user =
+    if seen user then Some (user_line place (Some channel.name) (mark_of flags) user) else None
 
 -- a row of a channel's members, by the user whose it is
 abbrev pub member_line : Room → Place → (User → Bool) → Channel → List ℕ × Flags → Option Act
-member_line room place seen channel member = option_and_then (member_if_seen place seen channel member.1) (row room.users member.0)
+member_line room place seen channel member =
+    option_and_then (member_if_seen place seen channel member.1) (row room.users member.0)
 
 -- the members of a channel that is there and known, in folded order
 abbrev pub replies_of_members : Room → Place → (User → Bool) → User → Option Channel → List Act
@@ -53,7 +57,8 @@ is_asked_for mask user = pointwise nat_eq mask (codes "0") || is_found_by mask u
 
 -- those of some users that are asked for and seen
 abbrev pub replies_of_users : Place → (User → Bool) → List ℕ → List User → List Act
-replies_of_users place seen mask users = map (user_line place None Plain) (filter (λ user. is_asked_for mask user && seen user) users)
+replies_of_users place seen mask users =
+    map (user_line place None Plain) (filter (λ user. is_asked_for mask user && seen user) users)
 
 -- what is told to one who sees these users
 abbrev pub replies_of_seen : Room → Place → (User → Bool) → User → List ℕ → List Act
@@ -76,5 +81,7 @@ end_of_who asked = Answer (EndOfWho (client_words asked))
 
 -- What a WHO does (RFC 2812 section 3.6.1): a 0, or no parameter, asks for all users.
 unfoldable pub who_steps : Room → Place → User → List (List ℕ) → List Act
-who_steps room place me [] = who_replies room place me (codes "0") ++ end_of_who (asterisk ∷ []) ∷ []
-who_steps room place me (asked ∷ more) = (if asks_for_operators more then [] else who_replies room place me asked) ++ end_of_who asked ∷ []
+who_steps room place me [] =
+    who_replies room place me (codes "0") ++ end_of_who (asterisk ∷ []) ∷ []
+who_steps room place me (asked ∷ more) = (if asks_for_operators more then []
+    else who_replies room place me asked) ++ end_of_who asked ∷ []

@@ -9,7 +9,9 @@ use Rattle.irc_channels.specs.declared.flags.Flags.{Flags}
 use Rattle.irc_channels.specs.declared.channel.Channel.{Channel}
 use Rattle.irc_numerics.specs.Limits.{max_whois_channels}
 use Rattle.irc_numerics.specs.declared.replies.OnChannel.{OnChannel}
-use Rattle.irc_numerics.specs.declared.replies.Reply.TheVariants.{NoNicknameGiven, NoSuchNick, WhoisUser, WhoisServer, WhoisChannels, EndOfWhois}
+use Rattle.irc_numerics.specs.declared.replies.Reply.TheVariants.{NoNicknameGiven, NoSuchNick}
+use Rattle.irc_numerics.specs.declared.replies.Reply.TheVariants.{WhoisUser, WhoisServer}
+use Rattle.irc_numerics.specs.declared.replies.Reply.TheVariants.{WhoisChannels, EndOfWhois}
 use Rattle.irc_room.specs.Room.{Room}
 use Rattle.irc_routes.specs.Place.{Place, server_named}
 use Rattle.irc_acts.specs.declared.act.Act.{Act}
@@ -30,7 +32,8 @@ placed_in channel flags = record { mark = mark_of flags; channel = channel.name 
 
 -- such a channel, where it is listed for the asker
 abbrev pub place_in : User → User → Channel → Option OnChannel
-place_in me user channel = if is_listed me channel then option_map (placed_in channel) (row channel.members (key user.nick)) else None
+place_in me user channel = if is_listed me channel
+    then option_map (placed_in channel) (row channel.members (key user.nick)) else None
 
 -- the channels of a user that are listed for the asker, in folded order
 abbrev pub places : Room → User → User → List OnChannel
@@ -40,7 +43,8 @@ places room me user = filter_map (place_in me user) (own_channels room user)
 abbrev pub channels_line : User → List OnChannel → Act
 channels_line user channels = Answer (WhoisChannels user.nick (record { items = channels }))
 
--- what a user says of itself, its server, and its channels; where none is listed there is no line of them
+-- what a user says of itself, its server, and its channels; where none is listed there is no line
+-- of them
 abbrev pub whois_replies : Room → Place → User → User → List Act
 whois_replies room place me user =
     Answer (WhoisUser user.nick user.user user.host user.real)
@@ -58,9 +62,11 @@ told_of_one room place me name = told_if_there room place me name (row room.user
 
 -- of each nickname of a comma list; one end stands behind all
 abbrev pub told_of_list : Room → Place → User → List ℕ → List Act
-told_of_list room place me list = flat_map (told_of_one room place me) (entries list) ++ Answer (EndOfWhois (client_words list)) ∷ []
+told_of_list room place me list = flat_map (told_of_one room place me) (entries list)
+    ++ Answer (EndOfWhois (client_words list)) ∷ []
 
--- what a WHOIS does (RFC 2812 section 3.6.2); of two parameters the first names a server, which makes no difference
+-- what a WHOIS does (RFC 2812 section 3.6.2); of two parameters the first names a server, which
+-- makes no difference
 unfoldable pub whois_steps : Room → Place → User → List (List ℕ) → List Act
 whois_steps room place me [] = Answer NoNicknameGiven ∷ []
 whois_steps room place me (list ∷ []) = told_of_list room place me list

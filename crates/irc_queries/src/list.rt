@@ -5,7 +5,8 @@ ghost use Rattle.irc_line.specs.PartViews.{words_now};
 ghost use Rattle.irc_acts.specs.CommaLists.{entries};
 ghost use Rattle.irc_acts.specs.declared.act.Act.TheVariants.{Answer};
 ghost use Rattle.irc_queries.specs.List.{channel_entry};
-ghost use Rattle.irc_queries.specs.Loops.Saying.{AnswersList, SaysAllListed, SaysEntry, SaysListed, SaysNamed, is_named_row, named_here};
+ghost use Rattle.irc_queries.specs.Loops.Saying.{AnswersList, SaysAllListed, SaysEntry, SaysListed};
+ghost use Rattle.irc_queries.specs.Loops.Saying.{SaysNamed, is_named_row, named_here};
 ghost use Rattle.irc_queries.specs.Laws.ListLaw.{ListOnlyAnswers};
 
 use crate::saying::say;

@@ -10,8 +10,8 @@ use irc_acts::Context;
 use irc_batch::Batch;
 use std::alloc::AllocError;
 
-/// A question whose answers may be as many as the room has users or channels, so that they are put out one by one and never listed
-/// (RFC 2812 sections 3.2.6 and 3.6.1).
+/// A question whose answers may be as many as the room has users or channels, so that they are put
+/// out one by one and never listed (RFC 2812 sections 3.2.6 and 3.6.1).
 #[derive(Clone, Copy)]
 pub enum Query {
     /// LIST

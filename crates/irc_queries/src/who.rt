@@ -6,8 +6,11 @@ ghost use Rattle.irc_tables.specs.RowViews.{row_entry};
 ghost use Rattle.irc_numerics.specs.declared.replies.Mark.TheVariants.{Plain};
 ghost use Rattle.irc_routes.specs.Known.{place_of};
 ghost use Rattle.irc_acts.specs.declared.act.Act.TheVariants.{Answer};
-ghost use Rattle.irc_queries.specs.Who.{asks_for_operators, end_of_who, hops_to, is_asked_for, user_line};
-ghost use Rattle.irc_queries.specs.Loops.Saying.{AnswersWho, SaysAll, SaysAllMembers, SaysAllUsers, SaysFound, SaysMembers, SaysSeen, SaysTold, SaysUsers};
+ghost use Rattle.irc_queries.specs.Who.{asks_for_operators, end_of_who, hops_to, is_asked_for};
+ghost use Rattle.irc_queries.specs.Who.{user_line};
+ghost use Rattle.irc_queries.specs.Loops.Saying.{AnswersWho, SaysAll, SaysAllMembers, SaysAllUsers};
+ghost use Rattle.irc_queries.specs.Loops.Saying.{SaysFound, SaysMembers, SaysSeen, SaysTold};
+ghost use Rattle.irc_queries.specs.Loops.Saying.{SaysUsers};
 ghost use Rattle.irc_queries.specs.Laws.WhoLaw.{WhoOnlyAnswers};
 
 use crate::own_rows::own_rows;
@@ -167,7 +170,8 @@ fn say_member(
     out: &mut Batch,
 ) -> Result<(), AllocError>
     ensures ok { OnOk result
-        (SaysMembers context.now own.now channel.now (row_entry member.now ∷ []) conn out.old out.new) }
+        (SaysMembers context.now own.now channel.now
+        (row_entry member.now ∷ []) conn out.old out.new) }
     ensures grew { Grew out.old.outs out.new.outs }
 {
     match context.room.user(member.name.as_slice()) {

@@ -7,7 +7,10 @@ ghost use Rattle.irc_acts.specs.declared.act.Act.TheVariants.{Answer};
 ghost use Rattle.irc_acts.specs.Acts.{client_words};
 ghost use Rattle.irc_acts.specs.CommaLists.{entries};
 ghost use Rattle.irc_queries.specs.Whois.{channels_line, info_of, place_in};
-ghost use Rattle.irc_queries.specs.Loops.Telling.{AddsSteps, CameChannels, CameListed, channels_now, each_here, lines_of, list_here, one_here, places_here, home_told, user_here, whois_here};
+ghost use Rattle.irc_queries.specs.Loops.Telling.{AddsSteps, CameChannels, CameListed};
+ghost use Rattle.irc_queries.specs.Loops.Telling.{channels_now, each_here, lines_of, list_here};
+ghost use Rattle.irc_queries.specs.Loops.Telling.{one_here, places_here, home_told, user_here};
+ghost use Rattle.irc_queries.specs.Loops.Telling.{whois_here};
 ghost use Rattle.irc_queries.specs.Laws.WhoisLaw.{WhoisOnlyAnswers};
 
 use crate::own_rows::own_rows;
@@ -61,7 +64,8 @@ fn put_list(
     context: &Context<'_>,
     list: &[u8],
 ) -> Result<(), AllocError>
-    ensures { OnOk result (AddsSteps (each_here context.now (entries list.now)) steps.old steps.new) }
+    ensures { OnOk result
+        (AddsSteps (each_here context.now (entries list.now)) steps.old steps.new) }
 {
     let mut rest = list;
     while let Some((nick, behind)) = next_entry(rest) {

@@ -4,7 +4,8 @@ use Rattle.irc_line.specs.Messages.{nobody, text}
 
 -- the line that ends a connection (RFC 2812 section 3.7.4; our own text)
 abbrev pub closing_line : List ℕ → List ℕ
-closing_line words = text (record { sender = nobody; command = codes "ERROR"; middle = []; last = Some words })
+closing_line words =
+    text (record { sender = nobody; command = codes "ERROR"; middle = []; last = Some words })
 
 -- the same, telling why it ends
 abbrev pub error_line : List ℕ → List ℕ

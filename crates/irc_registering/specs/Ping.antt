@@ -9,7 +9,12 @@ use Rattle.irc_acts.specs.Acts.{bytes_kept}
 
 -- the answer to a PING: the server names itself, and gives the word back (RFC 2812 section 3.7.3)
 abbrev pub pong_line : List ℕ → List ℕ → List ℕ
-pong_line server word = text (record { sender = named server; command = codes "PONG"; middle = server ∷ []; last = Some word })
+pong_line server word = text (record {
+  sender = named server;
+  command = codes "PONG";
+  middle = server ∷ [];
+  last = Some word;
+})
 
 -- what a PING does (RFC 2812 section 3.7.2)
 unfoldable pub ping_steps : Place → List (List ℕ) → List Act

@@ -6,7 +6,12 @@ use Rattle.irc_registering.specs.declared.pending.Registration.{Registration}
 use Rattle.irc_registering.specs.Register.{Registered}
 
 abbrev pub registered_of : Registration → Registered
-registered_of r = record { pending = r.pending; steps = r.steps.items; registered = r.registered; close = r.close }
+registered_of r = record {
+  pending = r.pending;
+  steps = r.steps.items;
+  registered = r.registered;
+  close = r.close;
+}
 
 -- These are the steps.
 abbrev pub AreDecided : List Act → Vec Act → Type 0

@@ -53,7 +53,8 @@ pub enum Command {
 /// A row of the command table: a command by its name, and how many parameters it wants at least.
 pub type CommandRow = (&'static [u8], Command, usize);
 
-/// Each command (RFC 2812 section 3, and 4.9 of ISON). Its number is 0 also where a line that lacks a parameter is answered otherwise.
+/// Each command (RFC 2812 section 3, and 4.9 of ISON). Its number is 0 also where a line that lacks
+/// a parameter is answered otherwise.
 const ROWS: [CommandRow; 21] = [
     (b"PASS", Command::Pass, 0),
     (b"NICK", Command::Nick, 0),
@@ -87,7 +88,8 @@ impl Command {
         Some(command)
     }
 
-    /// The row of the command that a word is, in any case of letters; none where it is not in the table.
+    /// The row of the command that a word is, in any case of letters; none where it is not in the
+    /// table.
     pub fn find(word: &[u8]) -> Option<CommandRow>
         ensures { option_map row_view result ≡ row_named word.now }
     {

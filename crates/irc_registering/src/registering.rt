@@ -109,8 +109,8 @@ fn tell_of_server(steps: &mut Vec<Act, Global>, routes: &Routes) -> Result<(), A
     put(steps, Act::Answer(Reply::NoMotd))
 }
 
-/// Registers a connection that has given a nickname and a user name, unless a registered user has the nickname by now: then the
-/// connection has none.
+/// Registers a connection that has given a nickname and a user name, unless a registered user has
+/// the nickname by now: then the connection has none.
 fn complete(
     alloc: Global,
     room: &Room,
@@ -192,8 +192,9 @@ fn take_nick(
     }
 }
 
-/// USER: a user name and a real name. An earlier USER is replaced. Too few parameters are answered here and not by the command table's number,
-/// which is of registered users: they are refused before their parameters are counted.
+/// USER: a user name and a real name. An earlier USER is replaced. Too few parameters are answered
+/// here and not by the command table's number, which is of registered users: they are refused
+/// before their parameters are counted.
 fn take_user(
     alloc: Global,
     room: &Room,
@@ -233,7 +234,8 @@ fn give_up(alloc: Global, pending: Pending, params: &[&[u8]]) -> Result<Registra
     })
 }
 
-/// What a line of a connection does that is not registered (RFC 2812 section 3.1). Nothing is changed.
+/// What a line of a connection does that is not registered (RFC 2812 section 3.1). Nothing is
+/// changed.
 ///
 /// # Errors
 /// Where memory runs out.

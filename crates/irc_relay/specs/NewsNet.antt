@@ -1,8 +1,10 @@
--- The example: servers with one-byte names, in a tree, that relay news. A server shows a news item and passes it on to its
--- other neighbours, unless it is the one that it showed last.
-use Rattle.std.specs.Prelude.{◌≡◌, ◌≢◌, ℕ, false, ◌++◌, ◌&&◌, not, ◌==◌, if◌then◌else◌, List, [], ◌∷◌, map, filter, flat_map, slice_index}
+-- The example: servers with one-byte names, in a tree, that relay news. A server shows a news item
+-- and passes it on to its other neighbours, unless it is the one that it showed last.
+use Rattle.std.specs.Prelude.{◌≡◌, ◌≢◌, ℕ, false, ◌++◌, ◌&&◌, not, ◌==◌, if◌then◌else◌, List, []}
+use Rattle.std.specs.Prelude.{◌∷◌, map, filter, flat_map, slice_index}
 use Rattle.irc_relay.specs.Links.{Name, same, Link, AreJoined, IsForest}
-use Rattle.irc_relay.specs.Relay.{Machine, Net, Streams, streams_from, from_one, IsAtRest, GoesAway, SameOutcome, Delivers, final, final_shown}
+use Rattle.irc_relay.specs.Relay.{Machine, Net, Streams, streams_from, from_one, IsAtRest, GoesAway}
+use Rattle.irc_relay.specs.Relay.{SameOutcome, Delivers, final, final_shown}
 use Rattle.irc_relay.specs.Following.{Play, Terms}
 use Rattle.irc_relay.specs.Queue.{Reading, queue_of}
 use Rattle.irc_relay.specs.declared.news.Edge.{Edge}
@@ -37,12 +39,13 @@ latest_of latest [] = 0
 latest_of latest (k ∷ []) = slice_index latest k
 latest_of latest (k ∷ j ∷ rest) = 0
 
--- what a server sends over one edge upon an item that came from another: the item, if it stands at one end and the item did
--- not come from the other
+-- what a server sends over one edge upon an item that came from another: the item, if it stands at
+-- one end and the item did not come from the other
 abbrev pub sent_over : ℕ → ℕ → ℕ → Edge → List Sent
 sent_over at from item e =
     if (e.near == at) && not (e.far == from) then record { from = at; to = e.far; item = item } ∷ []
-    else if (e.far == at) && not (e.near == from) then record { from = at; to = e.near; item = item } ∷ []
+    else if (e.far == at) && not (e.near == from)
+    then record { from = at; to = e.near; item = item } ∷ []
     else []
 
 abbrev pub sent_on : List Edge → ℕ → ℕ → ℕ → List Sent
@@ -54,7 +57,8 @@ SendsOn edges at from item old new = new ≡ old ++ sent_on edges at from item
 
 -- a server shows an item, and sends it on as its own
 abbrev pub ShowsItem : ℕ → ℕ → News → News → Type 0
-ShowsItem at item old new = new.shown.items ≡ old.shown.items ++ record { at = at; item = item } ∷ []
+ShowsItem at item old new =
+    new.shown.items ≡ old.shown.items ++ record { at = at; item = item } ∷ []
 
 abbrev pub SendsItem : ℕ → ℕ → News → News → Type 0
 SendsItem at item old new = SendsOn old.edges.items at at item old.flying.items new.flying.items
@@ -63,7 +67,8 @@ SendsItem at item old new = SendsOn old.edges.items at at item old.flying.items 
 abbrev pub relaying : List Edge → Machine ℕ ℕ ℕ
 relaying edges = record {
   step = λ t p latest item. item;
-  sends = λ t p latest item u. if item == latest then [] else queue_of reading (sent_on edges (number t) (number p) item) t u;
+  sends = λ t p latest item u. if item == latest then []
+      else queue_of reading (sent_on edges (number t) (number p) item) t u;
   shows = λ t p latest item. if item == latest then [] else item ∷ [];
 }
 
@@ -81,35 +86,44 @@ net_of news = net_with news.latest news.shown.items news.flying.items
 
 -- one delivery: the second server takes the oldest item on its way from the first
 abbrev pub DeliversNews : ℕ → ℕ → News → News → Type 0
-DeliversNews from to old new = (item : ℕ) × Delivers (relaying old.edges.items) (name from) (name to) item [] (net_of old) (net_of new)
+DeliversNews from to old new = (item : ℕ)
+    × Delivers (relaying old.edges.items) (name from) (name to) item [] (net_of old) (net_of new)
 
--- whichever server the news come from: if all that is under way comes from there, along a forest, it does so afterwards, and
--- what every server will have shown is the same
+-- whichever server the news come from: if all that is under way comes from there, along a forest,
+-- it does so afterwards, and what every server will have shown is the same
 abbrev pub KeepsNews : News → News → Type 0
 KeepsNews old new =
     (source : Name)
     → IsForest (links_of old.edges.items)
-    → GoesAway (streams_from (links_of old.edges.items) (from_one (links_of old.edges.items) source)) (net_of old)
-    → SameOutcome (relaying old.edges.items) (streams_from (links_of old.edges.items) (from_one (links_of old.edges.items) source))
+    → GoesAway (streams_from (links_of old.edges.items)
+    (from_one (links_of old.edges.items) source)) (net_of old)
+    → SameOutcome (relaying old.edges.items)
+    (streams_from (links_of old.edges.items) (from_one (links_of old.edges.items) source))
     (net_of old) (net_of new)
-    × GoesAway (streams_from (links_of old.edges.items) (from_one (links_of old.edges.items) source)) (net_of new)
+    × GoesAway (streams_from (links_of old.edges.items)
+    (from_one (links_of old.edges.items) source)) (net_of new)
 
 -- news that a server publishes at rest, in a forest, come to every server on the way from that one
 abbrev pub PublishedGoesAway : ℕ → News → News → Type 0
 PublishedGoesAway at old new =
     IsForest (links_of old.edges.items)
     → IsAtRest (net_of old)
-    → GoesAway (streams_from (links_of old.edges.items) (from_one (links_of old.edges.items) (name at))) (net_of new)
+    → GoesAway (streams_from (links_of old.edges.items)
+    (from_one (links_of old.edges.items) (name at))) (net_of new)
 
 -- where the news of one server come from
 abbrev pub streams_of : News → ℕ → Streams
-streams_of news source = streams_from (links_of news.edges.items) (from_one (links_of news.edges.items) (name source))
+streams_of news source =
+    streams_from (links_of news.edges.items) (from_one (links_of news.edges.items) (name source))
 
--- all has come: nothing is under way, every server has its final state, and has shown all that it was to be told
+-- all has come: nothing is under way, every server has its final state, and has shown all that it
+-- was to be told
 pub record HasSettled (source : ℕ) (old new : News) : Type 0 where
   pub rest : IsAtRest (net_of new)
-  pub state : (u : Name) → (net_of new).state u ≡ final (relaying old.edges.items) (streams_of old source) (net_of old) u
-  pub shown : (u : Name) → (net_of new).shown u ≡ final_shown (relaying old.edges.items) (streams_of old source) (net_of old) u
+  pub state : (u : Name) → (net_of new).state u ≡ final (relaying old.edges.items)
+      (streams_of old source) (net_of old) u
+  pub shown : (u : Name) → (net_of new).shown u ≡ final_shown (relaying old.edges.items)
+      (streams_of old source) (net_of old) u
 
 -- ---- what they follow: the item that all servers of a part showed last
 
@@ -133,15 +147,21 @@ news_terms = record {
 -- the servers that are joined to this one showed the same item last
 abbrev pub ShowAlike : ℕ → News → Type 0
 ShowAlike source news =
-    (u : Name) → AreJoined (links_of news.edges.items) u (name source) → (net_of news).state u ≡ (net_of news).state (name source)
+    (u : Name) → AreJoined (links_of news.edges.items) u (name source)
+    → (net_of news).state u ≡ (net_of news).state (name source)
 
--- An item was announced at a server, which showed it. Whoever is joined to it has it for the last one, and showed it unless it was that
--- already; for all others nothing changed; nothing is under way.
+-- An item was announced at a server, which showed it. Whoever is joined to it has it for the last
+-- one, and showed it unless it was that already; for all others nothing changed; nothing is under
+-- way.
 pub record HasAnnounced (source item : ℕ) (old new : News) : Type 0 where
   pub rest : IsAtRest (net_of new)
-  pub latest : (u : Name) → AreJoined (links_of old.edges.items) u (name source) → (net_of new).state u ≡ item
+  pub latest : (u : Name) → AreJoined (links_of old.edges.items) u (name source)
+      → (net_of new).state u ≡ item
   pub shown_there : (net_of new).shown (name source) ≡ (net_of old).shown (name source) ++ item ∷ []
-  pub shown : (u : Name) → AreJoined (links_of old.edges.items) u (name source) → u ≢ name source
-      → (net_of new).shown u ≡ (net_of old).shown u ++ (if item == (net_of old).state (name source) then [] else item ∷ [])
-  pub other_latest : (u : Name) → (AreJoined (links_of old.edges.items) u (name source) → ⊥) → (net_of new).state u ≡ (net_of old).state u
-  pub other_shown : (u : Name) → (AreJoined (links_of old.edges.items) u (name source) → ⊥) → (net_of new).shown u ≡ (net_of old).shown u
+  pub shown : (u : Name) → AreJoined (links_of old.edges.items) u (name source)
+      → u ≢ name source → (net_of new).shown u ≡ (net_of old).shown u
+      ++ (if item == (net_of old).state (name source) then [] else item ∷ [])
+  pub other_latest : (u : Name) → (AreJoined (links_of old.edges.items) u (name source) → ⊥)
+      → (net_of new).state u ≡ (net_of old).state u
+  pub other_shown : (u : Name) → (AreJoined (links_of old.edges.items) u (name source) → ⊥)
+      → (net_of new).shown u ≡ (net_of old).shown u

@@ -1,4 +1,5 @@
--- Lines under way as one list, in the order of sending. The queue from one server to another is what of it goes from the one to the other.
+-- Lines under way as one list, in the order of sending. The queue from one server to another is
+-- what of it goes from the one to the other.
 use Rattle.std.specs.Prelude.{◌≡◌, ℕ, Bool, ◌&&◌, List, ◌∷◌, map, filter, remove}
 use Rattle.irc_relay.specs.Links.{Name, same}
 
@@ -16,7 +17,10 @@ goes r x y s = same (r.from s) x && same (r.to s) y
 abbrev pub queue_of : {Sent Line : Type 0} → Reading Sent Line → List Sent → Name → Name → List Line
 queue_of r sent x y = map r.line (filter (goes r x y) sent)
 
--- the i-th of what was sent, s, is the oldest in the queue from p to t, and taking it out leaves all others in their order
-pub record IsOldest {Sent Line : Type 0} (r : Reading Sent Line) (sent : List Sent) (p t : Name) (i : ℕ) (s : Sent) : Type 0 where
+-- the i-th of what was sent, s, is the oldest in the queue from p to t, and taking it out leaves
+-- all others in their order
+pub record IsOldest {Sent Line : Type 0} (r : Reading Sent Line) (sent : List Sent) (p t : Name)
+    (i : ℕ) (s : Sent) : Type 0 where
   pub oldest : queue_of r sent p t ≡ r.line s ∷ queue_of r (remove sent i) p t
-  pub others : (x y : Name) → (x ≡ p → y ≡ t → ⊥) → queue_of r (remove sent i) x y ≡ queue_of r sent x y
+  pub others : (x y : Name) → (x ≡ p → y ≡ t → ⊥)
+      → queue_of r (remove sent i) x y ≡ queue_of r sent x y

@@ -1,10 +1,14 @@
 //! An example of a network whose deliveries meet the laws: servers in a tree that relay news.
 
-ghost use Rattle.std.specs.Prelude.{◌≡◌, ◌≢◌, ◌++◌, [], ◌∷◌, slice_set, IfOk, OnOk, IfSome, IfNone, IsTrue, IsFalse, MatchBool, position};
+ghost use Rattle.std.specs.Prelude.{◌≡◌, ◌≢◌, ◌++◌, [], ◌∷◌, slice_set, IfOk, OnOk, IfSome, IfNone};
+ghost use Rattle.std.specs.Prelude.{IsTrue, IsFalse, MatchBool, position};
 ghost use Rattle.irc_relay.specs.Queue.{queue_of};
 ghost use Rattle.irc_relay.specs.Links.{IsForest};
 ghost use Rattle.irc_relay.specs.Relay.{IsAtRest, GoesAway};
-ghost use Rattle.irc_relay.specs.NewsNet.{net_of, links_of, streams_of, HasSettled, PublishedGoesAway, name, reading, SendsItem, SendsOn, ShowsItem, DeliversNews, KeepsNews, ShowAlike, HasAnnounced};
+ghost use Rattle.irc_relay.specs.NewsNet.{net_of, links_of, streams_of, HasSettled};
+ghost use Rattle.irc_relay.specs.NewsNet.{PublishedGoesAway, name, reading, SendsItem, SendsOn};
+ghost use Rattle.irc_relay.specs.NewsNet.{ShowsItem, DeliversNews, KeepsNews, ShowAlike};
+ghost use Rattle.irc_relay.specs.NewsNet.{HasAnnounced};
 ghost use Rattle.irc_relay.specs.Loops.Taking.{is_between, TakesNone, TakesOldest};
 
 use std::alloc::{AllocError, Global};
@@ -31,7 +35,8 @@ pub struct Shown {
     pub item: u8,
 }
 
-/// The servers: how they are linked, what each showed last, what they showed, and what is under way, in the order of sending.
+/// The servers: how they are linked, what each showed last, what they showed, and what is under
+/// way, in the order of sending.
 #[derive(Drop)]
 pub struct News {
     pub edges: Vec<Edge>,
@@ -49,7 +54,8 @@ fn first_between(flying: &[Sent], from: u8, to: u8) -> Option<usize>
 
 // Takes the oldest item on its way from one server to another out of what is under way.
 fn take_oldest(flying: &mut Vec<Sent>, from: u8, to: u8) -> Option<u8>
-    ensures some { IfSome result (λ item. TakesOldest from to item flying.old.items flying.new.items) }
+    ensures some { IfSome result
+        (λ item. TakesOldest from to item flying.old.items flying.new.items) }
     ensures none { IfNone result (TakesNone from to flying.old.items flying.new.items) }
 {
     let index = first_between(flying, from, to)?;
@@ -112,10 +118,12 @@ impl News {
         send_on(&self.edges, at, at, item, &mut self.flying)
     }
 
-    /// Delivers the oldest item on its way from one server to another, and says whether there was one.
+    /// Delivers the oldest item on its way from one server to another, and says whether there was
+    /// one.
     pub fn deliver(&mut self, from: u8, to: u8) -> Result<bool, AllocError>
         requires { from ≢ to }
-        ensures taken { IfOk result (λ taken. MatchBool taken (DeliversNews from to self.old self.new)
+        ensures taken { IfOk result
+            (λ taken. MatchBool taken (DeliversNews from to self.old self.new)
             (queue_of reading self.old.flying.items (name from) (name to) ≡ [])) }
         ensures kept { IfOk result (λ _. KeepsNews self.old self.new) }
         ensures edges { OnOk result (self.new.edges.items ≡ self.old.edges.items) }
@@ -145,8 +153,8 @@ impl News {
         Ok(())
     }
 
-    /// Gives a news item to a server and delivers until nothing is under way. Whoever links join to that server has shown the item then,
-    /// unless it is the one that they all showed last.
+    /// Gives a news item to a server and delivers until nothing is under way. Whoever links join to
+    /// that server has shown the item then, unless it is the one that they all showed last.
     pub fn announce(&mut self, source: u8, item: u8) -> Result<(), AllocError>
         requires forest { IsForest (links_of self.old.edges.items) }
         requires rest { IsAtRest (net_of self.old) }

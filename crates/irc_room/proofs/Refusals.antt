@@ -1,5 +1,6 @@
 -- What a refusal of an effect leaves.
-use Rattle.std.proofs.Common.{◌≡◌, Bool, true, false, cond, not, Some, None, Result, Ok, Err, [], refl, sym, ◌∙◌, ap}
+use Rattle.std.proofs.Common.{◌≡◌, Bool, true, false, cond, not, Some, None, Result, Ok, Err, []}
+use Rattle.std.proofs.Common.{refl, sym, ◌∙◌, ap}
 use Rattle.std.specs.List.{list_all}
 use Rattle.std.specs.Option.{option_map_or}
 use Rattle.irc_shown.specs.effect.Effect.{Effect}
@@ -14,8 +15,8 @@ use Rattle.irc_shown.specs.Lemmas.IdleLaw.{idle_changes_nothing}
 use Rattle.irc_shown.specs.ToldLaws.{idle_tells_nothing}
 
 -- want of memory is no cause that is looked for
-by_causes : (failed no_user no_channel : Bool)
-    → cond failed (Some Failed) (cond no_user (Some NoSuchUser) (cond no_channel (Some NoSuchChannel) None)) ≡ Some Memory → ⊥
+by_causes : (failed no_user no_channel : Bool) → cond failed (Some Failed)
+    (cond no_user (Some NoSuchUser) (cond no_channel (Some NoSuchChannel) None)) ≡ Some Memory → ⊥
 by_causes true no_user no_channel is = cc
 by_causes false true no_channel is = cc
 by_causes false false true is = cc
@@ -23,18 +24,19 @@ by_causes false false false is = cc
 
 never_memory : (kept : Kept) (effect : Effect) → room_fault kept effect ≡ Some Memory → ⊥
 never_memory kept effect =
-    by_causes kept.failed (not (list_all (has_user kept.room) (needs_users effect))) (not (option_map_or (has_channel kept.room) (needs_channel effect) true))
+    by_causes kept.failed (not (list_all (has_user kept.room) (needs_users effect)))
+    (not (option_map_or (has_channel kept.room) (needs_channel effect) true))
 
 -- a refusal for a cause leaves all as it was
-pub refused : (old : Kept) (effect : Effect) (fault : RoomFault) (shown : ShownLine) → Some fault ≡ room_fault old effect → shown.viewers.items ≡ []
-    → Applied old effect (Err fault) old shown
+pub refused : (old : Kept) (effect : Effect) (fault : RoomFault) (shown : ShownLine) → Some fault
+    ≡ room_fault old effect → shown.viewers.items ≡ [] → Applied old effect (Err fault) old shown
 refused old effect NoSuchUser shown is none = (sym is, refl, none)
 refused old effect NoSuchChannel shown is none = (sym is, refl, none)
 refused old effect Memory shown is none = absurd (never_memory old effect (sym is))
 refused old effect Failed shown is none = (sym is, refl, none)
 
-pub unchanged : (old : Kept) (effect : Effect) (fault : RoomFault) → Some fault ≡ room_fault old effect
-    → Changed old effect (Err fault) old
+pub unchanged : (old : Kept) (effect : Effect) (fault : RoomFault)
+    → Some fault ≡ room_fault old effect → Changed old effect (Err fault) old
 unchanged old effect NoSuchUser is = (sym is, refl)
 unchanged old effect NoSuchChannel is = (sym is, refl)
 unchanged old effect Memory is = absurd (never_memory old effect (sym is))
@@ -42,7 +44,8 @@ unchanged old effect Failed is = (sym is, refl)
 
 -- a change that was refused is shown to nobody
 pub shown_none : (old : Kept) (effect : Effect) (fault : RoomFault) (new : Kept) (shown : ShownLine)
-    → Changed old effect (Err fault) new → shown.viewers.items ≡ [] → Applied old effect (Err fault) new shown
+    → Changed old effect (Err fault) new → shown.viewers.items ≡ []
+    → Applied old effect (Err fault) new shown
 shown_none old effect NoSuchUser new shown changed none = (changed.0, changed.1, none)
 shown_none old effect NoSuchChannel new shown changed none = (changed.0, changed.1, none)
 shown_none old effect Memory new shown changed none = (changed.0, changed.1, none)
@@ -58,8 +61,8 @@ not_so : (b : Bool) → not b ≡ false → b ≡ true
 not_so true e = refl
 not_so false e = cc
 
-no_cause : (failed no_user no_channel : Bool)
-    → cond failed (Some Failed) (cond no_user (Some NoSuchUser) (cond no_channel (Some NoSuchChannel) None)) ≡ None
+no_cause : (failed no_user no_channel : Bool) → cond failed (Some Failed)
+    (cond no_user (Some NoSuchUser) (cond no_channel (Some NoSuchChannel) None)) ≡ None
     → (failed ≡ false) × (no_user ≡ false) × (no_channel ≡ false)
 no_cause true no_user no_channel is = cc
 no_cause false true no_channel is = cc
@@ -68,12 +71,17 @@ no_cause false false false is = (refl, refl, refl)
 
 pub served : (kept : Kept) (effect : Effect) → room_fault kept effect ≡ None → IsServed kept effect
 served kept effect is =
-    let parts = no_cause kept.failed (not (list_all (has_user kept.room) (needs_users effect))) (not (option_map_or (has_channel kept.room) (needs_channel effect) true)) is in
+    let parts = no_cause kept.failed (not (list_all (has_user kept.room) (needs_users effect)))
+    (not (option_map_or (has_channel kept.room) (needs_channel effect) true)) is in
     record { alive = parts.0; users_there = not_so _ parts.1; channel_there = not_so _ parts.2 }
 
 -- a room that was changed, or was not for want of memory, field by field
-pub kept_changed : (inside now : Kept) (room : Room) (effect : Effect) → inside ≡ now → inside.failed ≡ false → room ≡ after inside.room effect
-    → record { own = inside.own; failed = false; room = room } ≡ record now { room = after now.room effect }
+pub kept_changed : (inside now : Kept) (room : Room) (effect : Effect) → inside ≡ now
+    → inside.failed ≡ false → room ≡ after inside.room effect → record {
+      own = inside.own;
+      failed = false;
+      room = room;
+    } ≡ record now { room = after now.room effect }
 kept_changed inside now room effect is alive changed =
     ap (λ f. record { own = inside.own; failed = f; room = room }) (sym alive)
     ∙ ap (λ (r : Room). record { own = inside.own; failed = inside.failed; room = r }) changed
@@ -92,10 +100,14 @@ not_done e u is = cc
 pub idle_kept : (old : Kept) (effect : Effect) (new : Kept) → is_idle old.room effect ≡ true
     → Changed old effect (Ok tt) new → new ≡ old
 idle_kept old effect new idle changed =
-    changed.1 ∙ ap (λ (r : Room). record old { room = r }) (idle_changes_nothing old.room effect idle)
+    changed.1 ∙ ap (λ (r : Room). record old { room = r })
+    (idle_changes_nothing old.room effect idle)
 
-pub idle_stays : (old : Kept) (effect : Effect) (result : Result (Unit {0}) RoomFault) (new : Kept) (shown : ShownLine)
-    → Applied old effect result new shown → IdleKeeps old effect result new → IdleStays old effect result new shown
+pub idle_stays : (old : Kept) (effect : Effect) (result : Result (Unit {0}) RoomFault) (new : Kept)
+    (shown : ShownLine) → Applied old effect result new shown → IdleKeeps old effect result new
+    → IdleStays old effect result new shown
 idle_stays old effect (Ok tt) new shown applied keeps = λ idle none.
-    let kept = keeps idle none in (kept.0, kept.1, applied.2 ∙ idle_tells_nothing old.own old.room effect idle)
-idle_stays old effect (Err fault) new shown applied keeps = λ idle none. not_done fault tt (keeps idle none).0
+    let kept = keeps idle none in
+    (kept.0, kept.1, applied.2 ∙ idle_tells_nothing old.own old.room effect idle)
+idle_stays old effect (Err fault) new shown applied keeps =
+    λ idle none. not_done fault tt (keeps idle none).0

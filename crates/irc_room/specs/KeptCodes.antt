@@ -15,7 +15,11 @@ kept_code users channel =
     code_by (List ℕ × (Bool × (Table User × Table Channel)))
     (coded× coded_name (coded× coded_bool (coded× users (code coded_name channel))))
     (λ k. (k.own, (k.failed, (k.room.users, k.room.channels))))
-    (λ p. record { own = p.0; failed = p.1.0; room = record { users = p.1.1.0; channels = p.1.1.1 } })
+    (λ p. record {
+      own = p.0;
+      failed = p.1.0;
+      room = record { users = p.1.1.0; channels = p.1.1.1 };
+    })
     (λ _. refl)
 
 -- a room as the server of this name keeps it, for which memory ran out or did not

@@ -1,5 +1,5 @@
-//! One room as one server keeps it: what changes it, and who is shown what. The definitions of a room are irc_effects', passed on
-//! here.
+//! One room as one server keeps it: what changes it, and who is shown what. The definitions of a
+//! room are irc_effects', passed on here.
 #![tactic(auto)]
 
 mod home_count;

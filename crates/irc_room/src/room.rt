@@ -1,5 +1,6 @@
 //! One room.
-ghost use Rattle.std.specs.Prelude.{◌≡◌, ◌≤◌, ◌++◌, false, true, Some, None, length, map, IfOk, OnOk, OnErr, if◌then◌else◌};
+ghost use Rattle.std.specs.Prelude.{◌≡◌, ◌≤◌, ◌++◌, false, true, Some, None, length, map, IfOk};
+ghost use Rattle.std.specs.Prelude.{OnOk, OnErr, if◌then◌else◌};
 ghost use Rattle.std.specs.Option.{option_copied};
 ghost use Rattle.std.specs.Result.{result_err};
 ghost use Rattle.std.specs.FinMap.{entries, values};
@@ -12,10 +13,14 @@ ghost use Rattle.irc_names.specs.Tables.{row};
 ghost use Rattle.irc_tables.specs.RowViews.{row_entry};
 ghost use Rattle.irc_channels.specs.ChannelTable.{members_in};
 ghost use Rattle.irc_shown.specs.After.{titled_by};
-ghost use Rattle.irc_shown.specs.Applying.{Kept, Applied, Changed, IdleKeeps, IdleStays, ShowsHere, does, pairs_of, respelling_fault, room_fault, shown_here};
+ghost use Rattle.irc_shown.specs.Applying.{Kept, Applied, Changed, IdleKeeps, IdleStays, ShowsHere};
+ghost use Rattle.irc_shown.specs.Applying.{does, pairs_of, respelling_fault, room_fault};
+ghost use Rattle.irc_shown.specs.Applying.{shown_here};
 ghost use Rattle.irc_shown.specs.Effects.{brings_free};
 ghost use Rattle.irc_shown.specs.Laws.{no_room};
-ghost use Rattle.irc_shown.specs.Readers.{user_at, channel_at, channels_of, flags_at, is_invited_at, is_visible_at, names_of, nicks_in, rows_now, spelling_at, users_now, users_of, viewers_of};
+ghost use Rattle.irc_shown.specs.Readers.{user_at, channel_at, channels_of, flags_at};
+ghost use Rattle.irc_shown.specs.Readers.{is_invited_at, is_visible_at, names_of, nicks_in};
+ghost use Rattle.irc_shown.specs.Readers.{rows_now, spelling_at, users_now, users_of, viewers_of};
 ghost use Rattle.irc_shown.specs.Room.{IsWellFormed};
 ghost use Rattle.irc_shown.specs.Seen.{changes_text, stored_channel, stored_nick, target_name};
 
@@ -85,7 +90,8 @@ impl Room {
         &self.own
     }
 
-    /// The user whose nickname is the same as these bytes under the fold, which may be no nickname themselves.
+    /// The user whose nickname is the same as these bytes under the fold, which may be no nickname
+    /// themselves.
     pub fn user(&self, name: &[u8]) -> Option<&User>
         ensures { option_copied result ≡ user_at self.now.room (key name.now) }
     {
@@ -106,7 +112,8 @@ impl Room {
         self.tables.users.is_visible(name)
     }
 
-    /// The channel whose name is the same as these bytes under the fold, which may be no channel's name themselves.
+    /// The channel whose name is the same as these bytes under the fold, which may be no channel's
+    /// name themselves.
     pub fn channel(&self, name: &[u8]) -> Option<&Channel>
         ensures { option_copied result ≡ channel_at self.now.room (key name.now) }
     {
@@ -160,7 +167,8 @@ impl Room {
         self.tables.user_count()
     }
 
-    /// How many users are connected to a server. For the one that keeps the room no user is looked at.
+    /// How many users are connected to a server. For the one that keeps the room no user is looked
+    /// at.
     pub fn home_count(&self, home: &ServerName) -> usize
         ensures { result ≡ length (users_of self.now.room home.now) }
     {
@@ -203,23 +211,26 @@ impl Room {
         self.names_of(nick).len()
     }
 
-    /// The members of the channel of a name with their flags, in folded order of their nicknames; none where there is no such
-    /// channel.
+    /// The members of the channel of a name with their flags, in folded order of their nicknames;
+    /// none where there is no such channel.
     pub fn members_of(&self, channel: &[u8]) -> &[Row<Flags>]
-        ensures { map row_entry result.now ≡ members_in (channel_at self.now.room (key channel.now)) }
+        ensures { map row_entry result.now ≡ members_in
+            (channel_at self.now.room (key channel.now)) }
     {
         self.tables.channels.members(channel)
     }
 
-    /// Whether an effect does anything: whom and what it names is there, and it is no Join by a member, and no Part or Kick of
-    /// somebody who is none. That is asked of the users and channels alone, also where memory ran out before.
+    /// Whether an effect does anything: whom and what it names is there, and it is no Join by a
+    /// member, and no Part or Kick of somebody who is none. That is asked of the users and channels
+    /// alone, also where memory ran out before.
     pub fn does(&self, effect: &Effect) -> bool
         ensures { result ≡ does self.now.room effect.now }
     {
         missing(&self.tables, effect).is_none() && !is_idle(&self.tables, effect)
     }
 
-    /// The nicknames of all who see an effect, on whichever server, in folded order (RFC 2812 section 3).
+    /// The nicknames of all who see an effect, on whichever server, in folded order (RFC 2812
+    /// section 3).
     ///
     /// # Errors
     /// Where memory runs out.
@@ -229,7 +240,8 @@ impl Room {
         audience(self.alloc, &self.tables, effect)
     }
 
-    /// The nicknames of the members of a channel, on whichever server, in folded order; none where there is no such channel.
+    /// The nicknames of the members of a channel, on whichever server, in folded order; none where
+    /// there is no such channel.
     ///
     /// # Errors
     /// Where memory runs out.
@@ -239,15 +251,17 @@ impl Room {
         member_nicks(self.alloc, &self.tables, channel)
     }
 
-    /// Writes the line that an effect shows to each user of the room's own server who sees it, with its CR LF (RFC 2812 section 2.3), and
-    /// tells whether it shows one at all. Where it does not, the line is any. It takes no memory.
+    /// Writes the line that an effect shows to each user of the room's own server who sees it, with
+    /// its CR LF (RFC 2812 section 2.3), and tells whether it shows one at all. Where it does not,
+    /// the line is any. It takes no memory.
     pub fn write_line(&self, effect: &Effect, line: &mut Text) -> bool
         ensures { ShowsHere self.now effect.now (if result then Some line.new.items else None) }
     {
         effect_line(self.own.as_bytes(), &self.tables, effect, line)
     }
 
-    /// The nickname that these bytes are under the fold, as it is stored, or the bytes as given where there is no such user.
+    /// The nickname that these bytes are under the fold, as it is stored, or the bytes as given
+    /// where there is no such user.
     pub fn stored_nick<'a>(&'a self, nick: &'a [u8]) -> &'a [u8]
         ensures { result.now ≡ stored_nick self.now.room nick.now }
     {
@@ -269,25 +283,30 @@ impl Room {
         self.tables.target_name(target)
     }
 
-    /// Appends changes of modes as this room writes them (RFC 2812 section 3.2.3): the letters, and then each parameter behind a space, a
-    /// member's nickname as it is stored. It takes no memory.
+    /// Appends changes of modes as this room writes them (RFC 2812 section 3.2.3): the letters, and
+    /// then each parameter behind a space, a member's nickname as it is stored. It takes no memory.
     pub fn push_changes(&self, line: &mut Text, changes: &[ModeChange])
         requires { array_vec_len line.old ≤ max_line }
-        ensures pushed { line.new.items ≡ cut (line.old.items ++ changes_text self.now.room changes.now) }
+        ensures pushed { line.new.items
+            ≡ cut (line.old.items ++ changes_text self.now.room changes.now) }
         ensures still_cut { array_vec_len line.new ≤ max_line }
     {
         push_changes(&self.tables, line, changes);
     }
 
-    /// Applies an effect: the room is the one after it, and `shown` is what it shows to the server's own users.
+    /// Applies an effect: the room is the one after it, and `shown` is what it shows to the
+    /// server's own users.
     ///
-    /// The nickname of a user that is added is free, and so is the new one of a Rename, save that it may be the renamer's own.
+    /// The nickname of a user that is added is free, and so is the new one of a Rename, save that
+    /// it may be the renamer's own.
     ///
     /// # Errors
-    /// [`RoomFault::Failed`] where memory ran out before; [`RoomFault::NoSuchUser`] where a user that it names is not there;
-    /// [`RoomFault::NoSuchChannel`] where the channel that it names is not there, but for a Join, which makes it, and an Invite.
-    /// Nothing has changed then. [`RoomFault::Memory`] where memory runs out, which an effect that does nothing takes none of: the room
-    /// answers Failed from then on. Nobody is shown anything in any of these.
+    /// [`RoomFault::Failed`] where memory ran out before; [`RoomFault::NoSuchUser`] where a user
+    /// that it names is not there; [`RoomFault::NoSuchChannel`] where the channel that it names is
+    /// not there, but for a Join, which makes it, and an Invite.
+    /// Nothing has changed then. [`RoomFault::Memory`] where memory runs out, which an effect that
+    /// does nothing takes none of: the room answers Failed from then on. Nobody is shown anything
+    /// in any of these.
     pub fn apply(&mut self, effect: &Effect, shown: &mut ShownLine) -> Result<(), RoomFault>
         requires { brings_free self.old.room effect.now ≡ true }
         ensures applied { Applied self.old effect.now result self.new shown.new }
@@ -309,13 +328,15 @@ impl Room {
 
     /// Makes the change of an effect, and shows it to nobody: for a caller who knows who sees it.
     ///
-    /// The nickname of a user that is added is free, and so is the new one of a Rename, save that it may be the renamer's own.
+    /// The nickname of a user that is added is free, and so is the new one of a Rename, save that
+    /// it may be the renamer's own.
     ///
     /// # Errors
-    /// [`RoomFault::Failed`] where memory ran out before; [`RoomFault::NoSuchUser`] where a user that it names is not there;
-    /// [`RoomFault::NoSuchChannel`] where the channel that it names is not there, but for a Join, which makes it, and an Invite.
-    /// Nothing has changed then. [`RoomFault::Memory`] where memory runs out, which an effect that does nothing takes none of: the room
-    /// answers Failed from then on.
+    /// [`RoomFault::Failed`] where memory ran out before; [`RoomFault::NoSuchUser`] where a user
+    /// that it names is not there; [`RoomFault::NoSuchChannel`] where the channel that it names is
+    /// not there, but for a Join, which makes it, and an Invite.
+    /// Nothing has changed then. [`RoomFault::Memory`] where memory runs out, which an effect that
+    /// does nothing takes none of: the room answers Failed from then on.
     pub fn change(&mut self, effect: &Effect) -> Result<(), RoomFault>
         requires { brings_free self.old.room effect.now ≡ true }
         ensures changed { Changed self.old effect.now result self.new }
@@ -343,7 +364,8 @@ impl Room {
         refusal(self.failed, &self.tables, effect)
     }
 
-    /// Makes the change of an effect that `shown` shows; where memory runs out it is shown to nobody.
+    /// Makes the change of an effect that `shown` shows; where memory runs out it is shown to
+    /// nobody.
     fn change_shown(&mut self, effect: &Effect, shown: &mut ShownLine) -> Result<(), RoomFault>
         requires free { brings_free self.old.room effect.now ≡ true }
         requires shown { pairs_of shown.old ≡ shown_here self.old effect.now }

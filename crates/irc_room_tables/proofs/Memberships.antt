@@ -1,23 +1,30 @@
--- Of which channels a test holds after each change of the table of channels, and what an index beside it tells then.
+-- Of which channels a test holds after each change of the table of channels, and what an index
+-- beside it tells then.
 use Rattle.std.specs.Prelude.{OnOk, OnErr}
-use Rattle.std.proofs.Common.{Result, Ok, Err, subst, ◌≡◌, ℕ, Bool, true, false, cond, not, ◌&&◌, ◌||◌, if◌then◌else◌, Option, Some, None, List, [], ◌∷◌, refl, sym, ◌∙◌, ap, is_some, option_map, unwrap_or}
+use Rattle.std.proofs.Common.{Result, Ok, Err, subst, ◌≡◌, ℕ, Bool, true, false, cond, not, ◌&&◌}
+use Rattle.std.proofs.Common.{◌||◌, if◌then◌else◌, Option, Some, None, List, [], ◌∷◌, refl, sym}
+use Rattle.std.proofs.Common.{◌∙◌, ap, is_some, option_map, unwrap_or}
 use Rattle.std.specs.Option.{option_and_then, option_map_or}
 use Rattle.std.specs.FinMap.{keys, empty, get-empty}
 use Rattle.irc_names.specs.Fold.{key, same}
 use Rattle.irc_names.specs.FoldLaws.{same-tells}
 use Rattle.irc_names.specs.Tables.{Table, fold_cmp, row, alter, each, moved}
-use Rattle.irc_names.specs.TableLaws.{same_fold, one_fold, row-alter, row-each, row-moved, row-moved_none}
+use Rattle.irc_names.specs.TableLaws.{same_fold, one_fold, row-alter, row-each, row-moved}
+use Rattle.irc_names.specs.TableLaws.{row-moved_none}
 use Rattle.irc_channels.specs.declared.channel.Channel.{Channel}
 use Rattle.irc_channels.specs.declared.flags.Flags.{Flags}
 use Rattle.irc_modes.specs.declared.modes.ModeChange.{ModeChange}
-use Rattle.irc_channels.specs.Channels.{has_member, is_invited, new_channel, joined, left, without_user, while_members, renamed, changed, all_changed}
+use Rattle.irc_channels.specs.Channels.{has_member, is_invited, new_channel, joined, left}
+use Rattle.irc_channels.specs.Channels.{without_user, while_members, renamed, changed, all_changed}
 use Rattle.irc_modes.specs.Modes.{is_nil}
 use Rattle.irc_users.specs.declared.user.User.{User}
 use Rattle.irc_effects.specs.declared.effect.Effect.{Effect}
 use Rattle.irc_effects.specs.declared.effect.Effect.TheVariants.{Rename}
 use Rattle.irc_effects.specs.Effects.{brings_free}
 use Rattle.irc_effects.specs.Room.{IsSoundRow, IsWellFormed}
-use Rattle.irc_room_tables.specs.Indexes.{Names, Index, is_among, stands, holds, AreIndexed, AreInhabited, IsAlike, Tells, Adds, Drops, DropsWhere, IsFreeOf}
+use Rattle.irc_room_tables.specs.Indexes.{Names, Index, is_among, stands, holds, AreIndexed}
+use Rattle.irc_room_tables.specs.Indexes.{AreInhabited, IsAlike, Tells, Adds, Drops, DropsWhere}
+use Rattle.irc_room_tables.specs.Indexes.{IsFreeOf}
 use Rattle.irc_effects.specs.Lemmas.Rows.{some_key, if_true, alter_same}
 use Rattle.irc_room_tables.proofs.IndexChanges.{forgotten, stands-moved}
 use Rattle.irc_effects.specs.Lemmas.ModesKept.{letter_folk}
@@ -31,42 +38,55 @@ Test = List ℕ → Channel → Bool
 abbrev pub said : Test → List ℕ → Option Channel → Bool
 said test nick o = option_map_or (test nick) o false
 
-pub holds-alter : (test : Test) (name : List ℕ) (change : Option Channel → Option Channel) (channels : Table Channel) (n c : List ℕ)
-    → holds test (alter name change channels) n c ≡ cond (same_fold c name) (said test n (change (row channels name))) (holds test channels n c)
-holds-alter test name change channels n c = ap (said test n) (row-alter name change channels c) ∙ by_test (same_fold c name)
+pub holds-alter : (test : Test) (name : List ℕ) (change : Option Channel → Option Channel)
+    (channels : Table Channel) (n c : List ℕ) → holds test (alter name change channels) n c
+    ≡ cond (same_fold c name) (said test n (change (row channels name))) (holds test channels n c)
+holds-alter test name change channels n c = ap (said test n) (row-alter name change channels c)
+    ∙ by_test (same_fold c name)
   where
-    by_test : (b : Bool) → said test n (cond b (change (row channels name)) (row channels c)) ≡ cond b (said test n (change (row channels name))) (holds test channels n c)
+    by_test : (b : Bool) → said test n (cond b (change (row channels name)) (row channels c))
+        ≡ cond b (said test n (change (row channels name))) (holds test channels n c)
     by_test true = refl
     by_test false = refl
 
-pub holds-each : (test : Test) (change : Channel → Option Channel) (channels : Table Channel) (n c : List ℕ)
+pub holds-each : (test : Test) (change : Channel → Option Channel)
+    (channels : Table Channel) (n c : List ℕ)
     → holds test (each change channels) n c ≡ said test n (option_and_then change (row channels c))
 holds-each test change channels n c = ap (said test n) (row-each change channels c)
 
 -- ---- what an index tells when one channel is changed
 
 -- of channels that are equal
-pub tells_at : (test : Test) (index : Index) (channels other : Table Channel) → channels ≡ other → Tells index (holds test other) → Tells index (holds test channels)
+pub tells_at : (test : Test) (index : Index) (channels other : Table Channel) → channels ≡ other
+    → Tells index (holds test other) → Tells index (holds test channels)
 tells_at test index channels other is tells = subst (λ t. Tells index (holds test t)) (sym is) tells
 
 -- whichever way a call went
-pub tells_either : {U E : Type 0} (test : Test) (index : Index) (result : Result U E) (channels done left : Table Channel) → OnOk result (channels ≡ done)
-    → OnErr result (channels ≡ left) → Tells index (holds test done) → Tells index (holds test left) → Tells index (holds test channels)
-tells_either test index (Ok u) channels done left ok refused after before = tells_at test index channels done ok after
-tells_either test index (Err e) channels done left ok refused after before = tells_at test index channels left refused before
+pub tells_either : {U E : Type 0} (test : Test) (index : Index) (result : Result U E)
+    (channels done left : Table Channel) → OnOk result (channels ≡ done)
+    → OnErr result (channels ≡ left) → Tells index (holds test done) → Tells index (holds test left)
+    → Tells index (holds test channels)
+tells_either test index (Ok u) channels done left ok refused after before =
+    tells_at test index channels done ok after
+tells_either test index (Err e) channels done left ok refused after before =
+    tells_at test index channels left refused before
 
 -- a name that was put in where the test does not hold, and taken out again
-pub tells_restored : (test : List ℕ → List ℕ → Bool) (before between after : Index) (nick name : List ℕ) → Tells before test → test nick name ≡ false
+pub tells_restored : (test : List ℕ → List ℕ → Bool) (before between after : Index)
+    (nick name : List ℕ) → Tells before test → test nick name ≡ false
     → Adds before between nick name → Drops between after nick name → Tells after test
 tells_restored test before between after nick name tells out adds drops = record {
   at = λ n c.
       drops.at n c
-      ∙ ap (λ b. not (same_fold n nick && same_fold c name) && b) (adds.at n c ∙ ap (λ b. (same_fold n nick && same_fold c name) || b) (tells.at n c))
+      ∙ ap (λ b. not (same_fold n nick && same_fold c name) && b)
+      (adds.at n c ∙ ap (λ b. (same_fold n nick && same_fold c name) || b) (tells.at n c))
       ∙ by_tests n c (same_fold n nick) (same_fold c name) refl refl;
 }
   where
-    by_tests : (n c : List ℕ) (a b : Bool) → same_fold n nick ≡ a → same_fold c name ≡ b → (not (a && b) && ((a && b) || test n c)) ≡ test n c
-    by_tests n c true true one other = sym (ap (λ q. test q c) (one_fold n nick one) ∙ ap (test nick) (one_fold c name other) ∙ out)
+    by_tests : (n c : List ℕ) (a b : Bool) → same_fold n nick ≡ a → same_fold c name ≡ b
+        → (not (a && b) && ((a && b) || test n c)) ≡ test n c
+    by_tests n c true true one other = sym (ap (λ q. test q c) (one_fold n nick one)
+        ∙ ap (test nick) (one_fold c name other) ∙ out)
     by_tests n c true false one other = refl
     by_tests n c false b one other = refl
 
@@ -78,18 +98,25 @@ pub and_false : (b : Bool) → (b && false) ≡ false
 and_false true = refl
 and_false false = refl
 
-module _ (test : Test) (index : Index) (name : List ℕ) (change : Option Channel → Option Channel) (channels : Table Channel) (tells : Tells index (holds test channels)) where
+module _ (test : Test) (index : Index) (name : List ℕ) (change : Option Channel → Option Channel)
+    (channels : Table Channel) (tells : Tells index (holds test channels)) where
   -- the test holds as it did
-  pub tells_kept : ((n : List ℕ) → said test n (change (row channels name)) ≡ holds test channels n name) → Tells index (holds test (alter name change channels))
-  tells_kept here = record { at = λ n c. tells.at n c ∙ by_name n c (same_fold c name) refl ∙ sym (holds-alter test name change channels n c) }
+  pub tells_kept : ((n : List ℕ) → said test n (change (row channels name))
+      ≡ holds test channels n name) → Tells index (holds test (alter name change channels))
+  tells_kept here = record {
+    at = λ n c. tells.at n c ∙ by_name n c (same_fold c name) refl
+        ∙ sym (holds-alter test name change channels n c);
+  }
     where
-      by_name : (n c : List ℕ) (b : Bool) → same_fold c name ≡ b → holds test channels n c ≡ cond b (said test n (change (row channels name))) (holds test channels n c)
+      by_name : (n c : List ℕ) (b : Bool) → same_fold c name ≡ b → holds test channels n c
+          ≡ cond b (said test n (change (row channels name))) (holds test channels n c)
       by_name n c true one = ap (holds test channels n) (one_fold c name one) ∙ sym (here n)
       by_name n c false two = refl
 
   -- it holds of one nickname more
   pub tells_added : (after : Index) (nick : List ℕ) → Adds index after nick name
-      → ((n : List ℕ) → said test n (change (row channels name)) ≡ (same_fold n nick || holds test channels n name)) → Tells after (holds test (alter name change channels))
+      → ((n : List ℕ) → said test n (change (row channels name)) ≡ (same_fold n nick
+      || holds test channels n name)) → Tells after (holds test (alter name change channels))
   tells_added after nick adds here = record {
     at = λ n c.
         adds.at n c
@@ -99,7 +126,8 @@ module _ (test : Test) (index : Index) (name : List ℕ) (change : Option Channe
   }
     where
       by_name : (n c : List ℕ) (b : Bool) → same_fold c name ≡ b
-          → ((same_fold n nick && b) || holds test channels n c) ≡ cond b (said test n (change (row channels name))) (holds test channels n c)
+          → ((same_fold n nick && b) || holds test channels n c)
+          ≡ cond b (said test n (change (row channels name))) (holds test channels n c)
       by_name n c true one =
           ap (λ b. b || holds test channels n c) (and_true (same_fold n nick))
           ∙ ap (λ q. same_fold n nick || holds test channels n q) (one_fold c name one)
@@ -107,8 +135,10 @@ module _ (test : Test) (index : Index) (name : List ℕ) (change : Option Channe
       by_name n c false two = ap (λ b. b || holds test channels n c) (and_false (same_fold n nick))
 
   -- it holds of some nicknames less
-  pub tells_dropped : (after : Index) (gone : List ℕ → Bool) → DropsWhere gone index after name
-      → ((n : List ℕ) → said test n (change (row channels name)) ≡ (not (gone n) && holds test channels n name)) → Tells after (holds test (alter name change channels))
+  pub tells_dropped : (after : Index) (gone : List ℕ → Bool)
+      → DropsWhere gone index after name → ((n : List ℕ)
+      → said test n (change (row channels name)) ≡ (not (gone n) && holds test channels n name))
+      → Tells after (holds test (alter name change channels))
   tells_dropped after gone drops here = record {
     at = λ n c.
         drops.at n c
@@ -118,7 +148,8 @@ module _ (test : Test) (index : Index) (name : List ℕ) (change : Option Channe
   }
     where
       by_name : (n c : List ℕ) (b : Bool) → same_fold c name ≡ b
-          → (not (gone n && b) && holds test channels n c) ≡ cond b (said test n (change (row channels name))) (holds test channels n c)
+          → (not (gone n && b) && holds test channels n c)
+          ≡ cond b (said test n (change (row channels name))) (holds test channels n c)
       by_name n c true one =
           ap (λ b. not b && holds test channels n c) (and_true (gone n))
           ∙ ap (λ q. not (gone n) && holds test channels n q) (one_fold c name one)
@@ -127,23 +158,31 @@ module _ (test : Test) (index : Index) (name : List ℕ) (change : Option Channe
 
 -- ---- members of one channel
 
-member_joined : (nick : List ℕ) (op : Bool) (channel : Channel) (n : List ℕ) → has_member n (joined nick op channel) ≡ (same_fold n nick || has_member n channel)
+member_joined : (nick : List ℕ) (op : Bool) (channel : Channel) (n : List ℕ)
+    → has_member n (joined nick op channel) ≡ (same_fold n nick || has_member n channel)
 member_joined nick op channel n = by_test (has_member nick channel) refl
   where
-    put_there : (b : Bool) (flags : Flags) (o : Option Flags) → is_some (cond b (Some flags) o) ≡ (b || is_some o)
+    put_there : (b : Bool) (flags : Flags) (o : Option Flags)
+        → is_some (cond b (Some flags) o) ≡ (b || is_some o)
     put_there true flags o = refl
     put_there false flags o = refl
 
-    by_fold : (b : Bool) → same_fold n nick ≡ b → has_member nick channel ≡ true → has_member n channel ≡ (b || has_member n channel)
+    by_fold : (b : Bool) → same_fold n nick ≡ b → has_member nick channel ≡ true
+        → has_member n channel ≡ (b || has_member n channel)
     by_fold true one there = ap (λ q. has_member q channel) (one_fold n nick one) ∙ there
     by_fold false two there = refl
 
-    by_test : (b : Bool) → has_member nick channel ≡ b
-        → has_member n (if b then channel else record channel { members = alter nick (λ _. Some (record { op = op; voice = false })) channel.members; invited = alter nick (λ _. None) channel.invited })
+    by_test : (b : Bool) → has_member nick channel ≡ b → has_member n (if b then channel
+        else record channel {
+          members = alter nick (λ _. Some (record { op = op; voice = false }))
+              channel.members;
+          invited = alter nick (λ _. None) channel.invited;
+        })
         ≡ (same_fold n nick || has_member n channel)
     by_test true there = by_fold (same_fold n nick) refl there
     by_test false out =
-        ap is_some (row-alter nick (λ _. Some (record { op = op; voice = false })) channel.members n)
+        ap is_some
+        (row-alter nick (λ _. Some (record { op = op; voice = false })) channel.members n)
         ∙ put_there (same_fold n nick) (record { op = op; voice = false }) (row channel.members n)
 
 or_false : (b : Bool) → (b || false) ≡ b
@@ -152,61 +191,77 @@ or_false false = refl
 
 -- also where the channel is made
 pub joined_said : (nick name : List ℕ) (op : Bool) (o : Option Channel) (n : List ℕ)
-    → said has_member n (Some (joined nick op (unwrap_or o (new_channel name)))) ≡ (same_fold n nick || said has_member n o)
+    → said has_member n (Some (joined nick op (unwrap_or o (new_channel name))))
+    ≡ (same_fold n nick || said has_member n o)
 joined_said nick name op (Some channel) n = member_joined nick op channel n
 joined_said nick name op None n =
-    member_joined nick op (new_channel name) n ∙ ap (λ b. same_fold n nick || is_some b) (get-empty {X = Flags} fold_cmp n)
+    member_joined nick op (new_channel name) n
+    ∙ ap (λ b. same_fold n nick || is_some b) (get-empty {X = Flags} fold_cmp n)
 
 -- a channel that ends has no member
-pub member_while : (channel : Channel) (n : List ℕ) → said has_member n (while_members channel) ≡ has_member n channel
+pub member_while : (channel : Channel) (n : List ℕ)
+    → said has_member n (while_members channel) ≡ has_member n channel
 member_while channel n = by_test (is_nil (keys channel.members)) refl
   where
     out : is_nil (keys channel.members) ≡ true → (b : Bool) → has_member n channel ≡ b → false ≡ b
     out nil true there = sym (some_key channel.members n there) ∙ nil
     out nil false there = refl
 
-    by_test : (b : Bool) → is_nil (keys channel.members) ≡ b → said has_member n (if b then None else Some channel) ≡ has_member n channel
+    by_test : (b : Bool) → is_nil (keys channel.members) ≡ b
+        → said has_member n (if b then None else Some channel) ≡ has_member n channel
     by_test true nil = out nil (has_member n channel) refl
     by_test false some = refl
 
-pub taken_out : {X : Type 0} (nick : List ℕ) (table : Table X) (n : List ℕ) → is_some (row (alter nick (λ _. None) table) n) ≡ (not (same_fold n nick) && is_some (row table n))
-taken_out {X} nick table n = ap is_some (row-alter nick (λ _. None) table n) ∙ by_test (same_fold n nick)
+pub taken_out : {X : Type 0} (nick : List ℕ) (table : Table X) (n : List ℕ) → is_some
+    (row (alter nick (λ _. None) table) n) ≡ (not (same_fold n nick) && is_some (row table n))
+taken_out {X} nick table n =
+    ap is_some (row-alter nick (λ _. None) table n) ∙ by_test (same_fold n nick)
   where
     by_test : (b : Bool) → is_some (cond b None (row table n)) ≡ (not b && is_some (row table n))
     by_test true = refl
     by_test false = refl
 
-member_left : (nick : List ℕ) (channel : Channel) (n : List ℕ) → said has_member n (left nick channel) ≡ (not (same_fold n nick) && has_member n channel)
+member_left : (nick : List ℕ) (channel : Channel) (n : List ℕ)
+    → said has_member n (left nick channel) ≡ (not (same_fold n nick) && has_member n channel)
 member_left nick channel n = by_test (has_member nick channel) refl
   where
-    by_fold : (b : Bool) → same_fold n nick ≡ b → has_member nick channel ≡ false → has_member n channel ≡ (not b && has_member n channel)
+    by_fold : (b : Bool) → same_fold n nick ≡ b → has_member nick channel ≡ false
+        → has_member n channel ≡ (not b && has_member n channel)
     by_fold true one out = ap (λ q. has_member q channel) (one_fold n nick one) ∙ out
     by_fold false two out = refl
 
-    by_test : (b : Bool) → has_member nick channel ≡ b
-        → said has_member n (if b then while_members (record channel { members = alter nick (λ _. None) channel.members }) else Some channel) ≡ (not (same_fold n nick) && has_member n channel)
-    by_test true there = member_while (record channel { members = alter nick (λ _. None) channel.members }) n ∙ taken_out nick channel.members n
+    by_test : (b : Bool) → has_member nick channel ≡ b → said has_member n (if b
+        then while_members (record channel { members = alter nick (λ _. None) channel.members })
+        else Some channel) ≡ (not (same_fold n nick) && has_member n channel)
+    by_test true there =
+        member_while (record channel { members = alter nick (λ _. None) channel.members }) n
+        ∙ taken_out nick channel.members n
     by_test false out = by_fold (same_fold n nick) refl out
 
-pub left_said : (nick : List ℕ) (o : Option Channel) (n : List ℕ) → said has_member n (option_and_then (left nick) o) ≡ (not (same_fold n nick) && said has_member n o)
+pub left_said : (nick : List ℕ) (o : Option Channel) (n : List ℕ) → said has_member n
+    (option_and_then (left nick) o) ≡ (not (same_fold n nick) && said has_member n o)
 left_said nick (Some channel) n = member_left nick channel n
 left_said nick None n = sym (and_false (not (same_fold n nick)))
 
 -- whatever keeps the members
-pub mapped_said : (test : Test) (change : Channel → Channel) → ((n : List ℕ) (channel : Channel) → test n (change channel) ≡ test n channel)
+pub mapped_said : (test : Test) (change : Channel → Channel)
+    → ((n : List ℕ) (channel : Channel) → test n (change channel) ≡ test n channel)
     → (o : Option Channel) (n : List ℕ) → said test n (option_map change o) ≡ said test n o
 mapped_said test change same None n = refl
 mapped_said test change same (Some channel) n = same n channel
 
-pub member_changed_modes : (changes : List ModeChange) (n : List ℕ) (channel : Channel) → has_member n (all_changed changes channel) ≡ has_member n channel
+pub member_changed_modes : (changes : List ModeChange) (n : List ℕ) (channel : Channel)
+    → has_member n (all_changed changes channel) ≡ has_member n channel
 member_changed_modes [] n channel = refl
 member_changed_modes (c ∷ changes) n channel =
-    member_changed_modes changes n (changed c channel) ∙ (letter_folk c.plus c.letter c.word channel).members n
+    member_changed_modes changes n (changed c channel)
+    ∙ (letter_folk c.plus c.letter c.word channel).members n
 
 -- ---- all channels
 
 -- a user is gone from all of them
-pub tells_without : (before after : Index) (nick : List ℕ) (channels : Table Channel) → Tells before (holds has_member channels) → after ≡ alter nick (λ _. None) before
+pub tells_without : (before after : Index) (nick : List ℕ) (channels : Table Channel)
+    → Tells before (holds has_member channels) → after ≡ alter nick (λ _. None) before
     → Tells after (holds has_member (each (without_user nick) channels))
 tells_without before after nick channels tells is = record {
   at = λ n c.
@@ -216,48 +271,67 @@ tells_without before after nick channels tells is = record {
       ∙ sym (holds-each has_member (without_user nick) channels n c);
 }
   where
-    by_row : (n : List ℕ) (o : Option Channel) → (not (same_fold n nick) && said has_member n o) ≡ said has_member n (option_and_then (without_user nick) o)
+    by_row : (n : List ℕ) (o : Option Channel) → (not (same_fold n nick) && said has_member n o)
+        ≡ said has_member n (option_and_then (without_user nick) o)
     by_row n None = and_false (not (same_fold n nick))
     by_row n (Some channel) =
-        sym (member_while (record channel { members = alter nick (λ _. None) channel.members; invited = alter nick (λ _. None) channel.invited }) n ∙ taken_out nick channel.members n)
+        sym (member_while (record channel {
+          members = alter nick (λ _. None) channel.members;
+          invited = alter nick (λ _. None) channel.invited;
+        }) n
+        ∙ taken_out nick channel.members n)
 
 -- a row that stands under another name, where there was none
-moved_row : {X : Type 0} (nick new : List ℕ) (table : Table X) (n : List ℕ) → (is_some (row table new) ≡ true → new ≡ nick)
-    → is_some (row (moved nick new (λ x. x) table) n) ≡ cond (same_fold n new) (is_some (row table nick)) (cond (same_fold n nick) false (is_some (row table n)))
+moved_row : {X : Type 0} (nick new : List ℕ) (table : Table X) (n : List ℕ)
+    → (is_some (row table new) ≡ true → new ≡ nick)
+    → is_some (row (moved nick new (λ x. x) table) n) ≡ cond (same_fold n new)
+    (is_some (row table nick)) (cond (same_fold n nick) false (is_some (row table n)))
 moved_row {X} nick new table n free = by_row (row table nick) refl
   where
     by_folds : (x : X) (a b : Bool) → row table nick ≡ Some x
-        → is_some (cond a (Some x) (cond b None (row table n))) ≡ cond a (is_some (row table nick)) (cond b false (is_some (row table n)))
+        → is_some (cond a (Some x) (cond b None (row table n))) ≡ cond a (is_some (row table nick))
+        (cond b false (is_some (row table n)))
     by_folds x true b here = sym (ap is_some here)
     by_folds x false true here = refl
     by_folds x false false here = refl
 
     not_new : row table nick ≡ None → (b : Bool) → is_some (row table new) ≡ b → b ≡ false
-    not_new none true there = sym there ∙ ap (λ q. is_some (row table q)) (free there) ∙ ap is_some none
+    not_new none true there =
+        sym there ∙ ap (λ q. is_some (row table q)) (free there) ∙ ap is_some none
     not_new none false there = refl
 
-    by_none : row table nick ≡ None → (a b : Bool) → same_fold n new ≡ a → same_fold n nick ≡ b
-        → is_some (row table n) ≡ cond a (is_some (row table nick)) (cond b false (is_some (row table n)))
-    by_none none true b one other = ap (λ q. is_some (row table q)) (one_fold n new one) ∙ not_new none (is_some (row table new)) refl ∙ sym (ap is_some none)
-    by_none none false true one other = ap (λ q. is_some (row table q)) (one_fold n nick other) ∙ ap is_some none
+    by_none : row table nick ≡ None → (a b : Bool) → same_fold n new ≡ a
+        → same_fold n nick ≡ b → is_some (row table n) ≡ cond a (is_some (row table nick))
+        (cond b false (is_some (row table n)))
+    by_none none true b one other = ap (λ q. is_some (row table q)) (one_fold n new one)
+        ∙ not_new none (is_some (row table new)) refl ∙ sym (ap is_some none)
+    by_none none false true one other = ap (λ q. is_some (row table q)) (one_fold n nick other)
+        ∙ ap is_some none
     by_none none false false one other = refl
 
     by_row : (o : Option X) → row table nick ≡ o
-        → is_some (row (moved nick new (λ x. x) table) n) ≡ cond (same_fold n new) (is_some (row table nick)) (cond (same_fold n nick) false (is_some (row table n)))
-    by_row (Some x) here = ap is_some (row-moved nick new (λ x. x) table x here n) ∙ by_folds x (same_fold n new) (same_fold n nick) here
-    by_row None none = ap is_some (row-moved_none nick new (λ x. x) table none n) ∙ by_none none (same_fold n new) (same_fold n nick) refl refl
+        → is_some (row (moved nick new (λ x. x) table) n) ≡ cond (same_fold n new)
+        (is_some (row table nick)) (cond (same_fold n nick) false (is_some (row table n)))
+    by_row (Some x) here = ap is_some (row-moved nick new (λ x. x) table x here n)
+        ∙ by_folds x (same_fold n new) (same_fold n nick) here
+    by_row None none = ap is_some (row-moved_none nick new (λ x. x) table none n)
+        ∙ by_none none (same_fold n new) (same_fold n nick) refl refl
 
 -- a user has another nickname in all of them
-tells_moved : (test : Test) (before after : Index) (nick new : List ℕ) (channels : Table Channel) → Tells before (holds test channels)
-    → ((name : List ℕ) → holds test channels new name ≡ true → new ≡ nick)
-    → ((channel : Channel) (n : List ℕ) → (test new channel ≡ true → new ≡ nick)
-    → test n (renamed nick new channel) ≡ cond (same_fold n new) (test nick channel) (cond (same_fold n nick) false (test n channel)))
-    → after ≡ moved nick new (λ names. names) before → Tells after (holds test (each (λ channel. Some (renamed nick new channel)) channels))
+tells_moved : (test : Test) (before after : Index) (nick new : List ℕ)
+    (channels : Table Channel) → Tells before (holds test channels)
+    → ((name : List ℕ) → holds test channels new name ≡ true → new ≡ nick) → ((channel : Channel)
+    (n : List ℕ) → (test new channel ≡ true → new ≡ nick) → test n (renamed nick new channel)
+    ≡ cond (same_fold n new) (test nick channel) (cond (same_fold n nick) false (test n channel)))
+    → after ≡ moved nick new (λ names. names) before
+    → Tells after (holds test (each (λ channel. Some (renamed nick new channel)) channels))
 tells_moved test before after nick new channels tells free one is = record {
   at = λ n c.
       stands-moved before after nick new is (λ q there. free q (sym (tells.at new q) ∙ there)) n c
-      ∙ ap (λ b. cond (same_fold n new) b (cond (same_fold n nick) false (stands before n c))) (tells.at nick c)
-      ∙ ap (λ b. cond (same_fold n new) (holds test channels nick c) (cond (same_fold n nick) false b)) (tells.at n c)
+      ∙ ap (λ b. cond (same_fold n new) b (cond (same_fold n nick) false (stands before n c)))
+      (tells.at nick c)
+      ∙ ap (λ b. cond (same_fold n new) (holds test channels nick c)
+      (cond (same_fold n nick) false b)) (tells.at n c)
       ∙ by_row n (row channels c) (free c)
       ∙ sym (holds-each test (λ channel. Some (renamed nick new channel)) channels n c);
 }
@@ -273,19 +347,26 @@ tells_moved test before after nick new channels tells free one is = record {
     by_row n None free = nothing (same_fold n new) (same_fold n nick)
     by_row n (Some channel) free = sym (one channel n free)
 
-pub tells_renamed : (before after : Index) (nick new : List ℕ) (channels : Table Channel) → Tells before (holds has_member channels) → IsFreeOf channels nick new
-    → after ≡ moved nick new (λ names. names) before → Tells after (holds has_member (each (λ channel. Some (renamed nick new channel)) channels))
+pub tells_renamed : (before after : Index) (nick new : List ℕ) (channels : Table Channel)
+    → Tells before (holds has_member channels) → IsFreeOf channels nick new
+    → after ≡ moved nick new (λ names. names) before
+    → Tells after (holds has_member (each (λ channel. Some (renamed nick new channel)) channels))
 tells_renamed before after nick new channels tells free =
-    tells_moved has_member before after nick new channels tells free.member (λ channel n out. moved_row nick new channel.members n out)
+    tells_moved has_member before after nick new channels tells free.member
+    (λ channel n out. moved_row nick new channel.members n out)
 
-pub tells_reinvited : (before after : Index) (nick new : List ℕ) (channels : Table Channel) → Tells before (holds is_invited channels) → IsFreeOf channels nick new
-    → after ≡ moved nick new (λ names. names) before → Tells after (holds is_invited (each (λ channel. Some (renamed nick new channel)) channels))
+pub tells_reinvited : (before after : Index) (nick new : List ℕ) (channels : Table Channel)
+    → Tells before (holds is_invited channels) → IsFreeOf channels nick new
+    → after ≡ moved nick new (λ names. names) before
+    → Tells after (holds is_invited (each (λ channel. Some (renamed nick new channel)) channels))
 tells_reinvited before after nick new channels tells free =
-    tells_moved is_invited before after nick new channels tells free.invited (λ channel n out. moved_row nick new channel.invited n out)
+    tells_moved is_invited before after nick new channels tells free.invited
+    (λ channel n out. moved_row nick new channel.invited n out)
 
 -- ---- where nobody is in any channel
 
-pub tells_empty : (test : Test) (index : Index) (channels : Table Channel) → index ≡ empty → channels ≡ empty → Tells index (holds test channels)
+pub tells_empty : (test : Test) (index : Index) (channels : Table Channel) → index ≡ empty
+    → channels ≡ empty → Tells index (holds test channels)
 tells_empty test index channels none nothing = record {
   at = λ n c.
       ap (λ i. stands i n c) none
@@ -295,39 +376,54 @@ tells_empty test index channels none nothing = record {
 }
 
 -- who joins a channel that it is in changes nothing
-pub joined_already : (nick name : List ℕ) (op : Bool) (channels : Table Channel) → holds has_member channels nick (key name) ≡ true
-    → alter (key name) (λ c. Some (joined nick op (unwrap_or c (new_channel name)))) channels ≡ channels
-joined_already nick name op channels there = alter_same (key name) _ channels (by_row (row channels (key name)) there)
+pub joined_already : (nick name : List ℕ) (op : Bool) (channels : Table Channel)
+    → holds has_member channels nick (key name) ≡ true → alter (key name)
+    (λ c. Some (joined nick op (unwrap_or c (new_channel name)))) channels ≡ channels
+joined_already nick name op channels there =
+    alter_same (key name) _ channels (by_row (row channels (key name)) there)
   where
-    by_row : (o : Option Channel) → said has_member nick o ≡ true → Some (joined nick op (unwrap_or o (new_channel name))) ≡ o
+    by_row : (o : Option Channel) → said has_member nick o ≡ true
+        → Some (joined nick op (unwrap_or o (new_channel name))) ≡ o
     by_row None there = cc
     by_row (Some channel) there = ap Some (if_true (has_member nick channel) channel _ there)
 
--- in a well-formed room the nickname that a Rename brings is no other member's, and nobody else is invited by it
-pub free_in_room : (users : Table User) (channels : Table Channel) (effect : Effect) (nick new : List ℕ) → IsWellFormed (record { users = users; channels = channels })
-    → effect ≡ Rename nick new → brings_free (record { users = users; channels = channels }) effect ≡ true → IsFreeOf channels (key nick) (key new)
+-- in a well-formed room the nickname that a Rename brings is no other member's, and nobody else is
+-- invited by it
+pub free_in_room : (users : Table User) (channels : Table Channel) (effect : Effect)
+    (nick new : List ℕ) → IsWellFormed (record { users = users; channels = channels }) → effect
+    ≡ Rename nick new → brings_free (record { users = users; channels = channels }) effect ≡ true
+    → IsFreeOf channels (key nick) (key new)
 free_in_room users channels effect nick new well is free = record {
-  member = λ name there. by_row has_member (λ fold channel sound. sound.members_known (key new)) name (row channels name) refl there;
-  invited = λ name there. by_row is_invited (λ fold channel sound. sound.invited_known (key new)) name (row channels name) refl there;
+  member = λ name there. by_row has_member
+      (λ fold channel sound. sound.members_known (key new)) name (row channels name) refl there;
+  invited = λ name there. by_row is_invited
+      (λ fold channel sound. sound.invited_known (key new)) name (row channels name) refl there;
 }
   where
-    by_test : (b : Bool) → same nick new ≡ b → is_some (row users (key new)) ≡ true → (not (is_some (row users (key new))) || b) ≡ true → key new ≡ key nick
+    by_test : (b : Bool) → same nick new ≡ b → is_some (row users (key new)) ≡ true
+        → (not (is_some (row users (key new))) || b) ≡ true → key new ≡ key nick
     by_test true one there free = sym ((same-tells nick new).0 one)
     by_test false two there free = cc (there, free)
 
-    by_row : (test : Test) → ((fold : List ℕ) (channel : Channel) → IsSoundRow users fold channel → test (key new) channel ≡ true → is_some (row users (key new)) ≡ true)
-        → (name : List ℕ) (o : Option Channel) → row channels name ≡ o → said test (key new) o ≡ true → key new ≡ key nick
+    by_row : (test : Test) → ((fold : List ℕ) (channel : Channel) → IsSoundRow users fold channel
+        → test (key new) channel ≡ true → is_some (row users (key new)) ≡ true)
+        → (name : List ℕ) (o : Option Channel) → row channels name ≡ o
+        → said test (key new) o ≡ true → key new ≡ key nick
     by_row test known name None at there = cc
     by_row test known name (Some channel) at there =
-        by_test (same nick new) refl (known name channel (well.channels_sound name channel at) there)
+        by_test (same nick new) refl
+        (known name channel (well.channels_sound name channel at) there)
         (ap (brings_free (record { users = users; channels = channels })) (sym is) ∙ free)
 
-pub inhabited_room : (users : Table User) (channels : Table Channel) → IsWellFormed (record { users = users; channels = channels }) → AreInhabited channels
-inhabited_room users channels well = record { at = λ name channel there. (well.channels_sound name channel there).some_member }
+pub inhabited_room : (users : Table User) (channels : Table Channel)
+    → IsWellFormed (record { users = users; channels = channels }) → AreInhabited channels
+inhabited_room users channels well =
+    record { at = λ name channel there. (well.channels_sound name channel there).some_member }
 
 -- where the indexes tell the same
-pub still_indexed : (channels : Table Channel) (joined invited joined_after invited_after : Index) → AreIndexed channels joined invited
-    → IsAlike joined joined_after → IsAlike invited invited_after → AreIndexed channels joined_after invited_after
+pub still_indexed : (channels : Table Channel) (joined invited joined_after invited_after : Index)
+    → AreIndexed channels joined invited → IsAlike joined joined_after
+    → IsAlike invited invited_after → AreIndexed channels joined_after invited_after
 still_indexed channels joined invited joined_after invited_after indexed one other = record {
   joined = record { at = λ n c. one.at n c ∙ indexed.joined.at n c };
   invited = record { at = λ n c. other.at n c ∙ indexed.invited.at n c };

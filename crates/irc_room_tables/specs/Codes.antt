@@ -13,7 +13,8 @@ coded_name = coded_list coded_ℕ
 -- as its fields
 abbrev pub room_code : Coded (Table User) → Coded Channel → Coded Room
 room_code users channel =
-    code_by (Table User × Table Channel) (coded× users (code coded_name channel)) (λ r. (r.users, r.channels))
+    code_by (Table User × Table Channel) (coded× users (code coded_name channel))
+    (λ r. (r.users, r.channels))
     (λ p. record { users = p.0; channels = p.1 })
     (λ _. refl)
 

@@ -1,5 +1,7 @@
--- Names of channels by nickname: what the code keeps beside the table of channels, so that it need not look through all of them.
-use Rattle.std.specs.Prelude.{◌≡◌, ℕ, Bool, true, false, not, ◌&&◌, ◌||◌, is_some, Option, Some, None, List, [], map, filter, option_to_list, unwrap_or}
+-- Names of channels by nickname: what the code keeps beside the table of channels, so that it need
+-- not look through all of them.
+use Rattle.std.specs.Prelude.{◌≡◌, ℕ, Bool, true, false, not, ◌&&◌, ◌||◌, is_some, Option, Some}
+use Rattle.std.specs.Prelude.{None, List, [], map, filter, option_to_list, unwrap_or}
 use Rattle.std.specs.List.{flat_map, list_any}
 use Rattle.std.specs.Option.{option_map, option_map_or}
 use Rattle.std.specs.FinMap.{entries, keys}
@@ -60,7 +62,8 @@ is_named names name = list_any (same_fold name) names
 
 -- the names of the channels that a user is a member of, in folded order
 abbrev pub own_names : List ℕ → Table Channel → List (List ℕ × Unit {0})
-own_names nick channels = map (λ e. (e.0, tt)) (filter (λ e. has_member nick e.1) (entries channels))
+own_names nick channels =
+    map (λ e. (e.0, tt)) (filter (λ e. has_member nick e.1) (entries channels))
 
 -- the channel with this fold, beside it
 abbrev pub entry_at : Table Channel → List ℕ → Option (List ℕ × Channel)
@@ -68,7 +71,8 @@ entry_at channels name = option_map (λ (channel : Channel). (name, channel)) (r
 
 -- the row of a channel that a user joins
 abbrev pub row_joined : List ℕ → Bool → List ℕ → Option Channel → Option Channel
-row_joined nick op channel there = Some (joined (key nick) op (unwrap_or there (new_channel channel)))
+row_joined nick op channel there =
+    Some (joined (key nick) op (unwrap_or there (new_channel channel)))
 
 -- the channel of a name is changed, if there is one
 abbrev pub with_row : List ℕ → (Channel → Channel) → Table Channel → Table Channel
@@ -79,7 +83,8 @@ abbrev pub channel_named : Table Channel → List ℕ → List (List ℕ × Chan
 channel_named channels name = option_to_list (entry_at channels (key name))
 
 -- the channels under the names of some entries, as far as there are any
-abbrev pub entries_under : {V : Type 0} → Table Channel → List (List ℕ × V) → List (List ℕ × Channel)
+abbrev pub entries_under : {V : Type 0} → Table Channel → List (List ℕ × V)
+    → List (List ℕ × Channel)
 entries_under channels es = flat_map (λ e. option_to_list (entry_at channels e.0)) es
 
 -- names stand by nicknames just where a test says so
@@ -105,11 +110,13 @@ pub record HasWay (index : Index) (nick new : List ℕ) : Type 0 where
 
 -- one name more by one nickname
 pub record Adds (before after : Index) (nick name : List ℕ) : Type 0 where
-  pub at : (n c : List ℕ) → stands after n c ≡ ((same_fold n nick && same_fold c name) || stands before n c)
+  pub at : (n c : List ℕ)
+      → stands after n c ≡ ((same_fold n nick && same_fold c name) || stands before n c)
 
 -- one name less by each nickname of which it is said
 pub record DropsWhere (gone : List ℕ → Bool) (before after : Index) (name : List ℕ) : Type 0 where
-  pub at : (n c : List ℕ) → stands after n c ≡ (not (gone n && same_fold c name) && stands before n c)
+  pub at : (n c : List ℕ)
+      → stands after n c ≡ (not (gone n && same_fold c name) && stands before n c)
 
 -- one name less by one nickname
 abbrev pub Drops : Index → Index → List ℕ → List ℕ → Type 0
@@ -122,7 +129,8 @@ pub record IsFreeOf (channels : Table Channel) (nick new : List ℕ) : Type 0 wh
 
 -- each channel has a member
 pub record AreInhabited (channels : Table Channel) : Type 0 where
-  pub at : (name : List ℕ) (channel : Channel) → row channels name ≡ Some channel → is_nil (keys channel.members) ≡ false
+  pub at : (name : List ℕ) (channel : Channel) → row channels name ≡ Some channel
+      → is_nil (keys channel.members) ≡ false
 
 -- the names by each user's nickname are those of its channels, and of those that it is invited to
 pub record AreIndexed (channels : Table Channel) (of_members of_invited : Index) : Type 0 where

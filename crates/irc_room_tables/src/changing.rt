@@ -48,7 +48,8 @@ fn change(
 ) -> Result<(), AllocError>
     requires well { IsWellFormed (room_of users.old.users channels.old) }
     requires possible { IsPossible (room_of users.old.users channels.old) effect.now }
-    ensures ok { OnOk result (room_of users.new.users channels.new ≡ after (room_of users.old.users channels.old) effect.now) }
+    ensures ok { OnOk result (room_of users.new.users channels.new
+        ≡ after (room_of users.old.users channels.old) effect.now) }
     ensures refused { OnErr result ((users.new ≡ users.old) × (channels.new ≡ channels.old)) }
 {
     match effect {
@@ -85,7 +86,8 @@ fn change(
 /// Adds a user whose nickname is free.
 fn add(users: &mut Users, user: &User) -> Result<(), AllocError>
     requires { row users.old.users (key user.now.nick) ≡ None }
-    ensures ok { OnOk result (users.new.users ≡ alter (key user.now.nick) (λ _. Some user.now) users.old.users) }
+    ensures ok { OnOk result
+        (users.new.users ≡ alter (key user.now.nick) (λ _. Some user.now) users.old.users) }
     ensures refused { OnErr result (users.new ≡ users.old) }
 {
     match users.add(user.copy()) {

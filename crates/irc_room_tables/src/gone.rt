@@ -6,7 +6,8 @@ ghost use Rattle.irc_tables.specs.declared.table.Row.{Row};
 ghost use Rattle.irc_tables.specs.RowViews.{row_entry};
 ghost use Rattle.irc_channels.specs.declared.flags.Flags.{Flags};
 ghost use Rattle.irc_channels.specs.Channels.{renamed, without_user};
-ghost use Rattle.irc_room_tables.specs.Indexes.{folds_of, holds, is_alone, is_ended_with, is_named, names_in, DropsWhere, TellsOfOthers};
+ghost use Rattle.irc_room_tables.specs.Indexes.{folds_of, holds, is_alone, is_ended_with, is_named};
+ghost use Rattle.irc_room_tables.specs.Indexes.{names_in, DropsWhere, TellsOfOthers};
 ghost use Rattle.irc_room_tables.specs.Loops.InTurn.{changed_at, in_turn};
 
 use crate::name_index::NameIndex;
@@ -27,15 +28,17 @@ pub(crate) fn rows_of(names: &Option<NameTable<()>>) -> &[Row<()>]
 /// A user has another nickname in the channels of some names. It takes no memory.
 pub(crate) fn rename_in_each(channels: &mut Channels, nick: &Nick, new: &Nick, names: &[Row<()>])
     ensures { channels.new
-        ≡ in_turn (λ c. Some (renamed (key nick.now) (key new.now) c)) (folds_of (map row_entry names.now)) channels.old }
+        ≡ in_turn (λ c. Some (renamed (key nick.now) (key new.now) c))
+        (folds_of (map row_entry names.now)) channels.old }
 {
     for name in names {
         channels.rename_in(nick, new, name.name.as_slice());
     }
 }
 
-/// A user is gone from the channels of some names. Those that it was the last member of end, and nobody is invited to them any longer. The
-/// index tells of the invitations of all other users. It takes no memory.
+/// A user is gone from the channels of some names. Those that it was the last member of end, and
+/// nobody is invited to them any longer. The index tells of the invitations of all other users. It
+/// takes no memory.
 pub(crate) fn remove_from_each(
     channels: &mut Channels,
     invited: &mut NameIndex,
@@ -55,14 +58,16 @@ pub(crate) fn remove_from_each(
 /// A user is gone from one channel, as [`remove_from_each`] has it.
 fn remove_from(channels: &mut Channels, invited: &mut NameIndex, nick: &Nick, name: &[u8])
     requires { TellsOfOthers (key nick.now) channels.old invited.old.rows }
-    ensures after { channels.new ≡ changed_at (without_user (key nick.now)) channels.old (key name.now) }
+    ensures after { channels.new ≡ changed_at (without_user (key nick.now)) channels.old
+        (key name.now) }
     ensures others { TellsOfOthers (key nick.now) channels.new invited.new.rows }
 {
     forget_if_alone(channels, invited, nick, name);
     channels.remove_from(nick, name);
 }
 
-/// Where nobody but a user is a member of a channel, all invitations to it are forgotten. It takes no memory.
+/// Where nobody but a user is a member of a channel, all invitations to it are forgotten. It takes
+/// no memory.
 pub(crate) fn forget_if_alone(
     channels: &Channels,
     invited: &mut NameIndex,
@@ -91,7 +96,8 @@ fn is_alone(channel: &Channel, nick: &Nick) -> bool
 
 /// Whether there is a member of another nickname.
 fn has_another(members: &[Row<Flags>], nick: &[u8]) -> bool
-    ensures { result ≡ list_any (λ (member : Row Flags). not (same member.name.items nick.now)) members.now }
+    ensures { result ≡ list_any
+        (λ (member : Row Flags). not (same member.name.items nick.now)) members.now }
 {
     members
         .iter()
@@ -100,7 +106,8 @@ fn has_another(members: &[Row<Flags>], nick: &[u8]) -> bool
 
 /// Takes a name out by each of some nicknames. It takes no memory.
 fn forget_each(invited: &mut NameIndex, nicks: &[Row<()>], name: &[u8])
-    ensures { DropsWhere (is_named (folds_of (map row_entry nicks.now))) invited.old.rows invited.new.rows (key name.now) }
+    ensures { DropsWhere (is_named (folds_of (map row_entry nicks.now))) invited.old.rows
+        invited.new.rows (key name.now) }
 {
     for nick in nicks {
         invited.remove(nick.name.as_slice(), name);

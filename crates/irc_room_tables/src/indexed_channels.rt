@@ -7,8 +7,10 @@ ghost use Rattle.irc_names.specs.Tables.{row, alter, each};
 ghost use Rattle.irc_tables.specs.RowViews.{row_entry};
 ghost use Rattle.irc_users.specs.UserTable.{moved_to, rename_fault};
 ghost use Rattle.irc_channels.specs.ChannelTable.{members_in};
-ghost use Rattle.irc_channels.specs.Channels.{has_member, left, without_user, renamed, invited_too, with_topic, respelled, all_changed};
-ghost use Rattle.irc_room_tables.specs.Indexes.{entry_at, holds, is_uninvited, own_names, row_joined, with_row, AreInhabited, IsFreeOf};
+ghost use Rattle.irc_channels.specs.Channels.{has_member, left, without_user, renamed, invited_too};
+ghost use Rattle.irc_channels.specs.Channels.{with_topic, respelled, all_changed};
+ghost use Rattle.irc_room_tables.specs.Indexes.{entry_at, holds, is_uninvited, own_names};
+ghost use Rattle.irc_room_tables.specs.Indexes.{row_joined, with_row, AreInhabited, IsFreeOf};
 
 use crate::gone::{forget_if_alone, remove_from_each, rename_in_each, rows_of};
 use crate::name_index::NameIndex;
@@ -20,7 +22,8 @@ use irc_users::{RenameFault, Users};
 use std::alloc::{AllocError, Global};
 use std::marker::Model;
 
-/// Channels, and by each user's nickname the names of those that it is a member of, and of those that it is invited to.
+/// Channels, and by each user's nickname the names of those that it is a member of, and of those
+/// that it is invited to.
 #[derive(Drop)]
 pub struct IndexedChannels {
     rows: Channels,
@@ -86,14 +89,16 @@ impl IndexedChannels {
         self.rows.as_slice()
     }
 
-    /// The members of a channel, in folded order of their nicknames; none where there is no such channel.
+    /// The members of a channel, in folded order of their nicknames; none where there is no such
+    /// channel.
     pub fn members(&self, name: &[u8]) -> &[Row<Flags>]
         ensures { map row_entry result.now ≡ members_in (row self.now (key name.now)) }
     {
         self.rows.members(name)
     }
 
-    /// The names of the channels that the user of a nickname is a member of, in folded order. No other channel is looked at.
+    /// The names of the channels that the user of a nickname is a member of, in folded order. No
+    /// other channel is looked at.
     pub fn names_of(&self, nick: &[u8]) -> &[Row<()>]
         ensures { map row_entry result.now ≡ own_names (key nick.now) self.now }
     {
@@ -105,7 +110,8 @@ impl IndexedChannels {
     /// # Errors
     /// Where memory runs out; no channel has changed then.
     pub fn join(&mut self, nick: &Nick, channel: &ChannelName, op: bool) -> Result<(), AllocError>
-        ensures ok { OnOk result (self.new ≡ alter (key channel.now) (row_joined nick.now op channel.now) self.old) }
+        ensures ok { OnOk result
+            (self.new ≡ alter (key channel.now) (row_joined nick.now op channel.now) self.old) }
         ensures refused { OnErr result (self.new ≡ self.old) }
     {
         if is_in(&self.rows, nick, channel) {
@@ -124,9 +130,11 @@ impl IndexedChannels {
         }
     }
 
-    /// A member leaves a channel. Where the user is no member, or the channel is not there, nothing changes. It takes no memory.
+    /// A member leaves a channel. Where the user is no member, or the channel is not there, nothing
+    /// changes. It takes no memory.
     pub fn leave(&mut self, nick: &Nick, channel: &ChannelName)
-        ensures { self.new ≡ alter (key channel.now) (option_and_then (left (key nick.now))) self.old }
+        ensures { self.new ≡ alter (key channel.now)
+            (option_and_then (left (key nick.now))) self.old }
     {
         if !is_in(&self.rows, nick, channel) {
             return;
@@ -145,13 +153,15 @@ impl IndexedChannels {
         channel: &ChannelName,
         changes: &ModeChanges,
     ) -> Result<(), AllocError>
-        ensures ok { OnOk result (self.new ≡ with_row channel.now (all_changed changes.now) self.old) }
+        ensures ok { OnOk result
+            (self.new ≡ with_row channel.now (all_changed changes.now) self.old) }
         ensures refused { OnErr result (self.new ≡ self.old) }
     {
         change_modes(&mut self.rows, channel, changes)
     }
 
-    /// A channel's topic changes. Where the channel is not there nothing changes. It takes no memory.
+    /// A channel's topic changes. Where the channel is not there nothing changes. It takes no
+    /// memory.
     pub fn set_topic(&mut self, channel: &ChannelName, topic: &Words)
         ensures { self.new ≡ with_row channel.now (with_topic topic.now) self.old }
     {
@@ -171,7 +181,8 @@ impl IndexedChannels {
     /// # Errors
     /// Where memory runs out; nothing has changed then.
     pub fn invite(&mut self, nick: &Nick, channel: &ChannelName) -> Result<(), AllocError>
-        ensures ok { OnOk result (self.new ≡ with_row channel.now (invited_too (key nick.now)) self.old) }
+        ensures ok { OnOk result
+            (self.new ≡ with_row channel.now (invited_too (key nick.now)) self.old) }
         ensures refused { OnErr result (self.new ≡ self.old) }
     {
         if !can_be_invited(&self.rows, nick, channel) {
@@ -187,8 +198,8 @@ impl IndexedChannels {
         }
     }
 
-    /// A user has another nickname, which nobody else has who is in a channel or invited to one, among all users and in its memberships
-    /// and invitations. No other channel is looked at.
+    /// A user has another nickname, which nobody else has who is in a channel or invited to one,
+    /// among all users and in its memberships and invitations. No other channel is looked at.
     ///
     /// # Errors
     /// Where memory runs out; nothing has changed then.
@@ -201,7 +212,8 @@ impl IndexedChannels {
         requires user { rename_fault users.old.users nick.now new.now ≡ None }
         requires free { IsFreeOf self.old (key nick.now) (key new.now) }
         ensures users { OnOk result (users.new.users ≡ moved_to nick.now new.now users.old.users) }
-        ensures channels { OnOk result (self.new ≡ each (λ c. Some (renamed (key nick.now) (key new.now) c)) self.old) }
+        ensures channels { OnOk result
+            (self.new ≡ each (λ c. Some (renamed (key nick.now) (key new.now) c)) self.old) }
         ensures refused { OnErr result ((users.new ≡ users.old) × (self.new ≡ self.old)) }
     {
         self.joined.make_way(nick, new)?;
@@ -224,8 +236,8 @@ impl IndexedChannels {
         Ok(())
     }
 
-    /// A user is gone from all channels, and its invitations with it; each channel that it was the last member of ends. No other channel is
-    /// looked at. It takes no memory.
+    /// A user is gone from all channels, and its invitations with it; each channel that it was the
+    /// last member of ends. No other channel is looked at. It takes no memory.
     pub fn remove_user(&mut self, nick: &Nick)
         requires { AreInhabited self.old }
         ensures { self.new ≡ each (without_user (key nick.now)) self.old }
@@ -257,9 +269,11 @@ fn can_be_invited(channels: &Channels, nick: &Nick, channel: &ChannelName) -> bo
     }
 }
 
-/// A member leaves a channel. Where the user is no member, or the channel is not there, nothing changes.
+/// A member leaves a channel. Where the user is no member, or the channel is not there, nothing
+/// changes.
 fn leave(channels: &mut Channels, nick: &Nick, channel: &ChannelName)
-    ensures { channels.new ≡ alter (key channel.now) (option_and_then (left (key nick.now))) channels.old }
+    ensures { channels.new ≡ alter (key channel.now)
+        (option_and_then (left (key nick.now))) channels.old }
 {
     let _ = channels.part(nick, channel);
 }
@@ -270,7 +284,8 @@ fn change_modes(
     channel: &ChannelName,
     changes: &ModeChanges,
 ) -> Result<(), AllocError>
-    ensures ok { OnOk result (channels.new ≡ with_row channel.now (all_changed changes.now) channels.old) }
+    ensures ok { OnOk result
+        (channels.new ≡ with_row channel.now (all_changed changes.now) channels.old) }
     ensures refused { OnErr result (channels.new ≡ channels.old) }
 {
     match channels.change(channel, changes.as_slice()) {
@@ -298,7 +313,8 @@ fn respell(channels: &mut Channels, channel: &ChannelName)
 
 /// A user is invited. Where the channel is not there nothing changes.
 fn invite(channels: &mut Channels, nick: &Nick, channel: &ChannelName) -> Result<(), AllocError>
-    ensures ok { OnOk result (channels.new ≡ with_row channel.now (invited_too (key nick.now)) channels.old) }
+    ensures ok { OnOk result
+        (channels.new ≡ with_row channel.now (invited_too (key nick.now)) channels.old) }
     ensures refused { OnErr result (channels.new ≡ channels.old) }
 {
     match channels.invite(nick, channel) {
@@ -309,7 +325,8 @@ fn invite(channels: &mut Channels, nick: &Nick, channel: &ChannelName) -> Result
     }
 }
 
-/// Gives a user that is there another nickname, which no other user has. Where there is no memory nothing has changed.
+/// Gives a user that is there another nickname, which no other user has. Where there is no memory
+/// nothing has changed.
 fn rename(users: &mut Users, nick: &Nick, new: &Nick) -> Result<(), AllocError>
     requires { rename_fault users.old.users nick.now new.now ≡ None }
     ensures ok { OnOk result (users.new.users ≡ moved_to nick.now new.now users.old.users) }

@@ -1,4 +1,5 @@
-//! The tables of a room: its users, its channels with each user's own, and what an effect makes of them.
+//! The tables of a room: its users, its channels with each user's own, and what an effect makes of
+//! them.
 #![tactic(auto)]
 
 mod changing;

@@ -6,7 +6,8 @@ ghost use Rattle.irc_names.specs.Fold.{key};
 ghost use Rattle.irc_names.specs.Tables.{row, alter, moved};
 ghost use Rattle.irc_tables.specs.RowViews.{row_entry};
 ghost use Rattle.irc_tables.specs.TableChanges.{with_value};
-ghost use Rattle.irc_room_tables.specs.Indexes.{names_in, HasWay, IsAlike, IsOpened, IsUsed, Adds, Drops};
+ghost use Rattle.irc_room_tables.specs.Indexes.{names_in, HasWay, IsAlike, IsOpened, IsUsed, Adds};
+ghost use Rattle.irc_room_tables.specs.Indexes.{Drops};
 
 use irc_names::{ChannelName, MAX_CHANNEL, Nick};
 use irc_tables::{NameMap, NameTable, Row, RowAttempt};
@@ -53,8 +54,8 @@ impl NameIndex {
         self.rows.try_at(nick.as_bytes(), &Adding { name })
     }
 
-    /// Takes a name by a nickname out; where it does not stand there nothing changes. A row in which
-    /// nothing is left goes, so that ever new names leave nothing behind. It takes no memory.
+    /// Takes a name by a nickname out; where it does not stand there nothing changes. A row in
+    /// which nothing is left goes, so that ever new names leave nothing behind. It takes no memory.
     pub fn remove(&mut self, nick: &[u8], name: &[u8])
         ensures dropped { Drops self.old.rows self.new.rows (key nick.now) (key name.now) }
         ensures used { IsUsed self.new.rows (key nick.now) }
@@ -91,7 +92,8 @@ impl NameIndex {
     /// Puts the names by a nickname by another, for which there is a way. It takes no memory.
     pub fn rename(&mut self, nick: &Nick, new: &Nick)
         requires { HasWay self.old.rows (key nick.now) (key new.now) }
-        ensures { self.new.rows ≡ moved (key nick.now) (key new.now) (λ names. names) self.old.rows }
+        ensures { self.new.rows ≡ moved (key nick.now) (key new.now)
+            (λ names. names) self.old.rows }
     {
         if nick == new {
             return;

@@ -32,7 +32,8 @@ fn with_names<'a>(
     alloc: Global,
     names: &[Row<()>],
 ) -> Result<Vec<&'a Row<Stored>, Global>, AllocError>
-    ensures { IfOk result (λ found. rows_now found.items ≡ entries_under channels.now (map row_entry names.now)) }
+    ensures { IfOk result
+        (λ found. rows_now found.items ≡ entries_under channels.now (map row_entry names.now)) }
 {
     let mut found = Vec::new(alloc);
     for row in names {
@@ -47,7 +48,8 @@ fn add_named<'a>(
     name: &[u8],
     found: &mut Vec<&'a Row<Stored>, Global>,
 ) -> Result<(), AllocError>
-    ensures { OnOk result (rows_now found.new.items ≡ rows_now found.old.items ++ channel_named channels.now name.now) }
+    ensures { OnOk result (rows_now found.new.items ≡ rows_now found.old.items
+        ++ channel_named channels.now name.now) }
 {
     if let Some(row) = channels.find_row(name) {
         found.push(row)?;

@@ -10,7 +10,8 @@ ghost use Rattle.irc_channels.specs.Channels.{has_member};
 ghost use Rattle.irc_effects.specs.Effects.{has_channel, is_member};
 ghost use Rattle.irc_effects.specs.Laws.{no_room};
 ghost use Rattle.irc_effects.specs.Room.{IsWellFormed};
-ghost use Rattle.irc_effects.specs.Seen.{from_by, from_nick, full_sender, stored_channel, stored_nick, target_name};
+ghost use Rattle.irc_effects.specs.Seen.{from_by, from_nick, full_sender, stored_channel};
+ghost use Rattle.irc_effects.specs.Seen.{stored_nick, target_name};
 
 use crate::indexed_channels::IndexedChannels;
 use irc_channels::Channel;
@@ -43,7 +44,8 @@ impl Model for Tables {
 
     ghost view = { λ tables. record { users = tables.users.users; channels = tables.channels } };
 
-    ghost invariant = { λ tables. IsWellFormed (record { users = tables.users.users; channels = tables.channels }) };
+    ghost invariant = { λ tables. IsWellFormed
+        (record { users = tables.users.users; channels = tables.channels }) };
 }
 
 impl Tables {
@@ -83,7 +85,8 @@ impl Tables {
 
     /// The prefix of a line that comes from a user, or from a server: each viewer is shown its own.
     pub fn from_by<'a>(&'a self, own: &'a [u8], by: &By) -> Option<Prefix<'a>>
-        ensures { (viewer : User) → viewer.home ≡ own.now → option_map sender result ≡ from_by self.now by.now viewer }
+        ensures { (viewer : User) → viewer.home ≡ own.now
+            → option_map sender result ≡ from_by self.now by.now viewer }
     {
         match by {
             By::User(nick) => self.from_nick(nick),
@@ -91,7 +94,8 @@ impl Tables {
         }
     }
 
-    /// The nickname that these bytes are under the fold, as it is stored, or the bytes as given where there is no such user.
+    /// The nickname that these bytes are under the fold, as it is stored, or the bytes as given
+    /// where there is no such user.
     pub fn stored_nick<'a>(&'a self, nick: &'a [u8]) -> &'a [u8]
         ensures { result.now ≡ stored_nick self.now nick.now }
     {

@@ -1,4 +1,5 @@
--- How a server describes itself (RFC 2813 section 4.1.2); how long it may be, and what may not stand in it, is our own choice.
+-- How a server describes itself (RFC 2813 section 4.1.2); how long it may be, and what may not
+-- stand in it, is our own choice.
 use Rattle.std.specs.Prelude.{ℕ, Bool, not, ◌&&◌, List, [], ◌∷◌, IsTrue}
 use Rattle.std.specs.List.{list_all}
 use Rattle.irc_names.specs.Limits.{max_info}

@@ -13,7 +13,8 @@ pub record KnownServer : Type 0 where
   pub info : List ℕ
   pub distance : ℕ
 
--- the server itself, how many links it has, and all servers that it is joined to, itself too, in order of name
+-- the server itself, how many links it has, and all servers that it is joined to, itself too, in
+-- order of name
 pub record Place : Type 0 where
   pub name : List ℕ
   pub info : List ℕ

@@ -12,7 +12,8 @@ use crate::tokens::{TokenRow, Tokens};
 use irc_names::ServerName;
 use std::alloc::{AllocError, Global};
 
-/// Puts in a server and the number that a neighbour has for it, neither of which is there. Room for the number is made before the first change.
+/// Puts in a server and the number that a neighbour has for it, neither of which is there. Room for
+/// the number is made before the first change.
 pub(crate) fn put_in(
     rows: &mut Vec<ServerRow, Global>,
     tokens: &mut Tokens,

@@ -14,7 +14,8 @@ const CR: u8 = b'\r';
 
 const LF: u8 = b'\n';
 
-/// How a server describes itself: at most [`MAX_INFO`] bytes, none of them NUL, CR or LF (RFC 2813 section 4.1.2; the limits are our own choice).
+/// How a server describes itself: at most [`MAX_INFO`] bytes, none of them NUL, CR or LF (RFC 2813
+/// section 4.1.2; the limits are our own choice).
 #[derive(Drop)]
 pub struct Info(ArrayVec<u8, MAX_INFO>);
 

@@ -1,5 +1,5 @@
-//! What holds of the servers that a server knows. Each law is a function that does nothing, and its contract is the law: the check
-//! proves it, and a crate above may cite it.
+//! What holds of the servers that a server knows. Each law is a function that does nothing, and its
+//! contract is the law: the check proves it, and a crate above may cite it.
 ghost use Rattle.irc_routes.specs.Laws.{
   AddedGetsSmallest,
   AloneIsAlone,
@@ -31,12 +31,14 @@ pub fn lose_is_of_link()
     ensures { LoseIsOfLink }
 {}
 
-/// What a decision may know lists all servers in order of name: each that is known, and the server itself, once.
+/// What a decision may know lists all servers in order of name: each that is known, and the server
+/// itself, once.
 pub fn place_lists_all()
     ensures { PlaceListsAll }
 {}
 
-/// What a decision is told of a server, how far away it is and how it describes itself, is what is known of it.
+/// What a decision is told of a server, how far away it is and how it describes itself, is what is
+/// known of it.
 pub fn place_tells()
     ensures { PlaceTells }
 {}
@@ -46,8 +48,8 @@ pub fn alone_is_alone()
     ensures { AloneIsAlone }
 {}
 
-/// Whatever is added, forgotten or lost, no two servers have one of our numbers, nor one number of a neighbour on its link, and a
-/// server is not among those that it knows.
+/// Whatever is added, forgotten or lost, no two servers have one of our numbers, nor one number of
+/// a neighbour on its link, and a server is not among those that it knows.
 pub fn stays_numbered()
     ensures { StaysNumbered }
 {}

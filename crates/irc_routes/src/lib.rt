@@ -21,7 +21,8 @@ pub use server_row::ServerRow;
 /// How many servers there may be, the server itself among them (our own choice).
 pub const MAX_SERVERS: usize = 256;
 
-// A server's number for itself, and the numbers that it gives to others (RFC 2813 section 4.1.2; that they are given so is our own choice).
+// A server's number for itself, and the numbers that it gives to others (RFC 2813 section 4.1.2;
+// that they are given so is our own choice).
 const OWN_TOKEN: u32 = 1;
 
 const FIRST_TOKEN: u32 = 2;

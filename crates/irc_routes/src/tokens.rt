@@ -1,9 +1,11 @@
 //! The numbers that neighbours have for servers, in order of link and number.
-ghost use Rattle.std.specs.Prelude.{◌≡◌, ◌<◌, None, [], is_some, is_ok, OnOk, vec_len, vec_capacity};
+ghost use Rattle.std.specs.Prelude.{◌≡◌, ◌<◌, None, [], is_some, is_ok, OnOk, vec_len};
+ghost use Rattle.std.specs.Prelude.{vec_capacity};
 ghost use Rattle.std.specs.Option.{option_copied};
 ghost use Rattle.irc_names.specs.Tables.{fold_cmp};
 ghost use Rattle.irc_tables.specs.FoldedRows.{IsInFoldedOrder, IsPlaceOf};
-ghost use Rattle.irc_routes.specs.Loops.Tokens.{token_key, token_entry, row_at, server_at, is_on, HasToken, IsWithoutToken, AreElsewhere};
+ghost use Rattle.irc_routes.specs.Loops.Tokens.{token_key, token_entry, row_at, server_at, is_on};
+ghost use Rattle.irc_routes.specs.Loops.Tokens.{HasToken, IsWithoutToken, AreElsewhere};
 
 use irc_names::ServerName;
 use std::alloc::{AllocError, Global};
@@ -23,7 +25,8 @@ pub(crate) struct TokenRow {
 impl TokenRow {
     /// How it stands to a number on a link.
     fn order_to(&self, link: u64, token: u32) -> Ordering
-        ensures { result ≡ fold_cmp (token_key self.now.link self.now.token) (token_key link token) }
+        ensures { result ≡ fold_cmp (token_key self.now.link self.now.token)
+            (token_key link token) }
     {
         self.link.cmp(&link).then(self.token.cmp(&token))
     }

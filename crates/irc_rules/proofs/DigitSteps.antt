@@ -4,7 +4,8 @@ use Rattle.std.proofs.lemmas.List.Sums.{fold_more}
 use Rattle.irc_rules.specs.Digits.{number_of}
 
 -- one digit more
-pub number_more : (digits : List ℕ) (i : ℕ) → i < length digits → number_of (take (i + 1) digits) ≡ 10 * number_of (take i digits) + (get_or digits i 0 - 48)
+pub number_more : (digits : List ℕ) (i : ℕ) → i < length digits
+    → number_of (take (i + 1) digits) ≡ 10 * number_of (take i digits) + (get_or digits i 0 - 48)
 number_more digits i within = fold_more (λ n digit. 10 * n + (digit - 48)) 0 digits i 0 within
 
 -- how much a few bytes write at most, if each is at most 255
@@ -34,7 +35,8 @@ below_first = record {
   nine = λ e. omega arith;
 }
 
-pub below_next : (count number digit : ℕ) → Below count number → digit < 256 → Below (count + 1) (10 * number + (digit - 48))
+pub below_next : (count number digit : ℕ) → Below count number → digit < 256
+    → Below (count + 1) (10 * number + (digit - 48))
 below_next count number digit below byte = record {
   none = λ e. omega arith;
   one = λ e. omega (arith, below.none (omega arith));

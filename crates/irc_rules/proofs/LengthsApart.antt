@@ -5,7 +5,8 @@ use Rattle.irc_rules.specs.Fold.{same}
 use Rattle.irc_rules.specs.FoldLaws.{same-long}
 
 pub lengths_apart : (a b : List ℕ) → (length a ≡ length b → ⊥) → (length a == length b) ≡ same a b
-lengths_apart a b differ = neither (length a == length b) (same a b) (λ h. differ ((Decides-eqb (length a) (length b)).0 h)) (λ h. differ (same-long a b h))
+lengths_apart a b differ = neither (length a == length b) (same a b)
+    (λ h. differ ((Decides-eqb (length a) (length b)).0 h)) (λ h. differ (same-long a b h))
   where
     neither : (e s : Bool) → (e ≡ true → ⊥) → (s ≡ true → ⊥) → e ≡ s
     neither false false no_e no_s = refl

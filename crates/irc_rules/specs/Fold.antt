@@ -1,5 +1,6 @@
--- The case fold of names (RFC 2812, section 2.2): `{`, `}`, `|` and `^` are the lower case equivalents of `[`, `]`, `\` and
--- `~`, and a to z those of A to Z. Every other byte is its own fold.
+-- The case fold of names (RFC 2812, section 2.2): `{`, `}`, `|` and `^` are the lower case
+-- equivalents of `[`, `]`, `\` and `~`, and a to z those of A to Z. Every other byte is its own
+-- fold.
 use Rattle.std.specs.Prelude.{ℕ, Bool, List, [], ◌∷◌, map, nat_eq, slice_index}
 use Rattle.std.specs.declared.cmp.Ordering.{Ordering}
 use Rattle.std.specs.Ordering.{on, nat_cmp}
@@ -23,7 +24,8 @@ fold_table =
     192 ∷ 193 ∷ 194 ∷ 195 ∷ 196 ∷ 197 ∷ 198 ∷ 199 ∷ 200 ∷ 201 ∷ 202 ∷ 203 ∷ 204 ∷ 205 ∷ 206 ∷ 207 ∷
     208 ∷ 209 ∷ 210 ∷ 211 ∷ 212 ∷ 213 ∷ 214 ∷ 215 ∷ 216 ∷ 217 ∷ 218 ∷ 219 ∷ 220 ∷ 221 ∷ 222 ∷ 223 ∷
     224 ∷ 225 ∷ 226 ∷ 227 ∷ 228 ∷ 229 ∷ 230 ∷ 231 ∷ 232 ∷ 233 ∷ 234 ∷ 235 ∷ 236 ∷ 237 ∷ 238 ∷ 239 ∷
-    240 ∷ 241 ∷ 242 ∷ 243 ∷ 244 ∷ 245 ∷ 246 ∷ 247 ∷ 248 ∷ 249 ∷ 250 ∷ 251 ∷ 252 ∷ 253 ∷ 254 ∷ 255 ∷ []
+    240 ∷ 241 ∷ 242 ∷ 243 ∷ 244 ∷ 245 ∷ 246 ∷ 247 ∷ 248 ∷ 249 ∷ 250 ∷ 251 ∷ 252 ∷ 253 ∷ 254
+    ∷ 255 ∷ []
 
 -- the fold of a byte
 unfoldable pub fold : ℕ → ℕ

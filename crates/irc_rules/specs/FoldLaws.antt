@@ -1,12 +1,13 @@
--- The laws of names by the fold: what `same` tells, that it is an equivalence, and that folded order is a total order whose
--- ties are the same names.
+-- The laws of names by the fold: what `same` tells, that it is an equivalence, and that folded
+-- order is a total order whose ties are the same names.
 use Rattle.std.proofs.Common.{◌≡◌, ℕ, List, [], ◌∷◌, suc, length, IsTrue, ◌∙◌, sym, ap, refl}
 use Rattle.std.specs.Hash as fed
 use Rattle.std.specs.Bool.{Decides}
 use Rattle.std.specs.declared.cmp.Ordering.TheVariants.{Equal}
 use Rattle.std.specs.Ordering.{is_eq}
 use Rattle.std.specs.Cmp.{IsTotalOrder, IsEquivalence, on_total, on_equiv, Equal-is}
-use Rattle.std.specs.Cmp.Lexicographic.{nat_list_cmp_total, nat_list_eq_equiv, texts_ties, bytes_decides}
+use Rattle.std.specs.Cmp.Lexicographic.{nat_list_cmp_total, nat_list_eq_equiv, texts_ties}
+use Rattle.std.specs.Cmp.Lexicographic.{bytes_decides}
 use Rattle.irc_rules.specs.Fold.{key, same, name_cmp}
 
 -- `same` tells whether the folds are equal

@@ -1,5 +1,6 @@
 -- What a user says of itself (RFC 2812 section 3.1.3).
-use Rattle.std.specs.Prelude.{ℕ, Bool, ◌||◌, ◌≤◌, List, length, take, map, codes, nat_eq, if◌then◌else◌, IsTrue}
+use Rattle.std.specs.Prelude.{ℕ, Bool, ◌||◌, ◌≤◌, List, length, take, map, codes, nat_eq}
+use Rattle.std.specs.Prelude.{if◌then◌else◌, IsTrue}
 use Rattle.std.specs.List.{list_any, list_all}
 use Rattle.std.specs.Char.{is_ascii_alphanumeric}
 use Rattle.irc_rules.specs.Limits.{max_user_name, max_real_name}

@@ -5,8 +5,8 @@ ghost use Rattle.irc_rules.specs.Fold.{fold, same, name_cmp};
 
 use std::cmp::Ordering;
 
-/// The lower case of a byte of a name (RFC 2812, section 2.2): that of a letter, and for `[`, `]`, `\` and `~` the bytes `{`, `}`,
-/// `|` and `^`.
+/// The lower case of a byte of a name (RFC 2812, section 2.2): that of a letter, and for `[`, `]`,
+/// `\` and `~` the bytes `{`, `}`, `|` and `^`.
 #[tactic(auto, using(crate::specs::Lemmas::FoldsByRanges::folds))]
 pub fn fold(byte: u8) -> u8
     ensures { result ≡ fold byte }
@@ -21,7 +21,8 @@ pub fn fold(byte: u8) -> u8
     }
 }
 
-/// The order of two bytes: that of their folds. Where names are looked for most bytes are the same as they stand.
+/// The order of two bytes: that of their folds. Where names are looked for most bytes are the same
+/// as they stand.
 fn compare_bytes(first: u8, other: u8) -> Ordering
     ensures { result ≡ nat_cmp (fold first) (fold other) }
 {

@@ -1,4 +1,5 @@
-//! Rules of names: their case fold, what each kind is, masks, how long each may be; and the digits of a number.
+//! Rules of names: their case fold, what each kind is, masks, how long each may be; and the digits
+//! of a number.
 #![tactic(auto)]
 
 mod case_fold;
@@ -15,7 +16,8 @@ pub use hashing::hash_folds;
 pub use matching::mask_matches;
 pub use rules::{is_ban_mask, is_channel, is_host, is_key, is_nick, is_server, is_user_byte};
 
-// How long names may be, in bytes. Each limit of the code stands here alone; the definitions have the same numbers in `specs/Limits.antt`.
+// How long names may be, in bytes. Each limit of the code stands here alone; the definitions have
+// the same numbers in `specs/Limits.antt`.
 
 /// The longest nickname (our own choice; RFC 2812, section 1.2.1 has nine).
 pub const MAX_NICK: usize = 30;

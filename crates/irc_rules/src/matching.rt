@@ -1,7 +1,8 @@
 //! Masks against texts (RFC 2812, section 2.5).
 ghost use Rattle.std.specs.Prelude.{◌≡◌, ◌<◌, ◌≤◌, ◌↔◌, length, IsTrue, MatchOption, IfSome};
 ghost use Rattle.irc_rules.specs.Masks.{Matches};
-ghost use Rattle.irc_rules.specs.Loops.Fronts.{Empty, Begins, front, front_after_backslash, accepts};
+ghost use Rattle.irc_rules.specs.Loops.Fronts.{Empty, Begins, front, front_after_backslash};
+ghost use Rattle.irc_rules.specs.Loops.Fronts.{accepts};
 ghost use Rattle.irc_rules.specs.MaskLaws.{Somewhere, matches};
 ghost use Rattle.irc_rules.specs.Loops.Walks.{Tells, IsShorter, IsFirst};
 
@@ -31,11 +32,13 @@ enum Walk<'a> {
     Differs,
 }
 
-/// Whether a mask matches a text: `*` stands for any run of bytes, `?` for one byte, `\*` and `\?` for those bytes, and any other byte
-/// for each byte with an equal fold (RFC 2812, section 2.5; our own choice: any other backslash is itself).
+/// Whether a mask matches a text: `*` stands for any run of bytes, `?` for one byte, `\*` and `\?`
+/// for those bytes, and any other byte for each byte with an equal fold (RFC 2812, section 2.5; our
+/// own choice: any other backslash is itself).
 ///
-/// At each `*` the first place where the mask matches up to the next `*` is as good as any later one, so none is tried again: the
-/// time is at most that of one pass over the mask for each byte of the text.
+/// At each `*` the first place where the mask matches up to the next `*` is as good as any later
+/// one, so none is tried again: the time is at most that of one pass over the mask for each byte of
+/// the text.
 pub fn mask_matches(mask: &[u8], text: &[u8]) -> bool
     ensures told { IsTrue result ↔ Matches mask.now text.now }
     ensures value { result ≡ matches mask.now text.now }
@@ -47,7 +50,8 @@ pub fn mask_matches(mask: &[u8], text: &[u8]) -> bool
     matches!(reached, Walk::Done)
 }
 
-/// Follows a mask from the first byte of a text from which it can be followed to the next `*`, or to the end of both.
+/// Follows a mask from the first byte of a text from which it can be followed to the next `*`, or
+/// to the end of both.
 fn first_place<'a>(mask: &'a [u8], text: &'a [u8]) -> Walk<'a>
     ensures told { Tells result (Somewhere mask.now text.now) }
     ensures shorter { IsShorter result mask.now }
@@ -107,7 +111,8 @@ fn accepts(part: Part, byte: u8) -> bool
 
 /// The first part of a mask and the mask after it, where the mask is not empty.
 fn front(mask: &[u8]) -> Option<(Part, &[u8])>
-    ensures value { MatchOption result (front mask.now ≡ Empty) (λ found. front mask.now ≡ Begins found.0 found.1.now) }
+    ensures value { MatchOption result (front mask.now ≡ Empty)
+        (λ found. front mask.now ≡ Begins found.0 found.1.now) }
     ensures shorter { IfSome result (λ found. length found.1.now < length mask.now) }
 {
     let (first, rest) = mask.split_first()?;
@@ -119,7 +124,8 @@ fn front(mask: &[u8]) -> Option<(Part, &[u8])>
     }
 }
 
-/// The first part of a mask that begins with a backslash, and the mask after it, by what follows the backslash.
+/// The first part of a mask that begins with a backslash, and the mask after it, by what follows
+/// the backslash.
 fn front_after_backslash(rest: &[u8]) -> (Part, &[u8])
     ensures value { front_after_backslash rest.now ≡ Begins result.0 result.1.now }
     ensures within { length result.1.now ≤ length rest.now }

@@ -2,7 +2,10 @@
 ghost use Rattle.std.specs.Prelude.{◌≡◌};
 ghost use Rattle.std.specs.List.{list_all};
 ghost use Rattle.irc_rules.specs.UserTexts.{is_user_byte};
-ghost use Rattle.irc_rules.specs.Names.{starts_without_colon, is_special, is_nick_byte, is_nick, is_channel_byte, is_channel, is_host_byte, is_host, is_server_byte, is_server, is_key_byte, is_key, is_ban_mask_byte, is_ban_mask};
+ghost use Rattle.irc_rules.specs.Names.{starts_without_colon, is_special, is_nick_byte, is_nick};
+ghost use Rattle.irc_rules.specs.Names.{is_channel_byte, is_channel, is_host_byte, is_host};
+ghost use Rattle.irc_rules.specs.Names.{is_server_byte, is_server, is_key_byte, is_key};
+ghost use Rattle.irc_rules.specs.Names.{is_ban_mask_byte, is_ban_mask};
 
 use crate::{MAX_BAN_MASK, MAX_CHANNEL, MAX_HOST, MAX_KEY, MAX_NICK, MAX_SERVER};
 
@@ -29,8 +32,8 @@ fn are_nick_bytes(bytes: &[u8]) -> bool
     bytes.iter().all(|byte| is_nick_byte(*byte))
 }
 
-/// Whether these bytes are a nickname: a letter or one of ``[]\`_^{|}``, then letters, digits, those specials and `-`; at most
-/// [`MAX_NICK`] bytes (RFC 2812, section 2.3.1).
+/// Whether these bytes are a nickname: a letter or one of ``[]\`_^{|}``, then letters, digits,
+/// those specials and `-`; at most [`MAX_NICK`] bytes (RFC 2812, section 2.3.1).
 #[tactic(auto, unfolding(crate::specs::Names::is_nick))]
 pub fn is_nick(bytes: &[u8]) -> bool
     ensures { result ≡ is_nick bytes.now }
@@ -56,8 +59,9 @@ fn are_channel_bytes(bytes: &[u8]) -> bool
     bytes.iter().all(|byte| is_channel_byte(*byte))
 }
 
-/// Whether these bytes are a channel's name: `#`, then any bytes but NUL, bell, CR, LF, space, comma and `:`; at most
-/// [`MAX_CHANNEL`] bytes (RFC 2812, section 1.3; channels with another first byte are left out, by our own choice).
+/// Whether these bytes are a channel's name: `#`, then any bytes but NUL, bell, CR, LF, space,
+/// comma and `:`; at most [`MAX_CHANNEL`] bytes (RFC 2812, section 1.3; channels with another first
+/// byte are left out, by our own choice).
 #[tactic(auto, unfolding(crate::specs::Names::is_channel))]
 pub fn is_channel(bytes: &[u8]) -> bool
     ensures { result ≡ is_channel bytes.now }
@@ -81,8 +85,9 @@ fn are_host_bytes(bytes: &[u8]) -> bool
     bytes.iter().all(|byte| is_host_byte(*byte))
 }
 
-/// Whether these bytes are a host: 1 to [`MAX_HOST`] letters, digits, `.`, `-` and `:`, and no `:` in front (RFC 2812, section
-/// 2.3.1, which has longer words for addresses; the first byte is our own choice).
+/// Whether these bytes are a host: 1 to [`MAX_HOST`] letters, digits, `.`, `-` and `:`, and no `:`
+/// in front (RFC 2812, section 2.3.1, which has longer words for addresses; the first byte is our
+/// own choice).
 #[tactic(auto, unfolding(crate::specs::Names::is_host))]
 pub fn is_host(bytes: &[u8]) -> bool
     ensures { result ≡ is_host bytes.now }
@@ -103,8 +108,9 @@ fn are_server_bytes(bytes: &[u8]) -> bool
     bytes.iter().all(|byte| is_server_byte(*byte))
 }
 
-/// Whether these bytes are a server's name: 1 to [`MAX_SERVER`] of a to z, digits, `-` and `.`, with at least one `.` (our own
-/// choice within RFC 2812, section 2.3.1: so a server's name is never a nickname, and has one spelling).
+/// Whether these bytes are a server's name: 1 to [`MAX_SERVER`] of a to z, digits, `-` and `.`,
+/// with at least one `.` (our own choice within RFC 2812, section 2.3.1: so a server's name is
+/// never a nickname, and has one spelling).
 #[tactic(auto, unfolding(crate::specs::Names::is_server))]
 pub fn is_server(bytes: &[u8]) -> bool
     ensures { result ≡ is_server bytes.now }
@@ -125,8 +131,8 @@ fn are_key_bytes(bytes: &[u8]) -> bool
     bytes.iter().all(|byte| is_key_byte(*byte))
 }
 
-/// Whether these bytes are a channel's key: 1 to [`MAX_KEY`] bytes from 0x21 to 0x7E, no comma, and no `:` in front (our own choice
-/// within RFC 2812, section 2.3.1).
+/// Whether these bytes are a channel's key: 1 to [`MAX_KEY`] bytes from 0x21 to 0x7E, no comma, and
+/// no `:` in front (our own choice within RFC 2812, section 2.3.1).
 #[tactic(auto, unfolding(crate::specs::Names::is_key))]
 pub fn is_key(bytes: &[u8]) -> bool
     ensures { result ≡ is_key bytes.now }
@@ -147,8 +153,8 @@ fn are_ban_mask_bytes(bytes: &[u8]) -> bool
     bytes.iter().all(|byte| is_ban_mask_byte(*byte))
 }
 
-/// Whether a ban can keep these bytes as its mask: 1 to [`MAX_BAN_MASK`] bytes, none of them a space, and no `:` in front
-/// (our own choice).
+/// Whether a ban can keep these bytes as its mask: 1 to [`MAX_BAN_MASK`] bytes, none of them a
+/// space, and no `:` in front (our own choice).
 #[tactic(auto, unfolding(crate::specs::Names::is_ban_mask))]
 pub fn is_ban_mask(bytes: &[u8]) -> bool
     ensures { result ≡ is_ban_mask bytes.now }

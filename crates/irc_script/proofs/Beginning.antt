@@ -1,7 +1,9 @@
 -- The network that is made of a script's configurations is the first one.
-use Rattle.std.proofs.Common.{◌≡◌, ℕ, ◌+◌, ◌<◌, suc, true, false, not, Some, length, arith, slice_index_or, List, [], ◌∷◌, codes, map, ap, subst, refl, ◌∙◌}
+use Rattle.std.proofs.Common.{◌≡◌, ℕ, ◌+◌, ◌<◌, suc, true, false, not, Some, length, arith}
+use Rattle.std.proofs.Common.{slice_index_or, List, [], ◌∷◌, codes, map, ap, subst, refl, ◌∙◌}
 use Rattle.std.proofs.lemmas.List.Elements.{All-from_recursion, recursion_from_All}
-use Rattle.std.proofs.lemmas.List.Sorted.{All-permutation, IsPermutation-map, IsPermutation-sym, IsPermutation-trans}
+use Rattle.std.proofs.lemmas.List.Sorted.{All-permutation, IsPermutation-map, IsPermutation-sym}
+use Rattle.std.proofs.lemmas.List.Sorted.{IsPermutation-trans}
 use Rattle.std.specs.FinMap.{empty}
 use Rattle.std.specs.List.{AllByRecursion}
 use Rattle.std.specs.Cmp.Lexicographic.{slice_cmp}
@@ -21,7 +23,8 @@ use Rattle.irc_net.specs.View.{KnownPeer, known_peer}
 use Rattle.irc_script.specs.Loops.Configs.{AreConfigured, IsOwnConfig}
 use Rattle.irc_script.specs.Networks.{exceeds, first_net, first_site, in_name_order, is_greater}
 use Rattle.irc_script.specs.RunLaws.{are_ordered}
-use Rattle.irc_script.proofs.InOrder.{both_so, exceeds_one, is_in_order, neither, none_less, none_less_too, one_order, order_moves, turned}
+use Rattle.irc_script.proofs.InOrder.{both_so, exceeds_one, is_in_order, neither, none_less}
+use Rattle.irc_script.proofs.InOrder.{none_less_too, one_order, order_moves, turned}
 
 not_exceeds : (x y : Name) → is_lt (slice_cmp nat_cmp y x) ≡ false → exceeds x y ≡ false
 not_exceeds x y is = by (slice_cmp nat_cmp y x) refl is
@@ -31,10 +34,11 @@ not_exceeds x y is = by (slice_cmp nat_cmp y x) refl is
     by Equal same less = ap is_greater (turned y x Equal same)
     by Greater same less = ap is_greater (turned y x Greater same)
 
-shifted : (config : Config) (configs : List Config) → IsSortedByKey config_name (slice_cmp nat_cmp) (config ∷ configs)
-    → IsSortedByKey config_name (slice_cmp nat_cmp) configs
+shifted : (config : Config) (configs : List Config) → IsSortedByKey config_name (slice_cmp nat_cmp)
+    (config ∷ configs) → IsSortedByKey config_name (slice_cmp nat_cmp) configs
 shifted config configs sorted k d low high =
-    subst (λ n. is_lt (slice_cmp nat_cmp (config_name (slice_index_or (config ∷ configs) n d)) (config_name (slice_index_or configs k d))) ≡ false) (moved k)
+    subst (λ n. is_lt (slice_cmp nat_cmp (config_name (slice_index_or (config ∷ configs) n d))
+    (config_name (slice_index_or configs k d))) ≡ false) (moved k)
     (sorted (suc k) d (omega arith) (further k (length configs) high))
   where
     moved : (n : ℕ) → suc n + 1 ≡ suc (n + 1)
@@ -46,24 +50,42 @@ shifted config configs sorted k d low high =
 two : (n : ℕ) → 0 + 1 < suc (suc n)
 two n = omega arith
 
-names_in_order : (configs : List Config) → IsSortedByKey config_name (slice_cmp nat_cmp) configs → are_ordered (map config_name configs) ≡ true
+names_in_order : (configs : List Config) → IsSortedByKey config_name (slice_cmp nat_cmp) configs
+    → are_ordered (map config_name configs) ≡ true
 names_in_order [] sorted = refl
 names_in_order (config ∷ []) sorted = refl
 names_in_order (config ∷ next ∷ configs) sorted =
     let rest = names_in_order (next ∷ configs) (shifted config (next ∷ configs) sorted) in
-    let first = not_exceeds (config_name config) (config_name next) (sorted 0 config (omega arith) (two (length configs))) in
-    both_so (not (exceeds_one (config_name config) (map config_name (next ∷ configs)))) (are_ordered (map config_name (next ∷ configs)))
-    (ap not (neither (exceeds (config_name config) (config_name next)) (exceeds_one (config_name config) (map config_name configs)) first
-    (none_less_too (config_name config) (config_name next) (map config_name configs) first (none_less (config_name next) (map config_name configs) rest)))) rest
+    let first = not_exceeds (config_name config) (config_name next)
+    (sorted 0 config (omega arith) (two (length configs))) in
+    both_so (not (exceeds_one (config_name config) (map config_name (next ∷ configs))))
+    (are_ordered (map config_name (next ∷ configs)))
+    (ap not (neither (exceeds (config_name config) (config_name next))
+    (exceeds_one (config_name config) (map config_name configs)) first
+    (none_less_too (config_name config) (config_name next) (map config_name configs) first
+    (none_less (config_name next) (map config_name configs) rest)))) rest
 
 abbrev site_of : Known → List KnownPeer → Site
-site_of routes peers = record { server = Some (record { routes = routes; peers = peers; ends = empty; clients = empty; room = no_room }); queues = empty }
+site_of routes peers = record {
+  server = Some (record {
+    routes = routes;
+    peers = peers;
+    ends = empty;
+    clients = empty;
+    room = no_room;
+  });
+  queues = empty;
+}
 
-site_is : (names : List Name) (config : Config) → IsOwnConfig names config → new_site config ≡ first_site names (config_name config)
+site_is : (names : List Name) (config : Config) → IsOwnConfig names config
+    → new_site config ≡ first_site names (config_name config)
 site_is names config own =
-    ap (λ info. site_of (alone_known (config_name config) info config.own.created.items) (map known_peer config.peers.items)) own.info
-    ∙ ap (λ created. site_of (alone_known (config_name config) (codes "Test server") created) (map known_peer config.peers.items)) own.created
-    ∙ ap (site_of (alone_known (config_name config) (codes "Test server") (codes "2024-01-01"))) own.peers
+    ap (λ info. site_of (alone_known (config_name config) info config.own.created.items)
+    (map known_peer config.peers.items)) own.info
+    ∙ ap (λ created. site_of (alone_known (config_name config) (codes "Test server") created)
+    (map known_peer config.peers.items)) own.created
+    ∙ ap (site_of (alone_known (config_name config) (codes "Test server") (codes "2024-01-01")))
+    own.peers
 
 sites_are : (names : List Name) (configs : List Config) → AllByRecursion (IsOwnConfig names) configs
     → map new_site configs ≡ map (first_site names) (map config_name configs)
@@ -73,19 +95,31 @@ sites_are names (config ∷ configs) all =
     ∙ ap (λ sites. first_site names (config_name config) ∷ sites) (sites_are names configs all.1)
 
 abbrev with_names : List Name → List Site → Network
-with_names names sites = record { names = names; sites = sites; links = []; homes = []; received = []; items = []; taken = 0 }
+with_names names sites = record {
+  names = names;
+  sites = sites;
+  links = [];
+  homes = [];
+  received = [];
+  items = [];
+  taken = 0;
+}
 
-pub made_first : (names : List Name) (configs : List Config) (net : ByteNetwork) → AreConfigured names names configs → IsMadeOf configs net
-    → net ≡ first_net names
+pub made_first : (names : List Name) (configs : List Config) (net : ByteNetwork)
+    → AreConfigured names names configs → IsMadeOf configs net → net ≡ first_net names
 made_first names configs net are made =
     let named : IsPermutation names (map config_name made.ordered) =
-    subst (λ ns. IsPermutation ns (map config_name made.ordered)) are.named (IsPermutation-map config_name configs made.ordered made.same_ones) in
+    subst (λ ns. IsPermutation ns (map config_name made.ordered)) are.named
+    (IsPermutation-map config_name configs made.ordered made.same_ones) in
     let ordered : map config_name made.ordered ≡ in_name_order names =
     one_order (map config_name made.ordered) (in_name_order names)
-    (IsPermutation-trans (map config_name made.ordered) names (in_name_order names) (IsPermutation-sym names (map config_name made.ordered) named) (order_moves names))
+    (IsPermutation-trans (map config_name made.ordered) names (in_name_order names)
+    (IsPermutation-sym names (map config_name made.ordered) named) (order_moves names))
     (names_in_order made.ordered made.in_order) (is_in_order names) in
     let all : AllByRecursion (IsOwnConfig names) made.ordered =
     recursion_from_All (IsOwnConfig names) made.ordered
-    (All-permutation (IsOwnConfig names) configs made.ordered made.same_ones (All-from_recursion (IsOwnConfig names) configs are.each)) in
-    made.network_is ∙ ap (λ sites. no_wires (with_names (map config_name made.ordered) sites)) (sites_are names made.ordered all)
+    (All-permutation (IsOwnConfig names) configs made.ordered made.same_ones
+    (All-from_recursion (IsOwnConfig names) configs are.each)) in
+    made.network_is ∙ ap (λ sites. no_wires (with_names (map config_name made.ordered) sites))
+    (sites_are names made.ordered all)
     ∙ ap (λ ns. no_wires (with_names ns (map (first_site names) ns))) ordered

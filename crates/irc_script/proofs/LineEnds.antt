@@ -1,5 +1,6 @@
 -- The last piece of a text.
-use Rattle.std.proofs.Common.{◌≡◌, ℕ, true, false, List, [], ◌∷◌, ◌++◌, ap, sym, refl, ◌∙◌, Bor, length, ◌==◌, arith}
+use Rattle.std.proofs.Common.{◌≡◌, ℕ, true, false, List, [], ◌∷◌, ◌++◌, ap, sym, refl, ◌∙◌, Bor}
+use Rattle.std.proofs.Common.{length, ◌==◌, arith}
 use Rattle.std.proofs.lemmas.Bool.Decides.{nat_tests}
 use Rattle.std.proofs.lemmas.List.{map-append}
 use Rattle.irc_line.specs.Lines.{is_empty, last_piece, earlier_pieces}
@@ -21,7 +22,8 @@ pub dropped : (ps : List (List ℕ)) (p : List ℕ) → is_empty p ≡ true → 
 dropped ps p e = rw (last_piece-append ps p) (rw e (earlier_pieces-append ps p))
 
 -- another last piece is one
-pub kept : (ps : List (List ℕ)) (p : List ℕ) → is_empty p ≡ false → ended (ps ++ p ∷ []) ≡ ps ++ p ∷ []
+pub kept : (ps : List (List ℕ)) (p : List ℕ) → is_empty p ≡ false
+    → ended (ps ++ p ∷ []) ≡ ps ++ p ∷ []
 kept ps p e = rw (last_piece-append ps p) (rw e refl)
 
 pub is_empty-length : (bytes : List ℕ) → is_empty bytes ≡ (length bytes == 0)
@@ -29,13 +31,15 @@ is_empty-length [] = refl
 is_empty-length (b ∷ bytes) = grind (arith, nat_tests)
 
 -- the same of the code's pieces
-pub dropped_now : (all front : List (Bor (List ℕ))) (last : Bor (List ℕ)) → all ≡ front ++ last ∷ [] → is_empty last.now ≡ true
-    → lines_now front ≡ ended (lines_now all)
+pub dropped_now : (all front : List (Bor (List ℕ))) (last : Bor (List ℕ)) → all ≡ front ++ last ∷ []
+    → is_empty last.now ≡ true → lines_now front ≡ ended (lines_now all)
 dropped_now all front last e empty =
-    sym (ap (λ ps. ended (lines_now ps)) e ∙ ap ended (map-append (λ p. p.now) front (last ∷ [])) ∙ dropped (lines_now front) last.now empty)
+    sym (ap (λ ps. ended (lines_now ps)) e ∙ ap ended (map-append (λ p. p.now) front (last ∷ []))
+    ∙ dropped (lines_now front) last.now empty)
 
-pub kept_now : (all front : List (Bor (List ℕ))) (last : Bor (List ℕ)) → all ≡ front ++ last ∷ [] → is_empty last.now ≡ false
-    → lines_now all ≡ ended (lines_now all)
+pub kept_now : (all front : List (Bor (List ℕ))) (last : Bor (List ℕ)) → all ≡ front ++ last ∷ []
+    → is_empty last.now ≡ false → lines_now all ≡ ended (lines_now all)
 kept_now all front last e some =
-    let parts : lines_now all ≡ lines_now front ++ last.now ∷ [] = ap lines_now e ∙ map-append (λ p. p.now) front (last ∷ []) in
+    let parts : lines_now all ≡ lines_now front ++ last.now ∷ [] =
+    ap lines_now e ∙ map-append (λ p. p.now) front (last ∷ []) in
     parts ∙ sym (ap ended parts ∙ kept (lines_now front) last.now some)

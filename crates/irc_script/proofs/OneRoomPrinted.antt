@@ -26,45 +26,58 @@ pub record AreOneRoom : Type 0 where
   pub owed : KeptIsOwed
   pub set_up : SettingsStay
 
-nothing_received : (names : List (List ℕ)) (client : ℕ) → received_by (first_network names) client ≡ []
+nothing_received : (names : List (List ℕ)) (client : ℕ)
+    → received_by (first_network names) client ≡ []
 nothing_received names zero = refl
 nothing_received names (suc earlier) = refl
 
-printed_of : AreOneRoom → (names : List (List ℕ)) (net : ByteNetwork) (text : List ℕ) → IsKeptSound net
-    → settings_of net.network ≡ script_settings names → Shows (first_net names) net text → IsPrintedOf names net text
+printed_of : AreOneRoom → (names : List (List ℕ)) (net : ByteNetwork) (text : List ℕ)
+    → IsKeptSound net → settings_of net.network ≡ script_settings names
+    → Shows (first_net names) net text → IsPrintedOf names net text
 printed_of laws names net text kept set_up shown = record {
   entries = shown.entries;
   text_is = shown.text_is;
   received = received;
-  front = λ client. subst (λ lines. IsFront lines (owed_in names net client)) (sym (received client))
-      (subst (IsFront (received_by net.network client)) (same client) ((laws.owed net client kept).front refl));
-  at_rest = λ rest client. received client ∙ (laws.owed net client kept).all refl rest ∙ same client;
+  front =
+      λ client. subst (λ lines. IsFront lines (owed_in names net client)) (sym (received client))
+      (subst (IsFront (received_by net.network client)) (same client)
+      ((laws.owed net client kept).front refl));
+  at_rest =
+      λ rest client. received client ∙ (laws.owed net client kept).all refl rest ∙ same client;
   settings = set_up;
   sound = kept.sound;
 }
   where
     received : (client : ℕ) → lines_shown_to client shown.entries ≡ received_by net.network client
-    received client = sym (shown.received client ∙ ap (λ ls. ls ++ lines_shown_to client shown.entries) (nothing_received names client))
+    received client = sym (shown.received client
+        ∙ ap (λ ls. ls ++ lines_shown_to client shown.entries) (nothing_received names client))
 
     same : (client : ℕ) → owed_now net.network client ≡ owed_in names net client
     same client = ap (λ settings. owed_by_network settings net.network.items client) set_up
 
 -- the network with which a script that is read begins is sound,
-pub first_kept : StaysKept → (text : List ℕ) (asked : ScriptAsked) → script_read text ≡ Ok asked → IsKeptSound (first_net asked.servers)
+pub first_kept : StaysKept → (text : List ℕ) (asked : ScriptAsked) → script_read text ≡ Ok asked
+    → IsKeptSound (first_net asked.servers)
 first_kept keeping text asked read =
     keeping.new (first_network asked.servers)
-    (first_is_new asked.servers (subst AreServers (sym (servers_read text asked read)) (servers_named (script_lines text))))
+    (first_is_new asked.servers (subst AreServers (sym (servers_read text asked read))
+    (servers_named (script_lines text))))
 
 -- and so it is behind each of the requests
-sound_behind : StaysKept → (text : List ℕ) (asked : ScriptAsked) (requests left : List Request) (net : ByteNetwork) (printed : List ℕ)
-    → script_read text ≡ Ok asked → asked.requests ≡ requests ++ left → Runs (first_net asked.servers) requests net printed → IsKeptSound net
-sound_behind keeping text asked requests left net printed read parts runs = runs_kept keeping within runs (first_kept keeping text asked read)
+sound_behind : StaysKept → (text : List ℕ) (asked : ScriptAsked) (requests left : List Request)
+    (net : ByteNetwork) (printed : List ℕ) → script_read text ≡ Ok asked → asked.requests ≡ requests
+    ++ left → Runs (first_net asked.servers) requests net printed → IsKeptSound net
+sound_behind keeping text asked requests left net printed read parts runs =
+    runs_kept keeping within runs (first_kept keeping text asked read)
   where
     within : AllByRecursion IsRequestWithin requests
-    within = front_within IsRequestWithin requests left (subst (AllByRecursion IsRequestWithin) parts (read_within text asked read))
+    within = front_within IsRequestWithin requests left
+        (subst (AllByRecursion IsRequestWithin) parts (read_within text asked read))
 
-pub prints_one_room : StaysKept → AreOneRoom → ReceiptsAreReceived → AnswersAreReceived → PrintsOneRoom
+pub prints_one_room : StaysKept → AreOneRoom → ReceiptsAreReceived → AnswersAreReceived
+    → PrintsOneRoom
 prints_one_room keeping laws receipts answers text asked requests left net printed read parts runs =
-    printed_of laws asked.servers net printed (sound_behind keeping text asked requests left net printed read parts runs)
+    printed_of laws asked.servers net printed
+    (sound_behind keeping text asked requests left net printed read parts runs)
     (runs_set_up laws.set_up runs ∙ first_set_up asked.servers)
     (runs_shown receipts answers runs)

@@ -1,5 +1,6 @@
 -- Bytes that come in turn until nothing is on its way come to one end.
-use Rattle.std.proofs.Common.{◌≡◌, ℕ, ◌+◌, min, true, false, Bool, cond, not, Option, Some, None, List, [], ◌∷◌, ap, sym, subst, refl, ◌∙◌}
+use Rattle.std.proofs.Common.{◌≡◌, ℕ, ◌+◌, min, true, false, Bool, cond, not, Option, Some, None}
+use Rattle.std.proofs.Common.{List, [], ◌∷◌, ap, sym, subst, refl, ◌∙◌}
 use Rattle.std.specs.Cmp.{first_so, second_so}
 use Rattle.std.specs.FinMap.{FinMap, keys}
 use Rattle.std.specs.List.{find, list_all}
@@ -11,7 +12,8 @@ use Rattle.irc_net.specs.Turns.{TurnsGo, lines_in_turn, none_yet, turn_first, tu
 use Rattle.irc_net.specs.Calls.{NetView, Settles, standing}
 use Rattle.irc_net.specs.Network.{Receipt, max_count}
 use Rattle.irc_room.specs.Lemmas.Rows.{same_some}
-use Rattle.irc_wires.specs.Wires.{Direction, Wire, Wires, are_still, are_still_in, first_from, first_in, has_byte, is_none, is_still, wire_in}
+use Rattle.irc_wires.specs.Wires.{Direction, Wire, Wires, are_still, are_still_in, first_from}
+use Rattle.irc_wires.specs.Wires.{first_in, has_byte, is_none, is_still, wire_in}
 use Rattle.irc_script.specs.RunLaws.{SettlesToRest}
 use Rattle.irc_script.specs.Runs.{end, move, nothing, request}
 
@@ -20,7 +22,8 @@ use Rattle.irc_script.specs.Runs.{end, move, nothing, request}
 still_has_none : (wire : Wire) → is_still wire ≡ true → has_byte wire ≡ false
 still_has_none wire still = ap not (first_so (is_none wire.bytes) (has_nothing wire.begun) still)
 
-none_found : (p q : ℕ → Bool) → ((n : ℕ) → p n ≡ true → q n ≡ false) → (numbers : List ℕ) → list_all p numbers ≡ true → find q numbers ≡ None
+none_found : (p q : ℕ → Bool) → ((n : ℕ) → p n ≡ true → q n ≡ false) → (numbers : List ℕ)
+    → list_all p numbers ≡ true → find q numbers ≡ None
 none_found p q not_so [] all = refl
 none_found p q not_so (n ∷ numbers) all =
     ap (λ b. cond b (Some n) (find q numbers)) (not_so n (first_so (p n) (list_all p numbers) all))
@@ -28,12 +31,14 @@ none_found p q not_so (n ∷ numbers) all =
 
 none_in : (row : FinMap nat_cmp Wire) → are_still_in row ≡ true → first_in row ≡ None
 none_in row still =
-    none_found (λ to. is_still (wire_in to row)) (λ to. has_byte (wire_in to row)) (λ to. still_has_none (wire_in to row)) (keys row) still
+    none_found (λ to. is_still (wire_in to row)) (λ to. has_byte (wire_in to row))
+    (λ to. still_has_none (wire_in to row)) (keys row) still
 
 none_from : (place : ℕ) (wires : Wires) → are_still wires ≡ true → first_from place wires ≡ None
 none_from place [] still = refl
 none_from place (row ∷ wires) still =
-    ap (λ (o : Option ℕ). option_map_or (λ to. Some (way place to)) o (first_from (place + 1) wires))
+    ap (λ (o : Option ℕ). option_map_or (λ to. Some (way place to)) o
+    (first_from (place + 1) wires))
     (none_in row (first_so (are_still_in row) (are_still wires) still))
     ∙ none_from (place + 1) wires (second_so (are_still_in row) (are_still wires) still)
   where
@@ -43,7 +48,8 @@ none_from place (row ∷ wires) still =
 no_turn : (course : ByteCourse) → is_byte_rest course.net ≡ true → turn_taken course ≡ None
 no_turn course rest = ap (option_map (turn_in course)) (none_from 0 course.net.wires rest)
 
-never_on : (course : ByteCourse) {between : ByteCourse} → is_byte_rest course.net ≡ true → turn_taken course ≡ Some between → ⊥
+never_on : (course : ByteCourse) {between : ByteCourse} → is_byte_rest course.net ≡ true
+    → turn_taken course ≡ Some between → ⊥
 never_on course rest turn = cc (sym (no_turn course rest) ∙ turn)
 
 -- ---- one end
@@ -52,36 +58,51 @@ record SameTurns (count other : ℕ) (last next : ByteCourse) : Type 0 where
   count_is : count ≡ other
   last_is : last ≡ next
 
-turns_one : {count other : ℕ} {course last next : ByteCourse} → TurnsGo count course last → is_byte_rest last.net ≡ true
-    → TurnsGo other course next → is_byte_rest next.net ≡ true → SameTurns count other last next
+turns_one : {count other : ℕ} {course last next : ByteCourse} → TurnsGo count course last
+    → is_byte_rest last.net ≡ true → TurnsGo other course next → is_byte_rest next.net ≡ true
+    → SameTurns count other last next
 turns_one none_yet rest none_yet rest' = record { count_is = refl; last_is = refl }
-turns_one {course = course} none_yet rest (turn_first turn all goes) rest' = absurd (never_on course rest turn)
-turns_one {course = course} (turn_first turn all goes) rest none_yet rest' = absurd (never_on course rest' turn)
+turns_one {course = course} none_yet rest (turn_first turn all goes) rest' =
+    absurd (never_on course rest turn)
+turns_one {course = course} (turn_first turn all goes) rest none_yet rest' =
+    absurd (never_on course rest' turn)
 turns_one {course = course} {next = next} (turn_first {count = n} {between = a} turn all goes) rest
     (turn_first {count = m} {between = b} turn' all' goes') rest' =
     let one : a ≡ b = same_some a b (sym turn ∙ turn') in
     let same = turns_one goes rest (subst (λ c. TurnsGo m c next) (sym one) goes') rest' in
-    record { count_is = all ∙ ap (λ k. lines_in_turn course.net + k) same.count_is ∙ sym all'; last_is = same.last_is }
+    record {
+      count_is = all ∙ ap (λ k. lines_in_turn course.net + k) same.count_is ∙ sym all';
+      last_is = same.last_is;
+    }
 
 -- two settlings come to the same
-pub record AreSame {net : ByteNetwork} {count other : ℕ} {receipts more : List Receipt} {last next : ByteNetwork}
-    (one : Settles net count receipts (standing last)) (another : Settles net other more (standing next)) : Type 0 where
+pub record AreSame {net : ByteNetwork} {count other : ℕ} {receipts more : List Receipt}
+    {last next : ByteNetwork}
+    (one : Settles net count receipts (standing last))
+    (another : Settles net other more (standing next)) : Type 0 where
   pub count_is : count ≡ other
   pub receipts_are : receipts ≡ more
   pub last_is : last ≡ next
 
-pub settles_one : {net : ByteNetwork} {count other : ℕ} {receipts more : List Receipt} {last next : ByteNetwork}
-    (one : Settles net count receipts (standing last)) (another : Settles net other more (standing next)) → AreSame one another
+pub settles_one : {net : ByteNetwork} {count other : ℕ} {receipts more : List Receipt}
+    {last next : ByteNetwork}
+    (one : Settles net count receipts (standing last))
+    (another : Settles net other more (standing next)) → AreSame one another
 settles_one one another =
     let same = turns_one one.goes one.rest another.goes another.rest in
     record {
       count_is = one.counts ∙ ap (λ n. min n max_count) same.count_is ∙ sym another.counts;
-      receipts_are = one.received ∙ ap (λ (c : ByteCourse). c.receipts) same.last_is ∙ sym another.received;
-      last_is = ap (λ (v : NetView). v.network) one.after ∙ ap (λ (c : ByteCourse). c.net) same.last_is ∙ sym (ap (λ (v : NetView). v.network) another.after);
+      receipts_are =
+          one.received ∙ ap (λ (c : ByteCourse). c.receipts) same.last_is ∙ sym another.received;
+      last_is =
+          ap (λ (v : NetView). v.network) one.after ∙ ap (λ (c : ByteCourse). c.net) same.last_is
+          ∙ sym (ap (λ (v : NetView). v.network) another.after);
     }
 
 -- where the last request settles, nothing is on its way
 pub settles_to_rest : SettlesToRest
 settles_to_rest first last [] text (request text_is (move outcome comes start_is nothing) end) =
     ap (λ (v : NetView). is_byte_rest v.network) comes.settles.after ∙ comes.settles.rest
-settles_to_rest first last (r ∷ requests) text (request {middle = middle} {more = more} text_is plays rest) = settles_to_rest middle last requests more rest
+settles_to_rest first last (r ∷ requests) text
+    (request {middle = middle} {more = more} text_is plays rest) =
+    settles_to_rest middle last requests more rest

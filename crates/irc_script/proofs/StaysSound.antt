@@ -1,5 +1,6 @@
 -- A network stays sound whatever a script does to it.
-use Rattle.std.proofs.Common.{◌≡◌, ℕ, Bool, true, false, Option, Some, None, List, sym, subst, refl, if◌then◌else◌}
+use Rattle.std.proofs.Common.{◌≡◌, ℕ, Bool, true, false, Option, Some, None, List, sym, subst, refl}
+use Rattle.std.proofs.Common.{if◌then◌else◌}
 use Rattle.std.specs.Bool.{⊤}
 use Rattle.std.specs.List.{AllByRecursion}
 use Rattle.std.specs.Option.{option_and_then, option_map_or}
@@ -14,7 +15,8 @@ use Rattle.irc_room.specs.Lemmas.Rows.{same_some}
 use Rattle.irc_wires.specs.Wires.{has_byte, through_line_feed}
 use Rattle.irc_net.specs.WithinLimits.{IsItemWithin}
 use Rattle.irc_script.specs.Moves.{Move, gives, delivers_line, takes_bytes, settles_all, moves_of}
-use Rattle.irc_script.specs.Runs.{Comes, MoveOutcome, Plays, Runs, delivered_by, delivered_or, end, given_or, move, nothing, request, taken_or}
+use Rattle.irc_script.specs.Runs.{Comes, MoveOutcome, Plays, Runs, delivered_by, delivered_or, end}
+use Rattle.irc_script.specs.Runs.{given_or, move, nothing, request, taken_or}
 use Rattle.irc_script.specs.Scripts.{Request}
 
 -- what a move gives is within the limits
@@ -32,56 +34,71 @@ abbrev IsKeptIn : MoveOutcome → Type 0
 IsKeptIn outcome = IsKeptSound outcome.network
 
 -- the line that comes between two servers, if one does
-line_kept : StaysKept → (first : ByteNetwork) (o : Option LinkPlaces) (course : ByteCourse) → option_and_then (line_between first) o ≡ Some course
-    → IsKeptSound first → IsKeptSound course.net
+line_kept : StaysKept → (first : ByteNetwork) (o : Option LinkPlaces) (course : ByteCourse)
+    → option_and_then (line_between first) o ≡ Some course → IsKeptSound first
+    → IsKeptSound course.net
 line_kept laws first None course is kept = absurd (cc is)
 line_kept laws first (Some ends) course is kept = by (has_byte (wire_between first ends)) is
   where
     count : ℕ
     count = through_line_feed (wire_between first ends).bytes
 
-    by : (b : Bool) → ◌≡◌ {A = Option ByteCourse} (if b then Some (piece_between count first ends) else None) (Some course)
-        → IsKeptSound course.net
+    by : (b : Bool) → ◌≡◌ {A = Option ByteCourse} (if b then Some (piece_between count first ends)
+        else None) (Some course) → IsKeptSound course.net
     by true e =
-        subst (λ (c : ByteCourse). IsKeptSound c.net) (same_some (piece_between count first ends) course e) (laws.come first ends.near ends.far count kept)
+        subst (λ (c : ByteCourse). IsKeptSound c.net) (same_some (piece_between count first ends)
+        course e) (laws.come first ends.near ends.far count kept)
     by false e = absurd (cc e)
 
 -- the bytes that come between two servers, if there are such
-piece_kept : StaysKept → (first : ByteNetwork) (count : ℕ) (o : Option LinkPlaces) → IsKeptSound first
+piece_kept : StaysKept → (first : ByteNetwork) (count : ℕ)
+    (o : Option LinkPlaces) → IsKeptSound first
     → IsKeptSound (option_map_or (piece_between count first) o (byte_begun first)).net
 piece_kept laws first count None kept = kept
 piece_kept laws first count (Some ends) kept = laws.come first ends.near ends.far count kept
 
-pub comes_kept : StaysKept → (first : ByteNetwork) (m : Move) (outcome : MoveOutcome) → IsMoveWithin m → Comes first m outcome → IsKeptSound first
-    → IsKeptSound outcome.network
+pub comes_kept : StaysKept → (first : ByteNetwork) (m : Move) (outcome : MoveOutcome)
+    → IsMoveWithin m → Comes first m outcome → IsKeptSound first → IsKeptSound outcome.network
 comes_kept laws first (gives item) outcome within is kept = by (item_fault first item) refl is
   where
-    by : (o : Option NetFault) → item_fault first item ≡ o → outcome ≡ given_or o item first → IsKeptSound outcome.network
+    by : (o : Option NetFault) → item_fault first item ≡ o → outcome ≡ given_or o item first
+        → IsKeptSound outcome.network
     by None none e = subst IsKeptIn (sym e) (laws.given first item kept none within)
     by (Some fault) some e = subst IsKeptIn (sym e) kept
-comes_kept laws first (delivers_line from to) outcome within is kept = by (deliver_fault first from to) is
+comes_kept laws first (delivers_line from to) outcome within is kept =
+    by (deliver_fault first from to) is
   where
-    took : (o : Option ByteCourse) → delivery first from to ≡ o → outcome ≡ delivered_by o first → IsKeptSound outcome.network
+    took : (o : Option ByteCourse) → delivery first from to ≡ o → outcome ≡ delivered_by o first
+        → IsKeptSound outcome.network
     took None none e = subst IsKeptIn (sym e) kept
-    took (Some course) some e = subst IsKeptIn (sym e) (line_kept laws first (link_places first.network from to) course some kept)
+    took (Some course) some e = subst IsKeptIn (sym e)
+        (line_kept laws first (link_places first.network from to) course some kept)
 
-    by : (o : Option NetFault) → outcome ≡ delivered_or o from to first → IsKeptSound outcome.network
+    by : (o : Option NetFault) → outcome ≡ delivered_or o from to first
+        → IsKeptSound outcome.network
     by None e = took (delivery first from to) refl e
     by (Some fault) e = subst IsKeptIn (sym e) kept
-comes_kept laws first (takes_bytes from to count) outcome within is kept = by (deliver_fault first from to) is
+comes_kept laws first (takes_bytes from to count) outcome within is kept =
+    by (deliver_fault first from to) is
   where
-    by : (o : Option NetFault) → outcome ≡ taken_or o from to count first → IsKeptSound outcome.network
-    by None e = subst IsKeptIn (sym e) (piece_kept laws first count (link_places first.network from to) kept)
+    by : (o : Option NetFault) → outcome ≡ taken_or o from to count first
+        → IsKeptSound outcome.network
+    by None e = subst IsKeptIn (sym e)
+        (piece_kept laws first count (link_places first.network from to) kept)
     by (Some fault) e = subst IsKeptIn (sym e) kept
-comes_kept laws first settles_all outcome within is kept = laws.settled first outcome.network is.count is.receipts kept is.settles
+comes_kept laws first settles_all outcome within is kept =
+    laws.settled first outcome.network is.count is.receipts kept is.settles
 
-pub plays_kept : StaysKept → {first last : ByteNetwork} {moves : List Move} {text : List ℕ} → AllByRecursion IsMoveWithin moves → Plays first moves last text
-    → IsKeptSound first → IsKeptSound last
+pub plays_kept : StaysKept → {first last : ByteNetwork} {moves : List Move} {text : List ℕ}
+    → AllByRecursion IsMoveWithin moves → Plays first moves last text → IsKeptSound first
+    → IsKeptSound last
 plays_kept laws within nothing kept = kept
 plays_kept laws {first = first} within (move {m = m} outcome comes text_is rest) kept =
     plays_kept laws within.1 rest (comes_kept laws first m outcome within.0 comes kept)
 
-pub runs_kept : StaysKept → {first last : ByteNetwork} {requests : List Request} {text : List ℕ} → AllByRecursion IsRequestWithin requests
-    → Runs first requests last text → IsKeptSound first → IsKeptSound last
+pub runs_kept : StaysKept → {first last : ByteNetwork} {requests : List Request} {text : List ℕ}
+    → AllByRecursion IsRequestWithin requests → Runs first requests last text → IsKeptSound first
+    → IsKeptSound last
 runs_kept laws within end kept = kept
-runs_kept laws within (request text_is plays rest) kept = runs_kept laws within.1 rest (plays_kept laws within.0 plays kept)
+runs_kept laws within (request text_is plays rest) kept =
+    runs_kept laws within.1 rest (plays_kept laws within.0 plays kept)

@@ -1,7 +1,8 @@
 -- The limits of scripts and of what is printed. All are our own choice.
 use Rattle.std.specs.Prelude.{ℕ}
 
--- the greatest number that a script may have in it, and the last number of a client: 64 bits; our own choice
+-- the greatest number that a script may have in it, and the last number of a client: 64 bits; our
+-- own choice
 unfoldable pub max_script_number : ℕ
 max_script_number = 18446744073709551615
 

@@ -4,10 +4,11 @@ use Rattle.irc_line.specs.Bytes.{line_feed}
 use Rattle.irc_line.specs.Lines.{lines}
 use Rattle.irc_relay.specs.Links.{Name}
 use Rattle.irc_net.specs.Stepping.{Item, connect, line, gone, link, cut}
-use Rattle.irc_script.specs.Scripts.{Request, connects, says, goes, links, cuts, delivers, takes, settles}
+use Rattle.irc_script.specs.Scripts.{Request, connects, says, goes, links, cuts, delivers, takes}
+use Rattle.irc_script.specs.Scripts.{settles}
 
--- An item is given; the bytes through the next LF come from one server to another; so many bytes do, or all where there are fewer; bytes come in turn until
--- nothing is on its way.
+-- An item is given; the bytes through the next LF come from one server to another; so many bytes
+-- do, or all where there are fewer; bytes come in turn until nothing is on its way.
 pub data Move : Type 0 where
   gives : (item : Item) → Move
   delivers_line : (from to : Name) → Move

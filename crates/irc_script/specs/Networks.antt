@@ -1,5 +1,6 @@
 -- The network of a script, before anything is asked for.
-use Rattle.std.specs.Prelude.{ℕ, Bool, true, false, Option, Some, None, List, [], ◌∷◌, codes, map, if◌then◌else◌}
+use Rattle.std.specs.Prelude.{ℕ, Bool, true, false, Option, Some, None, List, [], ◌∷◌, codes, map}
+use Rattle.std.specs.Prelude.{if◌then◌else◌}
 use Rattle.std.specs.Cmp.Lexicographic.{slice_cmp}
 use Rattle.std.specs.FinMap.{empty}
 use Rattle.std.specs.List.{filter_map}
@@ -21,7 +22,8 @@ script_password = codes "pw"
 
 -- another server is a peer
 abbrev pub peer_of : Name → Name → Option KnownPeer
-peer_of server other = if same other server then None else Some (record { name = other; password = script_password })
+peer_of server other =
+    if same other server then None else Some (record { name = other; password = script_password })
 
 -- the peers of one of these servers: all others
 abbrev pub peers_for : Name → List Name → List KnownPeer
@@ -29,7 +31,12 @@ peers_for server names = filter_map (peer_of server) names
 
 -- how the server of a name is set up
 abbrev pub script_setting : List Name → Name → Setting
-script_setting names server = record { name = server; info = codes "Test server"; created = codes "2024-01-01"; peers = peers_for server names }
+script_setting names server = record {
+  name = server;
+  info = codes "Test server";
+  created = codes "2024-01-01";
+  peers = peers_for server names;
+}
 
 -- one of these servers: no link, and nobody connected
 abbrev pub first_view : List Name → Name → View
@@ -55,7 +62,8 @@ exceeds name other = is_greater (slice_cmp nat_cmp name other)
 -- a name goes in front of the first that is not less
 abbrev pub name_put_in : Name → List Name → List Name
 name_put_in name [] = name ∷ []
-name_put_in name (first ∷ names) = if exceeds name first then first ∷ name_put_in name names else name ∷ first ∷ names
+name_put_in name (first ∷ names) = if exceeds name first then first ∷ name_put_in name names
+    else name ∷ first ∷ names
 
 -- names in order
 abbrev pub in_name_order : List Name → List Name

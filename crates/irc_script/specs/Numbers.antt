@@ -1,5 +1,6 @@
 -- Numbers in a script.
-use Rattle.std.specs.Prelude.{ℕ, ◌&&◌, not, Bool, Option, Some, None, List, nat_lt, decimal, if◌then◌else◌}
+use Rattle.std.specs.Prelude.{ℕ, ◌&&◌, not, Bool, Option, Some, None, List, nat_lt, decimal}
+use Rattle.std.specs.Prelude.{if◌then◌else◌}
 use Rattle.std.specs.Str.{bytes_eq}
 use Rattle.std.specs.Str.Parse.{digits_value}
 use Rattle.irc_script.specs.Limits.{max_script_number}
@@ -10,4 +11,5 @@ writes number word = bytes_eq word (decimal number)
 
 -- the number that is written so, if it is not too great
 abbrev pub script_number : List ℕ → Option ℕ
-script_number word = let number = digits_value 10 word in if not (nat_lt max_script_number number) && writes number word then Some number else None
+script_number word = let number = digits_value 10 word in
+    if not (nat_lt max_script_number number) && writes number word then Some number else None

@@ -12,7 +12,8 @@ use Rattle.irc_net.specs.declared.fault.NetFault.{NetFault}
 use Rattle.irc_script.specs.Networks.{script_settings}
 use Rattle.irc_script.specs.Printing.{count_line, fault_number, printed, refusal_line}
 
--- What is printed, entry by entry: a line that a client receives; how many lines or bytes came, `= K`; a refusal, `! NUMBER`.
+-- What is printed, entry by entry: a line that a client receives; how many lines or bytes came, `=
+-- K`; a refusal, `! NUMBER`.
 pub data Entry : Type 0 where
   receives : (receipt : Receipt) → Entry
   counts : (count : ℕ) → Entry
@@ -46,6 +47,7 @@ pub record IsPrintedOf (names : List Name) (net : ByteNetwork) (text : List ℕ)
   pub text_is : text ≡ flat_map entry_text entries
   pub received : (client : ℕ) → lines_shown_to client entries ≡ received_by net.network client
   pub front : (client : ℕ) → IsFront (lines_shown_to client entries) (owed_in names net client)
-  pub at_rest : is_byte_rest net ≡ true → (client : ℕ) → lines_shown_to client entries ≡ owed_in names net client
+  pub at_rest : is_byte_rest net ≡ true → (client : ℕ)
+      → lines_shown_to client entries ≡ owed_in names net client
   pub settings : settings_of net.network ≡ script_settings names
   pub sound : IsSound (net_in_lines net)

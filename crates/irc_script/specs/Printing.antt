@@ -1,16 +1,21 @@
--- What is printed: each line that a client receives, how many lines or bytes came, and each refusal.
-use Rattle.std.specs.Prelude.{ℕ, ◌-◌, Option, Some, None, List, [], ◌∷◌, ◌++◌, length, take, drop, codes, decimal, if◌then◌else◌}
+-- What is printed: each line that a client receives, how many lines or bytes came, and each
+-- refusal.
+use Rattle.std.specs.Prelude.{ℕ, ◌-◌, Option, Some, None, List, [], ◌∷◌, ◌++◌, length, take, drop}
+use Rattle.std.specs.Prelude.{codes, decimal, if◌then◌else◌}
 use Rattle.std.specs.List.{flat_map}
 use Rattle.std.specs.Str.{bytes_eq}
 use Rattle.irc_line.specs.Bytes.{crlf, space, line_feed}
 use Rattle.irc_net.specs.declared.fault.NetFault.{NetFault}
-use Rattle.irc_net.specs.declared.fault.NetFault.TheVariants.{NotAtRest, NoSuchServer, NoSuchClient, NotLinked, LinkRefused, Memory, Failed}
+use Rattle.irc_net.specs.declared.fault.NetFault.TheVariants.{NotAtRest, NoSuchServer, NoSuchClient}
+use Rattle.irc_net.specs.declared.fault.NetFault.TheVariants.{NotLinked, LinkRefused, Memory}
+use Rattle.irc_net.specs.declared.fault.NetFault.TheVariants.{Failed}
 use Rattle.irc_net.specs.Faults.{is_refusal}
 use Rattle.irc_net.specs.Network.{Receipt}
 
 -- a text without the CR LF at its end, if it has one
 abbrev pub body_of : List ℕ → List ℕ
-body_of text = let front = length text - 2 in if bytes_eq crlf (drop front text) then take front text else text
+body_of text = let front = length text - 2 in if bytes_eq crlf (drop front text)
+    then take front text else text
 
 -- the number of the client, a space, the line
 abbrev pub printed_line : ℕ → List ℕ → List ℕ

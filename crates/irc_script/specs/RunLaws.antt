@@ -17,7 +17,8 @@ pub record RunsToItsEnd (first : ByteNetwork) (requests : List Request) : Type 0
 
 -- Each script that is read can be run to its end.
 abbrev pub EachRuns : Type 0
-EachRuns = (text : List ℕ) (asked : ScriptAsked) → script_read text ≡ Ok asked → RunsToItsEnd (first_net asked.servers) asked.requests
+EachRuns = (text : List ℕ) (asked : ScriptAsked) → script_read text ≡ Ok asked
+    → RunsToItsEnd (first_net asked.servers) asked.requests
 
 -- two runs come to the same network, and print the same
 pub record SameRun (last other : ByteNetwork) (text more : List ℕ) : Type 0 where
@@ -42,12 +43,16 @@ pub record IsInOrder (names sorted : List Name) : Type 0 where
 abbrev pub OrderIsSo : Type 0
 OrderIsSo = (names : List Name) → IsInOrder names (in_name_order names)
 
--- What a script prints is what its clients receive of one room, at its end and behind each of its requests.
+-- What a script prints is what its clients receive of one room, at its end and behind each of its
+-- requests.
 abbrev pub PrintsOneRoom : Type 0
-PrintsOneRoom = (text : List ℕ) (asked : ScriptAsked) (requests left : List Request) (net : ByteNetwork) (printed : List ℕ)
-    → script_read text ≡ Ok asked → asked.requests ≡ requests ++ left → Runs (first_net asked.servers) requests net printed → IsPrintedOf asked.servers net printed
+PrintsOneRoom = (text : List ℕ) (asked : ScriptAsked) (requests left : List Request)
+    (net : ByteNetwork) (printed : List ℕ)
+    → script_read text ≡ Ok asked → asked.requests ≡ requests ++ left → Runs
+    (first_net asked.servers) requests net printed → IsPrintedOf asked.servers net printed
 
 -- Behind a `settle` nothing is on its way.
 abbrev pub SettlesToRest : Type 0
-SettlesToRest = (first last : ByteNetwork) (requests : List Request) (text : List ℕ) → Runs first (requests ++ settles ∷ []) last text
+SettlesToRest = (first last : ByteNetwork) (requests : List Request) (text : List ℕ)
+    → Runs first (requests ++ settles ∷ []) last text
     → is_byte_rest last ≡ true

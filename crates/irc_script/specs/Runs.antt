@@ -1,5 +1,7 @@
--- What a script does: which moves it makes on its network, in which order, what comes of each, and what is printed.
-use Rattle.std.specs.Prelude.{◌≡◌, ℕ, Option, Some, None, Result, Ok, Err, List, [], ◌∷◌, ◌++◌, ◌⊎◌, IfSome}
+-- What a script does: which moves it makes on its network, in which order, what comes of each, and
+-- what is printed.
+use Rattle.std.specs.Prelude.{◌≡◌, ℕ, Option, Some, None, Result, Ok, Err, List, [], ◌∷◌, ◌++◌, ◌⊎◌}
+use Rattle.std.specs.Prelude.{IfSome}
 use Rattle.std.specs.Io.KnownBytes.{Appends}
 use Rattle.std.specs.List.{flat_map}
 use Rattle.irc_net.specs.declared.fault.NetFault.{NetFault}
@@ -36,7 +38,8 @@ given_or (Some fault) item net = move_refused fault net
 -- bytes came, or none is on its way
 abbrev pub delivered_by : Option ByteCourse → ByteNetwork → MoveOutcome
 delivered_by None net = record { text = taken_text 0 []; network = net }
-delivered_by (Some course) net = record { text = taken_text 1 course.receipts; network = course.net }
+delivered_by (Some course) net =
+    record { text = taken_text 1 course.receipts; network = course.net }
 
 abbrev pub delivered_or : Option NetFault → Name → Name → ByteNetwork → MoveOutcome
 delivered_or None from to net = delivered_by (delivery net from to) net
@@ -44,7 +47,10 @@ delivered_or (Some fault) from to net = move_refused fault net
 
 abbrev pub taken_or : Option NetFault → Name → Name → ℕ → ByteNetwork → MoveOutcome
 taken_or None from to count net =
-    record { text = taken_text (piece_count count net from to) (piece count net from to).receipts; network = (piece count net from to).net }
+    record {
+      text = taken_text (piece_count count net from to) (piece count net from to).receipts;
+      network = (piece count net from to).net;
+    }
 taken_or (Some fault) from to count net = move_refused fault net
 
 -- Bytes come in turn until nothing is on its way.
@@ -57,21 +63,25 @@ pub record IsSettling (net : ByteNetwork) (outcome : MoveOutcome) : Type 0 where
 -- what comes of a move, as the network's definitions say
 abbrev pub Comes : ByteNetwork → Move → MoveOutcome → Type 0
 Comes net (gives item) outcome = outcome ≡ given_or (item_fault net item) item net
-Comes net (delivers_line from to) outcome = outcome ≡ delivered_or (deliver_fault net from to) from to net
-Comes net (takes_bytes from to count) outcome = outcome ≡ taken_or (deliver_fault net from to) from to count net
+Comes net (delivers_line from to) outcome =
+    outcome ≡ delivered_or (deliver_fault net from to) from to net
+Comes net (takes_bytes from to count) outcome =
+    outcome ≡ taken_or (deliver_fault net from to) from to count net
 Comes net settles_all outcome = IsSettling net outcome
 
 -- Moves are made one after another, and what comes of each is printed.
 pub data Plays : ByteNetwork → List Move → ByteNetwork → List ℕ → Type 0 where
   nothing : {first : ByteNetwork} → Plays first [] first []
-  move : {first last : ByteNetwork} {m : Move} {moves : List Move} {more text : List ℕ} (outcome : MoveOutcome)
-      → Comes first m outcome → text ≡ outcome.text ++ more → Plays outcome.network moves last more → Plays first (m ∷ moves) last text
+  move : {first last : ByteNetwork} {m : Move} {moves : List Move} {more text : List ℕ}
+      (outcome : MoveOutcome) → Comes first m outcome → text ≡ outcome.text ++ more
+      → Plays outcome.network moves last more → Plays first (m ∷ moves) last text
 
 -- The same of what a script asks for.
 pub data Runs : ByteNetwork → List Request → ByteNetwork → List ℕ → Type 0 where
   end : {first : ByteNetwork} → Runs first [] first []
-  request : {first middle last : ByteNetwork} {r : Request} {requests : List Request} {start more text : List ℕ}
-      → text ≡ start ++ more → Plays first (moves_of r) middle start → Runs middle requests last more → Runs first (r ∷ requests) last text
+  request : {first middle last : ByteNetwork} {r : Request} {requests : List Request}
+      {start more text : List ℕ} → text ≡ start ++ more → Plays first (moves_of r) middle start
+      → Runs middle requests last more → Runs first (r ∷ requests) last text
 
 -- the text is what a reader had, where that is known
 abbrev pub IsTextOf : List ℕ → Option (List ℕ) → Type 0
@@ -101,7 +111,8 @@ pub record IsFront (front whole : List ℕ) : Type 0 where
   pub more : List ℕ
   pub whole_is : whole ≡ front ++ more
 
--- A script was begun, and what was printed is a front of what the whole script prints where neither memory nor a device fails.
+-- A script was begun, and what was printed is a front of what the whole script prints where neither
+-- memory nor a device fails.
 pub record CutShort (remaining old new : Option (List ℕ)) : Type 0 where
   pub text : List ℕ
   pub is_text : IsTextOf text remaining
@@ -115,12 +126,15 @@ pub record CutShort (remaining old new : Option (List ℕ)) : Type 0 where
   pub appended : Appends old new printed
   pub front : IsFront printed whole
 
--- The first of these requests were run, and of the next one some moves: this is printed of them. What is behind them is not done.
+-- The first of these requests were run, and of the next one some moves: this is printed of them.
+-- What is behind them is not done.
 pub data StopsIn : ByteNetwork → List Request → List ℕ → Type 0 where
-  in_first : {first last : ByteNetwork} {r : Request} {requests : List Request} {text : List ℕ} (moves left : List Move)
-      → moves_of r ≡ moves ++ left → Plays first moves last text → StopsIn first (r ∷ requests) text
-  in_later : {first middle : ByteNetwork} {r : Request} {requests : List Request} {start more text : List ℕ}
-      → text ≡ start ++ more → Plays first (moves_of r) middle start → StopsIn middle requests more → StopsIn first (r ∷ requests) text
+  in_first : {first last : ByteNetwork} {r : Request} {requests : List Request} {text : List ℕ}
+      (moves left : List Move) → moves_of r ≡ moves ++ left → Plays first moves last text
+      → StopsIn first (r ∷ requests) text
+  in_later : {first middle : ByteNetwork} {r : Request} {requests : List Request}
+      {start more text : List ℕ} → text ≡ start ++ more → Plays first (moves_of r) middle start
+      → StopsIn middle requests more → StopsIn first (r ∷ requests) text
 
 -- Memory was wanting for a move: all that the moves before it print was printed, and nothing of it.
 pub record OutOfMemory (remaining old new : Option (List ℕ)) : Type 0 where
@@ -131,12 +145,14 @@ pub record OutOfMemory (remaining old new : Option (List ℕ)) : Type 0 where
 abbrev pub EndsEarly : Option (List ℕ) → Option (List ℕ) → Option (List ℕ) → Type 0
 EndsEarly remaining old new = (new ≡ old) ⊎ CutShort remaining old new
 
--- a run that ends for want of memory: nothing was printed yet, or just what the moves print that were made
+-- a run that ends for want of memory: nothing was printed yet, or just what the moves print that
+-- were made
 abbrev pub RunsOut : Option (List ℕ) → Option (List ℕ) → Option (List ℕ) → Type 0
 RunsOut remaining old new = (new ≡ old) ⊎ OutOfMemory remaining old new
 
 -- how a run ends, by what the reader had and by what the writer held before and holds now
-abbrev pub Ran : Option (List ℕ) → Result (Unit {0}) SimFault → Option (List ℕ) → Option (List ℕ) → Type 0
+abbrev pub Ran : Option (List ℕ) → Result (Unit {0}) SimFault → Option (List ℕ) → Option (List ℕ)
+    → Type 0
 Ran remaining (Ok _) old new = Finished remaining old new
 Ran remaining (Err (BadScript line)) old new = Refused line remaining old new
 Ran remaining (Err Failed) old new = RunsOut remaining old new

@@ -6,7 +6,8 @@ use Rattle.irc_script.specs.declared.fault.SimFault.TheVariants.{BadScript, Fail
 use Rattle.irc_script.specs.declared.commands.Command.{Command}
 use Rattle.irc_script.specs.declared.commands.Command.TheVariants as command
 use Rattle.irc_script.specs.declared.script.Script.{Script}
-use Rattle.irc_script.specs.Scripts.{Request, connects, says, goes, links, cuts, delivers, takes, settles, Cut, Pair, ScriptAsked, script_read}
+use Rattle.irc_script.specs.Scripts.{Request, connects, says, goes, links, cuts, delivers, takes}
+use Rattle.irc_script.specs.Scripts.{settles, Cut, Pair, ScriptAsked, script_read}
 use denote.Ref.{Bor}
 
 abbrev pub lines_now : List (Bor (List ℕ)) → List (List ℕ)
@@ -35,9 +36,11 @@ abbrev pub requests : List Command → List Request
 requests = map request
 
 abbrev pub script_asked : Script → ScriptAsked
-script_asked script = record { servers = script.servers.items; requests = requests script.commands.items }
+script_asked script =
+    record { servers = script.servers.items; requests = requests script.commands.items }
 
--- A script that was read is what the text asks for, and a bad line is its first. Want of memory says nothing.
+-- A script that was read is what the text asks for, and a bad line is its first. Want of memory
+-- says nothing.
 abbrev pub IsScriptRead : Result Script SimFault → List ℕ → Type 0
 IsScriptRead (Ok script) text = script_read text ≡ Ok (script_asked script)
 IsScriptRead (Err (BadScript line)) text = script_read text ≡ Err line

@@ -1,5 +1,7 @@
 -- What a script asks for, line by line.
-use Rattle.std.specs.Prelude.{ℕ, ◌+◌, ◌&&◌, ◌==◌, not, nat_lt, Bool, Option, Some, None, Result, Ok, Err, List, [], ◌∷◌, ◌++◌, length, take, drop, position, codes, is_none, is_some, option_and_then, if◌then◌else◌}
+use Rattle.std.specs.Prelude.{ℕ, ◌+◌, ◌&&◌, ◌==◌, not, nat_lt, Bool, Option, Some, None, Result, Ok}
+use Rattle.std.specs.Prelude.{Err, List, [], ◌∷◌, ◌++◌, length, take, drop, position, codes}
+use Rattle.std.specs.Prelude.{is_none, is_some, option_and_then, if◌then◌else◌}
 use Rattle.std.specs.List.{slice_split, filter_map, list_any}
 use Rattle.std.specs.Option.{option_map, option_to_list}
 use Rattle.std.specs.Str.{bytes_eq}
@@ -49,14 +51,16 @@ is_word text word = bytes_eq text word
 
 -- the line `server NAME`
 abbrev pub named_in : Cut → Option (List ℕ)
-named_in line = if is_word line.before (codes "server") && is_server line.behind then Some line.behind else None
+named_in line = if is_word line.before (codes "server") && is_server line.behind
+    then Some line.behind else None
 
 abbrev pub server_declared : List ℕ → Option (List ℕ)
 server_declared line = option_and_then named_in (cut_at_space line)
 
 -- `NAME HOST`
 abbrev pub connect_in : Cut → Option Request
-connect_in words = if is_server words.before && is_host words.behind then Some (connects words.before words.behind) else None
+connect_in words = if is_server words.before && is_host words.behind
+    then Some (connects words.before words.behind) else None
 
 abbrev pub connect_of : List ℕ → Option Request
 connect_of words = option_and_then connect_in (cut_at_space words)
@@ -79,7 +83,8 @@ pub record Pair : Type 0 where
 
 -- `NAME NAME`
 abbrev pub pair_in : Cut → Option Pair
-pair_in words = if is_server words.before && is_server words.behind then Some (record { near = words.before; far = words.behind }) else None
+pair_in words = if is_server words.before && is_server words.behind
+    then Some (record { near = words.before; far = words.behind }) else None
 
 abbrev pub pair_of : List ℕ → Option Pair
 pair_of words = option_and_then pair_in (cut_at_space words)
@@ -96,7 +101,8 @@ deliver_of words = option_map (λ pair. delivers pair.near pair.far) (pair_of wo
 -- `NAME N`, behind a name
 abbrev pub bytes_from : List ℕ → Cut → Option Request
 bytes_from from words =
-    if is_server from && is_server words.before then option_map (λ count. takes from words.before count) (script_number words.behind) else None
+    if is_server from && is_server words.before then option_map
+    (λ count. takes from words.before count) (script_number words.behind) else None
 
 abbrev pub bytes_in : Cut → Option Request
 bytes_in words = option_and_then (bytes_from words.before) (cut_at_space words.behind)
@@ -119,11 +125,14 @@ request_in line =
 
 -- what a line asks for, if anything
 unfoldable pub request_of : List ℕ → Option Request
-request_of line = if is_word line (codes "settle") then Some settles else option_and_then request_in (cut_at_space line)
+request_of line = if is_word line (codes "settle") then Some settles
+    else option_and_then request_in (cut_at_space line)
 
--- whether a server of this name may be named behind these: none has the name, and there is room for one more
+-- whether a server of this name may be named behind these: none has the name, and there is room for
+-- one more
 abbrev pub may_be_named : List (List ℕ) → List ℕ → Bool
-may_be_named named name = nat_lt (length named) max_script_servers && not (list_any (bytes_eq name) named)
+may_be_named named name =
+    nat_lt (length named) max_script_servers && not (list_any (bytes_eq name) named)
 
 abbrev pub if_another : List (List ℕ) → List ℕ → Option (List ℕ)
 if_another named name = if may_be_named named name then Some name else None
@@ -136,7 +145,8 @@ another_server named line = option_and_then (if_another named) (server_declared 
 unfoldable pub servers_behind : List (List ℕ) → List (List ℕ) → List (List ℕ)
 servers_behind named [] = named
 servers_behind named (line ∷ lines) =
-    if is_some (another_server named line) then servers_behind (named ++ option_to_list (another_server named line)) lines else named
+    if is_some (another_server named line)
+    then servers_behind (named ++ option_to_list (another_server named line)) lines else named
 
 -- the servers of a script, in the order in which its first lines name them
 abbrev pub servers_of : List (List ℕ) → List (List ℕ)
@@ -149,7 +159,8 @@ pub record ScriptAsked : Type 0 where
 -- the first of these lines that asks for nothing is bad; lines are counted from 1
 abbrev pub judged : List (List ℕ) → List (List ℕ) → Option ℕ → Result ScriptAsked ℕ
 judged servers lines (Some bad) = Err (length servers + bad + 1)
-judged servers lines None = Ok (record { servers = servers; requests = filter_map request_of lines })
+judged servers lines None =
+    Ok (record { servers = servers; requests = filter_map request_of lines })
 
 -- whether a line asks for nothing
 abbrev pub is_bad_line : List ℕ → Bool

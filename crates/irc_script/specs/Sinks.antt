@@ -22,7 +22,8 @@ pub record Prints (old new : Sink) (text : List ℕ) : Type 0 where
   pub appended : Appends old.held new.held written
   pub whole : old.waiting ++ text ≡ written ++ new.waiting
 
--- A text was to be printed, and its end is lost: it stands behind all that was written and that waits.
+-- A text was to be printed, and its end is lost: it stands behind all that was written and that
+-- waits.
 pub record Loses (old new : Sink) (text : List ℕ) : Type 0 where
   pub lost : List ℕ
   pub prints : Prints old (sink new.held (new.waiting ++ lost)) text

@@ -2,7 +2,9 @@
 ghost use Rattle.std.specs.Prelude.{◌≡◌, position};
 ghost use Rattle.std.specs.Option.{option_map};
 ghost use Rattle.irc_line.specs.Bytes.{is_space};
-ghost use Rattle.irc_script.specs.Scripts.{is_word, cut_at_space, request_of, connect_of, say_of, gone_of, pair_of, link_request, cut_of, deliver_of, bytes_asked};
+ghost use Rattle.irc_script.specs.Scripts.{is_word, cut_at_space, request_of, connect_of, say_of};
+ghost use Rattle.irc_script.specs.Scripts.{gone_of, pair_of, link_request, cut_of, deliver_of};
+ghost use Rattle.irc_script.specs.Scripts.{bytes_asked};
 ghost use Rattle.irc_script.specs.ScriptViews.{cut_now, pair_now, request};
 ghost use Rattle.irc_script.specs.Loops.Commands.{request_by};
 
@@ -26,14 +28,15 @@ pub enum Command<'a> {
     Cut(ServerName, ServerName),
     /// The bytes up to and with the next LF come from the first server to the second.
     Deliver(ServerName, ServerName),
-    /// So many bytes come from the first server to the second, or all that are on their way where there are fewer.
+    /// So many bytes come from the first server to the second, or all that are on their way where
+    /// there are fewer.
     Bytes(ServerName, ServerName, u64),
     /// Bytes come in turn until nothing is on its way.
     Settle,
 }
 
-/// The command that a line is: `connect NAME HOST`, `say N REST`, `gone N`, `link NAME NAME`, `cut NAME NAME`, `deliver NAME NAME`,
-/// `bytes NAME NAME N` or `settle`.
+/// The command that a line is: `connect NAME HOST`, `say N REST`, `gone N`, `link NAME NAME`, `cut
+/// NAME NAME`, `deliver NAME NAME`, `bytes NAME NAME N` or `settle`.
 #[tactic(auto, unfolding(crate::specs::Scripts::request_of))]
 pub fn read_command(line: &[u8]) -> Option<Command<'_>>
     ensures { option_map request result ≡ request_of line.now }

@@ -18,7 +18,8 @@ const CREATED: &[u8] = b"2024-01-01";
 /// The password that any two servers of a script keep for each other.
 const PASSWORD: &[u8] = b"pw";
 
-/// The configurations of servers with these names, in this order: each has all others for its peers.
+/// The configurations of servers with these names, in this order: each has all others for its
+/// peers.
 ///
 /// # Errors
 /// Here and below: where memory runs out.

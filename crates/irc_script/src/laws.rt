@@ -1,8 +1,11 @@
-//! What holds of scripts, and of the constants. Each law is a function that does nothing, and its contract is the law.
+//! What holds of scripts, and of the constants. Each law is a function that does nothing, and its
+//! contract is the law.
 ghost use Rattle.std.specs.Prelude.{◌≡◌};
-ghost use Rattle.irc_script.specs.Limits.{max_reads, max_script_servers, max_writes, read_size, waiting_room};
+ghost use Rattle.irc_script.specs.Limits.{max_reads, max_script_servers, max_writes, read_size};
+ghost use Rattle.irc_script.specs.Limits.{waiting_room};
 ghost use Rattle.irc_script.specs.Loops.Steps.{ScriptsRunOn};
-ghost use Rattle.irc_script.specs.RunLaws.{EachRuns, OrderIsSo, PrintsOneRoom, RunsOneWay, SettlesToRest};
+ghost use Rattle.irc_script.specs.RunLaws.{EachRuns, OrderIsSo, PrintsOneRoom, RunsOneWay};
+ghost use Rattle.irc_script.specs.RunLaws.{SettlesToRest};
 
 use crate::script::MAX_SERVERS;
 use crate::sim::{MAX_READS, READ_SIZE};
@@ -18,7 +21,8 @@ pub fn limits_are_so()
     ensures waiting { WAITING_ROOM ≡ waiting_room }
 {}
 
-/// Each script can be run to its end, and runs in one way: what it prints, and where it comes to, is one.
+/// Each script can be run to its end, and runs in one way: what it prints, and where it comes to,
+/// is one.
 pub fn scripts_run_one_way()
     ensures each { EachRuns }
     ensures one_way { RunsOneWay }
@@ -27,7 +31,8 @@ pub fn scripts_run_one_way()
     irc_net::laws::each_settles();
 }
 
-/// Whatever of a script was begun can be run to its end, and what was printed is a front of what the whole script prints.
+/// Whatever of a script was begun can be run to its end, and what was printed is a front of what
+/// the whole script prints.
 pub(crate) fn scripts_run_on()
     ensures { ScriptsRunOn }
 {

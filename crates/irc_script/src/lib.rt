@@ -1,4 +1,5 @@
-//! Scripts of clients on networks of servers: how a script is read, what it asks of the network, and what is printed.
+//! Scripts of clients on networks of servers: how a script is read, what it asks of the network,
+//! and what is printed.
 #![tactic(auto)]
 
 mod commands;

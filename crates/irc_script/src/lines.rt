@@ -10,8 +10,8 @@ use std::alloc::{AllocError, Global};
 /// What ends the line of each `say`.
 const LINE_END: &[u8] = b"\n";
 
-/// The lines of what a client says. It goes through a framer of its own, with an LF behind it: as that ends every line, nothing
-/// is left in the framer for the client's next `say`.
+/// The lines of what a client says. It goes through a framer of its own, with an LF behind it: as
+/// that ends every line, nothing is left in the framer for the client's next `say`.
 ///
 /// # Errors
 /// Where memory runs out.

@@ -5,7 +5,8 @@ ghost use Rattle.irc_script.specs.Numbers.{script_number, writes};
 use itoa::Buffer;
 use std::str::from_utf8;
 
-/// The number that a word is, of at most 64 bits, as the program itself writes it: no sign, and no zero in front of other digits.
+/// The number that a word is, of at most 64 bits, as the program itself writes it: no sign, and no
+/// zero in front of other digits.
 pub fn read_number(word: &[u8]) -> Option<u64>
     ensures { result ≡ script_number word.now }
 {

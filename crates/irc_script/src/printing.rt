@@ -1,7 +1,8 @@
 //! What is printed.
 ghost use Rattle.std.specs.Prelude.{◌≡◌};
 ghost use Rattle.irc_script.specs.Faults.{of_writing};
-ghost use Rattle.irc_script.specs.Loops.Steps.{PrintsFault, PrintsText, came_text, receipt_text, receipts_text};
+ghost use Rattle.irc_script.specs.Loops.Steps.{PrintsFault, PrintsText, came_text, receipt_text};
+ghost use Rattle.irc_script.specs.Loops.Steps.{receipts_text};
 ghost use Rattle.irc_script.specs.Printing.{body_of, count_line, refusal_line, refusal_number};
 
 use crate::fault::{Trouble, Unwritten};
@@ -27,7 +28,8 @@ fn refusal_number(fault: NetFault) -> Option<u64>
 /// Prints the number of a refusal.
 ///
 /// # Errors
-/// Here and below: where a write fails. Here also where it is no refusal, but want of memory: nothing is printed then.
+/// Here and below: where a write fails. Here also where it is no refusal, but want of memory:
+/// nothing is printed then.
 pub fn print_fault<W: Write>(
     fault: NetFault,
     waiting: &mut Waiting,
@@ -64,7 +66,8 @@ fn print_refusal<W: Write>(
     print_pieces(&[b"! ", number, b"\n"], waiting, output)
 }
 
-/// Prints each line that a client has received, in order, and behind them how many lines or bytes came.
+/// Prints each line that a client has received, in order, and behind them how many lines or bytes
+/// came.
 pub fn print_taken<W: Write>(
     count: u64,
     lines: &[Receipt],

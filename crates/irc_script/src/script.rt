@@ -3,7 +3,8 @@ ghost use Rattle.std.specs.Prelude.{◌≡◌, ◌≤◌, IfOk, length, option_t
 ghost use Rattle.std.specs.List.{filter_map, list_any, slice_split};
 ghost use Rattle.std.specs.Option.{option_map};
 ghost use Rattle.std.specs.Str.{bytes_eq};
-ghost use Rattle.irc_script.specs.Scripts.{is_line_feed, ended, is_bad_line, server_declared, may_be_named, another_server, servers_of, request_of};
+ghost use Rattle.irc_script.specs.Scripts.{is_line_feed, ended, is_bad_line, server_declared};
+ghost use Rattle.irc_script.specs.Scripts.{may_be_named, another_server, servers_of, request_of};
 ghost use Rattle.irc_script.specs.Loops.Commands.{AddsCommand, requests_in};
 ghost use Rattle.irc_script.specs.ScriptViews.{lines_now, requests, IsScriptRead};
 
@@ -26,8 +27,8 @@ pub struct Script<'a> {
     pub commands: Vec<Command<'a>, Global>,
 }
 
-/// Reads a script: lines `server NAME`, at most [`MAX_SERVERS`] and no name twice, and behind them commands, each line ended by LF
-/// (the last may go without). Nothing is run here.
+/// Reads a script: lines `server NAME`, at most [`MAX_SERVERS`] and no name twice, and behind them
+/// commands, each line ended by LF (the last may go without). Nothing is run here.
 ///
 /// # Errors
 /// The first line that is none of these; else where memory runs out.
@@ -52,7 +53,8 @@ fn pieces(alloc: Global, text: &[u8]) -> Result<Vec<&[u8], Global>, AllocError>
     text.split(|byte| *byte == LINE_FEED).collect(alloc)
 }
 
-/// The lines of a text, of what stands between its LFs. What follows the last LF is a line if it is not empty.
+/// The lines of a text, of what stands between its LFs. What follows the last LF is a line if it is
+/// not empty.
 fn whole_lines<'b, 'a>(pieces: &'b [&'a [u8]]) -> &'b [&'a [u8]]
     ensures { lines_now result.now ≡ ended (lines_now pieces.now) }
 {

@@ -3,7 +3,8 @@ ghost use Rattle.std.specs.Prelude.{◌≡◌, [], ◌∷◌, IfOk};
 ghost use Rattle.irc_net.specs.Calls.{IsGivable};
 ghost use Rattle.irc_net.specs.NetworkViews.{item_of};
 ghost use Rattle.irc_script.specs.Loops.Steps.{PlaysMoves, taken_count};
-ghost use Rattle.irc_script.specs.Moves.{delivers_line, gives, lines_said, moves_of, settles_all, takes_bytes};
+ghost use Rattle.irc_script.specs.Moves.{delivers_line, gives, lines_said, moves_of, settles_all};
+ghost use Rattle.irc_script.specs.Moves.{takes_bytes};
 ghost use Rattle.irc_script.specs.Networks.{first_net};
 ghost use Rattle.irc_script.specs.ScriptViews.{request};
 
@@ -92,7 +93,8 @@ impl ScriptRun {
         Ok(())
     }
 
-    /// Gives one item, and prints the lines that clients receive by it, or the number of its refusal.
+    /// Gives one item, and prints the lines that clients receive by it, or the number of its
+    /// refusal.
     fn give<W: Write>(
         &mut self,
         item: Item,
@@ -109,8 +111,8 @@ impl ScriptRun {
         }
     }
 
-    /// Lets the bytes up to and with the next LF come, if one is on its way, and prints the lines that clients receive by them and whether one was, or the
-    /// number of the refusal.
+    /// Lets the bytes up to and with the next LF come, if one is on its way, and prints the lines
+    /// that clients receive by them and whether one was, or the number of the refusal.
     fn deliver<W: Write>(
         &mut self,
         from: &ServerName,
@@ -130,8 +132,8 @@ impl ScriptRun {
         }
     }
 
-    /// Lets so many bytes come, or all that are on their way where there are fewer, and prints the lines that clients receive by them and how many came, or
-    /// the number of the refusal.
+    /// Lets so many bytes come, or all that are on their way where there are fewer, and prints the
+    /// lines that clients receive by them and how many came, or the number of the refusal.
     fn deliver_bytes<W: Write>(
         &mut self,
         from: &ServerName,
@@ -149,8 +151,8 @@ impl ScriptRun {
         }
     }
 
-    /// Lets bytes come in turn until nothing is on its way, and prints the lines that clients receive by them and how many lines they completed, at most
-    /// 2^64 - 1.
+    /// Lets bytes come in turn until nothing is on its way, and prints the lines that clients
+    /// receive by them and how many lines they completed, at most 2^64 - 1.
     fn settle<W: Write>(&mut self, waiting: &mut Waiting, output: &mut W) -> Result<(), Trouble>
         ensures { PlaysMoves W.contents result (settles_all ∷ [])
             self.old output.old waiting.old self.new output.new waiting.new }

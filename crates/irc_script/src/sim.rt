@@ -22,17 +22,21 @@ pub const MAX_READS: u32 = 16_777_216;
 /// How many bytes are asked for in one read.
 pub const READ_SIZE: usize = 4096;
 
-/// Runs a script on the network of its servers, and prints what comes of it: each line that a client receives, as the client's number
-/// and the line; `= 1` or `= 0` for a delivery; `= M` for bytes that come, M how many came; `= K` for a settling, K the lines that were completed, at most
+/// Runs a script on the network of its servers, and prints what comes of it: each line that a
+/// client receives, as the client's number and the line; `= 1` or `= 0` for a delivery; `= M` for
+/// bytes that come, M how many came; `= K` for a settling, K the lines that were completed, at most
 /// 2^64 - 1; `! NUMBER` for a refusal.
 ///
-/// The network is one room: the lines that are printed for a client are a front of those, in order, that one room machine for its joined part of the network
-/// sends it, and all of them where the script is run to its end and nothing is on its way between servers.
+/// The network is one room: the lines that are printed for a client are a front of those, in order,
+/// that one room machine for its joined part of the network sends it, and all of them where the
+/// script is run to its end and nothing is on its way between servers.
 ///
 /// # Errors
-/// - [`SimFault::BadScript`] where a line is none that a script can have. Then nothing was run and nothing printed.
+/// - [`SimFault::BadScript`] where a line is none that a script can have. Then nothing was run and
+/// nothing printed.
 /// - [`SimFault::Failed`] where memory runs out.
-/// - [`SimFault::Device`] where a read or a write fails, or [`MAX_READS`] reads do not end the script.
+/// - [`SimFault::Device`] where a read or a write fails, or [`MAX_READS`] reads do not end the
+/// script.
 pub fn run_sim<R: Read, W: Write>(
     alloc: Global,
     input: &mut R,
@@ -61,7 +65,8 @@ fn read_text<R: Read>(alloc: Global, input: &mut R) -> Result<Vec<u8, Global>, T
     }
 }
 
-/// Reads into an empty text until the reader has no more, in at most [`MAX_READS`] reads. Says whether it came to the end.
+/// Reads into an empty text until the reader has no more, in at most [`MAX_READS`] reads. Says
+/// whether it came to the end.
 fn reads_to_end<R: Read>(input: &mut R, text: &mut Vec<u8, Global>) -> Result<bool, Trouble>
     requires { text.old.items ≡ [] }
     ensures { IfOk result (λ ended. IsReadTo ended text.new.items (R.remaining input.old)) }
@@ -87,7 +92,8 @@ fn read_some<R: Read>(input: &mut R, piece: &mut [u8]) -> Result<usize, Trouble>
     input.read(piece).map_err(|_| Trouble::Device)
 }
 
-/// Runs commands, and writes all that they print; also where memory runs out, what was printed before that.
+/// Runs commands, and writes all that they print; also where memory runs out, what was printed
+/// before that.
 fn run_all<W: Write>(
     run: &mut ScriptRun,
     commands: &[Command<'_>],

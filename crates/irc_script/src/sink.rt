@@ -12,7 +12,8 @@ use std::io::{ErrorKind, Write};
 /// How many bytes may wait.
 pub const WAITING_ROOM: usize = 16_384;
 
-/// How many writes one text may take: a writer may take less than it is given, and may be interrupted.
+/// How many writes one text may take: a writer may take less than it is given, and may be
+/// interrupted.
 pub const MAX_WRITES: u32 = 16_777_216;
 
 /// What is printed and not yet written.
@@ -36,7 +37,8 @@ pub fn print_pieces<W: Write>(
     Ok(())
 }
 
-/// Prints bytes: they wait where there is room for them; else all that waits is written, and then they are.
+/// Prints bytes: they wait where there is room for them; else all that waits is written, and then
+/// they are.
 fn print_bytes<W: Write>(
     bytes: &[u8],
     waiting: &mut Waiting,
@@ -70,7 +72,8 @@ pub fn write_waiting<W: Write>(waiting: &mut Waiting, output: &mut W) -> Result<
 /// Writes all of a text, in as many writes as the writer wants.
 ///
 /// # Errors
-/// Where a write fails, or [`MAX_WRITES`] do not end it. What was written then is a front of the text.
+/// Where a write fails, or [`MAX_WRITES`] do not end it. What was written then is a front of the
+/// text.
 pub fn write_whole<W: Write>(text: &[u8], output: &mut W) -> Result<(), Unwritten>
     ensures whole { OnOk result (Appends (W.contents output.old) (W.contents output.new) text.now) }
     ensures front { Wrote (W.contents output.old) (W.contents output.new) text.now }

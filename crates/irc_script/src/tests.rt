@@ -221,7 +221,8 @@ impl Write for Filling {
     }
 }
 
-/// A writer that takes one byte at a time, and is interrupted before each. What it took arrives once it is flushed.
+/// A writer that takes one byte at a time, and is interrupted before each. What it took arrives
+/// once it is flushed.
 #[derive(Drop)]
 struct Slow {
     taken: Vec<u8, Global>,

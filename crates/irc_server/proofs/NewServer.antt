@@ -10,10 +10,15 @@ use Rattle.irc_stage.specs.declared.clients.Client.{Client}
 use Rattle.irc_stage.specs.RoomMachine.{RoomMachine}
 use Rattle.irc_stage.specs.Matched.{IsMatched}
 
-pub is_matched : (machine : RoomMachine) → machine.clients ≡ empty → machine.room ≡ no_room → IsMatched machine
+pub is_matched : (machine : RoomMachine) → machine.clients ≡ empty → machine.room ≡ no_room
+    → IsMatched machine
 is_matched machine none empty_room = record {
-  registered_is_user = λ conn nick is. let nobody = get-empty {X = Client} nat_cmp conn in let same = ap (λ cs. get cs conn) none in cc;
-  user_has_one = λ conn other nick name is is_other same_names. let nobody = get-empty {X = Client} nat_cmp conn in let same = ap (λ cs. get cs conn) none in cc;
-  spelled = λ conn nick user is there. let nobody = get-empty {X = Client} nat_cmp conn in let same = ap (λ cs. get cs conn) none in cc;
-  user_has_client = λ fold user is home. let nobody = get-empty {X = User} fold_cmp fold in let same = ap (λ (r : Room). row r.users fold) empty_room in cc;
+  registered_is_user = λ conn nick is. let nobody = get-empty {X = Client} nat_cmp conn in
+      let same = ap (λ cs. get cs conn) none in cc;
+  user_has_one = λ conn other nick name is is_other same_names. let nobody =
+      get-empty {X = Client} nat_cmp conn in let same = ap (λ cs. get cs conn) none in cc;
+  spelled = λ conn nick user is there. let nobody = get-empty {X = Client} nat_cmp conn in
+      let same = ap (λ cs. get cs conn) none in cc;
+  user_has_client = λ fold user is home. let nobody = get-empty {X = User} fold_cmp fold in
+      let same = ap (λ (r : Room). row r.users fold) empty_room in cc;
 }

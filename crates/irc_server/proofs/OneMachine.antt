@@ -1,4 +1,5 @@
--- A server is a room machine to its clients, but for who is invited; without links it is that machine.
+-- A server is a room machine to its clients, but for who is invited; without links it is that
+-- machine.
 use Rattle.std.proofs.Common.{◌≡◌, ℕ, Option, Some, List, [], ◌∷◌, ◌++◌, refl, sym, ◌∙◌, ap}
 use Rattle.std.specs.FinMap.{get}
 use Rattle.irc_batch.specs.Batches.{Sent}
@@ -12,9 +13,11 @@ use Rattle.irc_stage.specs.Handle.{Happening, handled}
 use Rattle.irc_stage.specs.Matched.{StaysMatched}
 use Rattle.irc_stage.specs.Lemmas.Alone.{place_is_kept, told_back}
 use Rattle.irc_stage.specs.Lemmas.Twins.{matched_there, told_twins}
-use Rattle.irc_deeds.specs.Lemmas.Matched.{line_served_matched, link_lost_matched, link_opened_matched}
+use Rattle.irc_deeds.specs.Lemmas.Matched.{line_served_matched, link_lost_matched}
+use Rattle.irc_deeds.specs.Lemmas.Matched.{link_opened_matched}
 use Rattle.irc_server.specs.Owed.{lines_to, lines_owed, owed_by_machine, LoneServerOwesTheSame}
-use Rattle.irc_server.specs.Served.{of_client, link_up, link_says, link_down, served, LoneServerIsOneRoom, ServedStaysMatched}
+use Rattle.irc_server.specs.Served.{of_client, link_up, link_says, link_down, served}
+use Rattle.irc_server.specs.Served.{LoneServerIsOneRoom, ServedStaysMatched}
 
 -- ---- without links
 
@@ -26,7 +29,8 @@ one_room view happening alone =
     record {
       whole = whole;
       machine = ap (λ (s : Served). machine_of s.view) whole
-          ∙ ap (λ place. record { place = place; clients = after.clients; room = after.room }) (sym (place_is_kept (machine_of view) happening));
+          ∙ ap (λ place. record { place = place; clients = after.clients; room = after.room })
+          (sym (place_is_kept (machine_of view) happening));
       out = ap (λ (s : Served). s.out) whole;
       alone = record {
         no_ends = ap (λ (s : Served). s.view.ends) whole ∙ alone.no_ends;
@@ -41,16 +45,20 @@ owes_the_same is_one view (happening ∷ happenings) alone conn =
     let after = (served view (of_client happening)).view in
     ap (λ (out : List Sent). lines_to conn out ++ lines_owed conn after happenings) same.out
     ∙ ap (λ lines. lines_to conn (handled (machine_of view) happening).out ++ lines)
-    (owes_the_same is_one after happenings same.alone conn ∙ ap (λ (m : RoomMachine). owed_by_machine conn m happenings) same.machine)
+    (owes_the_same is_one after happenings same.alone conn
+    ∙ ap (λ (m : RoomMachine). owed_by_machine conn m happenings) same.machine)
 
 -- ---- clients and users stay matched
 
 pub served_stays_matched : AlikeStayAlike → StaysMatched → ServedStaysMatched
 unfolding served
 served_stays_matched stay stays view matched well (of_client happening) due =
-    matched_there (handled (machine_of view) happening).machine (machine_of (client_told view happening).view) (told_twins stay view happening)
+    matched_there (handled (machine_of view) happening).machine
+    (machine_of (client_told view happening).view) (told_twins stay view happening)
     (stays (machine_of view) matched well happening due)
-served_stays_matched stay stays view matched well (link_up link starts) due = link_opened_matched view link starts matched well
+served_stays_matched stay stays view matched well (link_up link starts) due =
+    link_opened_matched view link starts matched well
 served_stays_matched stay stays view matched well (link_says link read) due =
     line_served_matched view link read (get view.ends link) matched well
-served_stays_matched stay stays view matched well (link_down link) due = link_lost_matched view link matched well
+served_stays_matched stay stays view matched well (link_down link) due =
+    link_lost_matched view link matched well

@@ -1,5 +1,6 @@
 -- Which configurations a server is made of.
-use Rattle.std.specs.Prelude.{◌≡◌, ℕ, Bool, false, not, ◌&&◌, ◌||◌, Option, Some, None, Result, Ok, Err, List, [], ◌∷◌, nat_eq, if◌then◌else◌}
+use Rattle.std.specs.Prelude.{◌≡◌, ℕ, Bool, false, not, ◌&&◌, ◌||◌, Option, Some, None, Result, Ok}
+use Rattle.std.specs.Prelude.{Err, List, [], ◌∷◌, nat_eq, if◌then◌else◌}
 use Rattle.std.specs.List.{list_any, list_all}
 use Rattle.std.specs.Cmp.Lexicographic.{pointwise}
 use Rattle.irc_names.specs.Limits.{max_created}
@@ -39,15 +40,18 @@ abbrev pub has_double : List Peer → Bool
 has_double [] = false
 has_double (peer ∷ peers) = is_among peer.name.items peers || has_double peers
 
--- why no server is made of a configuration, if one is not: the causes in the order in which they are looked for
+-- why no server is made of a configuration, if one is not: the causes in the order in which they
+-- are looked for
 abbrev pub config_fault : Config → Option ConfigFault
 config_fault config =
     if not (is_own config.own && list_all is_peer config.peers.items) then Some BadName
-    else (if is_among config.own.name.items config.peers.items || has_double config.peers.items then Some DoubleName else None)
+    else (if is_among config.own.name.items config.peers.items || has_double config.peers.items
+    then Some DoubleName else None)
 
 -- the server that a configuration makes: it has no clients and no links
 abbrev pub made_view : Config → View
-made_view config = new_view (alone_known config.own.name.items config.own.info.items config.own.created.items) config.peers.items
+made_view config = new_view (alone_known config.own.name.items config.own.info.items
+    config.own.created.items) config.peers.items
 
 -- what comes of a configuration; no memory is wanted for it
 abbrev pub IsMade : Config → Result (Option View) ConfigFault → Type 0

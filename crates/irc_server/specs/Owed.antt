@@ -1,5 +1,7 @@
--- What each connection is owed over a list of events of clients: the lines to it that the server puts out by them, in order.
-use Rattle.std.specs.Prelude.{◌≡◌, ℕ, Option, Some, None, List, [], ◌∷◌, ◌++◌, map, nat_eq, if◌then◌else◌}
+-- What each connection is owed over a list of events of clients: the lines to it that the server
+-- puts out by them, in order.
+use Rattle.std.specs.Prelude.{◌≡◌, ℕ, Option, Some, None, List, [], ◌∷◌, ◌++◌, map, nat_eq}
+use Rattle.std.specs.Prelude.{if◌then◌else◌}
 use Rattle.std.specs.List.{filter_map}
 use Rattle.irc_server.specs.declared.event.Event.{Event}
 use Rattle.irc_batch.specs.Batches.{Sent, line_to}
@@ -21,34 +23,43 @@ lines_to conn out = filter_map (line_to_conn conn) out
 -- the server after these happenings
 abbrev pub after_all : View → List Happening → View
 after_all view [] = view
-after_all view (happening ∷ happenings) = after_all (served view (of_client happening)).view happenings
+after_all view (happening ∷ happenings) =
+    after_all (served view (of_client happening)).view happenings
 
 -- what a connection is owed by them
 abbrev pub lines_owed : ℕ → View → List Happening → List (List ℕ)
 lines_owed conn view [] = []
-lines_owed conn view (happening ∷ happenings) = lines_to conn (served view (of_client happening)).out ++ lines_owed conn (served view (of_client happening)).view happenings
+lines_owed conn view (happening ∷ happenings) =
+    lines_to conn (served view (of_client happening)).out
+    ++ lines_owed conn (served view (of_client happening)).view happenings
 
 -- what a connection is owed by them where the server is a room machine alone
 abbrev pub owed_by_machine : ℕ → RoomMachine → List Happening → List (List ℕ)
 owed_by_machine conn machine [] = []
 owed_by_machine conn machine (happening ∷ happenings) =
-    lines_to conn (handled machine happening).out ++ owed_by_machine conn (handled machine happening).machine happenings
+    lines_to conn (handled machine happening).out
+    ++ owed_by_machine conn (handled machine happening).machine happenings
 
 -- So it is of a server without links.
 abbrev pub LoneServerOwesTheSame : Type 0
 LoneServerOwesTheSame =
-    (view : View) (happenings : List Happening) → IsAlone view → (conn : ℕ) → lines_owed conn view happenings ≡ owed_by_machine conn (machine_of view) happenings
+    (view : View) (happenings : List Happening) → IsAlone view → (conn : ℕ)
+    → lines_owed conn view happenings ≡ owed_by_machine conn (machine_of view) happenings
 
 -- These events are of clients alone, and this is what happens by them.
 abbrev pub AreOfClients : List Event → List Happening → Type 0
 AreOfClients events happenings = map occurrence_of events ≡ map of_client happenings
 
--- From one view of a server to another by what clients do, each connection has received what the server owes it.
-pub record Receives (old : View) (happenings : List Happening) (out : List Sent) (new : Option View) (out_after : List Sent) : Type 0 where
+-- From one view of a server to another by what clients do, each connection has received what the
+-- server owes it.
+pub record Receives (old : View) (happenings : List Happening) (out : List Sent) (new : Option View)
+    (out_after : List Sent) : Type 0 where
   pub view_is : new ≡ Some (after_all old happenings)
-  pub received : (conn : ℕ) → lines_to conn out_after ≡ lines_to conn out ++ lines_owed conn old happenings
+  pub received : (conn : ℕ) → lines_to conn out_after ≡ lines_to conn out
+      ++ lines_owed conn old happenings
 
 -- so it is wherever these events are of clients alone
 abbrev pub AllReceive : Option View → List Event → List Sent → Option View → List Sent → Type 0
 AllReceive old events out new out_after =
-    (view : View) (happenings : List Happening) → old ≡ Some view → AreOfClients events happenings → Receives view happenings out new out_after
+    (view : View) (happenings : List Happening) → old ≡ Some view → AreOfClients events happenings
+    → Receives view happenings out new out_after

@@ -1,4 +1,5 @@
--- What one event does to a server: the view after it, and what is put out, in order; and which events are refused.
+-- What one event does to a server: the view after it, and what is put out, in order; and which
+-- events are refused.
 use Rattle.std.specs.Prelude.{◌≡◌, ℕ, ⊤, Option, Some, None, Result, List}
 use Rattle.std.specs.FinMap.{get}
 use Rattle.irc_line.specs.declared.reading.LineFault.{LineFault}
@@ -6,9 +7,12 @@ use Rattle.irc_line.specs.Messages.{Parsed}
 use Rattle.irc_room.specs.Room.{IsWellFormed}
 use Rattle.irc_stage.specs.declared.clients.Client.{Client}
 use Rattle.irc_server.specs.declared.event.Event.{Event}
-use Rattle.irc_server.specs.declared.event.Event.TheVariants.{Connect, Line, Gone, LinkUp, LinkLine, LinkDown}
+use Rattle.irc_server.specs.declared.event.Event.TheVariants.{Connect, Line, Gone, LinkUp, LinkLine}
+use Rattle.irc_server.specs.declared.event.Event.TheVariants.{LinkDown}
 use Rattle.irc_server.specs.declared.event.ServerFault.{ServerFault}
-use Rattle.irc_server.specs.declared.event.ServerFault.TheVariants.{NoSuchConnection, ConnectionThere, NoSuchLink, LinkThere}
+use Rattle.irc_server.specs.declared.event.ServerFault.TheVariants.{NoSuchConnection}
+use Rattle.irc_server.specs.declared.event.ServerFault.TheVariants.{ConnectionThere, NoSuchLink}
+use Rattle.irc_server.specs.declared.event.ServerFault.TheVariants.{LinkThere}
 use Rattle.irc_stage.specs.RoomMachine.{client_of}
 use Rattle.irc_stage.specs.View.{End, View, machine_of, IsAlone}
 use Rattle.irc_stage.specs.ClientTold.{client_told}
@@ -18,15 +22,17 @@ use Rattle.irc_deeds.specs.DeedTold.{link_lost}
 use Rattle.irc_deeds.specs.LinkServed.{line_served, link_opened}
 pub use Rattle.irc_stage.specs.EffectTold.{Served, put_back, in_silence}
 
--- What happens to a server: something by one of its clients; a link that this end opened to a peer, or that was opened to it; a line of the server at the
--- other end, as it is read; a link that is lost.
+-- What happens to a server: something by one of its clients; a link that this end opened to a peer,
+-- or that was opened to it; a line of the server at the other end, as it is read; a link that is
+-- lost.
 pub data Occurrence : Type 0 where
   of_client : (happening : Happening) → Occurrence
   link_up : (link : ℕ) (starts : Option (List ℕ)) → Occurrence
   link_says : (link : ℕ) (read : Result Parsed LineFault) → Occurrence
   link_down : (link : ℕ) → Occurrence
 
--- Each is done as a server with links does it: what its clients do in `ClientTold`, what comes by its links in `LinkServed`.
+-- Each is done as a server with links does it: what its clients do in `ClientTold`, what comes by
+-- its links in `LinkServed`.
 unfoldable pub served : View → Occurrence → Served
 served view (of_client happening) = client_told view happening
 served view (link_up link starts) = link_opened view link starts
@@ -58,7 +64,8 @@ fault_of view (LinkUp link starts) = link_there (get view.ends link)
 fault_of view (LinkLine link line) = no_link (get view.ends link)
 fault_of view (LinkDown link) = no_link (get view.ends link)
 
--- Each registered client of a server is a user of its room whose home it is, and each such user is one client's.
+-- Each registered client of a server is a user of its room whose home it is, and each such user is
+-- one client's.
 abbrev pub AreMatched : View → Type 0
 AreMatched view = IsMatched (machine_of view)
 
@@ -70,7 +77,8 @@ IsDueAt view occurrence = ⊤
 -- Whatever is served, they stay so.
 abbrev pub ServedStaysMatched : Type 0
 ServedStaysMatched =
-    (view : View) → AreMatched view → IsWellFormed view.room → (occurrence : Occurrence) → IsDueAt view occurrence
+    (view : View) → AreMatched view → IsWellFormed view.room → (occurrence : Occurrence)
+    → IsDueAt view occurrence
     → AreMatched (served view occurrence).view
 
 -- What a server is configured to be, and what it says of itself, is the same at two moments.
@@ -82,16 +90,20 @@ pub record IsSetAlike (old new : View) : Type 0 where
 
 -- It is so whatever is served.
 abbrev pub ServedKeepsItsSetting : Type 0
-ServedKeepsItsSetting = (view : View) (occurrence : Occurrence) → IsSetAlike view (served view occurrence).view
+ServedKeepsItsSetting =
+    (view : View) (occurrence : Occurrence) → IsSetAlike view (served view occurrence).view
 
--- A server and a room machine say the same of a happening: put back, what the machine has is what the server has; its machine is the machine's; and the
--- same is put out.
+-- A server and a room machine say the same of a happening: put back, what the machine has is what
+-- the server has; its machine is the machine's; and the same is put out.
 pub record SaysTheSame (view : View) (happening : Happening) : Type 0 where
-  pub whole : served view (of_client happening) ≡ put_back view (handled (machine_of view) happening)
-  pub machine : machine_of (served view (of_client happening)).view ≡ (handled (machine_of view) happening).machine
+  pub whole : served view (of_client happening) ≡ put_back view
+      (handled (machine_of view) happening)
+  pub machine : machine_of (served view (of_client happening)).view
+      ≡ (handled (machine_of view) happening).machine
   pub out : (served view (of_client happening)).out ≡ (handled (machine_of view) happening).out
   pub alone : IsAlone (served view (of_client happening)).view
 
 -- A server without links is one room.
 abbrev pub LoneServerIsOneRoom : Type 0
-LoneServerIsOneRoom = (view : View) (happening : Happening) → IsAlone view → SaysTheSame view happening
+LoneServerIsOneRoom = (view : View) (happening : Happening) → IsAlone view
+    → SaysTheSame view happening

@@ -7,10 +7,14 @@ ghost use Rattle.irc_batch.specs.Growing.{Grew};
 ghost use Rattle.irc_stage.specs.Matched.{IsMatched};
 ghost use Rattle.irc_stage.specs.RoomMachine.{client_of};
 ghost use Rattle.irc_stage.specs.Loops.Speaking.{AreSpokenAt};
-ghost use Rattle.irc_stage.specs.Loops.Stage.{machine_at, view_of, AreFitAt, IsFreeOf, IsNoUser, IsReady, IsServing, Keeps};
+ghost use Rattle.irc_stage.specs.Loops.Stage.{machine_at, view_of, AreFitAt, IsFreeOf, IsNoUser};
+ghost use Rattle.irc_stage.specs.Loops.Stage.{IsReady, IsServing, Keeps};
 ghost use Rattle.irc_stage.specs.declared.clients.Client.TheVariants.{Registered};
 ghost use Rattle.irc_server.specs.Served.{not_there};
-ghost use Rattle.irc_server.specs.Loops.Acting.{given_client, given_view, nick_of, user_on, IsDoneOrRefused, Decides, IsActed, IsConnected, IsGone, IsHeard, IsLinked, IsSaid, IsUnlinked, Leaves, Registers, Stands};
+ghost use Rattle.irc_server.specs.Loops.Acting.{given_client, given_view, nick_of, user_on};
+ghost use Rattle.irc_server.specs.Loops.Acting.{IsDoneOrRefused, Decides, IsActed, IsConnected};
+ghost use Rattle.irc_server.specs.Loops.Acting.{IsGone, IsHeard, IsLinked, IsSaid, IsUnlinked};
+ghost use Rattle.irc_server.specs.Loops.Acting.{Leaves, Registers, Stands};
 
 use crate::event::{Event, ServerFault};
 use irc_batch::Batch;
@@ -80,7 +84,8 @@ fn on_registration(
     stage.carry_out(Speaker { conn, nick }, &given.steps, given.close, out)
 }
 
-/// What a line of a user does, by the nickname that its client is known by. What it asks of the room is answered from the room as it is.
+/// What a line of a user does, by the nickname that its client is known by. What it asks of the
+/// room is answered from the room as it is.
 fn on_user_message(
     stage: &mut Stage,
     conn: u64,
@@ -284,7 +289,8 @@ fn copied(name: &Option<ServerName>) -> Option<ServerName>
 pub(crate) fn act(stage: &mut Stage, event: &Event, out: &mut Batch) -> Result<(), ServerFault>
     requires ready { IsReady stage.old }
     requires matched { IsMatched (machine_at stage.old) }
-    ensures acted { IsActed (view_of stage.old) event.now out.old.outs result (view_of stage.new) out.new.outs }
+    ensures acted { IsActed (view_of stage.old) event.now out.old.outs result
+        (view_of stage.new) out.new.outs }
     ensures ready { Stands result (IsReady stage.new) }
     ensures grew { Grew out.old.outs out.new.outs }
 {

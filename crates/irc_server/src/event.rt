@@ -21,7 +21,8 @@ pub enum Event {
     LinkDown(u64),
 }
 
-/// Why an event is refused, in the order in which causes are looked for after [`ServerFault::Failed`], and [`ServerFault::Memory`] last.
+/// Why an event is refused, in the order in which causes are looked for after
+/// [`ServerFault::Failed`], and [`ServerFault::Memory`] last.
 #[derive(Clone, Copy, Debug, Drop, Error, PartialEq, Eq)]
 pub enum ServerFault {
     /// Memory ran out. The server answers [`ServerFault::Failed`] from then on.

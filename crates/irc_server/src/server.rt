@@ -53,8 +53,9 @@ impl Server {
     /// A server without clients, linked to none.
     ///
     /// # Errors
-    /// [`ConfigFault::BadName`] where a name, a text or a password is outside its limits; then [`ConfigFault::DoubleName`] where two
-    /// peers have one name, or one has the server's own. It takes no memory, so that it never answers [`ConfigFault::Memory`].
+    /// [`ConfigFault::BadName`] where a name, a text or a password is outside its limits; then
+    /// [`ConfigFault::DoubleName`] where two peers have one name, or one has the server's own. It
+    /// takes no memory, so that it never answers [`ConfigFault::Memory`].
     pub fn new(alloc: Global, config: Config) -> Result<Self, ConfigFault>
         ensures { IsMade config result }
     {
@@ -90,9 +91,11 @@ impl Server {
         }
     }
 
-    /// The password that it and the peer of a name give each other, if it has such a peer; none once memory ran out.
+    /// The password that it and the peer of a name give each other, if it has such a peer; none
+    /// once memory ran out.
     pub fn password_for(&self, name: &[u8]) -> Option<&[u8]>
-        ensures { option_copied result ≡ option_and_then (λ (view : View). password_for view name.now) self.now }
+        ensures { option_copied result ≡ option_and_then
+            (λ (view : View). password_for view name.now) self.now }
     {
         if self.failed {
             None
@@ -103,7 +106,8 @@ impl Server {
 
     /// Whether a client has this connection; none does once memory ran out.
     pub fn has_client(&self, conn: u64) -> bool
-        ensures { result ≡ option_map_or (λ (view : View). is_some (get view.clients conn)) self.now false }
+        ensures { result ≡ option_map_or
+            (λ (view : View). is_some (get view.clients conn)) self.now false }
     {
         !self.failed && self.stage.client_of(conn).is_some()
     }
@@ -111,10 +115,12 @@ impl Server {
     /// Handles an event: what it puts out is appended to `out`, in order.
     ///
     /// # Errors
-    /// [`ServerFault::Failed`] where memory ran out before; then, with nothing changed, [`ServerFault::NoSuchConnection`] for a line of, or the loss
-    /// of, a connection that is not there, [`ServerFault::ConnectionThere`] for one that connects and is there, [`ServerFault::NoSuchLink`] and
-    /// [`ServerFault::LinkThere`] alike for links. [`ServerFault::Memory`] where memory runs out: `out` is as it was, and the server answers Failed
-    /// from then on.
+    /// [`ServerFault::Failed`] where memory ran out before; then, with nothing changed,
+    /// [`ServerFault::NoSuchConnection`] for a line of, or the loss of, a connection that is not
+    /// there, [`ServerFault::ConnectionThere`] for one that connects and is there,
+    /// [`ServerFault::NoSuchLink`] and [`ServerFault::LinkThere`] alike for links.
+    /// [`ServerFault::Memory`] where memory runs out: `out` is as it was, and the server answers
+    /// Failed from then on.
     pub fn handle(&mut self, event: &Event, out: &mut Batch) -> Result<(), ServerFault>
         ensures { IsHandled self.old event.now out.old.outs result self.new out.new.outs }
     {
@@ -133,17 +139,20 @@ impl Server {
         result
     }
 
-    /// Handles events one after another, up to the first that is refused. Where they are clients' alone, each client receives what the server owes it.
+    /// Handles events one after another, up to the first that is refused. Where they are clients'
+    /// alone, each client receives what the server owes it.
     ///
     /// # Errors
-    /// As [`Server::handle`], for the first event that is refused: those before it are handled, and those behind it are not.
+    /// As [`Server::handle`], for the first event that is refused: those before it are handled, and
+    /// those behind it are not.
     pub fn handle_all(
         &mut self,
         events: Vec<Event, Global>,
         out: &mut Batch,
     ) -> Result<(), ServerFault>
         ensures handled { AreHandled self.old events.items out.old.outs result self.new out.new.outs }
-        ensures owed { OnOk result (AllReceive self.old events.items out.old.outs self.new out.new.outs) }
+        ensures owed { OnOk result
+            (AllReceive self.old events.items out.old.outs self.new out.new.outs) }
     {
         let mut rest = events.into_iter();
         while let Some(event) = rest.next() {

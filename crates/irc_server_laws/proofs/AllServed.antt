@@ -1,5 +1,6 @@
 -- What holds of all that a server has put out, whatever it serves, by which links it has closed.
-use Rattle.std.proofs.Common.{ℕ, Bool, true, false, is_none, Option, Some, None, Result, List, [], ◌∷◌, if◌then◌else◌}
+use Rattle.std.proofs.Common.{ℕ, Bool, true, false, is_none, Option, Some, None, Result, List, []}
+use Rattle.std.proofs.Common.{◌∷◌, if◌then◌else◌}
 use Rattle.std.specs.FinMap.{get}
 use Rattle.irc_line.specs.declared.reading.LineFault.{LineFault}
 use Rattle.irc_line.specs.Messages.{Parsed}
@@ -11,16 +12,20 @@ use Rattle.irc_stage.specs.View.{End, View, password_for, with_end}
 use Rattle.irc_stage.specs.EffectTold.{Served, in_silence, with_sent}
 use Rattle.irc_stage.specs.Linked.{with_far}
 use Rattle.irc_deeds.specs.Heard.{Heard, ignored, closes, password, meets, tells, heard}
-use Rattle.irc_deeds.specs.LinkServed.{after_heard, line_served, link_opened, on_link, opening_parts, owes}
+use Rattle.irc_deeds.specs.LinkServed.{after_heard, line_served, link_opened, on_link}
+use Rattle.irc_deeds.specs.LinkServed.{opening_parts, owes}
 use Rattle.irc_server.specs.Served.{Occurrence, of_client, link_up, link_says, link_down, served}
-use Rattle.irc_server_laws.specs.Closings.{closing_by_line, closing_heard, closing_opened, closings_due}
-use Rattle.irc_server_laws.proofs.PutOut.{IsKeptBehind, all_told_stays, happening_stays, lost_stays, on_link_stays, told_by_stays}
+use Rattle.irc_server_laws.specs.Closings.{closing_by_line, closing_heard, closing_opened}
+use Rattle.irc_server_laws.specs.Closings.{closings_due}
+use Rattle.irc_server_laws.proofs.PutOut.{IsKeptBehind, all_told_stays, happening_stays, lost_stays}
+use Rattle.irc_server_laws.proofs.PutOut.{on_link_stays, told_by_stays}
 
 abbrev pub Closings : Type 0
 Closings = List (ℕ × CloseReason)
 
 -- It holds where nothing is put out, where one link is closed, and still behind what closes none.
-pub record IsKeptWhenServed (test : Sent → Bool) (Holds : Closings → List Sent → Type 0) : Type 0 where
+pub record IsKeptWhenServed (test : Sent → Bool)
+    (Holds : Closings → List Sent → Type 0) : Type 0 where
   pub nothing : Holds [] []
   pub one_closed : (link : ℕ) (why : CloseReason)
       → Holds ((link, why) ∷ []) (end_of_link link why ∷ [])

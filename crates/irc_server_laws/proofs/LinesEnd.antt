@@ -1,5 +1,6 @@
 -- Whatever is served, each line that is put out on a link ends in CR LF.
-use Rattle.std.proofs.Common.{◌≡◌, ℕ, ◌-◌, Bool, true, List, ◌++◌, length, take, bytes_eq, refl, sym, ◌∙◌, ap}
+use Rattle.std.proofs.Common.{◌≡◌, ℕ, ◌-◌, Bool, true, List, ◌++◌, length, take, bytes_eq, refl}
+use Rattle.std.proofs.Common.{sym, ◌∙◌, ap}
 use Rattle.std.proofs.lemmas.List.{take-append-drop}
 use Rattle.std.proofs.lemmas.List.Prefix.{end_rest}
 use Rattle.std.proofs.lemmas.Slice.Eq.{bytes_eq-Decides}
@@ -28,11 +29,13 @@ ends (end_of_link link why) is = tt
 -- a body, and CR LF behind it
 body_ends : (body line : List ℕ) → line ≡ body ++ crlf → line ≡ take (length line - 2) line ++ crlf
 body_ends body line is =
-    let front = length line - 2 in sym (take-append-drop front line) ∙ ap (λ end. take front line ++ end) (end_rest line crlf body is)
+    let front = length line - 2 in sym (take-append-drop front line)
+    ∙ ap (λ end. take front line ++ end) (end_rest line crlf body is)
 
 text_ended : (link : ℕ) (parts : Written) → is_ended (line_on link (text parts)) ≡ true
 text_ended link parts =
-    (bytes_eq-Decides (text parts) (take (length (text parts) - 2) (text parts) ++ crlf)).1 (body_ends (line_text parts) (text parts) refl)
+    (bytes_eq-Decides (text parts) (take (length (text parts) - 2) (text parts) ++ crlf)).1
+    (body_ends (line_text parts) (text parts) refl)
 
 -- ---- all that has been put out, whichever links are closed
 

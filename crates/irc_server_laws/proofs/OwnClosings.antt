@@ -1,5 +1,7 @@
--- Whatever is served, just the link by which a line came is closed that has a reason to be, or one that is opened to nobody known.
-use Rattle.std.proofs.Common.{◌≡◌, Bool, true, false, List, [], ◌∷◌, ◌++◌, append-nil, refl, ◌∙◌, ap}
+-- Whatever is served, just the link by which a line came is closed that has a reason to be, or one
+-- that is opened to nobody known.
+use Rattle.std.proofs.Common.{◌≡◌, Bool, true, false, List, [], ◌∷◌, ◌++◌, append-nil, refl, ◌∙◌}
+use Rattle.std.proofs.Common.{ap}
 use Rattle.std.proofs.lemmas.List.Elements.{filter_map-append}
 use Rattle.std.specs.List.{list_all}
 use Rattle.irc_batch.specs.Batches.{Sent, end_of, end_of_link, line_on, line_to}
@@ -22,7 +24,8 @@ none_closed (end_of_link link why ∷ sent) all = absurd (cc all)
 closes_behind : (closed : Closings) (out sent : List Sent) → list_all is_no_closing sent ≡ true
     → link_closings out ≡ closed → link_closings (out ++ sent) ≡ closed
 closes_behind closed out sent all is_so =
-    filter_map-append closing_of out sent ∙ ap (λ l. link_closings out ++ l) (none_closed sent all) ∙ append-nil (link_closings out) ∙ is_so
+    filter_map-append closing_of out sent ∙ ap (λ l. link_closings out ++ l) (none_closed sent all)
+    ∙ append-nil (link_closings out) ∙ is_so
 
 abbrev AreClosings : Closings → List Sent → Type 0
 AreClosings closed out = link_closings out ≡ closed

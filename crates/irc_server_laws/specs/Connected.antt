@@ -1,4 +1,5 @@
--- Who is connected to a server: a client or a link is there from when it comes until it goes or is closed, and nobody else comes or goes.
+-- Who is connected to a server: a client or a link is there from when it comes until it goes or is
+-- closed, and nobody else comes or goes.
 --
 -- a.net has the clients al (connection 1) and cy (connection 2), and the link 3 to b.net:
 --   connection 5 connects          5 is a client as well
@@ -61,10 +62,12 @@ link_goes link other = false
 abbrev pub is_there_after : (was came left closed : Bool) → Bool
 is_there_after was came left closed = (was || came) && not (left || closed)
 
--- Just those are there who were there or come, and neither go nor are closed; and nobody else is closed.
+-- Just those are there who were there or come, and neither go nor are closed; and nobody else is
+-- closed.
 pub record AreConnectedAfter (view : View) (occurrence : Occurrence) : Type 0 where
   pub clients : (conn : ℕ) → has_client (served view occurrence).view conn
-      ≡ is_there_after (has_client view conn) (client_comes conn occurrence) (client_goes conn occurrence)
+      ≡ is_there_after (has_client view conn) (client_comes conn occurrence)
+      (client_goes conn occurrence)
       (is_client_ended conn (served view occurrence).out)
   pub links : (link : ℕ) → has_link (served view occurrence).view link
       ≡ is_there_after (has_link view link) (link_comes link occurrence) (link_goes link occurrence)
@@ -77,4 +80,5 @@ pub record AreConnectedAfter (view : View) (occurrence : Occurrence) : Type 0 wh
 -- Whatever is served, it is so. A link that is opened is not open yet.
 abbrev pub WhoIsConnected : Type 0
 WhoIsConnected =
-    (view : View) (occurrence : Occurrence) → IsNewLink view occurrence → AreConnectedAfter view occurrence
+    (view : View) (occurrence : Occurrence) → IsNewLink view occurrence
+    → AreConnectedAfter view occurrence

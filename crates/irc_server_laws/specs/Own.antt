@@ -1,9 +1,12 @@
--- What a server with links puts out goes to its own clients and on its open links alone, and each server that it knows stays behind a link that counts.
+-- What a server with links puts out goes to its own clients and on its open links alone, and each
+-- server that it knows stays behind a link that counts.
 --
--- a.net has the clients al (connection 1) and cy (connection 2), and the links 3 to b.net and 4 to d.net.
---   al says hi in a channel              goes to 2, and on 3 and 4 where members are behind them; never to a connection 5 or on a link 5
---   link 5 is opened to b.net            PASS and SERVER go on 5; to x.net, which is no peer: the end of 5
---   link 3 is lost                       what the loss tells goes on 4; b.net is no more known, and nobody behind 3
+-- a.net has the clients al (connection 1) and cy (connection 2), and the links 3 to b.net and 4 to
+-- d.net.
+-- al says hi in a channel goes to 2, and on 3 and 4 where members are behind them; never to a
+-- connection 5 or on a link 5
+-- link 5 is opened to b.net PASS and SERVER go on 5; to x.net, which is no peer: the end of 5
+-- link 3 is lost what the loss tells goes on 4; b.net is no more known, and nobody behind 3
 use Rattle.std.specs.Prelude.{◌≡◌, ⊤, Bool, true, false, ◌||◌, is_some, nat_eq, None}
 use Rattle.std.specs.List.{list_all}
 use Rattle.std.specs.FinMap.{get}
@@ -33,11 +36,14 @@ IsNewLink view occurrence = ⊤
 -- Each known server stays behind a link that counts, whatever is served.
 abbrev pub ServedKeepsEnds : Type 0
 ServedKeepsEnds =
-    (view : View) (occurrence : Occurrence) → AreEnds view.ends view.routes → IsNewLink view occurrence
+    (view : View) (occurrence : Occurrence) → AreEnds view.ends view.routes
+    → IsNewLink view occurrence
     → AreEnds (served view occurrence).view.ends (served view occurrence).view.routes
 
--- Whatever is served, all that is put out goes to a client that the server has, or on a link that it has open, or on the one that is being opened.
+-- Whatever is served, all that is put out goes to a client that the server has, or on a link that
+-- it has open, or on the one that is being opened.
 abbrev pub ServedGoesToItsOwn : Type 0
 ServedGoesToItsOwn =
     (view : View) (occurrence : Occurrence) → AreEnds view.ends view.routes
-    → list_all (λ sent. is_its_own view sent || is_on_new occurrence sent) (served view occurrence).out ≡ true
+    → list_all (λ sent. is_its_own view sent || is_on_new occurrence sent)
+    (served view occurrence).out ≡ true

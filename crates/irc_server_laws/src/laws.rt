@@ -9,7 +9,8 @@ pub fn served_keeps_ends()
     ensures { ServedKeepsEnds }
 {}
 
-/// What a server puts out goes to its own clients and on its open links alone, or on the link that is being opened.
+/// What a server puts out goes to its own clients and on its open links alone, or on the link that
+/// is being opened.
 pub fn served_goes_to_its_own()
     ensures { ServedGoesToItsOwn }
 {}
@@ -19,13 +20,15 @@ pub fn served_lines_end()
     ensures { ServedLinesEnd }
 {}
 
-/// A server closes just the link by which a line came that has a reason to be closed, for that reason, or one that it is told to open to a name that no
-/// peer has (RFC 2813 section 4.1). Whatever else happens closes no link.
+/// A server closes just the link by which a line came that has a reason to be closed, for that
+/// reason, or one that it is told to open to a name that no peer has (RFC 2813 section 4.1).
+/// Whatever else happens closes no link.
 pub fn served_closes_its_own()
     ensures { ServedClosesItsOwn }
 {}
 
-/// A client or a link is there from when it comes until it goes or is closed, and nobody else comes or goes.
+/// A client or a link is there from when it comes until it goes or is closed, and nobody else comes
+/// or goes.
 pub fn who_is_connected()
     ensures { WhoIsConnected }
 {}

@@ -1,5 +1,6 @@
 -- Which texts are configurations, and what is read of one.
-use Rattle.std.specs.Prelude.{◌≡◌, ℕ, ℤ, pos, Bool, true, false, Option, Some, Result, Ok, Err, option_map, option_and_then, List, [], map, codes, string_bytes}
+use Rattle.std.specs.Prelude.{◌≡◌, ℕ, ℤ, pos, Bool, true, false, Option, Some, Result, Ok, Err}
+use Rattle.std.specs.Prelude.{option_map, option_and_then, List, [], map, codes, string_bytes}
 use Rattle.std.specs.List.{filter_map}
 use Rattle.std.specs.Option.{option_map_or}
 use Rattle.toml.specs.Data.{Data, Members, get_member, as_str, as_integer, as_array, as_table}
@@ -55,17 +56,21 @@ pub record Tells (document : Members) (settings : Settings) : Type 0 where
   pub listen : text_at (codes "listen") document ≡ Some (string_bytes settings.listen)
   pub client_room : integer_at (codes "client_room") document ≡ Some (pos settings.client_room)
   pub link_room : integer_at (codes "link_room") document ≡ Some (pos settings.link_room)
-  pub listen_links : text_at (codes "listen_links") document ≡ option_map string_bytes settings.listen_links
+  pub listen_links : text_at (codes "listen_links") document
+      ≡ option_map string_bytes settings.listen_links
   pub connections_per_address :
-      integer_at (codes "connections_per_address") document ≡ option_map pos settings.connections_per_address
+      integer_at (codes "connections_per_address") document
+      ≡ option_map pos settings.connections_per_address
   pub peers : map peer_at (tables_at (codes "peer") document) ≡ map peer_told settings.peers.items
 
--- whether a text is a configuration: a TOML document with the keys that it has to have, and no others
+-- whether a text is a configuration: a TOML document with the keys that it has to have, and no
+-- others
 abbrev pub is_configuration : List ℕ → Bool
 is_configuration text = option_map_or (is_in_form server_keys) (parse_document text) false
 
 -- what comes of reading a text
 abbrev pub AreSettingsOf : List ℕ → Result Settings SettingsFault → Type 0
-AreSettingsOf text (Ok settings) = (document : Members) × (parse_document text ≡ Some document) × (is_in_form server_keys document ≡ true) × Tells document settings
+AreSettingsOf text (Ok settings) = (document : Members) × (parse_document text ≡ Some document)
+    × (is_in_form server_keys document ≡ true) × Tells document settings
 AreSettingsOf text (Err BadConfiguration) = is_configuration text ≡ false
 AreSettingsOf text (Err Memory) = Unit {0}

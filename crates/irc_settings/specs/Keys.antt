@@ -1,9 +1,11 @@
 -- The keys that a configuration may have, and what may stand at each (our own choice).
-use Rattle.std.specs.Prelude.{ℕ, ℤ, pos, negsuc, nat_le, Bool, true, false, not, ◌&&◌, ◌||◌, is_some, List, [], ◌∷◌, codes}
+use Rattle.std.specs.Prelude.{ℕ, ℤ, pos, negsuc, nat_le, Bool, true, false, not, ◌&&◌, ◌||◌}
+use Rattle.std.specs.Prelude.{is_some, List, [], ◌∷◌, codes}
 use Rattle.std.specs.List.{list_any, list_all}
 use Rattle.std.specs.Str.{bytes_eq}
 use Rattle.std.specs.Option.{option_map_or}
-use Rattle.toml.specs.Data.{Data, Items, no_items, item, Members, no_members, member, get_member, as_str, as_integer, as_array, as_table}
+use Rattle.toml.specs.Data.{Data, Items, no_items, item, Members, no_members, member, get_member}
+use Rattle.toml.specs.Data.{as_str, as_integer, as_array, as_table}
 
 -- what may stand at a key
 pub data Kind : Type 0 where
@@ -48,12 +50,15 @@ are_tables test items = list_all (is_table test) (values_in items)
 -- whether a value may stand at a key of this kind
 abbrev pub is_of_kind : Kind → Data → Bool
 is_of_kind text value = is_some (as_str value)
-is_of_kind (integer least most) value = option_map_or (is_number_between least most) (as_integer value) false
+is_of_kind (integer least most) value =
+    option_map_or (is_number_between least most) (as_integer value) false
 is_of_kind (tables test) value = option_map_or (are_tables test) (as_array value) false
 
--- whether what a table has at a key may stand there: where it has nothing, whether the key may be left out
+-- whether what a table has at a key may stand there: where it has nothing, whether the key may be
+-- left out
 abbrev pub is_kept : Members → Key → Bool
-is_kept table key = option_map_or (is_of_kind key.kind) (get_member key.name table) (not key.is_needed)
+is_kept table key =
+    option_map_or (is_of_kind key.kind) (get_member key.name table) (not key.is_needed)
 
 -- whether a name is one of these keys
 abbrev pub is_known_key : List Key → List ℕ → Bool
@@ -61,7 +66,8 @@ is_known_key keys name = list_any (λ key. bytes_eq name key.name) keys
 
 -- whether a table has these keys, each with what may stand there, and no others
 abbrev pub is_in_form : List Key → Members → Bool
-is_in_form keys table = list_all (is_known_key keys) (keys_in table) && list_all (is_kept table) keys
+is_in_form keys table =
+    list_all (is_known_key keys) (keys_in table) && list_all (is_kept table) keys
 
 -- the keys of a table `peer`: a server that may be linked to
 abbrev pub peer_keys : List Key
@@ -84,7 +90,10 @@ is_peer table = is_in_form peer_keys table && retries_calls_alone table
 -- the keys of the document
 abbrev pub server_keys : List Key
 server_keys =
-    needed (codes "name") text ∷ needed (codes "info") text ∷ needed (codes "created") text ∷ needed (codes "listen") text
-    ∷ needed (codes "client_room") (integer 512 1048576) ∷ needed (codes "link_room") (integer 512 16777216)
-    ∷ optional (codes "listen_links") text ∷ optional (codes "connections_per_address") (integer 1 65535)
+    needed (codes "name") text ∷ needed (codes "info") text ∷ needed (codes "created") text ∷ needed
+    (codes "listen") text
+    ∷ needed (codes "client_room") (integer 512 1048576) ∷ needed (codes "link_room")
+    (integer 512 16777216)
+    ∷ optional (codes "listen_links") text ∷ optional (codes "connections_per_address")
+    (integer 1 65535)
     ∷ optional (codes "peer") (tables is_peer) ∷ []

@@ -5,7 +5,9 @@ ghost use Rattle.std.specs.Str.{bytes_eq};
 ghost use Rattle.std.specs.BTreeMap.{keys};
 ghost use Rattle.toml.specs.Data.{get_member};
 ghost use Rattle.toml.specs.View.{view, table_view};
-ghost use Rattle.irc_settings.specs.Loops.Finding.{FindsOptionalNumber, FindsOptionalText, FindsRoom, FindsText, ReadsAsNumber, ReadsAsRoom, ReadsAsText, is_allowed, view_now};
+ghost use Rattle.irc_settings.specs.Loops.Finding.{FindsOptionalNumber, FindsOptionalText};
+ghost use Rattle.irc_settings.specs.Loops.Finding.{FindsRoom, FindsText, ReadsAsNumber};
+ghost use Rattle.irc_settings.specs.Loops.Finding.{ReadsAsRoom, ReadsAsText, is_allowed, view_now};
 
 use crate::{LEAST_ROOM, SettingsFault};
 use std::alloc::Global;

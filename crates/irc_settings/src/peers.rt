@@ -2,7 +2,8 @@
 ghost use Rattle.std.specs.Prelude.{◌≡◌, ◌++◌, ◌∷◌, [], OnOk, map};
 ghost use Rattle.toml.specs.View.{view, table_view};
 ghost use Rattle.irc_settings.specs.Keys.{retries_calls_alone};
-ghost use Rattle.irc_settings.specs.Loops.Finding.{FindsPeers, ReadsAsPeer, ReadsAsPeers, ReadsEachPeer, ReadsPeer};
+ghost use Rattle.irc_settings.specs.Loops.Finding.{FindsPeers, ReadsAsPeer, ReadsAsPeers};
+ghost use Rattle.irc_settings.specs.Loops.Finding.{ReadsEachPeer, ReadsPeer};
 
 use crate::finding::{has_only, optional_number, optional_text, text, value_at};
 use crate::{MOST_RETRY, PeerSettings, SettingsFault};

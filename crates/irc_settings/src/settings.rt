@@ -39,7 +39,8 @@ pub struct Settings {
     pub link_room: usize,
     /// The address at which it listens for links, if it does.
     pub listen_links: Option<String>,
-    /// How many clients may be connected from one address, if there is a limit: 1 to [`MOST_CONNECTIONS`].
+    /// How many clients may be connected from one address, if there is a limit: 1 to
+    /// [`MOST_CONNECTIONS`].
     pub connections_per_address: Option<u16>,
     /// The servers that may be linked to: the tables `peer`, in order.
     pub peers: Vec<PeerSettings, Global>,
@@ -54,13 +55,16 @@ pub struct PeerSettings {
     pub password: String,
     /// The address at which it is called, if it is called.
     pub connect: Option<String>,
-    /// After how many seconds it is called again, if it is: 1 to [`crate::MOST_RETRY`]. Only a server that is called has it.
+    /// After how many seconds it is called again, if it is: 1 to [`crate::MOST_RETRY`]. Only a
+    /// server that is called has it.
     pub retry: Option<u16>,
 }
 
-/// Reads a configuration file: a TOML document with the keys that [`Settings`] and [`PeerSettings`] have as fields, and no others.
-/// Only `listen_links`, `connections_per_address`, `peer` and a peer's `connect` and `retry` may be left out. A peer with `retry` has
-/// `connect` too. Names, passwords and addresses are any texts here.
+/// Reads a configuration file: a TOML document with the keys that [`Settings`] and [`PeerSettings`]
+/// have as fields, and no others.
+/// Only `listen_links`, `connections_per_address`, `peer` and a peer's `connect` and `retry` may be
+/// left out. A peer with `retry` has `connect` too. Names, passwords and addresses are any texts
+/// here.
 ///
 /// # Errors
 /// Where the text is no such document; where memory runs out, which may come first.

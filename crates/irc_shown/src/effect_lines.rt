@@ -12,8 +12,8 @@ use crate::lines::{
 use irc_line::Text;
 use irc_room_tables::{Effect, Tables};
 
-/// Writes the line that an effect on a room shows at the server of this name to those who see it, where it shows one. Here and below: tells
-/// whether it did.
+/// Writes the line that an effect on a room shows at the server of this name to those who see it,
+/// where it shows one. Here and below: tells whether it did.
 pub fn effect_line(own: &[u8], tables: &Tables, effect: &Effect, line: &mut Text) -> bool
     ensures { ShowsAt tables.now effect.now own.now (line_if result line.new) }
 {

@@ -1,16 +1,19 @@
-//! The line that each kind of effect shows (RFC 2812 section 3). Where the doer is not there, there is none.
+//! The line that each kind of effect shows (RFC 2812 section 3). Where the doer is not there, there
+//! is none.
 ghost use Rattle.std.specs.Prelude.{◌≡◌, None, Some, [], ◌∷◌, codes};
 ghost use Rattle.irc_line.specs.Messages.{text};
 ghost use Rattle.irc_line.specs.MessageViews.{optional_now};
 ghost use Rattle.irc_line.specs.PartViews.{sender, words_now};
-ghost use Rattle.irc_shown.specs.Loops.LineViews.{invisible_word, mode_params, mode_parts, say_command, Writes};
+ghost use Rattle.irc_shown.specs.Loops.LineViews.{invisible_word, mode_params, mode_parts};
+ghost use Rattle.irc_shown.specs.Loops.LineViews.{say_command, Writes};
 
 use crate::mode_letters::push_changes;
 use irc_line::{Parts, Prefix, Text, push_cut, push_prefix, write_message};
 use irc_modes::ModeChange;
 use irc_room_tables::Tables;
 
-/// Writes the line with these tables, if there is somebody who sends it. Here and below: tells whether it did.
+/// Writes the line with these tables, if there is somebody who sends it. Here and below: tells
+/// whether it did.
 fn write_line(
     doer: Option<Prefix<'_>>,
     command: &[u8],
@@ -18,7 +21,8 @@ fn write_line(
     last: Option<&[u8]>,
     line: &mut Text,
 ) -> bool
-    ensures { Writes result line.new doer.entry command.now (words_now middle.now) (optional_now last.entry) }
+    ensures { Writes result line.new doer.entry command.now (words_now middle.now)
+        (optional_now last.entry) }
 {
     match doer {
         None => false,
@@ -62,7 +66,8 @@ pub(crate) fn part_line(
     reason: &[u8],
     line: &mut Text,
 ) -> bool
-    ensures { Writes result line.new doer.entry (codes "PART") (channel.now ∷ []) (Some reason.now) }
+    ensures { Writes result line.new doer.entry (codes "PART") (channel.now ∷ [])
+        (Some reason.now) }
 {
     write_line(doer, b"PART", &[channel], Some(reason), line)
 }
@@ -75,7 +80,8 @@ pub(crate) fn kick_line<'a>(
     reason: &[u8],
     line: &mut Text,
 ) -> bool
-    ensures { Writes result line.new doer.entry (codes "KICK") (channel.now ∷ nick.now ∷ []) (Some reason.now) }
+    ensures { Writes result line.new doer.entry (codes "KICK") (channel.now ∷ nick.now ∷ [])
+        (Some reason.now) }
 {
     write_line(doer, b"KICK", &[channel, nick], Some(reason), line)
 }
@@ -88,7 +94,8 @@ pub(crate) fn mode_line(
     changes: &[ModeChange],
     line: &mut Text,
 ) -> bool
-    ensures { Writes result line.new doer.entry (codes "MODE") (mode_params tables.now channel.now changes.now) None }
+    ensures { Writes result line.new doer.entry (codes "MODE")
+        (mode_params tables.now channel.now changes.now) None }
 {
     match doer {
         None => false,
@@ -101,7 +108,8 @@ pub(crate) fn mode_line(
 
 /// The same line, from somebody who is there.
 fn mode_text(tables: &Tables, doer: Prefix<'_>, channel: &[u8], changes: &[ModeChange]) -> Text
-    ensures { result.items ≡ text (mode_parts tables.now (sender doer.entry) channel.now changes.now) }
+    ensures { result.items ≡ text
+        (mode_parts tables.now (sender doer.entry) channel.now changes.now) }
 {
     let mut line = Text::new();
     push_prefix(&mut line, &doer);
@@ -120,7 +128,8 @@ pub(crate) fn topic_line(
     topic: &[u8],
     line: &mut Text,
 ) -> bool
-    ensures { Writes result line.new doer.entry (codes "TOPIC") (channel.now ∷ []) (Some topic.now) }
+    ensures { Writes result line.new doer.entry (codes "TOPIC") (channel.now ∷ [])
+        (Some topic.now) }
 {
     write_line(doer, b"TOPIC", &[channel], Some(topic), line)
 }
@@ -133,7 +142,8 @@ pub(crate) fn say_line(
     words: &[u8],
     line: &mut Text,
 ) -> bool
-    ensures { Writes result line.new doer.entry (say_command notice) (target.now ∷ []) (Some words.now) }
+    ensures { Writes result line.new doer.entry (say_command notice) (target.now ∷ [])
+        (Some words.now) }
 {
     let command: &[u8] = if notice { b"NOTICE" } else { b"PRIVMSG" };
     write_line(doer, command, &[target], Some(words), line)
@@ -146,7 +156,8 @@ pub(crate) fn invite_line<'a>(
     channel: &'a [u8],
     line: &mut Text,
 ) -> bool
-    ensures { Writes result line.new doer.entry (codes "INVITE") (nick.now ∷ channel.now ∷ []) None }
+    ensures { Writes result line.new doer.entry (codes "INVITE")
+        (nick.now ∷ channel.now ∷ []) None }
 {
     write_line(doer, b"INVITE", &[nick, channel], None, line)
 }
@@ -158,7 +169,8 @@ pub(crate) fn user_mode_line(
     invisible: bool,
     line: &mut Text,
 ) -> bool
-    ensures { Writes result line.new doer.entry (codes "MODE") (nick.now ∷ invisible_word invisible ∷ []) None }
+    ensures { Writes result line.new doer.entry (codes "MODE")
+        (nick.now ∷ invisible_word invisible ∷ []) None }
 {
     let mode = if invisible { b"+i" } else { b"-i" };
     write_line(doer, b"MODE", &[nick, mode], None, line)

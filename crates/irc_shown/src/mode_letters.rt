@@ -1,4 +1,5 @@
-//! Changes of modes as they are written (RFC 2812 section 3.2.3). As many changes as there may be, it takes no memory.
+//! Changes of modes as they are written (RFC 2812 section 3.2.3). As many changes as there may be,
+//! it takes no memory.
 ghost use Rattle.std.specs.Prelude.{◌≡◌, ◌≤◌, ◌++◌};
 ghost use Rattle.arrayvec.specs.ArrayVec.{array_vec_len};
 ghost use Rattle.irc_line.specs.Bytes.{cut};
@@ -25,7 +26,8 @@ pub fn push_changes(tables: &Tables, line: &mut Text, changes: &[ModeChange])
 /// The parameters of changes in order, each behind a space.
 fn push_words(tables: &Tables, line: &mut Text, changes: &[ModeChange])
     requires { array_vec_len line.old ≤ max_line }
-    ensures pushed { line.new.items ≡ cut (line.old.items ++ middle_text (written_words tables.now changes.now)) }
+    ensures pushed { line.new.items
+        ≡ cut (line.old.items ++ middle_text (written_words tables.now changes.now)) }
     ensures still_cut { array_vec_len line.new ≤ max_line }
 {
     push_cut(line, b"");
@@ -34,7 +36,8 @@ fn push_words(tables: &Tables, line: &mut Text, changes: &[ModeChange])
     }
 }
 
-/// The parameter of a change, if it has one: a member's nickname as it is stored, anything else as it was given.
+/// The parameter of a change, if it has one: a member's nickname as it is stored, anything else as
+/// it was given.
 fn written_word<'a>(tables: &'a Tables, change: &'a ModeChange) -> Option<&'a [u8]>
     ensures { optional_now result ≡ written_word tables.now change.now }
 {

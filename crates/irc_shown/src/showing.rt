@@ -13,7 +13,8 @@ use irc_room_tables::{Effect, ShownLine, Tables};
 use irc_users::User;
 use std::alloc::{AllocError, Global};
 
-/// Writes the line that an effect that does something shows, and adds the users of the server of this name who see it, in folded order.
+/// Writes the line that an effect that does something shows, and adds the users of the server of
+/// this name who see it, in folded order.
 ///
 /// # Errors
 /// Where memory runs out: nothing is promised of `shown` then.
@@ -41,7 +42,8 @@ fn add_viewers(
     effect: &Effect,
     nicks: &mut Vec<Nick, Global>,
 ) -> Result<(), AllocError>
-    ensures { OnOk result (nicks.new.items ≡ nicks.old.items ++ own_viewers own.now tables.now effect.now) }
+    ensures { OnOk result
+        (nicks.new.items ≡ nicks.old.items ++ own_viewers own.now tables.now effect.now) }
 {
     let users = viewers(*nicks.allocator(), tables, effect)?;
     add_each(own, users.as_slice(), nicks)
@@ -49,7 +51,8 @@ fn add_viewers(
 
 /// Adds each of these users that is one of the server.
 fn add_each(own: &[u8], users: &[&User], nicks: &mut Vec<Nick, Global>) -> Result<(), AllocError>
-    ensures { OnOk result (nicks.new.items ≡ nicks.old.items ++ own_nicks own.now (users_now users.now)) }
+    ensures { OnOk result
+        (nicks.new.items ≡ nicks.old.items ++ own_nicks own.now (users_now users.now)) }
 {
     for user in users {
         add_own(own, user, nicks)?;

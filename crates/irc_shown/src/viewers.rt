@@ -6,7 +6,9 @@ ghost use Rattle.irc_tables.specs.RowViews.{row_entry};
 ghost use Rattle.irc_channels.specs.Channels.{has_member};
 ghost use Rattle.irc_room_tables.specs.Effects.{is_member};
 ghost use Rattle.irc_room_tables.specs.Indexes.{holds, own_names};
-ghost use Rattle.irc_shown.specs.Loops.Viewing.{hears, hears_text, is_in_any, is_one_of, is_sharer, sees_join, sees_quit, sees_rename, user_named, AreSharers, Finds, Gains};
+ghost use Rattle.irc_shown.specs.Loops.Viewing.{hears, hears_text, is_in_any, is_one_of, is_sharer};
+ghost use Rattle.irc_shown.specs.Loops.Viewing.{sees_join, sees_quit, sees_rename, user_named};
+ghost use Rattle.irc_shown.specs.Loops.Viewing.{AreSharers, Finds, Gains};
 ghost use Rattle.irc_room_tables.specs.Found.{users_under};
 ghost use Rattle.irc_room_tables.specs.Readers.{users_now};
 ghost use Rattle.irc_room_tables.specs.Seen.{sees};
@@ -18,7 +20,8 @@ use irc_tables::{NameTable, Row};
 use irc_users::{User, Users};
 use std::alloc::{AllocError, Global};
 
-/// The users that see an effect, found by the names that stand in the channels it is about: besides them only its doer is looked at.
+/// The users that see an effect, found by the names that stand in the channels it is about: besides
+/// them only its doer is looked at.
 pub(crate) fn viewers<'a>(
     alloc: Global,
     tables: &'a Tables,
@@ -47,7 +50,8 @@ fn hearers<'a>(
     by: &Nick,
     target: &Target,
 ) -> Result<Vec<&'a User, Global>, AllocError>
-    ensures { IfOk result (λ found. Finds tables.now (λ room. hears_text room by.now target.now) found.items) }
+    ensures { IfOk result
+        (λ found. Finds tables.now (λ room. hears_text room by.now target.now) found.items) }
 {
     match target {
         Target::User(nick) => only(alloc, tables, nick),
@@ -74,7 +78,8 @@ pub(crate) fn members<'a>(
     tables: &'a Tables,
     channel: &ChannelName,
 ) -> Result<Vec<&'a User, Global>, AllocError>
-    ensures { IfOk result (λ found. Finds tables.now (λ room viewer. is_member room viewer channel.now) found.items) }
+    ensures { IfOk result (λ found. Finds tables.now
+        (λ room viewer. is_member room viewer channel.now) found.items) }
 {
     users_of(
         alloc,
@@ -90,7 +95,8 @@ fn others<'a>(
     by: &Nick,
     channel: &ChannelName,
 ) -> Result<Vec<&'a User, Global>, AllocError>
-    ensures { IfOk result (λ found. Finds tables.now (λ room. hears room by.now channel.now) found.items) }
+    ensures { IfOk result
+        (λ found. Finds tables.now (λ room. hears room by.now channel.now) found.items) }
 {
     let mut found = members(alloc, tables, channel)?;
     leave_out(&mut found, by);
@@ -111,7 +117,8 @@ fn with_joiner<'a>(
     nick: &Nick,
     channel: &ChannelName,
 ) -> Result<Vec<&'a User, Global>, AllocError>
-    ensures { IfOk result (λ found. Finds tables.now (λ room. sees_join room nick.now channel.now) found.items) }
+    ensures { IfOk result
+        (λ found. Finds tables.now (λ room. sees_join room nick.now channel.now) found.items) }
 {
     let mut names = NameTable::new(alloc);
     put_rows(&mut names, tables.channels.members(channel.as_bytes()))?;
@@ -125,7 +132,8 @@ fn with_sharers<'a>(
     tables: &'a Tables,
     nick: &Nick,
 ) -> Result<Vec<&'a User, Global>, AllocError>
-    ensures { IfOk result (λ found. Finds tables.now (λ room. sees_rename room nick.now) found.items) }
+    ensures { IfOk result
+        (λ found. Finds tables.now (λ room. sees_rename room nick.now) found.items) }
 {
     let mut names = names_sharing(alloc, tables, nick)?;
     put_name(&mut names, nick.as_bytes())?;
@@ -138,7 +146,8 @@ fn sharers<'a>(
     tables: &'a Tables,
     nick: &Nick,
 ) -> Result<Vec<&'a User, Global>, AllocError>
-    ensures { IfOk result (λ found. Finds tables.now (λ room. sees_quit room nick.now) found.items) }
+    ensures { IfOk result
+        (λ found. Finds tables.now (λ room. sees_quit room nick.now) found.items) }
 {
     let mut names = names_sharing(alloc, tables, nick)?;
     names.remove(nick.as_bytes());
@@ -158,13 +167,15 @@ fn names_sharing(
     Ok(names)
 }
 
-/// The users that stand under the names of some rows. Rows are in folded order, so a user is mostly the one behind the user before.
+/// The users that stand under the names of some rows. Rows are in folded order, so a user is mostly
+/// the one behind the user before.
 fn users_of<'a>(
     alloc: Global,
     users: &'a Users,
     rows: &[Row<Flags>],
 ) -> Result<Vec<&'a User, Global>, AllocError>
-    ensures { IfOk result (λ found. users_now found.items ≡ users_under users.now.users (map row_entry rows.now)) }
+    ensures { IfOk result
+        (λ found. users_now found.items ≡ users_under users.now.users (map row_entry rows.now)) }
 {
     let mut found = Vec::new(alloc);
     for row in rows {
@@ -179,7 +190,8 @@ fn add_named<'a>(
     name: &[u8],
     found: &mut Vec<&'a User, Global>,
 ) -> Result<(), AllocError>
-    ensures { OnOk result (users_now found.new.items ≡ users_now found.old.items ++ user_named users.now.users name.now) }
+    ensures { OnOk result (users_now found.new.items ≡ users_now found.old.items
+        ++ user_named users.now.users name.now) }
 {
     if let Some(user) = users.find_named(name) {
         found.push(user)?;
@@ -225,7 +237,8 @@ fn put_members(
     channels: &IndexedChannels,
     name: &[u8],
 ) -> Result<(), AllocError>
-    ensures { OnOk result (Gains names.old names.new (λ fold. holds has_member channels.now fold (key name.now))) }
+    ensures { OnOk result
+        (Gains names.old names.new (λ fold. holds has_member channels.now fold (key name.now))) }
 {
     put_rows(names, channels.members(name))
 }

@@ -1,5 +1,6 @@
 -- A server of a network, and the lines that are on their way from it.
-use Rattle.std.specs.Prelude.{◌≡◌, ℕ, ◌-◌, Bool, true, false, not, Option, Some, is_some, is_none, List, [], ◌∷◌, ◌++◌, length, take, unwrap_or, if◌then◌else◌}
+use Rattle.std.specs.Prelude.{◌≡◌, ℕ, ◌-◌, Bool, true, false, not, Option, Some, is_some, is_none}
+use Rattle.std.specs.Prelude.{List, [], ◌∷◌, ◌++◌, length, take, unwrap_or, if◌then◌else◌}
 use Rattle.std.specs.FinMap.{FinMap, get, insert, keys, remove}
 use Rattle.std.specs.List.{find, list_any}
 use Rattle.std.specs.Option.{option_and_then, option_map_or}
@@ -9,8 +10,9 @@ use Rattle.irc_stage.specs.Handle.{connects, says, goes}
 use Rattle.irc_stage.specs.View.{View, password_for}
 use Rattle.irc_server.specs.Served.{Occurrence, of_client, link_up, link_says, link_down, served}
 
--- A server, none once memory ran out for it; and the lines that it has put out on each of its links and that nobody has taken yet, the oldest first, without
--- their line ends. A link's number at either end is the place of the server at the other.
+-- A server, none once memory ran out for it; and the lines that it has put out on each of its links
+-- and that nobody has taken yet, the oldest first, without their line ends. A link's number at
+-- either end is the place of the server at the other.
 pub record Site : Type 0 where
   pub server : Option View
   pub queues : FinMap nat_cmp (List (List ℕ))
@@ -23,7 +25,8 @@ kept_for site name = option_and_then (λ (view : View). password_for view name) 
 
 -- whether a client is connected to it
 abbrev pub is_connected : Site → ℕ → Bool
-is_connected site client = option_map_or (λ (view : View). is_some (get view.clients client)) site.server false
+is_connected site client =
+    option_map_or (λ (view : View). is_some (get view.clients client)) site.server false
 
 -- ---- lines on their way
 
@@ -51,7 +54,10 @@ line_body text = take (length text - 2) text
 -- a line waits behind the others, if there is a way
 abbrev pub line_queued : ℕ → List ℕ → Site → Site
 line_queued to text site =
-    option_map_or (λ lines. record site { queues = insert site.queues to (lines ++ line_body text ∷ []) }) (get site.queues to) site
+    option_map_or (λ lines. record site {
+      queues = insert site.queues to
+          (lines ++ line_body text ∷ []);
+    }) (get site.queues to) site
 
 abbrev pub left : ℕ → List (List ℕ) → Site → Site
 left to lines site = record site { queues = insert site.queues to lines }
@@ -66,7 +72,8 @@ without_way to site = record site { queues = remove site.queues to }
 
 -- ---- what a server puts out
 
--- whether a server serves what happens, rather than refusing it: the client or the link is there, or is not there yet
+-- whether a server serves what happens, rather than refusing it: the client or the link is there,
+-- or is not there yet
 abbrev pub serves_occurrence : View → Occurrence → Bool
 serves_occurrence view (of_client (connects conn host)) = is_none (get view.clients conn)
 serves_occurrence view (of_client (says conn read)) = is_some (get view.clients conn)
@@ -82,11 +89,13 @@ pub record Reply : Type 0 where
 
 abbrev pub reply : View → Occurrence → Reply
 reply view occurrence =
-    if serves_occurrence view occurrence then record { view = (served view occurrence).view; out = (served view occurrence).out }
+    if serves_occurrence view occurrence
+    then record { view = (served view occurrence).view; out = (served view occurrence).out }
     else record { view = view; out = [] }
 
 -- the server was there, and replied
-pub record Replies (old : Site) (occurrence : Occurrence) (new : Site) (out : List Sent) : Type 0 where
+pub record Replies (old : Site) (occurrence : Occurrence) (new : Site)
+    (out : List Sent) : Type 0 where
   pub view : View
   pub is_view : old.server ≡ Some view
   pub new_is : new ≡ record old { server = Some (reply view occurrence).view }

@@ -1,4 +1,5 @@
-//! A server of a network: what it is asked for, and the lines that are on their way from it. Definitions are in `specs/`.
+//! A server of a network: what it is asked for, and the lines that are on their way from it.
+//! Definitions are in `specs/`.
 #![tactic(auto)]
 
 mod link_queue;

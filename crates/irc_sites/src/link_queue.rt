@@ -10,7 +10,8 @@ use std::alloc::{AllocError, Global};
 use std::collections::LinkedList;
 use std::marker::Model;
 
-/// The lines that a server has put out on a link and that nobody has taken yet, each without its line end.
+/// The lines that a server has put out on a link and that nobody has taken yet, each without its
+/// line end.
 #[derive(Drop)]
 pub struct LinkQueue {
     lines: LinkedList<Line, Global>,

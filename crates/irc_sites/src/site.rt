@@ -5,7 +5,8 @@ ghost use Rattle.std.specs.Option.{option_copied, option_map};
 ghost use Rattle.irc_line.specs.Limits.{max_text};
 ghost use Rattle.irc_server.specs.Happening.{occurrence_of};
 ghost use Rattle.irc_server.specs.Loops.Acting.{room_kept, room_of};
-ghost use Rattle.irc_sites.specs.Site.{first_way, is_connected, kept_for, line_body, line_queued, waits, with_way, without_way, Replies};
+ghost use Rattle.irc_sites.specs.Site.{first_way, is_connected, kept_for, line_body, line_queued};
+ghost use Rattle.irc_sites.specs.Site.{waits, with_way, without_way, Replies};
 ghost use Rattle.irc_sites.specs.Loops.Queues.{line_bytes};
 ghost use Rattle.irc_sites.specs.Loops.Sites.{is_want, IsTaken};
 
@@ -22,7 +23,8 @@ use std::marker::Model;
 /// The bytes of the CR LF at the end of a line (RFC 2812 section 2.3).
 const LINE_END: usize = 2;
 
-/// A server of a network, and the lines that are on their way from it, under the place of the server that they go to.
+/// A server of a network, and the lines that are on their way from it, under the place of the
+/// server that they go to.
 #[derive(Drop)]
 pub struct Site {
     server: Server,
@@ -75,7 +77,8 @@ impl Site {
         self.server.has_client(client)
     }
 
-    /// Asks the server for an event. What it puts out is in `out`; an event that it refuses changes nothing.
+    /// Asks the server for an event. What it puts out is in `out`; an event that it refuses changes
+    /// nothing.
     ///
     /// # Errors
     /// Where memory runs out, or ran out for this server before.
@@ -132,7 +135,8 @@ impl Site {
         self.queues.remove(&to);
     }
 
-    /// A line of at most 512 bytes waits behind the others on the way to this place, if a way goes there. It waits without its CR LF.
+    /// A line of at most 512 bytes waits behind the others on the way to this place, if a way goes
+    /// there. It waits without its CR LF.
     ///
     /// # Errors
     /// Where memory runs out.

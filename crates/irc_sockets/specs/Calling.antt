@@ -1,9 +1,11 @@
 -- Calls of other servers, by the places of those that are to be called.
-use Rattle.std.specs.Prelude.{◌≡◌, ◌⊎◌, ℕ, Bool, if◌then◌else◌, is_some, Option, None, Some, List, position}
+use Rattle.std.specs.Prelude.{◌≡◌, ◌⊎◌, ℕ, Bool, if◌then◌else◌, is_some, Option, None, Some, List}
+use Rattle.std.specs.Prelude.{position}
 use Rattle.std.specs.List.{slice_get}
 use Rattle.irc_turns.specs.declared.retries.Retries.{Retries}
 use Rattle.irc_turns.specs.declared.retry.Retry.{Retry}
-use Rattle.irc_turns.specs.Retries.{row_changed, call_begun, call_reached, call_ended, is_of_link, due_place, seen_at}
+use Rattle.irc_turns.specs.Retries.{row_changed, call_begun, call_reached, call_ended, is_of_link}
+use Rattle.irc_turns.specs.Retries.{due_place, seen_at}
 use Rattle.irc_turns.specs.Spreads.{spread_on}
 use Rattle.irc_sockets.specs.declared.calls.Callee.{Callee}
 
@@ -39,7 +41,8 @@ rows_begun place comers rows = row_changed (λ row. call_begun row comers) place
 -- the one at a place is called; and its call is under way, or has failed at once
 abbrev pub IsCalled : ℕ → ℕ → List Retry → List Retry → Type 0
 IsCalled place comers old new =
-    (new ≡ rows_begun place comers old) ⊎ (new ≡ rows_ended place comers (rows_begun place comers old))
+    (new ≡ rows_begun place comers old)
+    ⊎ (new ≡ rows_ended place comers (rows_begun place comers old))
 
 -- one is called, if it is due; else nobody is
 abbrev pub IsCalledIfDue : Option ℕ → ℕ → List Retry → List Retry → Type 0
@@ -54,9 +57,11 @@ pub record Knows (is_known yields : Bool) (old new : Retries) : Type 0 where
   pub looked : new.looked_at ≡ None
   pub called :
       new.called_at
-      ≡ (if is_some (due_place old is_known yields old.looked_at) then Some old.passed else old.called_at)
+      ≡ (if is_some (due_place old is_known yields old.looked_at) then Some old.passed
+      else old.called_at)
   pub spread :
       new.spread
-      ≡ (if is_some (due_place old is_known yields old.looked_at) then spread_on old.spread 1 else old.spread)
+      ≡ (if is_some (due_place old is_known yields old.looked_at) then spread_on old.spread 1
+      else old.spread)
   pub passed : new.passed ≡ old.passed
   pub comers : new.comers ≡ old.comers

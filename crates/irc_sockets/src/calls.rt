@@ -22,7 +22,8 @@ pub struct Callee {
     pub name: ServerName,
     /// Where it listens for servers.
     pub address: SocketAddr,
-    /// For how many seconds it is unknown at least before it is called again; none where it is called once.
+    /// For how many seconds it is unknown at least before it is called again; none where it is
+    /// called once.
     pub retry: Option<u16>,
 }
 
@@ -40,7 +41,8 @@ enum Standing {
     Failed(io::Error),
 }
 
-/// What a wire was opened with: mio asks for a `Net` with each call, and uses none. It opens nothing itself.
+/// What a wire was opened with: mio asks for a `Net` with each call, and uses none. It opens
+/// nothing itself.
 struct Granted;
 
 /// Calls of other servers: which is due, `irc_turns` tells.
@@ -59,10 +61,11 @@ pub(crate) struct Calls {
 }
 
 impl Calls {
-    ghost use Rattle.irc_sockets.specs.Calling.{IsCalled, Knows, name_at, name_of, rows_closed, rows_ended, rows_reached};
+    ghost use Rattle.irc_sockets.specs.Calling.{IsCalled, Knows, name_at, name_of, rows_closed};
+    ghost use Rattle.irc_sockets.specs.Calling.{rows_ended, rows_reached};
 
-    /// Calls each of these, and waits for none of them: the system reports under the token when one is through or has failed. A server that the
-    /// system refuses to call is passed over.
+    /// Calls each of these, and waits for none of them: the system reports under the token when one
+    /// is through or has failed. A server that the system refuses to call is passed over.
     ///
     /// # Errors
     /// Where memory runs out.
@@ -107,9 +110,12 @@ impl Calls {
     /// Calls the one at a place, the first time or again.
     fn call(&mut self, place: usize, is_again: bool, registry: &Registry, token: Token)
         ensures asked { self.new.asked ≡ self.old.asked }
-        ensures spread { self.new.retries.spread ≡ (if is_again then spread_on self.old.retries.spread 1 else self.old.retries.spread) }
-        ensures rows { IsCalled place self.old.retries.comers self.old.retries.rows.items self.new.retries.rows.items }
-        ensures called { self.new.retries.called_at ≡ (if is_again then Some self.old.retries.passed else self.old.retries.called_at) }
+        ensures spread { self.new.retries.spread ≡ (if is_again
+            then spread_on self.old.retries.spread 1 else self.old.retries.spread) }
+        ensures rows { IsCalled place self.old.retries.comers self.old.retries.rows.items
+            self.new.retries.rows.items }
+        ensures called { self.new.retries.called_at
+            ≡ (if is_again then Some self.old.retries.passed else self.old.retries.called_at) }
         ensures looked { self.new.retries.looked_at ≡ self.old.retries.looked_at }
         ensures passed { self.new.retries.passed ≡ self.old.retries.passed }
         ensures comers { self.new.retries.comers ≡ self.old.retries.comers }
@@ -120,12 +126,15 @@ impl Calls {
         }
     }
 
-    /// The call of the one at a place has failed. Where there is no memory for it, that is not told.
+    /// The call of the one at a place has failed. Where there is no memory for it, that is not
+    /// told.
     pub fn fail(&mut self, place: usize, error: io::Error)
         ensures asked { self.new.asked ≡ self.old.asked }
         ensures under_way { self.new.under_way ≡ self.old.under_way }
-        ensures rows { self.new.retries.rows.items ≡ rows_ended place self.old.retries.comers self.old.retries.rows.items }
-        ensures retries { self.new.retries ≡ record self.old.retries { rows = self.new.retries.rows } }
+        ensures rows { self.new.retries.rows.items
+            ≡ rows_ended place self.old.retries.comers self.old.retries.rows.items }
+        ensures retries { self.new.retries
+            ≡ record self.old.retries { rows = self.new.retries.rows } }
     {
         self.retries.end(place);
         let _noted = self.failed.push_back((place, error));
@@ -165,7 +174,8 @@ impl Calls {
         true
     }
 
-    /// A call that is through, and the place of whom it has reached. Those that have failed are given up.
+    /// A call that is through, and the place of whom it has reached. Those that have failed are
+    /// given up.
     pub fn next(&mut self) -> Option<(TcpStream, usize)> {
         let mut at = 0;
         while at < self.under_way.len() {
@@ -188,8 +198,10 @@ impl Calls {
     /// The call of the one at a place is a link of this number now, and has this name.
     pub fn reach(&mut self, place: usize, link: u64) -> Option<ServerName>
         ensures name { result ≡ name_of (slice_get self.old.asked.items place) }
-        ensures rows { self.new.retries.rows.items ≡ rows_reached place link self.old.retries.rows.items }
-        ensures retries { self.new.retries ≡ record self.old.retries { rows = self.new.retries.rows } }
+        ensures rows { self.new.retries.rows.items
+            ≡ rows_reached place link self.old.retries.rows.items }
+        ensures retries { self.new.retries
+            ≡ record self.old.retries { rows = self.new.retries.rows } }
         ensures others { self.new ≡ record self.old { retries = self.new.retries } }
     {
         self.retries.reach(place, link);
@@ -199,7 +211,8 @@ impl Calls {
     /// A connection was closed, which may be a link that a call has become.
     pub fn close(&mut self, link: u64)
         ensures rows { self.new.retries.rows.items ≡ rows_closed link self.old.retries }
-        ensures retries { self.new.retries ≡ record self.old.retries { rows = self.new.retries.rows } }
+        ensures retries { self.new.retries
+            ≡ record self.old.retries { rows = self.new.retries.rows } }
         ensures others { self.new ≡ record self.old { retries = self.new.retries } }
     {
         if let Some(place) = self.retries.place_of(link) {
@@ -235,7 +248,8 @@ impl Calling {
         }
     }
 
-    /// Whether a call without an error has reached anybody: only then there is an address at the other end.
+    /// Whether a call without an error has reached anybody: only then there is an address at the
+    /// other end.
     fn reached(&self) -> Standing {
         match self.stream.peer_addr() {
             Ok(_) => Standing::Through,

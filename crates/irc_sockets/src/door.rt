@@ -60,7 +60,8 @@ impl Door {
         }
     }
 
-    /// No connection was taken: because none is there, because that one is gone, or for want of a descriptor or of memory.
+    /// No connection was taken: because none is there, because that one is gone, or for want of a
+    /// descriptor or of memory.
     fn refuse(&mut self, kind: ErrorKind) {
         match kind {
             ErrorKind::ConnectionAborted | ErrorKind::Interrupted => {}

@@ -7,8 +7,8 @@ use std::net::IpAddr;
 /// No address text is longer, with a zero before it.
 const LONGEST: usize = 64;
 
-/// The text of an address, which stands for the host's name (our own choice). No parameter of a message may begin with a colon, so there is
-/// a `0` before an address that does.
+/// The text of an address, which stands for the host's name (our own choice). No parameter of a
+/// message may begin with a colon, so there is a `0` before an address that does.
 pub(crate) fn host_of(address: IpAddr) -> Option<Host> {
     let mut text = ArrayVec::<u8, LONGEST>::new();
     write!(text, "0{address}").ok()?;

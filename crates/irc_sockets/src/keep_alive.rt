@@ -14,7 +14,8 @@ const AGAIN: i32 = 15;
 /// How often it asks without an answer before the connection fails.
 const TIMES: i32 = 4;
 
-/// For how many milliseconds bytes may wait that the other end does not take: as long as silence may last in all.
+/// For how many milliseconds bytes may wait that the other end does not take: as long as silence
+/// may last in all.
 const UNTAKEN: i32 = (SILENCE + TIMES * AGAIN) * 1000;
 
 /// How many bytes of an option's value are its number.
@@ -29,7 +30,8 @@ pub(crate) fn ask_after(stream: &TcpStream) {
     set_number(stream, c::SOL_SOCKET, c::SO_KEEPALIVE, 1);
 }
 
-/// Sets an option of a socket. One that is refused is passed over: the connection serves without it too.
+/// Sets an option of a socket. One that is refused is passed over: the connection serves without it
+/// too.
 fn set_number(stream: &TcpStream, level: i32, option: i32, number: i32)
     requires { SockOption level option }
 {

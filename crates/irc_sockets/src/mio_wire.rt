@@ -1,6 +1,7 @@
 //! A wire of TCP sockets.
 ghost use Rattle.std.specs.Prelude.{◌≡◌, ⊤, ◌≤◌, length, IfOk};
-ghost use Rattle.irc_outbox.specs.Calls.{Call, asks, reads, writes, closes, bytes_got, Adds, FitsIn, Keeps};
+ghost use Rattle.irc_outbox.specs.Calls.{Call, asks, reads, writes, closes, bytes_got, Adds};
+ghost use Rattle.irc_outbox.specs.Calls.{FitsIn, Keeps};
 ghost use Rattle.irc_sockets.specs.Listening.{ListensAt};
 
 use crate::calls::{Callee, Calls};
@@ -23,7 +24,8 @@ use std::time::Duration;
 /// How many things the system reports at once.
 const EVENTS: usize = 1024;
 
-/// Under which numbers the system reports the doors, and the calls that are under way; behind these, the sockets.
+/// Under which numbers the system reports the doors, and the calls that are under way; behind
+/// these, the sockets.
 const CLIENTS: usize = 0;
 
 const LINKS: usize = 1;
@@ -32,11 +34,13 @@ const CALLS: usize = 2;
 
 const FIRST_SOCKET: usize = 3;
 
-/// TCP sockets: one that listens for clients, one that may listen for links, and one for each connection; and one for each call of a server that
-/// is under way, which becomes a connection, and gets its number, once it is through.
+/// TCP sockets: one that listens for clients, one that may listen for links, and one for each
+/// connection; and one for each call of a server that is under way, which becomes a connection, and
+/// gets its number, once it is through.
 ///
-/// What is ready is served in rounds. In each a few new connections are taken, and then each socket that is ready is reported once; only then is
-/// the system asked again. So one who sends without end, or many who connect, keep nobody else waiting for more than a round.
+/// What is ready is served in rounds. In each a few new connections are taken, and then each socket
+/// that is ready is reported once; only then is the system asked again. So one who sends without
+/// end, or many who connect, keep nobody else waiting for more than a round.
 #[derive(Drop)]
 pub struct MioWire {
     poll: Poll,
@@ -50,8 +54,9 @@ pub struct MioWire {
 }
 
 impl MioWire {
-    /// Listens for clients, and for links if there is an address for them, and then calls each of these servers. No call is waited for. One that
-    /// cannot be reached, or whose link ends, is called again where it is to be, while it is not known; by this server's own spread
+    /// Listens for clients, and for links if there is an address for them, and then calls each of
+    /// these servers. No call is waited for. One that cannot be reached, or whose link ends, is
+    /// called again where it is to be, while it is not known; by this server's own spread
     /// ([`irc_turns::name_spread`]) not when others call it.
     ///
     /// # Errors
@@ -196,8 +201,8 @@ impl MioWire {
         }
     }
 
-    /// The report of a new client. Where there is no memory, or no number, for it, or too many are connected from its address, it is closed
-    /// unreported.
+    /// The report of a new client. Where there is no memory, or no number, for it, or too many are
+    /// connected from its address, it is closed unreported.
     fn client(&mut self) -> Option<Ready> {
         let (stream, address) = self.clients.accept()?;
         let host = host_of(address.ip())?;
@@ -238,7 +243,8 @@ impl MioWire {
         Some(Ready::Linked(number, Some(name)))
     }
 
-    /// Takes in the connection of a call. From now on the system is to report it as that, under its number.
+    /// Takes in the connection of a call. From now on the system is to report it as that, under its
+    /// number.
     fn admit_called(&mut self, mut stream: TcpStream) -> Option<u64> {
         self.poll.registry().deregister(&mut stream).ok()?;
         self.admit(stream, false)
@@ -246,7 +252,8 @@ impl MioWire {
 
     /// Takes a connection of a client or a link in, and gives it a number.
     fn admit(&mut self, stream: TcpStream, is_client: bool) -> Option<u64> {
-        // lines are short, and each is to go out at once; a socket that cannot be told so serves too
+        // lines are short, and each is to go out at once; a socket that cannot be told so serves
+        // too
         let _set = stream.set_nodelay(true);
         ask_after(&stream);
         let number = self.sockets.add(stream, is_client)?;
@@ -283,10 +290,12 @@ fn knock(door: &mut Door) -> bool {
     true
 }
 
-/// It keeps no account of what was asked. A number is that of one connection from its report until it is closed.
+/// It keeps no account of what was asked. A number is that of one connection from its report until
+/// it is closed.
 ///
-/// No write that was put off is forgotten. It waits in an outbox, from which the engine writes in each turn; it was put off because another turn
-/// follows, and as one was, no wait comes before that (`has_more`).
+/// No write that was put off is forgotten. It waits in an outbox, from which the engine writes in
+/// each turn; it was put off because another turn follows, and as one was, no wait comes before
+/// that (`has_more`).
 impl Wire for MioWire {
     ghost is_after = { λ wire calls. ⊤ };
 

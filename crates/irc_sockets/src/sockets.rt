@@ -27,7 +27,8 @@ impl Sockets {
         }
     }
 
-    /// Takes the socket of a client or of a link in, and gives it a number. Where memory runs out it is closed.
+    /// Takes the socket of a client or of a link in, and gives it a number. Where memory runs out
+    /// it is closed.
     pub fn add(&mut self, stream: TcpStream, is_client: bool) -> Option<usize> {
         let number = self.talkers.add(is_client)?;
         if self.put(number, stream).is_none() {
@@ -62,7 +63,8 @@ impl Sockets {
         self.talkers.remove(number);
     }
 
-    /// Takes in what the system tells of a socket, and whether somebody has come by it who was not waiting.
+    /// Takes in what the system tells of a socket, and whether somebody has come by it who was not
+    /// waiting.
     pub fn note(&mut self, number: usize, event: &Event) -> bool {
         let told = Told {
             is_readable: event.is_readable(),

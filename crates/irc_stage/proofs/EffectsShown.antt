@@ -1,12 +1,15 @@
--- An effect at a server: its line goes to those that hear it, and the room machine is the one after it.
-use Rattle.std.proofs.Common.{◌≡◌, ℕ, Bool, true, not, Option, Some, List, [], ◌∷◌, ◌++◌, refl, sym, ◌∙◌, ap, subst, filter}
+-- An effect at a server: its line goes to those that hear it, and the room machine is the one after
+-- it.
+use Rattle.std.proofs.Common.{◌≡◌, ℕ, Bool, true, not, Option, Some, List, [], ◌∷◌, ◌++◌, refl, sym}
+use Rattle.std.proofs.Common.{◌∙◌, ap, subst, filter}
 use Rattle.std.specs.List.{flat_map, list_all}
 use Rattle.arrayvec.specs.ArrayVec.{ArrayVec}
 use Rattle.irc_names.specs.Fold.{key}
 use Rattle.irc_names.specs.Tables.{Table, row}
 use Rattle.irc_users.specs.declared.user.User.{User as Person}
 use Rattle.irc_room.specs.effect.Effect.{Effect}
-use Rattle.irc_room.specs.effect.Effect.TheVariants.{AddUser, Rename, Quit, Join, Part, Kick, ChangeModes, SetTopic, Say, Invite, UserMode}
+use Rattle.irc_room.specs.effect.Effect.TheVariants.{AddUser, Rename, Quit, Join, Part, Kick}
+use Rattle.irc_room.specs.effect.Effect.TheVariants.{ChangeModes, SetTopic, Say, Invite, UserMode}
 use Rattle.irc_room.specs.effect.Target.{Target}
 use Rattle.irc_room.specs.effect.Target.TheVariants.{User, Channel}
 use Rattle.irc_room.specs.After.{after}
@@ -23,9 +26,11 @@ use Rattle.irc_stage.specs.declared.stage.Stage.{Stage}
 use Rattle.irc_stage.specs.RoomMachine.{Clients, RoomMachine}
 use Rattle.irc_stage.specs.Handle.{clients_after, machine_after, to_viewer, with_effect}
 use Rattle.irc_stage.specs.Loops.Hearing.{hearers, line_of, sees_fold, to_each, IsLineOf, SendsTo}
-use Rattle.irc_stage.specs.Loops.Listening.{Lists, conn_as, conns_at, index_after, is_in, AreSo, IsSaid, IsSaidIn, IsSaidTo}
+use Rattle.irc_stage.specs.Loops.Listening.{Lists, conn_as, conns_at, index_after, is_in, AreSo}
+use Rattle.irc_stage.specs.Loops.Listening.{IsSaid, IsSaidIn, IsSaidTo}
 use Rattle.irc_stage.specs.Loops.Speaking.{conn_of, IsSpoken}
-use Rattle.irc_stage.specs.Loops.Stage.{clients_of, machine_at, so_far, IsFit, IsIndex, IsIndexed, IsReady, IsSound}
+use Rattle.irc_stage.specs.Loops.Stage.{clients_of, machine_at, so_far, IsFit, IsIndex, IsIndexed}
+use Rattle.irc_stage.specs.Loops.Stage.{IsReady, IsSound}
 use Rattle.irc_stage.proofs.Conns.{but_one, nick_is}
 use Rattle.irc_stage.proofs.Followed.{so_in}
 use Rattle.irc_stage.proofs.HeardLines.{heard_out, sent}
@@ -36,7 +41,8 @@ use Rattle.irc_stage.proofs.PassedOver.{is_its_conn}
 
 -- whoever says something
 said_is : {A : Type 0} (IsFor : Target → Type 0) (effect : Effect) → IsSaid IsFor effect
-    → ((by : List ℕ) (notice : Bool) (target : Target) (words : ArrayVec ℕ) → effect ≡ Say by notice target words → IsFor target → A) → A
+    → ((by : List ℕ) (notice : Bool) (target : Target) (words : ArrayVec ℕ)
+    → effect ≡ Say by notice target words → IsFor target → A) → A
 said_is IsFor (Say by notice target words) said gives = gives by notice target words refl said
 said_is IsFor (AddUser user) said gives = absurd said
 said_is IsFor (Rename nick new) said gives = absurd said
@@ -49,66 +55,88 @@ said_is IsFor (SetTopic by channel text) said gives = absurd said
 said_is IsFor (Invite by nick channel) said gives = absurd said
 said_is IsFor (UserMode nick invisible) said gives = absurd said
 
-module _ (machine : RoomMachine) (by_nick : Table ℕ) (index : IsIndex machine.clients by_nick) (well : IsWellFormed machine.room) (effect : Effect) where
+module _ (machine : RoomMachine) (by_nick : Table ℕ) (index : IsIndex machine.clients by_nick)
+    (well : IsWellFormed machine.room) (effect : Effect) where
   -- in a channel those that listen there hear it, but for who says it
-  pub passed_on : (origin : Origin) → IsSpoken origin machine effect → (channel : List ℕ) → IsSaidIn channel effect → (lists : Lists) → AreSo lists machine.room by_nick
-      → filter (λ conn. not (is_number (conn_of origin) conn)) (conns_at lists (key channel)) ≡ hearers machine.room by_nick effect
+  pub passed_on : (origin : Origin) → IsSpoken origin machine effect → (channel : List ℕ)
+      → IsSaidIn channel effect → (lists : Lists) → AreSo lists machine.room by_nick
+      → filter (λ conn. not (is_number (conn_of origin) conn)) (conns_at lists (key channel))
+      ≡ hearers machine.room by_nick effect
   passed_on origin spoken channel said lists so =
       said_is (λ target. target ≡ Channel channel) effect said (λ by notice target words is for.
       ap (λ o. filter (λ conn. not (is_number o conn)) (conns_at lists (key channel)))
-      (is_its_conn origin machine by_nick index by notice target words (subst (IsSpoken origin machine) is spoken))
-      ∙ ap (filter (λ conn. not (is_number (row by_nick (key by)) conn))) (channel_heard machine.room well by_nick lists so channel)
-      ∙ but_one machine.clients by_nick index by (λ q. is_in machine.room q (key channel)) machine.room
-      ∙ ap (hearers machine.room by_nick) (sym (is ∙ ap (λ target. Say by notice target words) for)))
+      (is_its_conn origin machine by_nick index by notice target words
+      (subst (IsSpoken origin machine) is spoken))
+      ∙ ap (filter (λ conn. not (is_number (row by_nick (key by)) conn)))
+      (channel_heard machine.room well by_nick lists so channel)
+      ∙ but_one machine.clients by_nick index by
+      (λ q. is_in machine.room q (key channel)) machine.room
+      ∙ ap (hearers machine.room by_nick)
+      (sym (is ∙ ap (λ target. Say by notice target words) for)))
 
   -- a user hears it alone
-  pub told_on : (nick : List ℕ) → IsSaidTo nick effect → IsPossible machine.room effect → conn_as by_nick nick ≡ hearers machine.room by_nick effect
+  pub told_on : (nick : List ℕ) → IsSaidTo nick effect → IsPossible machine.room effect
+      → conn_as by_nick nick ≡ hearers machine.room by_nick effect
   told_on nick said possible =
       said_is (λ target. target ≡ User nick) effect said (λ by notice target words is for.
-      let said_so : effect ≡ Say by notice (User nick) words = is ∙ ap (λ target. Say by notice target words) for in
+      let said_so : effect ≡ Say by notice (User nick) words =
+      is ∙ ap (λ target. Say by notice target words) for in
       one_heard machine.room well by_nick nick
-      (other_there _ _ (sym (ap (λ e. list_all (has_user machine.room) (needs_users e)) said_so) ∙ possible.users_there))
+      (other_there _ _ (sym (ap (λ e. list_all (has_user machine.room) (needs_users e)) said_so)
+      ∙ possible.users_there))
       ∙ ap (hearers machine.room by_nick) (sym said_so))
 
-  pub told_alone : (nick : List ℕ) → IsSaidTo nick effect → (q : List ℕ) → sees_fold machine.room effect q ≡ true → key nick ≡ q
+  pub told_alone : (nick : List ℕ) → IsSaidTo nick effect → (q : List ℕ)
+      → sees_fold machine.room effect q ≡ true → key nick ≡ q
   told_alone nick said q sees =
       said_is (λ target. target ≡ User nick) effect said (λ by notice target words is for.
-      nick_is nick q (sym (ap (λ e. sees_fold machine.room e q) (is ∙ ap (λ target. Say by notice target words) for)) ∙ sees))
+      nick_is nick q (sym (ap (λ e. sees_fold machine.room e q)
+      (is ∙ ap (λ target. Say by notice target words) for)) ∙ sees))
 
   -- it is never idle, and changes nothing
-  said_line : (IsFor : Target → Type 0) → IsSaid IsFor effect → (viewer : Person) → line_of machine.room effect viewer ≡ shown_line machine.room effect viewer
+  said_line : (IsFor : Target → Type 0) → IsSaid IsFor effect → (viewer : Person)
+      → line_of machine.room effect viewer ≡ shown_line machine.room effect viewer
   said_line IsFor said viewer =
       said_is IsFor effect said (λ by notice target words is for.
-      ap (λ e. line_of machine.room e viewer) is ∙ ap (λ e. shown_line machine.room e viewer) (sym is))
+      ap (λ e. line_of machine.room e viewer) is
+      ∙ ap (λ e. shown_line machine.room e viewer) (sym is))
 
-  nothing_else : (IsFor : Target → Type 0) → IsSaid IsFor effect → machine_after machine effect ≡ machine
+  nothing_else : (IsFor : Target → Type 0) → IsSaid IsFor effect
+      → machine_after machine effect ≡ machine
   unfolding after
-  nothing_else IsFor said = said_is IsFor effect said (λ by notice target words is for. ap (machine_after machine) is)
+  nothing_else IsFor said =
+      said_is IsFor effect said (λ by notice target words is for. ap (machine_after machine) is)
 
-  pub said_out : (IsFor : Target → Type 0) → IsSaid IsFor effect → IsFit machine effect → (line : Option (List ℕ))
-      → ((viewer : Person) (conn : ℕ) → sees_fold machine.room effect (key viewer.nick) ≡ true → row by_nick (key viewer.nick) ≡ Some conn
+  pub said_out : (IsFor : Target → Type 0) → IsSaid IsFor effect → IsFit machine effect
+      → (line : Option (List ℕ)) → ((viewer : Person) (conn : ℕ) → sees_fold machine.room effect
+      (key viewer.nick) ≡ true → row by_nick (key viewer.nick) ≡ Some conn
       → viewer.home ≡ machine.place.name → shown_line machine.room effect viewer ≡ line)
       → (conns : List ℕ) → conns ≡ hearers machine.room by_nick effect
-      → (out : List Sent) → record { machine = machine; out = out ++ sent line conns } ≡ with_effect effect (record { machine = machine; out = out })
+      → (out : List Sent) → record { machine = machine; out = out ++ sent line conns }
+      ≡ with_effect effect (record { machine = machine; out = out })
   said_out IsFor said fit line shows conns are out =
       ap (λ m. record { machine = m; out = out ++ sent line conns }) (sym (nothing_else IsFor said))
       ∙ ap (λ l. record { machine = machine_after machine effect; out = out ++ l })
       (ap (sent line) are
-      ∙ sym (heard_out machine.room machine.clients by_nick index effect machine.place.name fit.at_home line
-      (λ viewer conn sees at home. said_line IsFor said viewer ∙ shows viewer conn sees at home) well))
+      ∙ sym (heard_out machine.room machine.clients by_nick index effect machine.place.name
+      fit.at_home line
+      (λ viewer conn sees at home. said_line IsFor said viewer
+      ∙ shows viewer conn sees at home) well))
 
 -- ---- what is put out
 
 -- the line at hand, to these connections
-pub put_to_each : (out held after : Batch) (line line' : List ℕ) (conns : List ℕ) → held ≡ record out { held = line } → line ≡ line' → SendsTo conns held after
+pub put_to_each : (out held after : Batch) (line line' : List ℕ) (conns : List ℕ)
+    → held ≡ record out { held = line } → line ≡ line' → SendsTo conns held after
     → after.outs ≡ out.outs ++ to_each line' conns
 put_to_each out held after line line' conns held_is line_is after_is =
     ap (λ (b : Batch). b.outs) after_is
     ∙ ap (λ (b : Batch). b.outs ++ to_each b.held conns) held_is
     ∙ ap (λ l. out.outs ++ to_each l conns) line_is
 
-pub put_to_one : (out after : Batch) (conn : ℕ) (line line' : List ℕ) (conns : List ℕ) → after ≡ batch_of (out.outs ++ line_to conn line ∷ []) line → line ≡ line'
-    → conns ≡ conn ∷ [] → after.outs ≡ out.outs ++ to_each line' conns
+pub put_to_one : (out after : Batch) (conn : ℕ) (line line' : List ℕ) (conns : List ℕ)
+    → after ≡ batch_of (out.outs ++ line_to conn line ∷ []) line → line ≡ line' → conns ≡ conn ∷ []
+    → after.outs ≡ out.outs ++ to_each line' conns
 put_to_one out after conn line line' conns after_is line_is are =
     ap (λ (b : Batch). b.outs) after_is
     ∙ ap (λ l. out.outs ++ line_to conn l ∷ []) line_is
@@ -117,34 +145,62 @@ put_to_one out after conn line line' conns after_is line_is are =
 -- ---- what changes the room
 
 -- whichever line there is, it goes to those that hear it
-pub shown_to_hearers : (stage : Stage) (effect : Effect) → IsReady stage → IsFit (machine_at stage) effect → (line : Option (List ℕ)) → IsLineOf stage.room effect line
-    → flat_map (to_viewer (clients_of stage.clients)) (seen stage.room.room effect) ≡ sent line (hearers stage.room.room stage.clients.by_nick effect)
+pub shown_to_hearers : (stage : Stage) (effect : Effect) → IsReady stage
+    → IsFit (machine_at stage) effect → (line : Option (List ℕ)) → IsLineOf stage.room effect line
+    → flat_map (to_viewer (clients_of stage.clients)) (seen stage.room.room effect)
+    ≡ sent line (hearers stage.room.room stage.clients.by_nick effect)
 shown_to_hearers stage effect ready fit line shows =
-    heard_out stage.room.room (clients_of stage.clients) stage.clients.by_nick ready.indexed effect stage.routes.name fit.at_home line
+    heard_out stage.room.room (clients_of stage.clients) stage.clients.by_nick ready.indexed effect
+    stage.routes.name fit.at_home line
     (λ viewer conn sees at home. shows viewer (home ∙ sym ready.own_is)) ready.sound.well_formed
 
 -- the machine after it
-pub effect_applied : (old mid : Stage) → mid ≡ record old { listeners = mid.listeners; line = mid.line } → (effect : Effect) (kept : Kept)
-    → kept ≡ record mid.room { room = after mid.room.room effect } → (clients : Clients) → clients ≡ clients_after effect (clients_of mid.clients)
-    → (out out_after : List Sent) → out_after ≡ out ++ flat_map (to_viewer (clients_of old.clients)) (seen old.room.room effect)
-    → record { machine = record (machine_at mid) { clients = clients; room = kept.room }; out = out_after } ≡ with_effect effect (so_far old out)
+pub effect_applied : (old mid : Stage) → mid
+    ≡ record old { listeners = mid.listeners; line = mid.line } → (effect : Effect) (kept : Kept)
+    → kept ≡ record mid.room { room = after mid.room.room effect } → (clients : Clients)
+    → clients ≡ clients_after effect (clients_of mid.clients) → (out out_after : List Sent)
+    → out_after ≡ out ++ flat_map (to_viewer (clients_of old.clients)) (seen old.room.room effect)
+    → record {
+      machine = record (machine_at mid) { clients = clients; room = kept.room };
+      out = out_after;
+    } ≡ with_effect effect (so_far old out)
 effect_applied old mid mid_is effect kept kept_is clients clients_are out out_after out_is =
-    ap (λ (s : Stage). record { machine = record (machine_at s) { clients = clients; room = kept.room }; out = out_after }) mid_is
-    ∙ ap (λ (r : Room). record { machine = record (machine_at old) { clients = clients; room = r }; out = out_after })
+    ap (λ (s : Stage). record {
+      machine = record (machine_at s) {
+        clients = clients;
+        room = kept.room;
+      };
+      out = out_after;
+    }) mid_is
+    ∙ ap (λ (r : Room). record {
+      machine = record (machine_at old) { clients = clients; room = r };
+      out = out_after;
+    })
     (ap (λ (k : Kept). k.room) kept_is ∙ ap (λ (s : Stage). after s.room.room effect) mid_is)
-    ∙ ap (λ (cs : Clients). record { machine = record (machine_at old) { clients = cs; room = after old.room.room effect }; out = out_after })
+    ∙ ap (λ (cs : Clients). record {
+      machine = record (machine_at old) {
+        clients = cs;
+        room = after old.room.room effect;
+      };
+      out = out_after;
+    })
     (clients_are ∙ ap (λ (s : Stage). clients_after effect (clients_of s.clients)) mid_is)
     ∙ ap (λ o. record { machine = machine_after (machine_at old) effect; out = o }) out_is
 
 -- and it is ready still
-pub ready_after : (old mid : Stage) → mid ≡ record old { listeners = mid.listeners; line = mid.line } → IsReady old → (effect : Effect) (kept : Kept)
-    → kept ≡ record mid.room { room = after mid.room.room effect } → IsSound kept → (ways : Ways) → KnowsNothing ways → (clients : ClientTable) → IsIndexed clients
-    → clients.by_nick ≡ index_after effect mid.clients.by_nick → AreSo mid.listeners.lists (after old.room.room effect) (index_after effect old.clients.by_nick)
+pub ready_after : (old mid : Stage)
+    → mid ≡ record old { listeners = mid.listeners; line = mid.line } → IsReady old
+    → (effect : Effect) (kept : Kept) → kept ≡ record mid.room { room = after mid.room.room effect }
+    → IsSound kept → (ways : Ways) → KnowsNothing ways → (clients : ClientTable) → IsIndexed clients
+    → clients.by_nick ≡ index_after effect mid.clients.by_nick → AreSo mid.listeners.lists
+    (after old.room.room effect) (index_after effect old.clients.by_nick)
     → IsReady (record mid { room = kept; ways = ways; clients = clients })
 ready_after old mid mid_is ready effect kept kept_is sound ways none clients indexed by_nick so =
-    subst (λ (s : Stage). IsReady (record s { room = kept; ways = ways; clients = clients })) (sym mid_is)
+    subst (λ (s : Stage). IsReady (record s { room = kept; ways = ways; clients = clients }))
+    (sym mid_is)
     (record {
-      own_is = ap (λ (k : Kept). k.own) kept_is ∙ ap (λ (s : Stage). s.room.own) mid_is ∙ ready.own_is;
+      own_is =
+          ap (λ (k : Kept). k.own) kept_is ∙ ap (λ (s : Stage). s.room.own) mid_is ∙ ready.own_is;
       sound = sound;
       indexed = indexed;
       heard = so_in mid.listeners.lists old.room kept effect _ _

@@ -1,5 +1,6 @@
 -- The client that is a user who was taken out is told why, and closed.
-use Rattle.std.proofs.Common.{◌≡◌, ℕ, Option, Some, None, List, [], ◌∷◌, ◌++◌, Bool, true, is_some, sym, ◌∙◌, ap, map, append-nil, append_assoc}
+use Rattle.std.proofs.Common.{◌≡◌, ℕ, Option, Some, None, List, [], ◌∷◌, ◌++◌, Bool, true, is_some}
+use Rattle.std.proofs.Common.{sym, ◌∙◌, ap, map, append-nil, append_assoc}
 use Rattle.std.specs.BTreeMap.{BTreeMap}
 use Rattle.std.specs.FinMap.{remove, retain_keys}
 use Rattle.std.specs.Global.{Vec}
@@ -16,50 +17,95 @@ use Rattle.irc_stage.specs.EffectTold.{Served, client_ended, ends_of, is_another
 use Rattle.irc_stage.specs.Handle.{to_viewer}
 use Rattle.irc_stage.specs.RoomMachine.{Clients, RoomMachine, without_client}
 use Rattle.irc_stage.specs.View.{known_peer}
-use Rattle.irc_stage.specs.Loops.Stage.{machine_at, numbered, served_at, view_of, IsIndex, IsIndexed, Keeps}
+use Rattle.irc_stage.specs.Loops.Stage.{machine_at, numbered, served_at, view_of, IsIndex}
+use Rattle.irc_stage.specs.Loops.Stage.{IsIndexed, Keeps}
 use Rattle.irc_stage.proofs.Showings.{all_kept, indexed, no_ends, not_indexed, one_end, one_left}
 use Rattle.irc_registering.specs.Closing.{error_line}
 
-module _ (s : Served) (by_nick : Table ℕ) (index : IsIndex s.view.clients by_nick) (nick text : List ℕ) where
+module _ (s : Served) (by_nick : Table ℕ) (index : IsIndex s.view.clients by_nick)
+    (nick text : List ℕ) where
   abbrev lines_of : List Sent
-  lines_of = to_viewer s.view.clients (record { viewer = nick; line = error_line text }) ++ ends_of nick s.view.clients
+  lines_of = to_viewer s.view.clients (record { viewer = nick; line = error_line text })
+      ++ ends_of nick s.view.clients
 
   pub ended_nobody : row by_nick (key nick) ≡ None → s ≡ client_ended nick text s
   ended_nobody none =
       ap (λ o. record { view = s.view; out = o }) (sym (append-nil s.out))
-      ∙ ap (λ lines. record { view = s.view; out = s.out ++ (lines ++ []) }) (sym (not_indexed s.view.clients by_nick index (record { viewer = nick; line = error_line text }) none))
-      ∙ ap (λ ends. record { view = s.view; out = s.out ++ (to_viewer s.view.clients (record { viewer = nick; line = error_line text }) ++ ends) })
+      ∙ ap (λ lines. record { view = s.view; out = s.out ++ (lines ++ []) }) (sym (not_indexed
+      s.view.clients by_nick index (record { viewer = nick; line = error_line text }) none))
+      ∙ ap (λ ends. record {
+        view = s.view;
+        out = s.out ++ (to_viewer s.view.clients
+            (record { viewer = nick; line = error_line text }) ++ ends);
+      })
       (sym (no_ends s.view.clients by_nick index nick none))
-      ∙ ap (λ (cs : Clients). record { view = record s.view { clients = cs }; out = s.out ++ lines_of }) (sym (all_kept s.view.clients by_nick index nick none))
+      ∙ ap (λ (cs : Clients). record {
+        view = record s.view { clients = cs };
+        out = s.out ++ lines_of;
+      }) (sym (all_kept s.view.clients by_nick index nick none))
 
   pub ended_by : (conn : ℕ) → row by_nick (key nick) ≡ Some conn
-      → record { view = record s.view { clients = remove s.view.clients conn }; out = (s.out ++ line_to conn (error_line text) ∷ []) ++ end_of conn ∷ [] } ≡ client_ended nick text s
+      → record {
+        view = record s.view { clients = remove s.view.clients conn };
+        out = (s.out
+            ++ line_to conn (error_line text) ∷ []) ++ end_of conn ∷ [];
+      } ≡ client_ended nick text s
   ended_by conn is =
       ap (λ o. record { view = record s.view { clients = remove s.view.clients conn }; out = o })
       (append_assoc s.out (line_to conn (error_line text) ∷ []) (end_of conn ∷ [])
-      ∙ ap (λ lines. s.out ++ (lines ++ end_of conn ∷ [])) (sym (indexed s.view.clients by_nick index (record { viewer = nick; line = error_line text }) conn is))
-      ∙ ap (λ ends. s.out ++ (to_viewer s.view.clients (record { viewer = nick; line = error_line text }) ++ ends)) (sym (one_end s.view.clients by_nick index nick conn is)))
-      ∙ ap (λ (cs : Clients). record { view = record s.view { clients = cs }; out = s.out ++ lines_of }) (one_left s.view.clients by_nick index nick conn is)
+      ∙ ap (λ lines. s.out ++ (lines ++ end_of conn ∷ [])) (sym (indexed s.view.clients by_nick
+      index (record { viewer = nick; line = error_line text }) conn is))
+      ∙ ap (λ ends. s.out ++ (to_viewer s.view.clients
+      (record { viewer = nick; line = error_line text }) ++ ends))
+      (sym (one_end s.view.clients by_nick index nick conn is)))
+      ∙ ap (λ (cs : Clients). record {
+        view = record s.view { clients = cs };
+        out = s.out ++ lines_of;
+      }) (one_left s.view.clients by_nick index nick conn is)
 
 -- the code: its line, its end, and then it is taken out
-pub ended_one : (old new : Stage) → IsIndexed old.clients → (nick text : List ℕ) (conn : ℕ) → row old.clients.by_nick (key nick) ≡ Some conn
-    → (out put closed : Batch) (line : List ℕ) → line ≡ error_line text → put ≡ batch_of (out.outs ++ line_to conn line ∷ []) line
-    → closed ≡ record put { outs = put.outs ++ end_of conn ∷ [] } → machine_at new ≡ without_client (machine_at old) conn → Keeps old new
+pub ended_one : (old new : Stage) → IsIndexed old.clients → (nick text : List ℕ) (conn : ℕ)
+    → row old.clients.by_nick (key nick) ≡ Some conn → (out put closed : Batch) (line : List ℕ)
+    → line ≡ error_line text → put ≡ batch_of (out.outs ++ line_to conn line ∷ []) line
+    → closed ≡ record put { outs = put.outs ++ end_of conn ∷ [] }
+    → machine_at new ≡ without_client (machine_at old) conn → Keeps old new
     → served_at new closed.outs ≡ client_ended nick text (served_at old out.outs)
-ended_one old new index nick text conn is out put closed line line_is put_is closed_is machine_is keeps =
+ended_one old new index nick text conn is out put closed line line_is put_is closed_is
+    machine_is keeps =
     ap (λ o. record { view = view_of new; out = o })
     (ap (λ (b : Batch). b.outs) closed_is ∙ ap (λ (b : Batch). b.outs ++ end_of conn ∷ []) put_is
     ∙ ap (λ l. (out.outs ++ line_to conn l ∷ []) ++ end_of conn ∷ []) line_is)
-    ∙ ap (λ routes. record { view = record (view_of new) { routes = routes }; out = sent }) keeps.routes
-    ∙ ap (λ (peers : Vec Peer). record { view = record (view_of new) { routes = old.routes; peers = map known_peer peers.items }; out = sent }) keeps.peers
-    ∙ ap (λ (ends : BTreeMap ℕ End). record { view = record (view_of new) { routes = old.routes; peers = (view_of old).peers; ends = numbered ends }; out = sent }) keeps.ends
-    ∙ ap (λ (m : RoomMachine). record { view = record (view_of old) { clients = m.clients; room = m.room }; out = sent }) machine_is
+    ∙ ap (λ routes. record { view = record (view_of new) { routes = routes }; out = sent })
+    keeps.routes
+    ∙ ap (λ (peers : Vec Peer). record {
+      view = record (view_of new) {
+        routes = old.routes;
+        peers = map known_peer peers.items;
+      };
+      out = sent;
+    }) keeps.peers
+    ∙ ap (λ (ends : BTreeMap ℕ End). record {
+      view = record (view_of new) {
+        routes = old.routes;
+        peers = (view_of old).peers;
+        ends = numbered ends;
+      };
+      out = sent;
+    }) keeps.ends
+    ∙ ap (λ (m : RoomMachine). record {
+      view = record (view_of old) {
+        clients = m.clients;
+        room = m.room;
+      };
+      out = sent;
+    }) machine_is
     ∙ ended_by (served_at old out.outs) old.clients.by_nick index nick text conn is
   where
     sent : List Sent
     sent = (out.outs ++ line_to conn (error_line text) ∷ []) ++ end_of conn ∷ []
 
 -- a user that the code has found is there
-pub some_there : (found : Option (Bor User)) (o : Option User) → option_copied found ≡ o → is_some found ≡ true → is_some o ≡ true
+pub some_there : (found : Option (Bor User)) (o : Option User) → option_copied found ≡ o
+    → is_some found ≡ true → is_some o ≡ true
 some_there None o is some = absurd (cc some)
 some_there (Some user) o is some = ap is_some (sym is)

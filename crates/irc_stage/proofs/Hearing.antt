@@ -1,5 +1,8 @@
 -- Whom the lists of those that listen give: the connections of the users that see an effect.
-use Rattle.std.proofs.Common.{◌≡◌, ℕ, Bool, true, false, cond, not, ◌&&◌, ◌||◌, if◌then◌else◌, Option, Some, None, List, [], ◌∷◌, refl, sym, ◌∙◌, ap, is_some, map, filter, option_to_list, append-nil, arith, ◌==◌, ◌≤◌, ◌<◌, length, slice_index_or}
+use Rattle.std.proofs.Common.{◌≡◌, ℕ, Bool, true, false, cond, not, ◌&&◌, ◌||◌, if◌then◌else◌}
+use Rattle.std.proofs.Common.{Option, Some, None, List, [], ◌∷◌, refl, sym, ◌∙◌, ap, is_some, map}
+use Rattle.std.proofs.Common.{filter, option_to_list, append-nil, arith, ◌==◌, ◌≤◌, ◌<◌, length}
+use Rattle.std.proofs.Common.{slice_index_or}
 use Rattle.std.proofs.lemmas.Bool.Decides.{nat_tests}
 use Rattle.std.specs.List.{AllByRecursion, list_any}
 use Rattle.std.specs.Option.{option_map_or}
@@ -13,16 +16,20 @@ use Rattle.irc_users.specs.declared.user.User.{User}
 use Rattle.irc_channels.specs.declared.channel.Channel.{Channel}
 use Rattle.irc_channels.specs.Channels.{has_member}
 use Rattle.irc_room.specs.effect.Effect.{Effect}
-use Rattle.irc_room.specs.effect.Effect.TheVariants.{AddUser, Rename, Quit, Join, Part, Kick, ChangeModes, SetTopic, Say, Invite, UserMode}
+use Rattle.irc_room.specs.effect.Effect.TheVariants.{AddUser, Rename, Quit, Join, Part, Kick}
+use Rattle.irc_room.specs.effect.Effect.TheVariants.{ChangeModes, SetTopic, Say, Invite, UserMode}
 use Rattle.irc_room.specs.After.{after}
 use Rattle.irc_room.specs.Effects.{has_user}
 use Rattle.irc_room.specs.Readers.{names_of}
 use Rattle.irc_room.specs.Room.{Room, IsWellFormed}
 use Rattle.irc_stage.specs.RoomMachine.{Clients}
-use Rattle.irc_stage.specs.Loops.Hearing.{conns_who, hearers, is_beside, is_nick_of, with_conns, with_lists, IsUnseen, SendsTo}
-use Rattle.irc_stage.specs.Loops.Listening.{Conns, Lists, conn_as, conn_in, conns_at, conns_in, conns_of, folds_of, is_in, is_named, AreSo}
+use Rattle.irc_stage.specs.Loops.Hearing.{conns_who, hearers, is_beside, is_nick_of, with_conns}
+use Rattle.irc_stage.specs.Loops.Hearing.{with_lists, IsUnseen, SendsTo}
+use Rattle.irc_stage.specs.Loops.Listening.{Conns, Lists, conn_as, conn_in, conns_at, conns_in}
+use Rattle.irc_stage.specs.Loops.Listening.{conns_of, folds_of, is_in, is_named, AreSo}
 use Rattle.irc_stage.specs.Loops.Stage.{IsIndex}
-use Rattle.irc_stage.proofs.Conns.{but_one, conns_alike, each_entry, in_list, in_order, in_table, nick_as_fold, nick_is, OnlyUsers}
+use Rattle.irc_stage.proofs.Conns.{but_one, conns_alike, each_entry, in_list, in_order, in_table}
+use Rattle.irc_stage.proofs.Conns.{nick_as_fold, nick_is, OnlyUsers}
 use Rattle.irc_stage.proofs.ListsKept.{named_in}
 use Rattle.irc_stage.proofs.Memberships.{joins}
 
@@ -33,21 +40,26 @@ all_others [] = refl
 all_others (conn ∷ conns) = ap (λ l. conn ∷ l) (all_others conns)
 
 -- to all of some connections, which are others by another word
-pub sent_to : (old new : Batch) (conns others : List ℕ) → conns ≡ others → new ≡ put_out_all (to_others old.held None conns) old → SendsTo others old new
+pub sent_to : (old new : Batch) (conns others : List ℕ) → conns ≡ others
+    → new ≡ put_out_all (to_others old.held None conns) old → SendsTo others old new
 sent_to old new conns others are is =
-    is ∙ ap (λ cs. put_out_all (map (λ conn. line_to conn old.held) cs) old) (all_others conns ∙ are)
+    is ∙ ap (λ cs. put_out_all (map (λ conn. line_to conn old.held) cs) old)
+    (all_others conns ∙ are)
 
 -- ---- how many names there are
 
-pub one_row : (rows : List (Row (Unit {0}))) (row : Row (Unit {0})) → 1 ≤ length rows → length rows < 2 → row ≡ slice_index_or rows 0 row → rows ≡ row ∷ []
+pub one_row : (rows : List (Row (Unit {0}))) (row : Row (Unit {0})) → 1 ≤ length rows
+    → length rows < 2 → row ≡ slice_index_or rows 0 row → rows ≡ row ∷ []
 one_row [] row some few is = absurd (omega (arith, some))
 one_row (r ∷ []) row some few is = ap (λ r. r ∷ []) (sym is)
 one_row (r ∷ s ∷ rows) row some few is = absurd (omega (arith, few))
 
-not_none : (row : Row (Unit {0})) (rows : List (Row (Unit {0}))) → (length (row ∷ rows) == 0) ≡ false
+not_none : (row : Row (Unit {0})) (rows : List (Row (Unit {0})))
+    → (length (row ∷ rows) == 0) ≡ false
 not_none row rows = grind (arith, nat_tests)
 
-pub no_rows : (rows : List (Row (Unit {0}))) (b : Bool) → b ≡ (length rows == 0) → b ≡ true → rows ≡ []
+pub no_rows : (rows : List (Row (Unit {0}))) (b : Bool) → b ≡ (length rows == 0) → b ≡ true
+    → rows ≡ []
 no_rows [] b is none = refl
 no_rows (row ∷ rows) b is none = let some = not_none row rows in cc
 
@@ -67,16 +79,19 @@ module _ (room : Room) (well : IsWellFormed room) where
   pub users_in : (c : List ℕ) → OnlyUsers room (λ q. is_in room q c)
   users_in c q there = known (row room.channels c) refl there
     where
-      known : (o : Option Channel) → row room.channels c ≡ o → option_map_or (has_member q) o false ≡ true → is_some (row room.users q) ≡ true
+      known : (o : Option Channel) → row room.channels c ≡ o
+          → option_map_or (has_member q) o false ≡ true → is_some (row room.users q) ≡ true
       known None at there = cc there
       known (Some channel) at there = (well.channels_sound c channel at).members_known q there
 
-  users_in_any : (cs : List (List ℕ)) (q : List ℕ) → list_any (is_in room q) cs ≡ true → is_some (row room.users q) ≡ true
+  users_in_any : (cs : List (List ℕ)) (q : List ℕ) → list_any (is_in room q) cs ≡ true
+      → is_some (row room.users q) ≡ true
   users_in_any [] q there = cc there
   users_in_any (c ∷ cs) q there = by_test (is_in room q c) refl there (users_in_any cs q)
     where
       by_test : (b : Bool) → is_in room q c ≡ b → (b || list_any (is_in room q) cs) ≡ true
-          → (list_any (is_in room q) cs ≡ true → is_some (row room.users q) ≡ true) → is_some (row room.users q) ≡ true
+          → (list_any (is_in room q) cs ≡ true → is_some (row room.users q) ≡ true)
+          → is_some (row room.users q) ≡ true
       by_test true here either behind = users_in c q here
       by_test false out either behind = behind either
 
@@ -84,12 +99,15 @@ module _ (room : Room) (well : IsWellFormed room) where
   users_beside nick q there = users_in_any (names_of room nick) q there
 
   user_named : (nick : List ℕ) → has_user room nick ≡ true → OnlyUsers room (is_nick_of nick)
-  user_named nick there q is = ap (λ f. is_some (row room.users f)) (sym (nick_is nick q is)) ∙ there
+  user_named nick there q is =
+      ap (λ f. is_some (row room.users f)) (sym (nick_is nick q is)) ∙ there
 
-  users_joined : (nick c : List ℕ) → has_user room nick ≡ true → OnlyUsers room (λ q. is_nick_of nick q || is_in room q c)
+  users_joined : (nick c : List ℕ) → has_user room nick ≡ true
+      → OnlyUsers room (λ q. is_nick_of nick q || is_in room q c)
   users_joined nick c there q either = by_test (is_nick_of nick q) refl either
     where
-      by_test : (b : Bool) → is_nick_of nick q ≡ b → (b || is_in room q c) ≡ true → is_some (row room.users q) ≡ true
+      by_test : (b : Bool) → is_nick_of nick q ≡ b → (b || is_in room q c) ≡ true
+          → is_some (row room.users q) ≡ true
       by_test true is either = user_named nick there q is
       by_test false two either = users_in c q either
 
@@ -99,34 +117,43 @@ module _ (room : Room) (well : IsWellFormed room) where
     pub one_heard : conn_as by_nick nick ≡ conns_who room by_nick (is_nick_of nick)
     one_heard = by_conn (row by_nick (key nick)) refl
       where
-        found_some : (q : List ℕ) (conn : ℕ) (b : Bool) → row by_nick (key nick) ≡ Some conn → is_nick_of nick q ≡ b
-            → cond b (Some conn) None ≡ (if b then row by_nick q else None)
+        found_some : (q : List ℕ) (conn : ℕ) (b : Bool) → row by_nick (key nick) ≡ Some conn
+            → is_nick_of nick q ≡ b → cond b (Some conn) None ≡ (if b then row by_nick q else None)
         found_some q conn true at is = sym at ∙ ap (row by_nick) (nick_is nick q is)
         found_some q conn false at is = refl
 
-        found_none : (q : List ℕ) (b : Bool) → row by_nick (key nick) ≡ None → is_nick_of nick q ≡ b → None ≡ (if b then row by_nick q else None)
+        found_none : (q : List ℕ) (b : Bool) → row by_nick (key nick) ≡ None → is_nick_of nick q ≡ b
+            → None ≡ (if b then row by_nick q else None)
         found_none q true at is = sym at ∙ ap (row by_nick) (nick_is nick q is)
         found_none q false at is = refl
 
-        by_conn : (o : Option ℕ) → row by_nick (key nick) ≡ o → option_to_list (row by_nick (key nick)) ≡ conns_who room by_nick (is_nick_of nick)
+        by_conn : (o : Option ℕ) → row by_nick (key nick) ≡ o
+            → option_to_list (row by_nick (key nick)) ≡ conns_who room by_nick (is_nick_of nick)
         by_conn None at =
             ap option_to_list at
-            ∙ in_order room by_nick (is_nick_of nick) well (user_named nick there) [] tt (λ q. found_none q (is_nick_of nick q) at refl)
+            ∙ in_order room by_nick (is_nick_of nick) well (user_named nick there) [] tt
+            (λ q. found_none q (is_nick_of nick q) at refl)
         by_conn (Some conn) at =
             ap option_to_list at
-            ∙ in_order room by_nick (is_nick_of nick) well (user_named nick there) ((key nick, conn) ∷ []) tt (λ q.
-            ap (λ b. cond b (Some conn) None) (nick_as_fold nick q) ∙ found_some q conn (is_nick_of nick q) at refl)
+            ∙ in_order room by_nick (is_nick_of nick) well (user_named nick there)
+            ((key nick, conn) ∷ []) tt (λ q.
+            ap (λ b. cond b (Some conn) None) (nick_as_fold nick q)
+            ∙ found_some q conn (is_nick_of nick q) at refl)
 
   -- ---- one channel
 
   module _ (by_nick : Table ℕ) (lists : Lists) (so : AreSo lists room by_nick) where
-    pub channel_heard : (channel : List ℕ) → conns_at lists (key channel) ≡ conns_who room by_nick (λ q. is_in room q (key channel))
+    pub channel_heard : (channel : List ℕ)
+        → conns_at lists (key channel) ≡ conns_who room by_nick (λ q. is_in room q (key channel))
     channel_heard channel =
-        in_list room by_nick (λ q. is_in room q (key channel)) well (users_in (key channel)) (row lists (key channel)) (λ q. so.at (key channel) q)
+        in_list room by_nick (λ q. is_in room q (key channel)) well (users_in (key channel))
+        (row lists (key channel)) (λ q. so.at (key channel) q)
 
     pub told_in : (name channel : List ℕ) → name ≡ channel → (effect : Effect)
         → conns_who room by_nick (λ q. is_in room q (key channel)) ≡ hearers room by_nick effect
-        → (old new : Batch) → new ≡ put_out_all (to_others old.held None (conns_at lists (key name))) old → SendsTo (hearers room by_nick effect) old new
+        → (old new : Batch)
+        → new ≡ put_out_all (to_others old.held None (conns_at lists (key name))) old
+        → SendsTo (hearers room by_nick effect) old new
     told_in name channel name_is effect hears old new is =
         sent_to old new (conns_at lists (key name)) (hearers room by_nick effect)
         (ap (λ n. conns_at lists (key n)) name_is ∙ channel_heard channel ∙ hears)
@@ -134,36 +161,42 @@ module _ (room : Room) (well : IsWellFormed room) where
 
     -- ---- several
 
-    pub beside_one : (nick c : List ℕ) → names_of room nick ≡ c ∷ [] → conns_at lists c ≡ conns_who room by_nick (is_beside room nick)
+    pub beside_one : (nick c : List ℕ) → names_of room nick ≡ c ∷ []
+        → conns_at lists c ≡ conns_who room by_nick (is_beside room nick)
     beside_one nick c is =
         in_list room by_nick (is_beside room nick) well (users_beside nick) (row lists c) (λ q.
-        so.at c q ∙ ap (λ b. if b then row by_nick q else None) (or_none (is_in room q c) ∙ ap (list_any (is_in room q)) (sym is)))
+        so.at c q ∙ ap (λ b. if b then row by_nick q else None)
+        (or_none (is_in room q c) ∙ ap (list_any (is_in room q)) (sym is)))
       where
         or_none : (b : Bool) → b ≡ (b || false)
         or_none true = refl
         or_none false = refl
 
-    row_with : (es : List (List ℕ × ℕ)) (table : Table ℕ) (q : List ℕ) → AllByRecursion (λ (e : List ℕ × ℕ). row by_nick e.0 ≡ Some e.1) es
-        → row (with_conns es table) q ≡ cond (is_named (folds_of es) q) (row by_nick q) (row table q)
+    row_with : (es : List (List ℕ × ℕ)) (table : Table ℕ) (q : List ℕ)
+        → AllByRecursion (λ (e : List ℕ × ℕ). row by_nick e.0 ≡ Some e.1) es → row
+        (with_conns es table) q ≡ cond (is_named (folds_of es) q) (row by_nick q) (row table q)
     row_with [] table q all = refl
     row_with (e ∷ es) table q all =
         row_with es (alter e.0 (λ _. Some e.1) table) q all.1
-        ∙ ap (cond (is_named (folds_of es) q) (row by_nick q)) (row-alter e.0 (λ _. Some e.1) table q)
+        ∙ ap (cond (is_named (folds_of es) q) (row by_nick q))
+        (row-alter e.0 (λ _. Some e.1) table q)
         ∙ by_tests (same_fold q e.0) (is_named (folds_of es) q) refl
       where
-        by_tests : (b n : Bool) → same_fold q e.0 ≡ b
-            → cond n (row by_nick q) (cond b (Some e.1) (row table q)) ≡ cond (b || n) (row by_nick q) (row table q)
+        by_tests : (b n : Bool) → same_fold q e.0 ≡ b → cond n (row by_nick q)
+            (cond b (Some e.1) (row table q)) ≡ cond (b || n) (row by_nick q) (row table q)
         by_tests true true is = refl
         by_tests true false is = sym (ap (row by_nick) (one_fold q e.0 is) ∙ all.0)
         by_tests false true is = refl
         by_tests false false is = refl
 
-    conn_of_it : (b : Bool) (o : Option ℕ) (conn : ℕ) → (if b then o else None) ≡ Some conn → o ≡ Some conn
+    conn_of_it : (b : Bool) (o : Option ℕ) (conn : ℕ) → (if b then o else None) ≡ Some conn
+        → o ≡ Some conn
     conn_of_it true o conn is = is
     conn_of_it false o conn is = cc is
 
     row_put : (c : List ℕ) (o : Option Conns) → row lists c ≡ o → (table : Table ℕ) (q : List ℕ)
-        → row (with_conns (conns_in o) table) q ≡ cond (is_some (conn_in o q)) (row by_nick q) (row table q)
+        → row (with_conns (conns_in o) table) q ≡ cond (is_some (conn_in o q)) (row by_nick q)
+        (row table q)
     row_put c None at table q = refl
     row_put c (Some conns) at table q =
         row_with (entries conns) table q
@@ -172,8 +205,9 @@ module _ (room : Room) (well : IsWellFormed room) where
         (sym (so.at c q) ∙ ap (λ o. conn_in o q) at ∙ get-entries conns q ∙ is)))
         ∙ ap (λ b. cond b (row by_nick q) (row table q)) (row-keys conns q)
 
-    row_lists : (cs : List (List ℕ)) (table : Table ℕ) (q : List ℕ) (t : Bool) → row table q ≡ (if t then row by_nick q else None)
-        → row (with_lists lists cs table) q ≡ (if t || list_any (is_in room q) cs then row by_nick q else None)
+    row_lists : (cs : List (List ℕ)) (table : Table ℕ) (q : List ℕ) (t : Bool)
+        → row table q ≡ (if t then row by_nick q else None) → row (with_lists lists cs table) q
+        ≡ (if t || list_any (is_in room q) cs then row by_nick q else None)
     row_lists [] table q t is = is ∙ ap (λ b. if b then row by_nick q else None) (or_none t)
       where
         or_none : (b : Bool) → b ≡ (b || false)
@@ -183,11 +217,14 @@ module _ (room : Room) (well : IsWellFormed room) where
         row_lists cs (with_conns (conns_in (row lists c)) table) q (t || is_in room q c)
         (row_put c (row lists c) refl table q
         ∙ ap (λ o. cond (is_some o) (row by_nick q) (row table q)) (so.at c q)
-        ∙ ap (λ o. cond (is_some (if is_in room q c then row by_nick q else None)) (row by_nick q) o) is
+        ∙ ap (λ o. cond (is_some (if is_in room q c then row by_nick q else None))
+        (row by_nick q) o) is
         ∙ by_tests (is_in room q c) t (row by_nick q))
-        ∙ ap (λ b. if b then row by_nick q else None) (or_both t (is_in room q c) (list_any (is_in room q) cs))
+        ∙ ap (λ b. if b then row by_nick q else None)
+        (or_both t (is_in room q c) (list_any (is_in room q) cs))
       where
-        by_tests : (m t : Bool) (o : Option ℕ) → cond (is_some (if m then o else None)) o (if t then o else None) ≡ (if t || m then o else None)
+        by_tests : (m t : Bool) (o : Option ℕ) → cond (is_some (if m then o else None)) o
+            (if t then o else None) ≡ (if t || m then o else None)
         by_tests true true None = refl
         by_tests true false None = refl
         by_tests true true (Some conn) = refl
@@ -199,25 +236,31 @@ module _ (room : Room) (well : IsWellFormed room) where
         or_both true b c = refl
         or_both false b c = refl
 
-    pub beside_all : (nick : List ℕ) → values (with_lists lists (names_of room nick) empty) ≡ conns_who room by_nick (is_beside room nick)
+    pub beside_all : (nick : List ℕ) → values (with_lists lists (names_of room nick) empty)
+        ≡ conns_who room by_nick (is_beside room nick)
     beside_all nick =
-        in_table room by_nick (is_beside room nick) well (users_beside nick) (with_lists lists (names_of room nick) empty)
+        in_table room by_nick (is_beside room nick) well (users_beside nick)
+        (with_lists lists (names_of room nick) empty)
         (λ q. row_lists (names_of room nick) empty q false (get-empty fold_cmp q))
 
   -- ---- a user with another nickname
 
   module _ (by_nick : Table ℕ) (nick new : List ℕ) where
-    pub renamed_alone : has_user room nick ≡ true → names_of room nick ≡ [] → conn_as by_nick nick ≡ hearers room by_nick (Rename nick new)
+    pub renamed_alone : has_user room nick ≡ true → names_of room nick ≡ []
+        → conn_as by_nick nick ≡ hearers room by_nick (Rename nick new)
     renamed_alone there none =
         one_heard by_nick nick there
-        ∙ conns_alike room by_nick (is_nick_of nick) (λ q. is_nick_of nick q || is_beside room nick q)
-        (λ q. or_none (is_nick_of nick q) ∙ ap (λ cs. is_nick_of nick q || list_any (is_in room q) cs) (sym none))
+        ∙ conns_alike room by_nick (is_nick_of nick)
+        (λ q. is_nick_of nick q || is_beside room nick q)
+        (λ q. or_none (is_nick_of nick q)
+        ∙ ap (λ cs. is_nick_of nick q || list_any (is_in room q) cs) (sym none))
       where
         or_none : (b : Bool) → b ≡ (b || false)
         or_none true = refl
         or_none false = refl
 
-    own_beside : (c : List ℕ) (cs : List (List ℕ)) → names_of room nick ≡ c ∷ cs → is_beside room nick (key nick) ≡ true
+    own_beside : (c : List ℕ) (cs : List (List ℕ)) → names_of room nick ≡ c ∷ cs
+        → is_beside room nick (key nick) ≡ true
     own_beside c cs is =
         ap (list_any (is_in room (key nick))) is
         ∙ ap (λ b. b || list_any (is_in room (key nick)) cs)
@@ -228,16 +271,22 @@ module _ (room : Room) (well : IsWellFormed room) where
     pub renamed_beside : (c : List ℕ) (cs : List (List ℕ)) → names_of room nick ≡ c ∷ cs
         → conns_who room by_nick (is_beside room nick) ≡ hearers room by_nick (Rename nick new)
     renamed_beside c cs is =
-        conns_alike room by_nick (is_beside room nick) (λ q. is_nick_of nick q || is_beside room nick q) (λ q. by_test q (is_nick_of nick q) refl)
+        conns_alike room by_nick (is_beside room nick) (λ q. is_nick_of nick q
+        || is_beside room nick q) (λ q. by_test q (is_nick_of nick q) refl)
       where
-        by_test : (q : List ℕ) (b : Bool) → is_nick_of nick q ≡ b → is_beside room nick q ≡ (b || is_beside room nick q)
-        by_test q true one = ap (is_beside room nick) (sym (nick_is nick q one)) ∙ own_beside c cs is
+        by_test : (q : List ℕ) (b : Bool) → is_nick_of nick q ≡ b
+            → is_beside room nick q ≡ (b || is_beside room nick q)
+        by_test q true one =
+            ap (is_beside room nick) (sym (nick_is nick q one)) ∙ own_beside c cs is
         by_test q false two = refl
 
-    pub renamed_some : (rows : List (Row (Unit {0}))) (b : Bool) → b ≡ (length rows == 0) → b ≡ false → map (λ row. key row.name.items) rows ≡ names_of room nick
+    pub renamed_some : (rows : List (Row (Unit {0}))) (b : Bool) → b ≡ (length rows == 0)
+        → b ≡ false → map (λ row. key row.name.items) rows ≡ names_of room nick
         → conns_who room by_nick (is_beside room nick) ≡ hearers room by_nick (Rename nick new)
-    renamed_some [] b is some names = let none : (length {A = Row (Unit {0})} [] == 0) ≡ true = grind (arith, nat_tests) in cc
-    renamed_some (row ∷ rows) b is some names = renamed_beside (key row.name.items) (map (λ row. key row.name.items) rows) (sym names)
+    renamed_some [] b is some names =
+        let none : (length {A = Row (Unit {0})} [] == 0) ≡ true = grind (arith, nat_tests) in cc
+    renamed_some (row ∷ rows) b is some names =
+        renamed_beside (key row.name.items) (map (λ row. key row.name.items) rows) (sym names)
 
 -- ---- nobody sees that a user comes
 
@@ -245,10 +294,12 @@ nobody : (users : List User) → filter (λ (user : User). false) users ≡ []
 nobody [] = refl
 nobody (user ∷ users) = nobody users
 
-pub unseen : (room : Room) (by_nick : Table ℕ) (effect : Effect) → IsUnseen effect → (out : Batch) → SendsTo (hearers room by_nick effect) out out
+pub unseen : (room : Room) (by_nick : Table ℕ) (effect : Effect) → IsUnseen effect → (out : Batch)
+    → SendsTo (hearers room by_nick effect) out out
 unseen room by_nick (AddUser user) none out =
     ap (λ l. record out { outs = l }) (sym (append-nil out.outs))
-    ∙ ap (λ users. put_out_all (map (λ conn. line_to conn out.held) (conns_of by_nick (map (λ (user : User). user.nick) users))) out) (sym (nobody (values room.users)))
+    ∙ ap (λ users. put_out_all (map (λ conn. line_to conn out.held) (conns_of by_nick
+    (map (λ (user : User). user.nick) users))) out) (sym (nobody (values room.users)))
 unseen room by_nick (Rename nick new) none out = absurd none
 unseen room by_nick (Quit nick text) none out = absurd none
 unseen room by_nick (Join nick channel op) none out = absurd none
@@ -262,24 +313,29 @@ unseen room by_nick (UserMode nick invisible) none out = absurd none
 
 -- ---- who quits is not told of it
 
-pub quit_heard : (room : Room) (clients : Clients) (by_nick : Table ℕ) → IsIndex clients by_nick → (nick text : List ℕ)
-    → (old new : Batch) (one : Option ℕ) → one ≡ row by_nick (key nick)
+pub quit_heard : (room : Room) (clients : Clients) (by_nick : Table ℕ) → IsIndex clients by_nick
+    → (nick text : List ℕ) → (old new : Batch) (one : Option ℕ) → one ≡ row by_nick (key nick)
     → new ≡ put_out_all (to_others old.held one (conns_who room by_nick (is_beside room nick))) old
     → SendsTo (hearers room by_nick (Quit nick text)) old new
 quit_heard room clients by_nick index nick text old new one one_is is =
     is
-    ∙ ap (λ o. put_out_all (to_others old.held o (conns_who room by_nick (is_beside room nick))) old) one_is
-    ∙ ap (λ conns. put_out_all (map (λ conn. line_to conn old.held) conns) old) (but_one clients by_nick index nick (is_beside room nick) room)
+    ∙ ap (λ o. put_out_all
+    (to_others old.held o (conns_who room by_nick (is_beside room nick))) old) one_is
+    ∙ ap (λ conns. put_out_all (map (λ conn. line_to conn old.held) conns) old)
+    (but_one clients by_nick index nick (is_beside room nick) room)
 
 -- ---- who joins is among those that listen then
 
-pub join_heard : (room : Room) → IsWellFormed room → (by_nick : Table ℕ) (lists : Lists) (nick channel : List ℕ) (op : Bool)
+pub join_heard : (room : Room) → IsWellFormed room
+    → (by_nick : Table ℕ) (lists : Lists) (nick channel : List ℕ) (op : Bool)
     → has_user room nick ≡ true → AreSo lists (after room (Join nick channel op)) by_nick
     → conns_at lists (key channel) ≡ hearers room by_nick (Join nick channel op)
 join_heard room well by_nick lists nick channel op there so =
-    in_list room by_nick (λ q. is_nick_of nick q || is_in room q (key channel)) well (users_joined room well nick (key channel) there) (row lists (key channel)) (λ q.
+    in_list room by_nick (λ q. is_nick_of nick q || is_in room q (key channel)) well
+    (users_joined room well nick (key channel) there) (row lists (key channel)) (λ q.
     so.at (key channel) q
     ∙ ap (λ b. if b then row by_nick q else None)
     (joins room nick channel op q (key channel)
-    ∙ ap (λ b. (b && same_fold q (key nick)) || is_in room q (key channel)) (same_fold-refl (key channel))
+    ∙ ap (λ b. (b && same_fold q (key nick)) || is_in room q (key channel))
+    (same_fold-refl (key channel))
     ∙ ap (λ b. b || is_in room q (key channel)) (nick_as_fold nick q)))

@@ -12,11 +12,15 @@ use Rattle.irc_stage.specs.Loops.Speaking.{conn_of, IsSpoken}
 use Rattle.irc_stage.specs.Loops.Stage.{IsIndex}
 use Rattle.irc_stage.specs.Lemmas.Matching.{named_is}
 
-pub is_its_conn : (origin : Origin) (machine : RoomMachine) (by_nick : Table ℕ) → IsIndex machine.clients by_nick
-    → (by : List ℕ) (notice : Bool) (target : Target) (words : ArrayVec ℕ) → IsSpoken origin machine (Say by notice target words) → conn_of origin ≡ row by_nick (key by)
+pub is_its_conn : (origin : Origin) (machine : RoomMachine) (by_nick : Table ℕ)
+    → IsIndex machine.clients by_nick → (by : List ℕ) (notice : Bool) (target : Target)
+    (words : ArrayVec ℕ) → IsSpoken origin machine (Say by notice target words)
+    → conn_of origin ≡ row by_nick (key by)
 is_its_conn (Client speaker) machine by_nick index by notice target words spoken =
-    named_is (key by) (client_of machine speaker.conn) spoken (λ nick is named. sym (index.found speaker.conn nick is) ∙ ap (row by_nick) named)
-is_its_conn (Link link) machine by_nick index by notice target words spoken = nobody (row by_nick (key by)) refl
+    named_is (key by) (client_of machine speaker.conn) spoken
+    (λ nick is named. sym (index.found speaker.conn nick is) ∙ ap (row by_nick) named)
+is_its_conn (Link link) machine by_nick index by notice target words spoken =
+    nobody (row by_nick (key by)) refl
   where
     nobody : (found : Option ℕ) → row by_nick (key by) ≡ found → None ≡ row by_nick (key by)
     nobody None is = sym is

@@ -1,6 +1,7 @@
 -- A server whose channel is spelled in the greater of two ways.
 use Rattle.std.specs.Prelude.{OnOk, OnErr}
-use Rattle.std.proofs.Common.{◌≡◌, ℕ, false, Option, Some, None, Result, Ok, Err, List, refl, sym, ◌∙◌, ap, subst, is_some, option_map, if◌then◌else◌}
+use Rattle.std.proofs.Common.{◌≡◌, ℕ, false, Option, Some, None, Result, Ok, Err, List, refl, sym}
+use Rattle.std.proofs.Common.{◌∙◌, ap, subst, is_some, option_map, if◌then◌else◌}
 use Rattle.std.specs.Result.{result_err}
 use Rattle.irc_names.specs.Fold.{key}
 use Rattle.irc_names.specs.Tables.{Table, row}
@@ -20,27 +21,30 @@ use Rattle.irc_stage.specs.Loops.Stage.{IsServing}
 use Rattle.irc_stage.proofs.ListsKept.{titled_so}
 
 -- a channel that is not there has no other spelling
-none_respelled : (name : List ℕ) (found : Option Channel) (fault : RoomFault)
-    → (if is_some found then None else Some NoSuchChannel) ≡ Some fault → option_map (respelled name) found ≡ found
+none_respelled : (name : List ℕ) (found : Option Channel) (fault : RoomFault) → (if is_some found
+    then None else Some NoSuchChannel) ≡ Some fault → option_map (respelled name) found ≡ found
 none_respelled name None fault is = refl
 none_respelled name (Some channel) fault is = not_none fault is
 
 -- whichever way the room answers, it has the greater spelling
-pub room_respelled : {U : Type 0} (result : Result U RoomFault) (kept now : Kept) (name : List ℕ) → kept.failed ≡ false
-    → result_err result ≡ respelling_fault kept name → OnOk result (now ≡ record kept { room = titled_by name kept.room })
+pub room_respelled : {U : Type 0} (result : Result U RoomFault) (kept now : Kept) (name : List ℕ)
+    → kept.failed ≡ false → result_err result ≡ respelling_fault kept name
+    → OnOk result (now ≡ record kept { room = titled_by name kept.room })
     → OnErr result (now ≡ kept) → now ≡ record kept { room = titled_by name kept.room }
 room_respelled (Ok done) kept now name serves fault ok refused = ok
 room_respelled (Err why) kept now name serves fault ok refused =
     refused
-    ∙ ap (λ (channels : Table Channel). record kept { room = record kept.room { channels = channels } })
+    ∙ ap (λ (channels : Table Channel).
+    record kept { room = record kept.room { channels = channels } })
     (sym (alter_same (key name) (option_map (respelled name)) kept.room.channels
     (none_respelled name (row kept.room.channels (key name)) why
-    (sym (fault ∙ ap (λ b. if b then Some Failed else (if has_channel kept.room name then None else Some NoSuchChannel)) serves)))))
+    (sym (fault ∙ ap (λ b. if b then Some Failed
+    else (if has_channel kept.room name then None else Some NoSuchChannel)) serves)))))
 
 -- a server that serves goes on to: the same clients listen, and no way is known
-pub serves_respelled : (stage : Stage) → IsServing stage → (name : List ℕ) (now : Kept) (ways : Ways)
-    → now ≡ record stage.room { room = titled_by name stage.room.room } → KnowsNothing ways
-    → IsServing (record stage { room = now; ways = ways })
+pub serves_respelled : (stage : Stage) → IsServing stage → (name : List ℕ) (now : Kept)
+    (ways : Ways) → now ≡ record stage.room { room = titled_by name stage.room.room }
+    → KnowsNothing ways → IsServing (record stage { room = now; ways = ways })
 serves_respelled stage serving name now ways is known =
     subst (λ (kept : Kept). IsServing (record stage { room = kept; ways = ways })) (sym is)
     (record {
@@ -48,10 +52,12 @@ serves_respelled stage serving name now ways is known =
         own_is = serving.ready.own_is;
         sound = record {
           serves = serving.ready.sound.serves;
-          well_formed = respelled_is_well_formed name stage.room.room serving.ready.sound.well_formed;
+          well_formed =
+              respelled_is_well_formed name stage.room.room serving.ready.sound.well_formed;
         };
         indexed = serving.ready.indexed;
-        heard = titled_so stage.listeners.lists stage.room.room stage.clients.by_nick name serving.ready.heard;
+        heard = titled_so stage.listeners.lists stage.room.room stage.clients.by_nick name
+            serving.ready.heard;
         branches = λ channel one. cc (sym known ∙ one);
         met = serving.ready.met;
       };

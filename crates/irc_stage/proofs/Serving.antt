@@ -11,11 +11,18 @@ use Rattle.irc_stage.specs.Lemmas.Outcomes.{both_ok}
 use Rattle.irc_stage.specs.Loops.Stage.{served_at, view_of, IsReady, IsServing}
 
 pub holds_at : (stage : Stage) (out : List Sent) → IsServing stage → Holds (served_at stage out)
-holds_at stage out serving = record { matched = serving.matched; well = serving.ready.sound.well_formed }
+holds_at stage out serving =
+    record { matched = serving.matched; well = serving.ready.sound.well_formed }
 
-pub serves_by : (new : Stage) (out : List Sent) (s : Served) → Holds s → IsReady new → served_at new out ≡ s → IsServing new
-serves_by new out s holds ready is = record { ready = ready; matched = subst (λ (t : Served). IsMatched (machine_of t.view)) (sym is) holds.matched }
+pub serves_by : (new : Stage) (out : List Sent) (s : Served) → Holds s → IsReady new
+    → served_at new out ≡ s → IsServing new
+serves_by new out s holds ready is = record {
+  ready = ready;
+  matched = subst (λ (t : Served). IsMatched (machine_of t.view)) (sym is) holds.matched;
+}
 
-pub serves_on_ok : {E : Type 0} (result : Result (Unit {0}) E) (new : Stage) (out : List Sent) (s : Served) → Holds s
-    → OnOk result (IsReady new) → OnOk result (served_at new out ≡ s) → OnOk result (IsServing new)
-serves_on_ok result new out s holds = both_ok result (IsReady new) (served_at new out ≡ s) (IsServing new) (serves_by new out s holds)
+pub serves_on_ok : {E : Type 0} (result : Result (Unit {0}) E) (new : Stage) (out : List Sent)
+    (s : Served) → Holds s → OnOk result (IsReady new) → OnOk result (served_at new out ≡ s)
+    → OnOk result (IsServing new)
+serves_on_ok result new out s holds =
+    both_ok result (IsReady new) (served_at new out ≡ s) (IsServing new) (serves_by new out s holds)

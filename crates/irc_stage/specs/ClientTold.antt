@@ -1,6 +1,8 @@
--- What happens by a client of a server that has links. It is what it does to the room machine that the server is to its clients (in `Handle`), but that each
--- effect also goes on the links, and invitations of other servers' users are not kept.
-use Rattle.std.specs.Prelude.{◌≡◌, ℕ, Bool, true, false, Option, Some, None, Result, Ok, Err, List, [], ◌∷◌}
+-- What happens by a client of a server that has links. It is what it does to the room machine that
+-- the server is to its clients (in `Handle`), but that each effect also goes on the links, and
+-- invitations of other servers' users are not kept.
+use Rattle.std.specs.Prelude.{◌≡◌, ℕ, Bool, true, false, Option, Some, None, Result, Ok, Err, List}
+use Rattle.std.specs.Prelude.{[], ◌∷◌}
 use Rattle.std.specs.FinMap.{insert, remove}
 use Rattle.irc_names.specs.Fold.{key}
 use Rattle.irc_names.specs.Tables.{row}
@@ -20,12 +22,14 @@ use Rattle.irc_stage.specs.declared.clients.Client.{Client}
 use Rattle.irc_stage.specs.declared.clients.Client.TheVariants.{Registering, Registered}
 use Rattle.irc_stage.specs.RoomMachine.{client_of}
 use Rattle.irc_stage.specs.View.{View, machine_of}
-use Rattle.irc_stage.specs.Handle.{Happening, connects, says, goes, client_after, fresh, lost_text, user_of}
+use Rattle.irc_stage.specs.Handle.{Happening, connects, says, goes, client_after, fresh, lost_text}
+use Rattle.irc_stage.specs.Handle.{user_of}
 use Rattle.irc_stage.specs.EffectTold.{Served, effect_told, in_silence, with_sent}
 
 -- One step: an answer and a line go to the client itself. Replies are sent to this name.
 abbrev pub step_told : ℕ → Option (List ℕ) → Act → Served → Served
-step_told conn name (Answer reply) s = with_sent (line_to conn (reply_text s.view.routes.name name reply) ∷ []) s
+step_told conn name (Answer reply) s =
+    with_sent (line_to conn (reply_text s.view.routes.name name reply) ∷ []) s
 step_told conn name (Raw line) s = with_sent (line_to conn line.items ∷ []) s
 step_told conn name (Do effect) s = effect_told None effect s
 
@@ -48,25 +52,30 @@ closed_told false conn s = s
 
 -- the steps are done in order, and only then is a client closed that is to be
 abbrev pub decision_told : ℕ → Option (List ℕ) → Decided → Served → Served
-decision_told conn name decision s = closed_told decision.close conn (steps_told conn name decision.steps s)
+decision_told conn name decision s =
+    closed_told decision.close conn (steps_told conn name decision.steps s)
 
 -- a line before registration; replies go to the nickname that the connection has then
 abbrev pub given_told : ℕ → Given → View → Served
 given_told conn registration view =
     let name = registration.pending.nick in
-    closed_told registration.close conn (steps_told conn name registration.steps (in_silence (seated conn (client_after registration name) view)))
+    closed_told registration.close conn (steps_told conn name registration.steps
+    (in_silence (seated conn (client_after registration name) view)))
 
 -- a line of a user
 abbrev pub user_told : View → ℕ → Option User → Parsed → Served
 user_told view conn None message = in_silence view
 user_told view conn (Some user) message =
-    decision_told conn (Some user.nick) (decide view.room (place_of view.routes) user.nick message) (in_silence view)
+    decision_told conn (Some user.nick) (decide view.room (place_of view.routes) user.nick message)
+    (in_silence view)
 
 -- what a line does depends on whether its client has registered; from nobody it does nothing
 abbrev pub message_told : View → ℕ → Option Client → Parsed → Served
 message_told view conn None message = in_silence view
-message_told view conn (Some (Registering pending)) message = given_told conn (register view.room (place_of view.routes) pending message) view
-message_told view conn (Some (Registered nick)) message = user_told view conn (row view.room.users (key nick)) message
+message_told view conn (Some (Registering pending)) message =
+    given_told conn (register view.room (place_of view.routes) pending message) view
+message_told view conn (Some (Registered nick)) message =
+    user_told view conn (row view.room.users (key nick)) message
 
 -- an empty line, and a prefix alone, are ignored (our own choice)
 abbrev pub line_told : View → ℕ → Result Parsed LineFault → Served
@@ -80,7 +89,8 @@ quit_told (Some nick) s = effect_told None (Quit nick lost_text) s
 
 -- its seat is empty before its user quits, so that nothing is put out to it
 abbrev pub gone_told : View → ℕ → Served
-gone_told view conn = quit_told (user_of view.room (client_of (machine_of view) conn)) (in_silence (unseated conn view))
+gone_told view conn = quit_told (user_of view.room (client_of (machine_of view) conn))
+    (in_silence (unseated conn view))
 
 -- what a server does when something happens to one of its clients
 unfoldable pub client_told : View → Happening → Served

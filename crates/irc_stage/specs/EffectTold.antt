@@ -1,11 +1,15 @@
--- What an effect does to a server that has links: to its room, its clients, and what it puts out to its clients and on its links.
+-- What an effect does to a server that has links: to its room, its clients, and what it puts out to
+-- its clients and on its links.
 --
--- al is a client of a.net, connection 1; bo and cy are users of b.net, behind link 2; d.net is behind link 3. All are in #c.
+-- al is a client of a.net, connection 1; bo and cy are users of b.net, behind link 2; d.net is
+-- behind link 3. All are in #c.
 --   al says hi in #c                line_on 2 `:al PRIVMSG #c :hi`; al hears nothing of it
---   bo says hi in #c (by link 2)    line_to 1 `:bo!u@h PRIVMSG #c :hi`; on link 3 nothing, where nobody is in #c
---   al leaves #c                    line_to 1 `:al!u@h PART #c :`, then line_on 2 and line_on 3 `:al PART #c :`
+-- bo says hi in #c (by link 2) line_to 1 `:bo!u@h PRIVMSG #c :hi`; on link 3 nothing, where nobody
+-- is in #c
+-- al leaves #c line_to 1 `:al!u@h PART #c :`, then line_on 2 and line_on 3 `:al PART #c :`
 --   bo is invited by al             line_on 2 `:al INVITE bo #c`; b.net keeps that, a.net does not
-use Rattle.std.specs.Prelude.{ℕ, Bool, true, false, not, ◌&&◌, is_some, Option, Some, None, List, [], ◌∷◌, ◌++◌, map, filter_map, if◌then◌else◌}
+use Rattle.std.specs.Prelude.{ℕ, Bool, true, false, not, ◌&&◌, is_some, Option, Some, None, List}
+use Rattle.std.specs.Prelude.{[], ◌∷◌, ◌++◌, map, filter_map, if◌then◌else◌}
 use Rattle.std.specs.List.{flat_map}
 use Rattle.std.specs.Option.{option_and_then, option_map_or}
 use Rattle.std.specs.FinMap.{entries, get, retain_keys}
@@ -42,7 +46,13 @@ in_silence view = record { view = view; out = [] }
 
 -- a view whose clients and room are those that its machine has then
 abbrev pub put_back : View → Handled → Served
-put_back view h = record { view = record view { clients = h.machine.clients; room = h.machine.room }; out = h.out }
+put_back view h = record {
+  view = record view {
+    clients = h.machine.clients;
+    room = h.machine.room;
+  };
+  out = h.out;
+}
 
 -- the links on which a server tells an effect
 abbrev pub ways_at : View → Option ℕ → Effect → List ℕ
@@ -58,7 +68,8 @@ on_links links parts = map (λ link. line_on link (text parts)) links
 
 -- An invitation of another server's user is that server's to keep (our own choice).
 abbrev pub is_elsewhere : View → Effect → Bool
-is_elsewhere view (Invite by nick channel) = is_some (option_and_then (next_hop view.routes) (home_under view.room (key nick)))
+is_elsewhere view (Invite by nick channel) =
+    is_some (option_and_then (next_hop view.routes) (home_under view.room (key nick)))
 is_elsewhere view effect = false
 
 -- what it makes of the room
@@ -67,18 +78,22 @@ room_after view effect = if is_elsewhere view effect then view.room else after v
 
 -- An effect changes the room and the clients, ..
 abbrev pub view_after : View → Effect → View
-view_after view effect = record view { clients = clients_after effect view.clients; room = room_after view effect }
+view_after view effect =
+    record view { clients = clients_after effect view.clients; room = room_after view effect }
 
 -- .. and is shown to the viewers that are clients.
 abbrev pub shown_at : View → Effect → List Sent
-shown_at view effect = if is_elsewhere view effect then [] else flat_map (to_viewer view.clients) (seen view.room effect)
+shown_at view effect = if is_elsewhere view effect then []
+    else flat_map (to_viewer view.clients) (seen view.room effect)
 
 abbrev pub changed : Effect → Served → Served
 changed effect s = record { view = view_after s.view effect; out = s.out ++ shown_at s.view effect }
 
--- An effect that came by a link, or from a client of the server: it changes the room and is shown, and then goes on, as it is written in the room before.
+-- An effect that came by a link, or from a client of the server: it changes the room and is shown,
+-- and then goes on, as it is written in the room before.
 abbrev pub effect_told : Option ℕ → Effect → Served → Served
-effect_told arrival effect s = with_sent (on_links (ways_at s.view arrival effect) (wire s.view.room s.view.routes effect)) (changed effect s)
+effect_told arrival effect s = with_sent (on_links (ways_at s.view arrival effect)
+    (wire s.view.room s.view.routes effect)) (changed effect s)
 
 -- ---- what links tell
 
@@ -89,15 +104,18 @@ is_of_here view (Quit nick text) = is_user_here (machine_of view) nick
 is_of_here view (Say by notice target text) = is_user_here (machine_of view) by
 is_of_here view effect = false
 
--- Whether an effect counts of which a link tells: whom and what it names is there, it does something, and the nickname that it brings is free.
+-- Whether an effect counts of which a link tells: whom and what it names is there, it does
+-- something, and the nickname that it brings is free.
 abbrev pub counts : View → Effect → Bool
-counts view effect = does view.room effect && (brings_free view.room effect && not (is_of_here view effect))
+counts view effect =
+    does view.room effect && (brings_free view.room effect && not (is_of_here view effect))
 
 -- it is left out, and not passed on, where it does not count
 abbrev pub effect_came : Option ℕ → Effect → Served → Served
 effect_came arrival effect s = if counts s.view effect then effect_told arrival effect s else s
 
--- effects that are not passed on one by one, each left out where it does not count in the room as those before it have left it
+-- effects that are not passed on one by one, each left out where it does not count in the room as
+-- those before it have left it
 abbrev pub changed_if : Effect → Served → Served
 changed_if effect s = if counts s.view effect then changed effect s else s
 
@@ -113,17 +131,20 @@ quit_by nick text s = if has_user s.view.room nick then changed (Quit nick text)
 
 -- the end of each client that is this user
 abbrev pub ends_of : List ℕ → Clients → List Sent
-ends_of nick clients = filter_map (λ (c : ℕ × Client). if is_client nick c.1 then Some (end_of c.0) else None) (entries clients)
+ends_of nick clients = filter_map (λ (c : ℕ × Client). if is_client nick c.1 then Some (end_of c.0)
+    else None) (entries clients)
 
 -- whether a connection is that of another
 abbrev pub is_another : Clients → List ℕ → ℕ → Bool
-is_another clients nick conn = option_map_or (λ client. not (is_client nick client)) (get clients conn) true
+is_another clients nick conn =
+    option_map_or (λ client. not (is_client nick client)) (get clients conn) true
 
 -- the client that is this user, if it is one of the server's, is told why, and closed
 abbrev pub client_ended : List ℕ → List ℕ → Served → Served
 client_ended nick text s = record {
   view = record s.view { clients = retain_keys s.view.clients (is_another s.view.clients nick) };
-  out = s.out ++ (to_viewer s.view.clients (record { viewer = nick; line = error_line text }) ++ ends_of nick s.view.clients);
+  out = s.out ++ (to_viewer s.view.clients (record { viewer = nick; line = error_line text })
+      ++ ends_of nick s.view.clients);
 }
 
 -- a user is killed: the others see it quit, and its own client is told why and closed

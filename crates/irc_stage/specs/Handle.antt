@@ -1,5 +1,6 @@
 -- What one happening does to a room machine: the machine after it, and what is put out, in order.
-use Rattle.std.specs.Prelude.{ℕ, Bool, true, false, Option, Some, None, Result, Ok, Err, List, [], ◌∷◌, ◌++◌, codes, if◌then◌else◌}
+use Rattle.std.specs.Prelude.{ℕ, Bool, true, false, Option, Some, None, Result, Ok, Err, List, []}
+use Rattle.std.specs.Prelude.{◌∷◌, ◌++◌, codes, if◌then◌else◌}
 use Rattle.std.specs.List.{flat_map, filter_map}
 use Rattle.std.specs.FinMap.{entries}
 use Rattle.std.specs.Option.{option_map}
@@ -22,7 +23,8 @@ use Rattle.irc_registering.specs.Register.{register, Registered as Given}
 use Rattle.irc_batch.specs.Batches.{Sent, end_of, line_to}
 use Rattle.irc_stage.specs.declared.clients.Client.{Client}
 use Rattle.irc_stage.specs.declared.clients.Client.TheVariants.{Registering, Registered}
-use Rattle.irc_stage.specs.RoomMachine.{Clients, RoomMachine, client_of, with_client, without_client, each_client}
+use Rattle.irc_stage.specs.RoomMachine.{Clients, RoomMachine, client_of, with_client}
+use Rattle.irc_stage.specs.RoomMachine.{without_client, each_client}
 
 -- what happens to it; of a line, what it is read as
 pub data Happening : Type 0 where
@@ -43,7 +45,8 @@ is_client nick (Registered name) = same name nick
 -- a line to the viewer, where it is a client of this server
 abbrev pub to_viewer : Clients → Showing → List Sent
 to_viewer clients showing =
-    filter_map (λ (c : ℕ × Client). if is_client showing.viewer c.1 then Some (line_to c.0 showing.line) else None) (entries clients)
+    filter_map (λ (c : ℕ × Client). if is_client showing.viewer c.1
+    then Some (line_to c.0 showing.line) else None) (entries clients)
 
 -- a client whose user takes another nickname is that user still
 abbrev pub renamed_in : List ℕ → List ℕ → Client → Client
@@ -56,7 +59,10 @@ clients_after effect clients = clients
 
 -- the room changes, and the clients with it, so that each stays the user it was
 abbrev pub machine_after : RoomMachine → Effect → RoomMachine
-machine_after machine effect = record machine { room = after machine.room effect; clients = clients_after effect machine.clients }
+machine_after machine effect = record machine {
+  room = after machine.room effect;
+  clients = clients_after effect machine.clients;
+}
 
 -- An effect changes the room, and is shown to the viewers that are clients of this server.
 abbrev pub with_effect : Effect → Handled → Handled
@@ -68,14 +74,19 @@ with_effect effect before = record {
 -- One step: an answer and a line go to the client itself. Replies are sent to this name.
 abbrev pub stepped : ℕ → Option (List ℕ) → Act → Handled → Handled
 stepped conn name (Answer reply) before =
-    record before { out = before.out ++ line_to conn (reply_text before.machine.place.name name reply) ∷ [] }
-stepped conn name (Raw line) before = record before { out = before.out ++ line_to conn line.items ∷ [] }
+    record before {
+      out = before.out
+          ++ line_to conn (reply_text before.machine.place.name name reply) ∷ [];
+    }
+stepped conn name (Raw line) before =
+    record before { out = before.out ++ line_to conn line.items ∷ [] }
 stepped conn name (Do effect) before = with_effect effect before
 
 -- the steps, one after another
 abbrev pub all_stepped : ℕ → Option (List ℕ) → List Act → Handled → Handled
 all_stepped conn name [] before = before
-all_stepped conn name (act ∷ acts) before = all_stepped conn name acts (stepped conn name act before)
+all_stepped conn name (act ∷ acts) before =
+    all_stepped conn name acts (stepped conn name act before)
 
 -- nothing is put out yet
 abbrev pub unchanged : RoomMachine → Handled
@@ -83,35 +94,42 @@ unchanged machine = record { machine = machine; out = [] }
 
 -- a client that is closed is one no more
 abbrev pub closing : Bool → ℕ → Handled → Handled
-closing true conn before = record { machine = without_client before.machine conn; out = before.out ++ end_of conn ∷ [] }
+closing true conn before =
+    record { machine = without_client before.machine conn; out = before.out ++ end_of conn ∷ [] }
 closing false conn before = before
 
 -- the steps are done in order, and only then is a client closed that is to be
 abbrev pub decided : RoomMachine → ℕ → Option (List ℕ) → Decided → Handled
-decided machine conn name decision = closing decision.close conn (all_stepped conn name decision.steps (unchanged machine))
+decided machine conn name decision =
+    closing decision.close conn (all_stepped conn name decision.steps (unchanged machine))
 
 -- what a connection is after a line before registration
 abbrev pub client_after : Given → Option (List ℕ) → Client
 client_after registration None = Registering registration.pending
-client_after registration (Some nick) = if registration.registered then Registered nick else Registering registration.pending
+client_after registration (Some nick) =
+    if registration.registered then Registered nick else Registering registration.pending
 
 -- replies go to the nickname that the connection has then
 abbrev pub pending_decided : RoomMachine → ℕ → Given → Handled
 pending_decided machine conn registration =
     let name = registration.pending.nick in
     closing registration.close conn
-    (all_stepped conn name registration.steps (unchanged (with_client machine conn (client_after registration name))))
+    (all_stepped conn name registration.steps
+    (unchanged (with_client machine conn (client_after registration name))))
 
 -- a line of a registered client is decided as its user's; without a user it does nothing
 abbrev pub user_decided : RoomMachine → ℕ → Option User → Parsed → Handled
 user_decided machine conn None message = unchanged machine
-user_decided machine conn (Some user) message = decided machine conn (Some user.nick) (decide machine.room machine.place user.nick message)
+user_decided machine conn (Some user) message =
+    decided machine conn (Some user.nick) (decide machine.room machine.place user.nick message)
 
 -- what a line does depends on whether its client has registered; from nobody it does nothing
 abbrev pub said_by : RoomMachine → ℕ → Option Client → Parsed → Handled
 said_by machine conn None message = unchanged machine
-said_by machine conn (Some (Registering pending)) message = pending_decided machine conn (register machine.room machine.place pending message)
-said_by machine conn (Some (Registered nick)) message = user_decided machine conn (row machine.room.users (key nick)) message
+said_by machine conn (Some (Registering pending)) message =
+    pending_decided machine conn (register machine.room machine.place pending message)
+said_by machine conn (Some (Registered nick)) message =
+    user_decided machine conn (row machine.room.users (key nick)) message
 
 -- an empty line, and a prefix alone, are ignored (our own choice)
 abbrev pub read_as : RoomMachine → ℕ → Result Parsed LineFault → Handled
@@ -126,7 +144,8 @@ lost_text = codes "Connection closed"
 abbrev pub user_of : Room → Option Client → Option (List ℕ)
 user_of room None = None
 user_of room (Some (Registering pending)) = None
-user_of room (Some (Registered nick)) = option_map (λ (user : User). user.nick) (row room.users (key nick))
+user_of room (Some (Registered nick)) =
+    option_map (λ (user : User). user.nick) (row room.users (key nick))
 
 -- who was a user quits; who was none leaves the room as it is
 abbrev pub quits : Option (List ℕ) → Handled → Handled
@@ -135,7 +154,8 @@ quits (Some nick) before = with_effect (Quit nick lost_text) before
 
 -- the client is one no more, and it is told nothing
 abbrev pub gone : RoomMachine → ℕ → Option Client → Handled
-gone machine conn client = quits (user_of machine.room client) (unchanged (without_client machine conn))
+gone machine conn client =
+    quits (user_of machine.room client) (unchanged (without_client machine conn))
 
 -- a connection that has given nothing
 abbrev pub fresh : List ℕ → Client

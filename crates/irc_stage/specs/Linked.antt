@@ -1,7 +1,9 @@
--- What a server keeps of its links, and of the servers behind them, as these come and go (RFC 2813 section 4.1).
+-- What a server keeps of its links, and of the servers behind them, as these come and go (RFC 2813
+-- section 4.1).
 --
--- a.net has the link 1 to b.net. `:b.net SERVER c.net 2 2 :C` by it: a.net keeps a row of c.net, behind link 1, two links away, number 2 there. A second such
--- line, and one with number 1, which is b.net's, change nothing.
+-- a.net has the link 1 to b.net. `:b.net SERVER c.net 2 2 :C` by it: a.net keeps a row of c.net,
+-- behind link 1, two links away, number 2 there. A second such line, and one with number 1, which
+-- is b.net's, change nothing.
 use Rattle.std.specs.Prelude.{ℕ, Bool, ◌&&◌, is_none, Option, Some, List, ◌++◌}
 use Rattle.std.specs.Option.{option_map_or}
 use Rattle.std.specs.FinMap.{get, insert}
@@ -19,22 +21,31 @@ use Rattle.irc_stage.specs.EffectTold.{Served, on_links, with_sent}
 -- the password that the other end gave, which is looked at when it names itself
 abbrev pub with_password : ℕ → List ℕ → View → View
 with_password link word view =
-    option_map_or (λ (end : End). record view { ends = insert view.ends link (record end { password = Some word }) }) (get view.ends link) view
+    option_map_or (λ (end : End). record view {
+      ends = insert view.ends link
+          (record end { password = Some word });
+    }) (get view.ends link) view
 
 -- the name of the server at the other end, once it is met
 abbrev pub with_far : ℕ → List ℕ → View → View
 with_far link name view =
-    option_map_or (λ (end : End). record view { ends = insert view.ends link (record end { far = Some name }) }) (get view.ends link) view
+    option_map_or (λ (end : End). record view {
+      ends = insert view.ends link
+          (record end { far = Some name });
+    }) (get view.ends link) view
 
 -- ---- servers come and go
 
--- A server more is taken where it is not known, there is room for it, and the neighbour's number for it is free.
+-- A server more is taken where it is not known, there is room for it, and the neighbour's number
+-- for it is free.
 abbrev pub is_taken : Known → ℕ → List ℕ → ℕ → Bool
-is_taken known link name token = is_none (added_fault known name) && is_none (token_in known link token)
+is_taken known link name token =
+    is_none (added_fault known name) && is_none (token_in known link token)
 
 -- a server more is behind this link, under the neighbour's number for it
 abbrev pub with_row : ℕ → List ℕ → List ℕ → ℕ → ℕ → List ℕ → View → View
-with_row link uplink name distance token info view = record view { routes = added link uplink name distance token info view.routes }
+with_row link uplink name distance token info view =
+    record view { routes = added link uplink name distance token info view.routes }
 
 -- a server that is lost is known no more
 abbrev pub without_row : List ℕ → View → View

@@ -1,4 +1,5 @@
--- The machine that one room is, to those who are in it: what a decision may know of its server, the clients, the room. No link is in it.
+-- The machine that one room is, to those who are in it: what a decision may know of its server, the
+-- clients, the room. No link is in it.
 use Rattle.std.specs.Prelude.{ℕ, Option, map}
 use Rattle.std.specs.Ordering.{nat_cmp}
 use Rattle.std.specs.FinMap.{FinMap, get, insert, remove, entries, from_entries}
@@ -30,4 +31,5 @@ without_client machine conn = record machine { clients = remove machine.clients 
 
 -- each client changed
 abbrev pub each_client : (Client → Client) → Clients → Clients
-each_client change clients = from_entries (map (λ (e : ℕ × Client). (e.0, change e.1)) (entries clients))
+each_client change clients =
+    from_entries (map (λ (e : ℕ × Client). (e.0, change e.1)) (entries clients))

@@ -1,4 +1,5 @@
--- What a server is, to those above: what it knows of others, its configuration, its links, its clients, its room. No index or queue is in it.
+-- What a server is, to those above: what it knows of others, its configuration, its links, its
+-- clients, its room. No index or queue is in it.
 use Rattle.std.specs.Prelude.{◌≡◌, ℕ, Bool, nat_eq, Option, None, List, [], map, find}
 use Rattle.std.specs.Option.{option_map}
 use Rattle.std.specs.Cmp.Lexicographic.{pointwise}
@@ -39,7 +40,13 @@ without_end link view = record view { ends = remove view.ends link }
 
 -- a server without clients, linked to none, in an empty room
 abbrev pub new_view : Known → List Peer → View
-new_view routes peers = record { routes = routes; peers = map known_peer peers; ends = empty; clients = empty; room = no_room }
+new_view routes peers = record {
+  routes = routes;
+  peers = map known_peer peers;
+  ends = empty;
+  clients = empty;
+  room = no_room;
+}
 
 -- whether a peer has this name; servers' names have one spelling
 abbrev pub is_peer_named : List ℕ → Peer → Bool
@@ -50,7 +57,8 @@ is_named name peer = pointwise nat_eq peer.name name
 
 -- the password that a server and the peer of a name give each other, if there is such a peer
 abbrev pub password_for : View → List ℕ → Option (List ℕ)
-password_for view name = option_map (λ (peer : KnownPeer). peer.password) (find (is_named name) view.peers)
+password_for view name =
+    option_map (λ (peer : KnownPeer). peer.password) (find (is_named name) view.peers)
 
 -- no link of the server is open, and it knows no other server
 pub record IsAlone (view : View) : Type 0 where

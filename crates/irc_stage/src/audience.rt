@@ -1,6 +1,7 @@
 //! To whom the line of an effect goes: those that listen in its channels, or the one user that it
 //! is for.
-ghost use Rattle.std.specs.Prelude.{◌≡◌, ℕ, true, List, None, Some, ◌∷◌, [], OnErr, OnOk, IfOk, map, if◌then◌else◌};
+ghost use Rattle.std.specs.Prelude.{◌≡◌, ℕ, true, List, None, Some, ◌∷◌, [], OnErr, OnOk, IfOk};
+ghost use Rattle.std.specs.Prelude.{map, if◌then◌else◌};
 ghost use Rattle.std.specs.FinMap.{empty, values};
 ghost use Rattle.irc_batch.specs.Batches.{put_out_all, to_others};
 ghost use Rattle.irc_batch.specs.Growing.{Grew};
@@ -10,8 +11,11 @@ ghost use Rattle.irc_tables.specs.RowViews.{row_entry};
 ghost use Rattle.irc_room.specs.After.{after};
 ghost use Rattle.irc_room.specs.Effects.{has_user, is_idle, IsPossible};
 ghost use Rattle.irc_room.specs.effect.Effect.TheVariants.{Rename};
-ghost use Rattle.irc_stage.specs.Loops.Hearing.{conns_who, hearers, is_beside, with_conns, with_lists, IsLineOf, IsToldFirst, IsUnsaid, SendsTo};
-ghost use Rattle.irc_stage.specs.Loops.Listening.{conn_as, conns_at, index_after, AreSo, BringsNone};
+ghost use Rattle.irc_stage.specs.Loops.Hearing.{conns_who, hearers, is_beside, with_conns};
+ghost use Rattle.irc_stage.specs.Loops.Hearing.{with_lists, IsLineOf, IsToldFirst, IsUnsaid};
+ghost use Rattle.irc_stage.specs.Loops.Hearing.{SendsTo};
+ghost use Rattle.irc_stage.specs.Loops.Listening.{conn_as, conns_at, index_after, AreSo};
+ghost use Rattle.irc_stage.specs.Loops.Listening.{BringsNone};
 ghost use Rattle.irc_stage.specs.Loops.Stage.{IsIndexed};
 
 use crate::clients::{ClientTable, number_of};

@@ -4,7 +4,8 @@ ghost use Rattle.std.specs.FinMap.{empty, get, insert, remove};
 ghost use Rattle.std.specs.Option.{option_copied};
 ghost use Rattle.irc_names.specs.Fold.{key};
 ghost use Rattle.irc_names.specs.Tables.{row, moved};
-ghost use Rattle.irc_stage.specs.Loops.Stage.{all_renamed, clients_of, departed, entered, numbered, IsFreeFor, IsFreeOf, IsIndexed, IsNoUser};
+ghost use Rattle.irc_stage.specs.Loops.Stage.{all_renamed, clients_of, departed, entered, numbered};
+ghost use Rattle.irc_stage.specs.Loops.Stage.{IsFreeFor, IsFreeOf, IsIndexed, IsNoUser};
 
 use irc_commands::Pending;
 use irc_names::Nick;
@@ -13,7 +14,8 @@ use std::alloc::{AllocError, Global};
 use std::collections::BTreeMap;
 use std::marker::Model;
 
-/// What a connection has given that has not registered, in memory of its own: so the row of a user is small.
+/// What a connection has given that has not registered, in memory of its own: so the row of a user
+/// is small.
 #[derive(Drop)]
 pub struct Waiting {
     pending: Box<Pending, Global>,
@@ -103,7 +105,8 @@ pub(crate) fn seat(clients: &mut ClientTable, conn: u64, client: Client) -> Resu
     requires indexed { IsIndexed clients.old }
     requires no_user { IsNoUser (get (clients_of clients.old) conn) }
     requires free { IsFreeOf client (clients_of clients.old) }
-    ensures ok { OnOk result (clients_of clients.new ≡ insert (clients_of clients.old) conn client) }
+    ensures ok { OnOk result
+        (clients_of clients.new ≡ insert (clients_of clients.old) conn client) }
     ensures indexed { OnOk result (IsIndexed clients.new) }
     ensures by_nick { OnOk result (clients.new.by_nick ≡ entered conn client clients.old.by_nick) }
 {
@@ -146,7 +149,8 @@ fn depart(by_nick: &mut NickMap<u64>, client: &Option<Client>)
 pub(crate) fn rename(clients: &mut ClientTable, old: &Nick, new: &Nick) -> Result<(), AllocError>
     requires indexed { IsIndexed clients.old }
     requires free { IsFreeFor old.now new.now (clients_of clients.old) }
-    ensures ok { OnOk result (clients_of clients.new ≡ all_renamed old.now new.now (clients_of clients.old)) }
+    ensures ok { OnOk result
+        (clients_of clients.new ≡ all_renamed old.now new.now (clients_of clients.old)) }
     ensures indexed { OnOk result (IsIndexed clients.new) }
     ensures by_nick { OnOk result (clients.new.by_nick
         ≡ moved (key old.now) (key new.now) (λ conn. conn) clients.old.by_nick) }

@@ -1,5 +1,6 @@
-//! What one act does to a server: its clients, its room, its links, and what it puts out. A [`Stage`] has its fields for itself: its methods
-//! alone seat a client, take one out and apply an effect, and they alone forget what a change makes stale.
+//! What one act does to a server: its clients, its room, its links, and what it puts out. A
+//! [`Stage`] has its fields for itself: its methods alone seat a client, take one out and apply an
+//! effect, and they alone forget what a change makes stale.
 #![tactic(auto)]
 
 mod audience;

@@ -5,11 +5,14 @@ ghost use Rattle.std.specs.Option.{option_copied};
 ghost use Rattle.irc_batch.specs.Growing.{Grew};
 ghost use Rattle.irc_room.specs.Effects.{brings_free};
 ghost use Rattle.irc_stage.specs.EffectTold.{counts, is_of_here};
-ghost use Rattle.irc_stage.specs.Linked.{unlinked, with_far, with_password, with_title, without_row};
+ghost use Rattle.irc_stage.specs.Linked.{unlinked, with_far, with_password, with_title};
+ghost use Rattle.irc_stage.specs.Linked.{without_row};
 ghost use Rattle.irc_stage.specs.Matched.{is_user_here};
 ghost use Rattle.irc_stage.specs.View.{with_end};
 ghost use Rattle.irc_stage.specs.Loops.Linking.{takes_newcomer, IsKnownIf, IsMetAt, IsToldToAll};
-ghost use Rattle.irc_stage.specs.Loops.Stage.{machine_at, numbered, view_of, ChangesIf, ComesByLink, EndsClient, IsReady, IsServing, Keeps, Quits, TakesOut};
+ghost use Rattle.irc_stage.specs.Loops.Stage.{machine_at, numbered, view_of, ChangesIf};
+ghost use Rattle.irc_stage.specs.Loops.Stage.{ComesByLink, EndsClient, IsReady, IsServing, Keeps};
+ghost use Rattle.irc_stage.specs.Loops.Stage.{Quits, TakesOut};
 
 use crate::clients::number_of;
 use crate::origin::Origin;
@@ -103,15 +106,16 @@ impl Stage {
         self.ends.remove(&link);
     }
 
-    /// A server more is known from now on, behind a link that counts, unless it is known already, there is no room for it, or its number is taken. Answers
-    /// whether it is.
+    /// A server more is known from now on, behind a link that counts, unless it is known already,
+    /// there is no room for it, or its number is taken. Answers whether it is.
     ///
     /// # Errors
     /// Where memory runs out.
     pub fn add_server(&mut self, newcomer: Newcomer<'_>) -> Result<bool, AllocError>
         requires serving { IsServing self.old }
         requires met { IsMetAt newcomer.link self.old }
-        ensures taken { IfOk result (λ taken. taken ≡ takes_newcomer newcomer.entry (view_of self.old)) }
+        ensures taken { IfOk result
+            (λ taken. taken ≡ takes_newcomer newcomer.entry (view_of self.old)) }
         ensures ok { IfOk result (IsKnownIf newcomer.entry self.old self.new) }
         ensures serving { OnOk result (IsServing self.new) }
     {
@@ -168,7 +172,8 @@ impl Stage {
         out: &mut Batch,
     ) -> Result<(), AllocError>
         requires serving { IsServing self.old }
-        ensures ok { OnOk result (IsToldToAll arrival line.now.items self.old out.old self.new out.new) }
+        ensures ok { OnOk result
+            (IsToldToAll arrival line.now.items self.old out.old self.new out.new) }
         ensures serving { OnOk result (IsServing self.new) }
         ensures grew { Grew out.old.outs out.new.outs }
     {
@@ -182,7 +187,8 @@ impl Stage {
     /// Where memory runs out.
     pub fn come(&mut self, link: u64, effect: &Effect, out: &mut Batch) -> Result<(), AllocError>
         requires serving { IsServing self.old }
-        ensures ok { OnOk result (ComesByLink (Some link) effect.now self.old out.old self.new out.new) }
+        ensures ok { OnOk result
+            (ComesByLink (Some link) effect.now self.old out.old self.new out.new) }
         ensures serving { OnOk result (IsServing self.new) }
         ensures keeps { Keeps self.old self.new }
         ensures grew { Grew out.old.outs out.new.outs }
@@ -241,7 +247,8 @@ impl Stage {
         }
     }
 
-    /// The user of a nickname quits with this text, and the client that it is, if it is one of the server's, is told why and closed.
+    /// The user of a nickname quits with this text, and the client that it is, if it is one of the
+    /// server's, is told why and closed.
     ///
     /// # Errors
     /// Where memory runs out.

@@ -8,7 +8,10 @@ ghost use Rattle.irc_tables.specs.RowViews.{row_entry};
 ghost use Rattle.irc_room.specs.After.{after};
 ghost use Rattle.irc_room.specs.Effects.{IsPossible};
 ghost use Rattle.irc_room.specs.effect.Effect.TheVariants.{Rename};
-ghost use Rattle.irc_stage.specs.Loops.Listening.{conns_in, index_after, is_in, is_named, without_conn, AreSo, BringsNone, Forgets, IsListenerGone, IsListenerSeated, IsNobodys, IsNoMove, Leaves, Sets, SetsAt, SetsIf};
+ghost use Rattle.irc_stage.specs.Loops.Listening.{conns_in, index_after, is_in, is_named};
+ghost use Rattle.irc_stage.specs.Loops.Listening.{without_conn, AreSo, BringsNone, Forgets};
+ghost use Rattle.irc_stage.specs.Loops.Listening.{IsListenerGone, IsListenerSeated, IsNobodys};
+ghost use Rattle.irc_stage.specs.Loops.Listening.{IsNoMove, Leaves, Sets, SetsAt, SetsIf};
 
 use crate::clients::{Client, ClientTable, number_of};
 use irc_names::{ChannelName, MAX_CHANNEL, Nick};

@@ -23,7 +23,8 @@ pub enum Origin<'a> {
 }
 
 impl Origin<'_> {
-    /// The connection of who acts, where it is a client: what it says in a channel is not passed on to it.
+    /// The connection of who acts, where it is a client: what it says in a channel is not passed on
+    /// to it.
     pub(crate) fn conn(self) -> Option<u64>
         ensures { result ≡ conn_of self.entry }
     {

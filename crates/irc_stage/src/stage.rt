@@ -1,4 +1,5 @@
-//! One server while an event is handled: what each step of a decision does to it, and what it puts out.
+//! One server while an event is handled: what each step of a decision does to it, and what it puts
+//! out.
 ghost use Rattle.std.specs.Prelude.{◌≡◌, None, [], ◌∷◌, ◌++◌, find, OnOk};
 ghost use Rattle.std.specs.Option.{option_copied};
 ghost use Rattle.irc_room.specs.After.{after};
@@ -16,7 +17,10 @@ ghost use Rattle.irc_stage.specs.Loops.Asking.{user_under, AnswersSpeaker};
 ghost use Rattle.irc_stage.specs.Loops.Hearing.{IsUnsaid};
 ghost use Rattle.irc_stage.specs.Loops.Listening.{index_after, AreSo, IsSaidIn, IsSaidTo};
 ghost use Rattle.irc_stage.specs.Loops.Speaking.{arrival_of, AreSpokenAt, IsSpoken};
-ghost use Rattle.irc_stage.specs.Loops.Stage.{clients_of, lines_on, machine_at, view_of, Applies, AreFitAt, CarriesOut, Changes, IsFit, IsFreeOf, IsIndexed, IsNoUser, IsReady, IsSound, Keeps, LeavesApart, Shows, ShowsTo, Takes, TakesAll};
+ghost use Rattle.irc_stage.specs.Loops.Stage.{clients_of, lines_on, machine_at, view_of, Applies};
+ghost use Rattle.irc_stage.specs.Loops.Stage.{AreFitAt, CarriesOut, Changes, IsFit, IsFreeOf};
+ghost use Rattle.irc_stage.specs.Loops.Stage.{IsIndexed, IsNoUser, IsReady, IsSound, Keeps};
+ghost use Rattle.irc_stage.specs.Loops.Stage.{LeavesApart, Shows, ShowsTo, Takes, TakesAll};
 
 use crate::audience::write;
 use crate::clients::{self, Client, ClientTable, number_of};
@@ -68,7 +72,8 @@ pub struct Stage {
 fn happen(room: &mut Room, ways: &mut Ways, effect: &Effect) -> Result<(), AllocError>
     requires sound { IsSound room.old }
     requires possible { IsPossible room.old.room effect.now }
-    ensures after { OnOk result (room.new ≡ record room.old { room = after room.old.room effect.now }) }
+    ensures after { OnOk result
+        (room.new ≡ record room.old { room = after room.old.room effect.now }) }
     ensures sound { OnOk result (IsSound room.new) }
     ensures nothing { OnOk result (KnowsNothing ways.new) }
     ensures at_hand { OnOk result (ways.new.links ≡ ways.old.links) }
@@ -86,9 +91,11 @@ fn happen(room: &mut Room, ways: &mut Ways, effect: &Effect) -> Result<(), Alloc
 fn follow(clients: &mut ClientTable, effect: &Effect) -> Result<(), AllocError>
     requires indexed { IsIndexed clients.old }
     requires apart { LeavesApart effect.now (clients_of clients.old) }
-    ensures ok { OnOk result (clients_of clients.new ≡ clients_after effect.now (clients_of clients.old)) }
+    ensures ok { OnOk result
+        (clients_of clients.new ≡ clients_after effect.now (clients_of clients.old)) }
     ensures indexed { OnOk result (IsIndexed clients.new) }
-    ensures by_nick { OnOk result (clients.new.by_nick ≡ index_after effect.now clients.old.by_nick) }
+    ensures by_nick { OnOk result
+        (clients.new.by_nick ≡ index_after effect.now clients.old.by_nick) }
 {
     match effect {
         Effect::Rename { nick, new } => clients::rename(clients, nick, new),
@@ -170,7 +177,8 @@ impl Stage {
         requires ready { IsReady self.old }
         requires no_user { IsNoUser (client_of (machine_at self.old) conn) }
         requires free { IsFreeOf client (machine_at self.old).clients }
-        ensures ok { OnOk result (machine_at self.new ≡ with_client (machine_at self.old) conn client) }
+        ensures ok { OnOk result
+            (machine_at self.new ≡ with_client (machine_at self.old) conn client) }
         ensures ready { OnOk result (IsReady self.new) }
         ensures keeps { Keeps self.old self.new }
     {
@@ -206,7 +214,8 @@ impl Stage {
         requires ready { IsReady self.old }
         requires fit { IsFit (machine_at self.old) effect.now }
         requires spoken { IsSpoken origin (machine_at self.old) effect.now }
-        ensures ok { OnOk result (Applies (arrival_of origin.entry) effect.now self.old out.old self.new out.new) }
+        ensures ok { OnOk result
+            (Applies (arrival_of origin.entry) effect.now self.old out.old self.new out.new) }
         ensures ready { OnOk result (IsReady self.new) }
         ensures keeps { Keeps self.old self.new }
         ensures grew { Grew out.old.outs out.new.outs }
@@ -228,7 +237,8 @@ impl Stage {
         send_on_all(&line, self.ways.links.as_slice(), out)
     }
 
-    /// An effect changes the room, and is shown to its viewers. An invitation of another server's user is that server's to keep.
+    /// An effect changes the room, and is shown to its viewers. An invitation of another server's
+    /// user is that server's to keep.
     pub(crate) fn change(
         &mut self,
         origin: Origin<'_>,
@@ -263,7 +273,8 @@ impl Stage {
         }
     }
 
-    /// An effect changes the room, and is shown to its viewers. What is said changes nothing, and there is the most of it: so it has ways of its own.
+    /// An effect changes the room, and is shown to its viewers. What is said changes nothing, and
+    /// there is the most of it: so it has ways of its own.
     fn show(
         &mut self,
         origin: Origin<'_>,
@@ -337,8 +348,8 @@ impl Stage {
         Ok(())
     }
 
-    /// The line of an effect, where it shows one, goes to all who see it, and it is known who of the
-    /// clients listens where when it has changed the room. The room is still to be changed.
+    /// The line of an effect, where it shows one, goes to all who see it, and it is known who of
+    /// the clients listens where when it has changed the room. The room is still to be changed.
     fn show_line(&mut self, effect: &Effect, out: &mut Batch) -> Result<(), AllocError>
         requires ready { IsReady self.old }
         requires fit { IsFit (machine_at self.old) effect.now }
@@ -404,7 +415,8 @@ impl Stage {
         requires ready { IsReady self.old }
         requires fit { AreFitAt (view_of self.old) steps.now }
         requires spoken { AreSpokenAt speaker.conn (view_of self.old) steps.now }
-        ensures ok { OnOk result (TakesAll speaker.entry steps.now self.old out.old self.new out.new) }
+        ensures ok { OnOk result
+            (TakesAll speaker.entry steps.now self.old out.old self.new out.new) }
         ensures ready { OnOk result (IsReady self.new) }
         ensures keeps { Keeps self.old self.new }
         ensures grew { Grew out.old.outs out.new.outs }
@@ -426,7 +438,8 @@ impl Stage {
         }
     }
 
-    /// What a client asks, if it asks something, is answered from the room as it is. Nothing is changed.
+    /// What a client asks, if it asks something, is answered from the room as it is. Nothing is
+    /// changed.
     ///
     /// # Errors
     /// Where memory runs out.
@@ -457,7 +470,8 @@ impl Stage {
         answer(&context, query, params, speaker.conn, out)
     }
 
-    /// A decision of a client is carried out: its steps, and then the client is closed where it says so.
+    /// A decision of a client is carried out: its steps, and then the client is closed where it
+    /// says so.
     ///
     /// # Errors
     /// Where memory runs out.

@@ -1,4 +1,5 @@
--- Rows in folded order of their names, seen as a table: a finite map whose keys are the folds (RFC 2812 section 2.2).
+-- Rows in folded order of their names, seen as a table: a finite map whose keys are the folds (RFC
+-- 2812 section 2.2).
 use Rattle.std.specs.Prelude.{ℕ, List, map, IsTrue}
 use Rattle.std.specs.Coded.{Coded, coded_ℕ, coded_list}
 use Rattle.std.specs.FinMap.{from_entries, is_sorted}

@@ -1,10 +1,12 @@
 //! A table by name in which no row moves all others.
-ghost use Rattle.std.specs.Prelude.{◌≡◌, ◌≤◌, None, IfNone, IfSome, OnOk, OnErr, IsOk, IsTrue, is_some, length};
+ghost use Rattle.std.specs.Prelude.{◌≡◌, ◌≤◌, None, IfNone, IfSome, OnOk, OnErr, IsOk, IsTrue};
+ghost use Rattle.std.specs.Prelude.{is_some, length};
 ghost use Rattle.std.specs.FinMap.{empty, keys, values};
 ghost use Rattle.std.specs.Option.{option_copied};
 ghost use Rattle.irc_names.specs.Fold.{key};
 ghost use Rattle.irc_names.specs.Tables.{row};
-ghost use Rattle.irc_tables.specs.TableChanges.{changed_at, passes_at, tried_at, with_value, without};
+ghost use Rattle.irc_tables.specs.TableChanges.{changed_at, passes_at, tried_at, with_value};
+ghost use Rattle.irc_tables.specs.TableChanges.{without};
 
 use crate::folded::Folded;
 use crate::table::{RowAttempt, RowChange};

@@ -1,12 +1,15 @@
 //! A table by name.
-ghost use Rattle.std.specs.Prelude.{◌≡◌, ℕ, Bool, Ok, Err, ◌<◌, ◌≤◌, Option, Some, None, Result, is_some, is_ok, IsTrue, OnOk, OnErr, IfOk, IsOk, map, length, if◌then◌else◌, IfNone, OnSome, vec_len, vec_capacity};
+ghost use Rattle.std.specs.Prelude.{◌≡◌, ℕ, Bool, Ok, Err, ◌<◌, ◌≤◌, Option, Some, None, Result};
+ghost use Rattle.std.specs.Prelude.{is_some, is_ok, IsTrue, OnOk, OnErr, IfOk, IsOk, map, length};
+ghost use Rattle.std.specs.Prelude.{if◌then◌else◌, IfNone, OnSome, vec_len, vec_capacity};
 ghost use Rattle.std.specs.Option.{option_copied, option_map};
 ghost use Rattle.std.specs.FinMap.{empty, entries, keys};
 ghost use Rattle.irc_names.specs.Fold.{key};
 ghost use Rattle.irc_names.specs.Tables.{row, alter, each, moved};
 ghost use Rattle.irc_tables.specs.FoldedRows.{table_of, IsInFoldedOrder, IsPlaceOf};
 ghost use Rattle.irc_tables.specs.RowViews.{row_entry, as_table};
-ghost use Rattle.irc_tables.specs.TableChanges.{changed_at, entry_at, passes_at, tried_at, with_value, without};
+ghost use Rattle.irc_tables.specs.TableChanges.{changed_at, entry_at, passes_at, tried_at};
+ghost use Rattle.irc_tables.specs.TableChanges.{with_value, without};
 
 use arrayvec::ArrayVec;
 use irc_names::{MAX_CHANNEL, compare, copied};
@@ -16,7 +19,8 @@ use std::marker::Model;
 /// A row of a table.
 #[derive(Drop)]
 pub struct Row<V> {
-    /// The name that it stands under. In a clause only its fold counts: it may have the spelling of any call that put the row there.
+    /// The name that it stands under. In a clause only its fold counts: it may have the spelling of
+    /// any call that put the row there.
     pub name: ArrayVec<u8, MAX_CHANNEL>,
     /// What stands there.
     pub value: V,
@@ -124,7 +128,8 @@ impl<V: Drop> NameTable<V> {
         self.rows.as_slice()
     }
 
-    /// Puts a value under a name, in place of what stands there. Where something does, it takes no memory.
+    /// Puts a value under a name, in place of what stands there. Where something does, it takes no
+    /// memory.
     ///
     /// # Errors
     /// Where memory runs out; nothing has changed then.
@@ -154,7 +159,8 @@ impl<V: Drop> NameTable<V> {
         }
     }
 
-    /// Puts what stands under a name under another, in place of what stands there. It takes no memory.
+    /// Puts what stands under a name under another, in place of what stands there. It takes no
+    /// memory.
     pub fn rename(&mut self, name: &[u8], new: &[u8])
         requires { length new.now ≤ MAX_CHANNEL }
         ensures { self.new ≡ moved (key name.now) (key new.now) (λ value. value) self.old }
@@ -165,7 +171,8 @@ impl<V: Drop> NameTable<V> {
         }
     }
 
-    /// Changes what stands under a name, or takes it out; where nothing does, nothing changes. It takes no memory.
+    /// Changes what stands under a name, or takes it out; where nothing does, nothing changes. It
+    /// takes no memory.
     pub fn change_at<C: RowChange<V>>(&mut self, name: &[u8], change: &C)
         ensures { self.new ≡ changed_at name.now (C.changed change.now) self.old }
     {
@@ -175,8 +182,8 @@ impl<V: Drop> NameTable<V> {
         }
     }
 
-    /// Tries a change of what stands under a name; where nothing does, nothing changes, and no memory is wanted. A change that takes
-    /// none is made.
+    /// Tries a change of what stands under a name; where nothing does, nothing changes, and no
+    /// memory is wanted. A change that takes none is made.
     ///
     /// # Errors
     /// Where memory runs out; nothing has changed then.
@@ -272,7 +279,8 @@ fn change_row<V: Drop, C: RowChange<V>>(
 )
     requires ordered { IsInFoldedOrder row_entry rows.old.items }
     requires at { IsPlaceOf row_entry rows.old.items (key name.now) (Ok place) }
-    ensures after { as_table rows.new ≡ changed_at name.now (C.changed change.now) (as_table rows.old) }
+    ensures after { as_table rows.new ≡ changed_at name.now (C.changed change.now)
+        (as_table rows.old) }
     ensures ordered { IsInFoldedOrder row_entry rows.new.items }
 {
     let stays = change.change(&mut rows[place].value);
@@ -290,9 +298,11 @@ fn try_row<V: Drop, C: RowAttempt<V>>(
 ) -> Result<(), AllocError>
     requires ordered { IsInFoldedOrder row_entry rows.old.items }
     requires at { IsPlaceOf row_entry rows.old.items (key name.now) (Ok place) }
-    ensures ok { OnOk result (as_table rows.new ≡ tried_at name.now (C.tried change.now) (as_table rows.old)) }
+    ensures ok { OnOk result
+        (as_table rows.new ≡ tried_at name.now (C.tried change.now) (as_table rows.old)) }
     ensures refused { OnErr result (as_table rows.new ≡ as_table rows.old) }
-    ensures sure { IsTrue (passes_at name.now (C.surely change.now) (as_table rows.old)) → IsOk result }
+    ensures sure { IsTrue (passes_at name.now (C.surely change.now) (as_table rows.old))
+        → IsOk result }
     ensures ordered { IsInFoldedOrder row_entry rows.new.items }
 {
     change.attempt(&mut rows[place].value)

@@ -1,5 +1,7 @@
 -- Some are let go, one after another.
-use Rattle.std.proofs.Common.{◌≡◌, ◌≢◌, ℕ, ◌+◌, ◌-◌, ◌<◌, ◌==◌, Bool, true, false, not, ◌&&◌, cond, nat_lt, Option, Some, None, List, length, get_or, refl, sym, ◌∙◌, ap, subst, arith}
+use Rattle.std.proofs.Common.{◌≡◌, ◌≢◌, ℕ, ◌+◌, ◌-◌, ◌<◌, ◌==◌, Bool, true, false, not, ◌&&◌, cond}
+use Rattle.std.proofs.Common.{nat_lt, Option, Some, None, List, length, get_or, refl, sym, ◌∙◌, ap}
+use Rattle.std.proofs.Common.{subst, arith}
 use Rattle.std.proofs.lemmas.Bool.{eqb-true, eqb-false}
 use Rattle.std.proofs.lemmas.List.{get_or-take, get_or-set_other}
 use Rattle.std.proofs.lemmas.Option.{slice_get-get_or}
@@ -10,12 +12,15 @@ use Rattle.std.specs.Option.{IsSome}
 use Rattle.irc_turns.specs.HeldBack.{HeldBack, held_still, held_at}
 use Rattle.irc_turns.specs.declared.holding.Held.{Held}
 use Rattle.irc_turns.specs.declared.talker.Talker.{Talker}
-use Rattle.irc_turns.specs.Numbered.{NumberedTalkers, talker_at, talker_changed_if, talker_changed_at, only, tried_again, asked_again, is_full_one, is_due, LetsOneGo}
+use Rattle.irc_turns.specs.Numbered.{NumberedTalkers, talker_at, talker_changed_if}
+use Rattle.irc_turns.specs.Numbered.{talker_changed_at, only, tried_again, asked_again, is_full_one}
+use Rattle.irc_turns.specs.Numbered.{is_due, LetsOneGo}
 use Rattle.irc_turns.specs.Talking.{held_no_more}
 
 -- ---- those before the place from which one was taken stay
 
-pub before_place : (xs : List Held) (i k : ℕ) (last d : Held) → k < i → i < length xs → get_or (swap_remove xs i last) k d ≡ get_or xs k d
+pub before_place : (xs : List Held) (i k : ℕ) (last d : Held) → k < i → i < length xs
+    → get_or (swap_remove xs i last) k d ≡ get_or xs k d
 before_place xs i k last d before within =
     get_or-take (length xs - 1) _ k d (omega arith) ∙ get_or-set_other xs i k _ d (apart k i before)
   where
@@ -25,8 +30,9 @@ before_place xs i k last d before within =
 -- ---- who is due
 
 -- whose time is not over, by a talker that takes bytes
-takes_bytes : (passed : ℕ) (talkers : NumberedTalkers) (held : Held) (by : ℕ) (b : Bool) → cond b (Some held.by) None ≡ Some by
-    → is_full_one (talker_at talkers by) ≡ false → not (b && is_full_one (talker_at talkers held.by)) ≡ true
+takes_bytes : (passed : ℕ) (talkers : NumberedTalkers) (held : Held) (by : ℕ) (b : Bool)
+    → cond b (Some held.by) None ≡ Some by → is_full_one (talker_at talkers by) ≡ false
+    → not (b && is_full_one (talker_at talkers held.by)) ≡ true
 takes_bytes passed talkers held by true one free = ap (λ o. not (is_full_of o)) one ∙ ap not free
   where
     is_full_of : Option ℕ → Bool
@@ -34,22 +40,27 @@ takes_bytes passed talkers held by true one free = ap (λ o. not (is_full_of o))
     is_full_of (Some number) = is_full_one (talker_at talkers number)
 takes_bytes passed talkers held by false one free = refl
 
-pub due_by_room : (talkers : NumberedTalkers) (place by : ℕ) (held : Held) → slice_get talkers.holding.held place ≡ Some held
-    → held_at talkers.holding place ≡ Some by → is_full_one (talker_at talkers by) ≡ false → is_due talkers held ≡ true
+pub due_by_room : (talkers : NumberedTalkers) (place by : ℕ) (held : Held)
+    → slice_get talkers.holding.held place ≡ Some held → held_at talkers.holding place ≡ Some by
+    → is_full_one (talker_at talkers by) ≡ false → is_due talkers held ≡ true
 due_by_room talkers place by held there one free =
     takes_bytes talkers.holding.passed talkers held by (nat_lt talkers.holding.passed held.until)
     (sym (ap (held_still talkers.holding.passed) there) ∙ one) free
 
-over : (talkers : NumberedTalkers) (held : Held) (b : Bool) → cond b (Some held.by) None ≡ None → not (b && is_full_one (talker_at talkers held.by)) ≡ true
+over : (talkers : NumberedTalkers) (held : Held) (b : Bool) → cond b (Some held.by) None ≡ None
+    → not (b && is_full_one (talker_at talkers held.by)) ≡ true
 over talkers held true none = cc none
 over talkers held false none = refl
 
-pub due_by_time : (talkers : NumberedTalkers) (place : ℕ) (held : Held) → slice_get talkers.holding.held place ≡ Some held
-    → held_at talkers.holding place ≡ None → is_due talkers held ≡ true
+pub due_by_time : (talkers : NumberedTalkers) (place : ℕ) (held : Held)
+    → slice_get talkers.holding.held place ≡ Some held → held_at talkers.holding place ≡ None
+    → is_due talkers held ≡ true
 due_by_time talkers place held there none =
-    over talkers held (nat_lt talkers.holding.passed held.until) (sym (ap (held_still talkers.holding.passed) there) ∙ none)
+    over talkers held (nat_lt talkers.holding.passed held.until)
+    (sym (ap (held_still talkers.holding.passed) there) ∙ none)
 
-in_time : (old : NumberedTalkers) (held : Held) (by : ℕ) (b : Bool) → cond b (Some held.by) None ≡ Some by → is_full_one (talker_at old by) ≡ true
+in_time : (old : NumberedTalkers) (held : Held) (by : ℕ) (b : Bool)
+    → cond b (Some held.by) None ≡ Some by → is_full_one (talker_at old by) ≡ true
     → not (b && is_full_one (talker_at old held.by)) ≡ false
 in_time old held by true one full = ap (λ o. not (is_full_of o)) one ∙ ap not full
   where
@@ -59,19 +70,23 @@ in_time old held by true one full = ap (λ o. not (is_full_of o)) one ∙ ap not
 in_time old held by false one full = cc one
 
 -- whoever is held still was not due before, since no talker has become full
-pub not_due : (old talkers : NumberedTalkers) (place by : ℕ) (d : Held) → place < length talkers.holding.held → held_at talkers.holding place ≡ Some by
-    → is_full_one (talker_at talkers by) ≡ true → ((number : ℕ) → is_full_one (talker_at talkers number) ≡ true → is_full_one (talker_at old number) ≡ true)
-    → talkers.holding.passed ≡ old.holding.passed → is_due old (get_or talkers.holding.held place d) ≡ false
+pub not_due : (old talkers : NumberedTalkers) (place by : ℕ) (d : Held)
+    → place < length talkers.holding.held → held_at talkers.holding place ≡ Some by → is_full_one
+    (talker_at talkers by) ≡ true → ((number : ℕ) → is_full_one (talker_at talkers number) ≡ true
+    → is_full_one (talker_at old number) ≡ true) → talkers.holding.passed ≡ old.holding.passed
+    → is_due old (get_or talkers.holding.held place d) ≡ false
 not_due old talkers place by d within one full fuller passed =
     let held = get_or talkers.holding.held place d in
     in_time old held by (nat_lt old.holding.passed held.until)
     (ap (λ p. cond (nat_lt p held.until) (Some held.by) None) (sym passed)
-    ∙ sym (ap (held_still talkers.holding.passed) (slice_get-get_or talkers.holding.held place d within)) ∙ one)
+    ∙ sym (ap (held_still talkers.holding.passed)
+    (slice_get-get_or talkers.holding.held place d within)) ∙ one)
     (fuller by full)
 
 -- ---- no talker becomes full
 
-written : (slab : Slab Talker) (number n : ℕ) (old new : Talker) → get slab number ≡ Some old → (new.is_full ≡ true → old.is_full ≡ true)
+written : (slab : Slab Talker) (number n : ℕ) (old new : Talker)
+    → get slab number ≡ Some old → (new.is_full ≡ true → old.is_full ≡ true)
     → is_full_one (get (with_value slab number new) n) ≡ true → is_full_one (get slab n) ≡ true
 written slab number n old new there keeps full =
     let changes = Updates-with_value slab number new (subst (λ o. IsSome o) (sym there) refl) in
@@ -79,45 +94,57 @@ written slab number n old new there keeps full =
       | true ↦ λ (e : (n == number) ≡ true).
           let same = eqb-true n number e in
           ap (λ k. is_full_one (get slab k)) same ∙ ap is_full_one there
-          ∙ keeps (sym (ap (λ k. is_full_one (get (with_value slab number new) k)) same ∙ ap is_full_one changes.changed) ∙ full)
-      | false ↦ λ (e : (n == number) ≡ false). ap is_full_one (sym (changes.others n (eqb-false n number e))) ∙ full
+          ∙ keeps (sym (ap (λ k. is_full_one (get (with_value slab number new) k)) same
+          ∙ ap is_full_one changes.changed) ∙ full)
+      | false ↦ λ (e : (n == number) ≡ false). ap is_full_one
+          (sym (changes.others n (eqb-false n number e))) ∙ full
     ] refl
 
-full_in : (change : Talker → Talker) (number n : ℕ) (slab : Slab Talker) (slot : Option Talker) → get slab number ≡ slot
-    → ((s : Talker) → (change s).is_full ≡ true → s.is_full ≡ true) → is_full_one (get (talker_changed_if change number slab slot) n) ≡ true
+full_in : (change : Talker → Talker) (number n : ℕ) (slab : Slab Talker) (slot : Option Talker)
+    → get slab number ≡ slot → ((s : Talker) → (change s).is_full ≡ true → s.is_full ≡ true)
+    → is_full_one (get (talker_changed_if change number slab slot) n) ≡ true
     → is_full_one (get slab n) ≡ true
 full_in change number n slab None there keeps full = full
-full_in change number n slab (Some talker) there keeps full = written slab number n talker (change talker) there (keeps talker) full
+full_in change number n slab (Some talker) there keeps full =
+    written slab number n talker (change talker) there (keeps talker) full
 
-pub fuller : (between after new : NumberedTalkers) (by who : ℕ) → after.by_number ≡ talker_changed_at tried_again by between.by_number
-    → new.by_number ≡ talker_changed_at held_no_more who after.by_number → (n : ℕ) → is_full_one (talker_at new n) ≡ true → is_full_one (talker_at between n) ≡ true
+pub fuller : (between after new : NumberedTalkers) (by who : ℕ)
+    → after.by_number ≡ talker_changed_at tried_again by between.by_number
+    → new.by_number ≡ talker_changed_at held_no_more who after.by_number → (n : ℕ)
+    → is_full_one (talker_at new n) ≡ true → is_full_one (talker_at between n) ≡ true
 fuller between after new by who tried asked n full =
     full_in tried_again by n between.by_number _ refl (λ s e. cc e)
     (ap (λ slab. is_full_one (get slab n)) (sym tried)
-    ∙ full_in held_no_more who n after.by_number _ refl (λ s e. e) (ap (λ slab. is_full_one (get slab n)) (sym asked) ∙ full))
+    ∙ full_in held_no_more who n after.by_number _ refl (λ s e. e)
+    (ap (λ slab. is_full_one (get slab n)) (sym asked) ∙ full))
 
 -- ---- one is let go
 
-holding_is : (h : HeldBack) (held : List Held) (passed : ℕ) → h.held ≡ held → h.passed ≡ passed → h ≡ record { held = held; passed = passed }
+holding_is : (h : HeldBack) (held : List Held) (passed : ℕ) → h.held ≡ held → h.passed ≡ passed
+    → h ≡ record { held = held; passed = passed }
 holding_is h held passed same_held same_passed =
-    ap (λ xs. record { held = xs; passed = h.passed }) same_held ∙ ap (λ p. record { held = held; passed = p }) same_passed
+    ap (λ xs. record { held = xs; passed = h.passed }) same_held
+    ∙ ap (λ p. record { held = held; passed = p }) same_passed
 
-pub gone : (between after new : NumberedTalkers) (holding : HeldBack) (place : ℕ) (held : Held) → slice_get between.holding.held place ≡ Some held
-    → is_due between held ≡ true → holding.held ≡ swap_remove between.holding.held place held → holding.passed ≡ between.holding.passed
-    → after ≡ only tried_again held.by (record between { holding = holding }) → new ≡ asked_again held.who after
-    → LetsOneGo between new place held
+pub gone : (between after new : NumberedTalkers) (holding : HeldBack) (place : ℕ) (held : Held)
+    → slice_get between.holding.held place ≡ Some held → is_due between held ≡ true → holding.held
+    ≡ swap_remove between.holding.held place held → holding.passed ≡ between.holding.passed
+    → after ≡ only tried_again held.by (record between { holding = holding })
+    → new ≡ asked_again held.who after → LetsOneGo between new place held
 gone between after new holding place held there due left passed tried asked = record {
   there = there;
   due = due;
   left =
       asked
       ∙ ap (λ (s : NumberedTalkers). asked_again held.who s) tried
-      ∙ ap (λ h. asked_again held.who (only tried_again held.by (record between { holding = h }))) (holding_is holding _ _ left passed);
+      ∙ ap (λ h. asked_again held.who (only tried_again held.by (record between { holding = h })))
+      (holding_is holding _ _ left passed);
 }
 
 -- ---- place by place
 
-pub one_further : (P : ℕ → Type 0) (place : ℕ) → ((k : ℕ) → k < place → P k) → P place → (k : ℕ) → k < place + 1 → P k
+pub one_further : (P : ℕ → Type 0) (place : ℕ) → ((k : ℕ) → k < place → P k) → P place → (k : ℕ)
+    → k < place + 1 → P k
 one_further P place before here k below =
     elim (k == place) as (λ b. (k == place) ≡ b → P k) [
       | true ↦ λ (e : (k == place) ≡ true). subst P (sym (eqb-true k place e)) here

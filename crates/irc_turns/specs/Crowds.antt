@@ -1,5 +1,6 @@
 -- How many connections are open from one address.
-use Rattle.std.specs.Prelude.{ℕ, Bool, true, not, if◌then◌else◌, nat_eq, nat_lt, List, [], ◌∷◌, ◌++◌, filter, count_by, Option, Some, None}
+use Rattle.std.specs.Prelude.{ℕ, Bool, true, not, if◌then◌else◌, nat_eq, nat_lt, List, [], ◌∷◌}
+use Rattle.std.specs.Prelude.{◌++◌, filter, count_by, Option, Some, None}
 use Rattle.std.specs.Net.Addr.{ipv6_bits, embedded_segments}
 use Rattle.std.specs.Option.{is_some}
 use Rattle.std.specs.declared.net.ip_addr.IpAddr.{IpAddr}
@@ -48,9 +49,13 @@ is_let_in crowd address = is_below (open_from (address_number address) crowd.com
 abbrev pub one_more_open : ℕ → IpAddr → Crowded → Crowded
 one_more_open number address crowd =
     if is_some crowd.most
-    then record crowd { comers = crowd.comers ++ record { number = number; address = address_number address } ∷ [] }
+    then record crowd {
+      comers = crowd.comers
+          ++ record { number = number; address = address_number address } ∷ [];
+    }
     else crowd
 
 -- the connection under a number is open no more
 abbrev pub open_without : ℕ → Crowded → Crowded
-open_without number crowd = record crowd { comers = filter (λ comer. not (nat_eq comer.number number)) crowd.comers }
+open_without number crowd =
+    record crowd { comers = filter (λ comer. not (nat_eq comer.number number)) crowd.comers }

@@ -1,5 +1,6 @@
 -- The front of bytes that is so many lines, as the protocol's lines are.
-use Rattle.std.specs.Prelude.{◌≡◌, ◌≤◌, ◌<◌, ℕ, Bool, true, false, ◌||◌, max, min, nat_lt, List, length, take, get_or}
+use Rattle.std.specs.Prelude.{◌≡◌, ◌≤◌, ◌<◌, ℕ, Bool, true, false, ◌||◌, max, min, nat_lt, List}
+use Rattle.std.specs.Prelude.{length, take, get_or}
 use Rattle.irc_line.specs.Bytes.{is_line_end}
 use Rattle.irc_line.specs.Lines.{lines}
 
@@ -7,10 +8,11 @@ use Rattle.irc_line.specs.Lines.{lines}
 abbrev pub lines_in : List ℕ → ℕ → ℕ
 lines_in bytes count = length (lines (take count bytes))
 
--- whether the byte at a place is of the front of so many lines, of which there is one at least: fewer have ended before it, or it ends a line
--- itself, be it an empty one
+-- whether the byte at a place is of the front of so many lines, of which there is one at least:
+-- fewer have ended before it, or it ends a line itself, be it an empty one
 abbrev pub is_in_front : ℕ → List ℕ → ℕ → Bool
-is_in_front wanted bytes place = nat_lt (lines_in bytes place) (max wanted 1) || is_line_end (get_or bytes place 0)
+is_in_front wanted bytes place =
+    nat_lt (lines_in bytes place) (max wanted 1) || is_line_end (get_or bytes place 0)
 
 -- so many bytes are the front of so many lines: all up to the first that is none of it
 pub record IsFront (wanted : ℕ) (bytes : List ℕ) (count : ℕ) : Type 0 where

@@ -17,12 +17,15 @@ nothing_waits = gathered 0 0 0
 abbrev pub much_for : Bool → ℕ
 much_for is_client = if is_client then 8192 else 262144
 
--- one of few bytes, where there were more within the last 16 turns, and which does not wait for 64 turns yet
+-- one of few bytes, where there were more within the last 16 turns, and which does not wait for 64
+-- turns yet
 abbrev pub is_put_off : Gathered → ℕ → ℕ → Bool
 is_put_off waiting turn bytes =
-    nat_lt bytes 4096 && (nat_le (turn - waiting.grown_at) 16 && (nat_eq waiting.bytes 0 || nat_lt (turn - waiting.since) 64))
+    nat_lt bytes 4096 && (nat_le (turn - waiting.grown_at) 16
+    && (nat_eq waiting.bytes 0 || nat_lt (turn - waiting.since) 64))
 
--- behind a turn that had so many bytes and has left some: they wait since this one where none did before, or where some of them went
+-- behind a turn that had so many bytes and has left some: they wait since this one where none did
+-- before, or where some of them went
 abbrev pub waits_behind : Gathered → ℕ → ℕ → ℕ → Gathered
 waits_behind waiting turn bytes left = record {
   bytes = left;

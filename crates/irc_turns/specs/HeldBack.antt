@@ -1,5 +1,6 @@
 -- Who is held back, and for how long.
-use Rattle.std.specs.Prelude.{ℕ, ◌+◌, min, max, nat_lt, if◌then◌else◌, List, [], ◌∷◌, ◌++◌, Option, Some, None}
+use Rattle.std.specs.Prelude.{ℕ, ◌+◌, min, max, nat_lt, if◌then◌else◌, List, [], ◌∷◌, ◌++◌, Option}
+use Rattle.std.specs.Prelude.{Some, None}
 use Rattle.std.specs.List.{slice_get}
 use Rattle.irc_turns.specs.declared.holding.Held.{Held}
 
@@ -17,11 +18,15 @@ waited_longer passed waited = min (passed + waited) 18446744073709551615
 
 -- a round in which so long was waited counts as one millisecond at least
 abbrev pub round_passed : HeldBack → ℕ → HeldBack
-round_passed holding waited = record holding { passed = waited_longer holding.passed (max waited 1) }
+round_passed holding waited =
+    record holding { passed = waited_longer holding.passed (max waited 1) }
 
 -- a client behind the others, by a socket that is full, for 250 milliseconds
 abbrev pub held_too : HeldBack → ℕ → ℕ → HeldBack
-held_too holding who by = record holding { held = holding.held ++ record { who = who; by = by; until = waited_longer holding.passed 250 } ∷ [] }
+held_too holding who by = record holding {
+  held = holding.held
+      ++ record { who = who; by = by; until = waited_longer holding.passed 250 } ∷ [];
+}
 
 -- by whom somebody is held whose time is not over
 abbrev pub held_still : ℕ → Option Held → Option ℕ

@@ -1,5 +1,6 @@
 -- Those who talk to the server, by their numbers, and the queue of those that are to be reported.
-use Rattle.std.specs.Prelude.{◌≡◌, ◌⊎◌, ℕ, Bool, true, false, not, ◌&&◌, ◌||◌, ◌-◌, nat_eq, nat_lt, if◌then◌else◌, Option, Some, None, is_none, List, [], ◌∷◌}
+use Rattle.std.specs.Prelude.{◌≡◌, ◌⊎◌, ℕ, Bool, true, false, not, ◌&&◌, ◌||◌, ◌-◌, nat_eq, nat_lt}
+use Rattle.std.specs.Prelude.{if◌then◌else◌, Option, Some, None, is_none, List, [], ◌∷◌}
 use Rattle.std.specs.List.{slice_get, swap_remove}
 use Rattle.slab.specs.Slab.{Slab, get, with_value, Updates}
 use Rattle.irc_turns.specs.declared.round.Round.{Round}
@@ -12,7 +13,9 @@ use Rattle.irc_turns.specs.declared.talkers.Report.TheVariants as report
 use Rattle.irc_turns.specs.HeldBack.{HeldBack, held_too}
 use Rattle.irc_turns.specs.declared.holding.Held.{Held}
 use Rattle.irc_turns.specs.Queues.{stands_in, queued_behind, is_first}
-use Rattle.irc_turns.specs.Talking.{new_talker, is_asked, is_stuck, may_take_more, is_put_off, written, takes_again, told_so, turn_over, held_back, held_no_more}
+use Rattle.irc_turns.specs.Talking.{new_talker, is_asked, is_stuck, may_take_more, is_put_off}
+use Rattle.irc_turns.specs.Talking.{written, takes_again, told_so, turn_over, held_back}
+use Rattle.irc_turns.specs.Talking.{held_no_more}
 
 -- the talkers, the numbers of those that are to be reported, who is held back, and how many came
 pub record NumberedTalkers : Type 0 where
@@ -38,7 +41,8 @@ SameButQueue old new = new ≡ record old { queue = new.queue }
 
 -- a number has a new talker, with the count of all for its serial; the others stay
 abbrev pub IsTalkerAdded : Bool → NumberedTalkers → NumberedTalkers → ℕ → Type 0
-IsTalkerAdded is_client old new number = Updates old.by_number new.by_number number (Some (new_talker is_client new.count))
+IsTalkerAdded is_client old new number =
+    Updates old.by_number new.by_number number (Some (new_talker is_client new.count))
 
 abbrev pub talker_changed_if : (Talker → Talker) → ℕ → Slab Talker → Option Talker → Slab Talker
 talker_changed_if change number slab None = slab
@@ -49,7 +53,8 @@ abbrev pub talker_changed_at : (Talker → Talker) → ℕ → Slab Talker → S
 talker_changed_at change number slab = talker_changed_if change number slab (get slab number)
 
 abbrev pub only : (Talker → Talker) → ℕ → NumberedTalkers → NumberedTalkers
-only change number talkers = record talkers { by_number = talker_changed_at change number talkers.by_number }
+only change number talkers =
+    record talkers { by_number = talker_changed_at change number talkers.by_number }
 
 -- one that was full is tried again
 abbrev pub tried_again : Talker → Talker
@@ -62,7 +67,8 @@ is_told told (Some talker) = takes_again talker told || is_asked (told_so talker
 
 -- the queue then
 abbrev pub queue_told : Told → ℕ → NumberedTalkers → List ℕ
-queue_told told number talkers = queued_if (is_told told (talker_at talkers number)) number talkers.queue
+queue_told told number talkers =
+    queued_if (is_told told (talker_at talkers number)) number talkers.queue
 
 abbrev pub is_asked_behind : Told → Option Talker → Bool
 is_asked_behind told None = false
@@ -89,7 +95,8 @@ is_asked_one None = false
 is_asked_one (Some talker) = is_asked talker
 
 abbrev pub queue_asked : ℕ → NumberedTalkers → List ℕ
-queue_asked number talkers = queued_if (is_asked_one (talker_at talkers number)) number talkers.queue
+queue_asked number talkers =
+    queued_if (is_asked_one (talker_at talkers number)) number talkers.queue
 
 -- ---- writes
 
@@ -97,10 +104,12 @@ abbrev pub put_off_one : ℕ → ℕ → Bool → Option Talker → Option Bool
 put_off_one turn all may_wait None = None
 put_off_one turn all may_wait (Some talker) = Some (is_put_off talker turn all may_wait)
 
--- whether a write of so many bytes in all waits; that of who is next to be reported waits for nothing but its socket
+-- whether a write of so many bytes in all waits; that of who is next to be reported waits for
+-- nothing but its socket
 abbrev pub put_off_at : NumberedTalkers → Round → ℕ → ℕ → Option Bool
 put_off_at talkers round number all =
-    put_off_one round.turn all (round.may_wait && not (is_first number talkers.queue)) (talker_at talkers number)
+    put_off_one round.turn all (round.may_wait && not (is_first number talkers.queue))
+    (talker_at talkers number)
 
 -- behind a write, which took so many bytes, or failed, one that is to be asked is reported
 abbrev pub is_asked_then : Round → ℕ → Option ℕ → Option Talker → Bool
@@ -111,12 +120,14 @@ abbrev pub queue_written : Round → ℕ → Option ℕ → ℕ → NumberedTalk
 queue_written round all taken number talkers =
     queued_if (is_asked_then round all taken (talker_at talkers number)) number talkers.queue
 
--- what the round knows of it: how much more waits than before, whether its socket is stuck, and whether a wait would be too long, since what
--- others are told of a failure is yet to be written, or bytes wait for a socket that takes some
+-- what the round knows of it: how much more waits than before, whether its socket is stuck, and
+-- whether a wait would be too long, since what others are told of a failure is yet to be written,
+-- or bytes wait for a socket that takes some
 abbrev pub round_behind : ℕ → ℕ → Option ℕ → Round → Option Talker → Round
 round_behind number all taken round None = round
 round_behind number all taken round (Some talker) =
-    more_noted (wait_more round number (all - talker.waiting.bytes) (is_stuck (written round.turn all taken talker)))
+    more_noted (wait_more round number (all - talker.waiting.bytes)
+    (is_stuck (written round.turn all taken talker)))
     (is_none taken || may_take_more (written round.turn all taken talker))
 
 -- ---- marks
@@ -141,7 +152,8 @@ is_full_one (Some talker) = talker.is_full
 abbrev pub turn_ended : Round → Option ℕ → NumberedTalkers → NumberedTalkers
 turn_ended round None talkers = talkers
 turn_ended round (Some reader) talkers =
-    only (λ talker. turn_over talker round.answered round.shown (mark_of_one talkers round.filled)) reader talkers
+    only (λ talker. turn_over talker round.answered round.shown (mark_of_one talkers round.filled))
+    reader talkers
 
 -- ---- who is held back
 
@@ -153,18 +165,21 @@ is_full_yet mark (Some talker) = talker.is_full && nat_eq talker.serial mark.ser
 abbrev pub filled_by_mark : NumberedTalkers → Talker → Option Mark → Option ℕ
 filled_by_mark talkers talker None = None
 filled_by_mark talkers talker (Some mark) =
-    if is_full_yet mark (talker_at talkers mark.number) && (is_asked talker && not talker.was_held) then Some mark.number else None
+    if is_full_yet mark (talker_at talkers mark.number) && (is_asked talker && not talker.was_held)
+    then Some mark.number else None
 
 abbrev pub filled_by_one : NumberedTalkers → Option Talker → Option ℕ
 filled_by_one talkers None = None
 filled_by_one talkers (Some talker) = filled_by_mark talkers talker talker.fills
 
--- whom a client that would be asked has filled, and who takes no bytes; but one that was let go is asked first
+-- whom a client that would be asked has filled, and who takes no bytes; but one that was let go is
+-- asked first
 abbrev pub filled_by : NumberedTalkers → ℕ → Option ℕ
 filled_by talkers number = filled_by_one talkers (talker_at talkers number)
 
 abbrev pub held_by : ℕ → ℕ → NumberedTalkers → NumberedTalkers
-held_by by number talkers = record (only held_back number talkers) { holding = held_too talkers.holding number by }
+held_by by number talkers =
+    record (only held_back number talkers) { holding = held_too talkers.holding number by }
 
 -- it is held back by whom it has filled; or not, where memory runs out
 abbrev pub IsHeldBy : Option ℕ → ℕ → NumberedTalkers → NumberedTalkers → Type 0
@@ -176,7 +191,8 @@ IsHeldBy (Some by) number old new = (new ≡ held_by by number old) ⊎ (new ≡
 -- one that is not asked may take bytes, since it stood in the queue
 abbrev pub talker_report : ℕ → Option Talker → Option Report
 talker_report number None = None
-talker_report number (Some talker) = Some (if is_asked talker then report.Readable number else report.Writable number)
+talker_report number (Some talker) =
+    Some (if is_asked talker then report.Readable number else report.Writable number)
 
 -- what it has to say is heard
 abbrev pub talker_heard : Talker → Talker
@@ -186,19 +202,25 @@ talker_heard talker =
 -- the client that is read in the turn
 abbrev pub turn_reader : ℕ → Option Talker → Option ℕ → Option ℕ
 turn_reader number None reader = reader
-turn_reader number (Some talker) reader = if is_asked talker && talker.is_client then Some number else reader
+turn_reader number (Some talker) reader = if is_asked talker && talker.is_client then Some number
+    else reader
 
 -- it has left the queue, is held back if it is to be, and is reported as it stands then
-pub record IsReported (number : ℕ) (old new : NumberedTalkers) (round : Round) (result : Option Report) (round_after : Round) : Type 0 where
+pub record IsReported (number : ℕ) (old new : NumberedTalkers) (round : Round)
+    (result : Option Report) (round_after : Round) : Type 0 where
   pub held : NumberedTalkers
   pub is_held : IsHeldBy (filled_by old number) number (record old { queue = new.queue }) held
   pub result_is : result ≡ talker_report number (talker_at held number)
   pub left : new ≡ only talker_heard number held
-  pub reader_is : round_after ≡ record round { reader = turn_reader number (talker_at held number) round.reader }
+  pub reader_is : round_after
+      ≡ record round { reader = turn_reader number (talker_at held number) round.reader }
 
-abbrev pub ReportsOf : List ℕ → NumberedTalkers → NumberedTalkers → Round → Option Report → Round → Type 0
-ReportsOf [] old new round result round_after = (result ≡ None) × (SameButQueue old new × (round_after ≡ round))
-ReportsOf (number ∷ behind) old new round result round_after = IsReported number old new round result round_after
+abbrev pub ReportsOf : List ℕ → NumberedTalkers → NumberedTalkers → Round → Option Report → Round
+    → Type 0
+ReportsOf [] old new round result round_after =
+    (result ≡ None) × (SameButQueue old new × (round_after ≡ round))
+ReportsOf (number ∷ behind) old new round result round_after =
+    IsReported number old new round result round_after
 
 -- the first of the queue is reported; where none is queued, nothing is
 abbrev pub ReportsFirst : NumberedTalkers → NumberedTalkers → Round → Option Report → Round → Type 0
@@ -208,7 +230,8 @@ ReportsFirst old new round result round_after = ReportsOf old.queue old new roun
 
 -- the time is over, or the talker takes bytes again or is gone
 abbrev pub is_due : NumberedTalkers → Held → Bool
-is_due talkers held = not (nat_lt talkers.holding.passed held.until && is_full_one (talker_at talkers held.by))
+is_due talkers held =
+    not (nat_lt talkers.holding.passed held.until && is_full_one (talker_at talkers held.by))
 
 -- the last takes the place of who is let go
 abbrev pub let_go_at : ℕ → Held → HeldBack → HeldBack
@@ -217,7 +240,8 @@ let_go_at place held holding = record holding { held = swap_remove holding.held 
 -- the talker that was full is tried again, and who was held is reported, if it has something to say
 abbrev pub let_go_one : ℕ → Held → NumberedTalkers → NumberedTalkers
 let_go_one place held talkers =
-    record (asked_again held.who (only tried_again held.by talkers)) { holding = let_go_at place held talkers.holding }
+    record (asked_again held.who (only tried_again held.by talkers))
+    { holding = let_go_at place held talkers.holding }
 
 -- whoever is held at a place, and is due, is let go
 pub record LetsOneGo (old new : NumberedTalkers) (place : ℕ) (held : Held) : Type 0 where
@@ -228,4 +252,5 @@ pub record LetsOneGo (old new : NumberedTalkers) (place : ℕ) (held : Held) : T
 -- some are let go, one after another
 pub data LetsGo (old : NumberedTalkers) : NumberedTalkers → Type 0 where
   nobody : LetsGo old old
-  one_more : (between new : NumberedTalkers) (place : ℕ) (held : Held) → LetsGo old between → LetsOneGo between new place held → LetsGo old new
+  one_more : (between new : NumberedTalkers) (place : ℕ) (held : Held) → LetsGo old between
+      → LetsOneGo between new place held → LetsGo old new

@@ -1,5 +1,7 @@
 -- When a server is called again.
-use Rattle.std.specs.Prelude.{ℕ, Bool, true, false, not, ◌&&◌, ◌-◌, ◌*◌, min, nat_eq, nat_le, nat_lt, if◌then◌else◌, Option, Some, None, is_none, is_some, List, length, ◌+◌, set}
+use Rattle.std.specs.Prelude.{ℕ, Bool, true, false, not, ◌&&◌, ◌-◌, ◌*◌, min, nat_eq, nat_le}
+use Rattle.std.specs.Prelude.{nat_lt, if◌then◌else◌, Option, Some, None, is_none, is_some, List}
+use Rattle.std.specs.Prelude.{length, ◌+◌, set}
 use Rattle.std.specs.List.{slice_get}
 use Rattle.irc_turns.specs.declared.retries.Retries.{Retries}
 use Rattle.irc_turns.specs.declared.retry.Retry.{Retry}
@@ -26,9 +28,15 @@ call_begun row comers = record row { is_calling = true; link = None; comers = co
 abbrev pub call_reached : Retry → ℕ → Retry
 call_reached row link = record row { is_calling = false; link = Some link }
 
--- a call that has failed, or its link that has ended: it may have crossed another where a server has connected meanwhile
+-- a call that has failed, or its link that has ended: it may have crossed another where a server
+-- has connected meanwhile
 abbrev pub call_ended : Retry → ℕ → Retry
-call_ended row comers = record row { has_crossed = not (nat_eq row.comers comers); is_calling = false; link = None; since = None }
+call_ended row comers = record row {
+  has_crossed = not (nat_eq row.comers comers);
+  is_calling = false;
+  link = None;
+  since = None;
+}
 
 -- no call is under way, and no link of one is open
 abbrev pub is_free : Retry → Bool
@@ -38,7 +46,8 @@ is_free row = not row.is_calling && is_none row.link
 abbrev pub later_by : ℕ → ℕ → ℕ
 later_by now waited = min (now + waited) 18446744073709551615
 
--- so long is waited, and twice as long by who yields behind a call that has crossed another, as far as a number goes
+-- so long is waited, and twice as long by who yields behind a call that has crossed another, as far
+-- as a number goes
 abbrev pub wait_after : ℕ → Bool → ℕ
 wait_after after yields = if yields then min (after * 2) 18446744073709551615 else after
 
@@ -127,7 +136,8 @@ is_due_now retries is_known yields place =
 -- a place, if its server is to be called now
 abbrev pub due_place : Retries → Bool → Bool → Option ℕ → Option ℕ
 due_place retries is_known yields None = None
-due_place retries is_known yields (Some place) = if is_due_now retries is_known yields place then Some place else None
+due_place retries is_known yields (Some place) = if is_due_now retries is_known yields place
+    then Some place else None
 
 -- what is known of a place then
 abbrev pub seen_at : Retries → Bool → Option ℕ → List Retry

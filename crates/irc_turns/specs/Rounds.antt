@@ -1,5 +1,6 @@
 -- A round, and the turn at hand.
-use Rattle.std.specs.Prelude.{ℕ, Bool, false, not, ◌&&◌, ◌||◌, ◌+◌, ◌-◌, ◌%◌, min, nat_eq, nat_lt, if◌then◌else◌, Option, Some, None}
+use Rattle.std.specs.Prelude.{ℕ, Bool, false, not, ◌&&◌, ◌||◌, ◌+◌, ◌-◌, ◌%◌, min, nat_eq, nat_lt}
+use Rattle.std.specs.Prelude.{if◌then◌else◌, Option, Some, None}
 use Rattle.irc_turns.specs.declared.round.Round.{Round}
 
 -- before the first round, and before turn 65
@@ -24,7 +25,12 @@ arrivals_after arrivals = (arrivals + 1) % 18446744073709551616
 -- a round begins, with so many sockets: it is quiet where nobody has come
 abbrev pub round_begun : Round → ℕ → Bool → Round
 round_begun round left has_come =
-    record round { left = left; is_quiet = not has_come; arrivals = if has_come then arrivals_after round.arrivals else round.arrivals }
+    record round {
+      left = left;
+      is_quiet = not has_come;
+      arrivals = if has_come
+          then arrivals_after round.arrivals else round.arrivals;
+    }
 
 -- a sum of which no more is told than that it is as large as a number can be
 abbrev pub at_most_word : ℕ → ℕ
@@ -33,15 +39,22 @@ at_most_word sum = min sum 18446744073709551615
 -- a turn begins: nobody is read in it yet, and nothing has come of it
 abbrev pub turn_begun : Round → Round
 turn_begun round =
-    record round { turn = at_most_word (round.turn + 1); reader = None; answered = 0; shown = 0; filled = None; has_more = false }
+    record round {
+      turn = at_most_word (round.turn + 1);
+      reader = None;
+      answered = 0;
+      shown = 0;
+      filled = None;
+      has_more = false;
+    }
 
 -- whether it is the client that is read
 abbrev pub is_one : ℕ → Option ℕ → Bool
 is_one number None = false
 is_one number (Some other) = nat_eq other number
 
--- so many bytes more wait for a socket: its reader's own, which are its answer, or another's, to whom they are shown; that one is filled if it is
--- stuck, and there are any
+-- so many bytes more wait for a socket: its reader's own, which are its answer, or another's, to
+-- whom they are shown; that one is filled if it is stuck, and there are any
 abbrev pub wait_more : Round → ℕ → ℕ → Bool → Round
 wait_more round number more is_stuck =
     if is_one number round.reader
@@ -65,8 +78,8 @@ is_round_over round has_arrivals = nat_eq round.left 0 && not has_arrivals
 abbrev pub one_reported : Round → Round
 one_reported round = record round { left = round.left - 1 }
 
--- whether another turn follows soon: of this round; or of the next one, where somebody stands in the
--- queue, and nobody came for whom that would be late
+-- whether another turn follows soon: of this round; or of the next one, where somebody stands in
+-- the queue, and nobody came for whom that would be late
 abbrev pub next_turn_noted : Round → Bool → Bool → Round
 next_turn_noted round has_arrivals is_waiting =
     record round {

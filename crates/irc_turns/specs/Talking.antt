@@ -1,8 +1,11 @@
 -- One that talks to the server, a client or a link: what is asked of it, what is told of it, and
 -- what a turn leaves of it.
-use Rattle.std.specs.Prelude.{◌≡◌, ◌≤◌, ◌⊎◌, ⊤, ℕ, Bool, true, false, not, ◌&&◌, ◌||◌, ◌-◌, nat_eq, nat_lt, if◌then◌else◌, Option, Some, None, List, [], ◌++◌, length, take, drop}
+use Rattle.std.specs.Prelude.{◌≡◌, ◌≤◌, ◌⊎◌, ⊤, ℕ, Bool, true, false, not, ◌&&◌, ◌||◌, ◌-◌, nat_eq}
+use Rattle.std.specs.Prelude.{nat_lt, if◌then◌else◌, Option, Some, None, List, [], ◌++◌, length}
+use Rattle.std.specs.Prelude.{take, drop}
 use Rattle.irc_turns.specs.Fronts.{GivesLines, IsFront}
-use Rattle.irc_turns.specs.Gathering.{nothing_waits, much_for, waits_behind, is_put_off as waits_for_more}
+use Rattle.irc_turns.specs.Gathering.{nothing_waits, much_for, waits_behind}
+use Rattle.irc_turns.specs.Gathering.{is_put_off as waits_for_more}
 use Rattle.irc_turns.specs.Pacing.{at_first, at_rest, at_turn, behind_turn, paced_lines}
 use Rattle.irc_turns.specs.declared.talker.Mark.{Mark}
 use Rattle.irc_turns.specs.declared.talker.Reading.{Reading}
@@ -32,7 +35,8 @@ new_talker is_client serial = record {
 
 -- it has something to say, and is no client that is held back or has not taken its answers
 abbrev pub is_asked : Talker → Bool
-is_asked talker = talker.is_readable && not (talker.is_client && (talker.is_held || talker.is_behind))
+is_asked talker =
+    talker.is_readable && not (talker.is_client && (talker.is_held || talker.is_behind))
 
 -- it takes bytes, and some wait
 abbrev pub may_take_more : Talker → Bool
@@ -62,10 +66,12 @@ told_so talker told = record talker {
 
 -- ---- its turns
 
--- its pace goes by the turn where something of it is left; whom it has filled is known until its next turn
+-- its pace goes by the turn where something of it is left; whom it has filled is known until its
+-- next turn
 abbrev pub turn_over : Talker → ℕ → ℕ → Option Mark → Talker
 turn_over talker answered shown filled = record talker {
-  pace = if nat_eq 0 (length talker.rest) then talker.pace else behind_turn talker.pace answered shown;
+  pace =
+      if nat_eq 0 (length talker.rest) then talker.pace else behind_turn talker.pace answered shown;
   fills = filled;
 }
 

@@ -1,5 +1,6 @@
 -- How many milliseconds to wait for something to do.
-use Rattle.std.specs.Prelude.{ℕ, Bool, true, false, ◌*◌, min, nat_eq, if◌then◌else◌, Option, Some, None}
+use Rattle.std.specs.Prelude.{ℕ, Bool, true, false, ◌*◌, min, nat_eq, if◌then◌else◌, Option, Some}
+use Rattle.std.specs.Prelude.{None}
 
 -- none, where there is something to do; as many as a server asks for that is to be called again; 10
 -- while somebody is held back; and else 100

@@ -1,7 +1,8 @@
 //! Who waits at a door, and how many are taken there before others have their turn.
 ghost use Rattle.std.specs.Prelude.{◌≡◌};
 
-/// How many connections are taken at a door before those that are there, and the other door, have their turn again.
+/// How many connections are taken at a door before those that are there, and the other door, have
+/// their turn again.
 const ARRIVALS_A_ROUND: usize = 16;
 
 /// Whether connections wait at a door. It is asked for one only while some may.
@@ -11,12 +12,15 @@ pub struct Arrivals {
     pub may_have: bool,
     /// How many are left of this round.
     pub left: usize,
-    /// Whether one could not be taken, as where the process has no descriptor left: asking again at once would spin.
+    /// Whether one could not be taken, as where the process has no descriptor left: asking again at
+    /// once would spin.
     pub is_resting: bool,
 }
 
 impl Arrivals {
-    ghost use Rattle.irc_turns.specs.Arriving.{nobody_waits, may_be_taken, round_of_arrivals, knocked, woken, one_taken, none_waits, none_can_be_taken};
+    ghost use Rattle.irc_turns.specs.Arriving.{nobody_waits, may_be_taken, round_of_arrivals};
+    ghost use Rattle.irc_turns.specs.Arriving.{knocked, woken, one_taken, none_waits};
+    ghost use Rattle.irc_turns.specs.Arriving.{none_can_be_taken};
 
     /// Nobody is known to wait, and no round has begun.
     pub fn new() -> Self

@@ -63,7 +63,8 @@ impl Crowd {
             .count()
     }
 
-    /// A connection from an address is open, under a number. Without a limit it is not noted. Tells whether there was memory for it.
+    /// A connection from an address is open, under a number. Without a limit it is not noted. Tells
+    /// whether there was memory for it.
     pub fn note(&mut self, number: u64, address: IpAddr) -> bool
         ensures noted { result ≡ true → self.new ≡ one_more_open number address self.old }
         ensures none { result ≡ false → self.new ≡ self.old }
@@ -83,7 +84,8 @@ impl Crowd {
     }
 }
 
-/// The number of an address. One of IPv4 has that of its mapped address of IPv6 (RFC 4291 section 2.5.5.2), and so counts as this.
+/// The number of an address. One of IPv4 has that of its mapped address of IPv6 (RFC 4291 section
+/// 2.5.5.2), and so counts as this.
 fn number_of(address: IpAddr) -> u128
     ensures { result ≡ address_number address }
 {

@@ -23,8 +23,8 @@ pub struct Held {
 #[derive(Drop)]
 pub struct Holding {
     held: Vec<Held, Global>,
-    /// How many milliseconds have passed, as far as is known: a wait that nothing has ended has lasted as long as it was to, and of each other
-    /// round no more is known than that it was one.
+    /// How many milliseconds have passed, as far as is known: a wait that nothing has ended has
+    /// lasted as long as it was to, and of each other round no more is known than that it was one.
     passed: u64,
 }
 

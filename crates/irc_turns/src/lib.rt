@@ -1,5 +1,6 @@
-//! Whose turn is next, how much one takes, and which call is due: rounds, gathered writes, paces, what was read, who talks, who is held back, who is let
-//! in, and who is called again. Nothing here knows a socket.
+//! Whose turn is next, how much one takes, and which call is due: rounds, gathered writes, paces,
+//! what was read, who talks, who is held back, who is let in, and who is called again. Nothing here
+//! knows a socket.
 #![tactic(auto)]
 
 mod arrivals;

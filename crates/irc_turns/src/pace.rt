@@ -1,10 +1,12 @@
 //! How many lines of a client one turn takes.
 //!
-//! What a line costs the server does not show at the wire, and there is no clock to be had. What shows is whether somebody has come meanwhile.
-//! So a client gets few lines a turn, and more of them only while nobody comes: who comes then waits for a small part of the time in which
-//! nobody did.
+//! What a line costs the server does not show at the wire, and there is no clock to be had. What
+//! shows is whether somebody has come meanwhile.
+//! So a client gets few lines a turn, and more of them only while nobody comes: who comes then
+//! waits for a small part of the time in which nobody did.
 ghost use Rattle.std.specs.Prelude.{◌≡◌};
-ghost use Rattle.irc_turns.specs.Pacing.{at_first, at_rest, slowed, paced_lines, at_turn, behind_turn};
+ghost use Rattle.irc_turns.specs.Pacing.{at_first, at_rest, slowed, paced_lines, at_turn};
+ghost use Rattle.irc_turns.specs.Pacing.{behind_turn};
 
 use std::marker::Model;
 
@@ -17,10 +19,12 @@ const MOST: usize = 32;
 /// Behind how many turns in which nobody came a turn takes twice as many.
 const QUIET_TURNS: usize = 32;
 
-/// So many bytes for a line show that a turn's time goes into what it puts out: the next one takes twice as many at once.
+/// So many bytes for a line show that a turn's time goes into what it puts out: the next one takes
+/// twice as many at once.
 const SHOWN: usize = 512;
 
-/// Who is answered so many bytes in a turn is asked line by line, so that they can be taken before the next are made.
+/// Who is answered so many bytes in a turn is asked line by line, so that they can be taken before
+/// the next are made.
 const ANSWERED: usize = 4096;
 
 /// How many lines of a client one turn takes.
@@ -63,7 +67,8 @@ impl Pace {
         self.is_idle = true;
     }
 
-    /// How many lines the turn at hand takes, where somebody has come so often so far: just one, where somebody has come since the last.
+    /// How many lines the turn at hand takes, where somebody has come so often so far: just one,
+    /// where somebody has come since the last.
     pub fn lines(&mut self, arrivals: u64) -> usize
         ensures lines { result ≡ paced_lines self.old arrivals }
         ensures turn { self.new ≡ at_turn self.old arrivals }
@@ -79,7 +84,8 @@ impl Pace {
         self.lines
     }
 
-    /// A turn has taken all the lines that it might: the client was answered so many bytes, and so many were put out to others.
+    /// A turn has taken all the lines that it might: the client was answered so many bytes, and so
+    /// many were put out to others.
     pub fn note(&mut self, answered: usize, shown: usize)
         ensures { self.new ≡ behind_turn self.old answered shown }
     {

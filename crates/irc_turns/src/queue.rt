@@ -1,13 +1,15 @@
 //! Numbers in a queue, each once.
 ghost use Rattle.std.specs.Prelude.{◌≡◌, ◌≤◌, ◌<◌, ◌++◌, [], length, drop, OnOk};
 ghost use Rattle.std.specs.Option.{option_to_list};
-ghost use Rattle.irc_turns.specs.Queues.{stands_in, is_marked, queued_behind, queue_without, turned_queue, is_first};
+ghost use Rattle.irc_turns.specs.Queues.{stands_in, is_marked, queued_behind, queue_without};
+ghost use Rattle.irc_turns.specs.Queues.{turned_queue, is_first};
 
 use std::alloc::{AllocError, Global};
 use std::collections::VecDeque;
 use std::marker::Model;
 
-/// Numbers in a queue, each once. Room is made ahead, so that whoever has room is queued without memory.
+/// Numbers in a queue, each once. Room is made ahead, so that whoever has room is queued without
+/// memory.
 #[derive(Drop)]
 pub(crate) struct Queue {
     order: VecDeque<usize, Global>,

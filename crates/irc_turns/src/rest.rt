@@ -1,5 +1,6 @@
 //! Bytes that were read and wait for their turn.
-ghost use Rattle.std.specs.Prelude.{◌≡◌, ◌-◌, ◌≤◌, ◌++◌, true, false, nat_eq, [], take, drop, length};
+ghost use Rattle.std.specs.Prelude.{◌≡◌, ◌-◌, ◌≤◌, ◌++◌, true, false, nat_eq, [], take, drop};
+ghost use Rattle.std.specs.Prelude.{length};
 ghost use Rattle.std.specs.List.{prefix_len};
 ghost use Rattle.irc_line.specs.Bytes.{is_line_end};
 ghost use Rattle.irc_line.specs.Framed.{found_in};
@@ -56,7 +57,8 @@ impl Rest {
         self.bytes.extend_from_slice(bytes).is_ok()
     }
 
-    /// Gives so many lines on, as far as they fit, to the front of a buffer, and tells how many bytes they are: as [`front_of`] counts them.
+    /// Gives so many lines on, as far as they fit, to the front of a buffer, and tells how many
+    /// bytes they are: as [`front_of`] counts them.
     pub fn give(&mut self, buffer: &mut [u8], lines: usize) -> usize
         ensures count { GivesLines lines (length buffer.old) self.old result }
         ensures given { buffer.new ≡ take result self.old ++ drop result buffer.old }
@@ -90,8 +92,9 @@ impl Rest {
     }
 }
 
-/// How many bytes at the front are so many lines, or one, or all where they are fewer. Lines are those of the protocol: a CR and an LF end one each,
-/// and where no byte, or a NUL, stands before that it counts for nothing. All line ends behind the last line are of it.
+/// How many bytes at the front are so many lines, or one, or all where they are fewer. Lines are
+/// those of the protocol: a CR and an LF end one each, and where no byte, or a NUL, stands before
+/// that it counts for nothing. All line ends behind the last line are of it.
 pub fn front_of(bytes: &[u8], lines: usize) -> usize
     ensures { IsFront lines bytes.now result }
 {

@@ -1,5 +1,6 @@
 //! The servers that are called, and which of them is due.
-ghost use Rattle.std.specs.Prelude.{◌≡◌, ◌++◌, ◌∷◌, [], ◌&&◌, None, Some, if◌then◌else◌, length, OnOk, is_some};
+ghost use Rattle.std.specs.Prelude.{◌≡◌, ◌++◌, ◌∷◌, [], ◌&&◌, None, Some, if◌then◌else◌, length};
+ghost use Rattle.std.specs.Prelude.{OnOk, is_some};
 ghost use Rattle.std.specs.List.{list_any, position, slice_get};
 ghost use Rattle.irc_turns.specs.Retries.{milliseconds};
 ghost use Rattle.irc_turns.specs.Rounds.{arrivals_after};
@@ -11,8 +12,8 @@ use crate::spread::spread_on;
 use crate::waits::wait_behind;
 use std::alloc::{AllocError, Global};
 
-/// How many milliseconds are between two calls that are made again at least: the one is to be known, with all that are behind it, before the
-/// next is judged.
+/// How many milliseconds are between two calls that are made again at least: the one is to be
+/// known, with all that are behind it, before the next is judged.
 const APART: u64 = 1000;
 
 /// The servers that are called, by their places.
@@ -29,15 +30,17 @@ pub struct Retries {
     pub called_at: Option<u64>,
     /// How many servers have connected.
     pub comers: u64,
-    /// How many milliseconds more than each is to be waited for the next call, by this server's own name: two that have lost a third at the same
-    /// moment are not to call it at the same moment.
+    /// How many milliseconds more than each is to be waited for the next call, by this server's own
+    /// name: two that have lost a third at the same moment are not to call it at the same moment.
     pub spread: u64,
     /// How long the next wait may last while some server is waited for.
     pub wait: u64,
 }
 
 impl Retries {
-    ghost use Rattle.irc_turns.specs.Retries.{not_called, row_changed, may_be_called, looked_on, due_place, seen_at, is_due_at, is_apart, is_of_link, later_by, seen, call_begun, call_reached, call_ended};
+    ghost use Rattle.irc_turns.specs.Retries.{not_called, row_changed, may_be_called, looked_on};
+    ghost use Rattle.irc_turns.specs.Retries.{due_place, seen_at, is_due_at, is_apart, is_of_link};
+    ghost use Rattle.irc_turns.specs.Retries.{later_by, seen, call_begun, call_reached, call_ended};
 
     /// None, with the spread of the first call that is made again.
     pub fn new(alloc: Global, spread: u64) -> Self
@@ -63,7 +66,8 @@ impl Retries {
     /// # Errors
     /// Where memory runs out.
     pub fn add(&mut self, retry: Option<u16>) -> Result<(), AllocError>
-        ensures added { OnOk result (self.new.rows.items ≡ self.old.rows.items ++ not_called (milliseconds retry) ∷ []) }
+        ensures added { OnOk result
+            (self.new.rows.items ≡ self.old.rows.items ++ not_called (milliseconds retry) ∷ []) }
         ensures spread { OnOk result (self.new.spread ≡ self.old.spread) }
     {
         match self.rows.push(Retry::new(milliseconds(retry))) {
@@ -72,9 +76,13 @@ impl Retries {
         }
     }
 
-    /// So many milliseconds have passed in a wait that nothing has ended; none, where something has, or there was no wait.
+    /// So many milliseconds have passed in a wait that nothing has ended; none, where something
+    /// has, or there was no wait.
     pub fn pass(&mut self, waited: u64)
-        ensures { self.new ≡ record self.old { passed = later_by self.old.passed waited; wait = wait_behind waited } }
+        ensures { self.new ≡ record self.old {
+          passed = later_by self.old.passed waited;
+          wait = wait_behind waited;
+        } }
     {
         self.passed = self.passed.saturating_add(waited);
         self.wait = wait_behind(waited);
@@ -89,7 +97,8 @@ impl Retries {
 
     /// How long the next wait may last, if some server is waited for.
     pub fn wait(&self) -> Option<u64>
-        ensures { result ≡ (if list_any (λ row. is_some row.since) self.now.rows.items then Some self.now.wait else None) }
+        ensures { result ≡ (if list_any (λ row. is_some row.since) self.now.rows.items
+            then Some self.now.wait else None) }
     {
         self.are_waiting().then_some(self.wait)
     }
@@ -101,7 +110,8 @@ impl Retries {
         self.rows.iter().any(|row| row.since.is_some())
     }
 
-    /// Looks at the next place: the server there would be called, if it may be called again, and is not known.
+    /// Looks at the next place: the server there would be called, if it may be called again, and is
+    /// not known.
     pub fn look(&mut self)
         ensures { self.new ≡ looked_on self.old }
     {
@@ -120,7 +130,8 @@ impl Retries {
         }
     }
 
-    /// Takes in whether the server that was looked at is known, and tells its place where it is to be called now; this side may have to yield.
+    /// Takes in whether the server that was looked at is known, and tells its place where it is to
+    /// be called now; this side may have to yield.
     pub fn know(&mut self, is_known: bool, yields: bool) -> Option<usize>
         ensures due { result ≡ due_place self.old is_known yields self.old.looked_at }
         ensures rows { self.new.rows.items ≡ seen_at self.old is_known self.old.looked_at }
@@ -134,10 +145,13 @@ impl Retries {
         self.see(place, is_known, yields).then_some(place)
     }
 
-    /// Takes in whether the server at a place is known. It may be that it is to be called now; this side may have to yield.
+    /// Takes in whether the server at a place is known. It may be that it is to be called now; this
+    /// side may have to yield.
     fn see(&mut self, place: usize, is_known: bool, yields: bool) -> bool
-        ensures due { result ≡ (is_due_at (slice_get self.old.rows.items place) self.old.passed is_known yields self.old.spread && is_apart self.old.called_at self.old.passed) }
-        ensures rows { self.new.rows.items ≡ row_changed (λ row. seen row self.old.passed is_known) place self.old.rows.items }
+        ensures due { result ≡ (is_due_at (slice_get self.old.rows.items place) self.old.passed
+            is_known yields self.old.spread && is_apart self.old.called_at self.old.passed) }
+        ensures rows { self.new.rows.items ≡ row_changed
+            (λ row. seen row self.old.passed is_known) place self.old.rows.items }
         ensures called { self.new.called_at ≡ self.old.called_at }
         ensures passed { self.new.passed ≡ self.old.passed }
         ensures spread { self.new.spread ≡ self.old.spread }
@@ -165,10 +179,17 @@ impl Retries {
 
     /// The server at a place is called: the first time, or again.
     pub fn begin(&mut self, place: usize, is_again: bool)
-        ensures rows { self.new.rows.items ≡ row_changed (λ row. call_begun row self.old.comers) place self.old.rows.items }
-        ensures called { self.new.called_at ≡ (if is_again then Some self.old.passed else self.old.called_at) }
-        ensures spread { self.new.spread ≡ (if is_again then spread_on self.old.spread 1 else self.old.spread) }
-        ensures others { self.new ≡ record self.old { rows = self.new.rows; called_at = self.new.called_at; spread = self.new.spread } }
+        ensures rows { self.new.rows.items ≡ row_changed
+            (λ row. call_begun row self.old.comers) place self.old.rows.items }
+        ensures called { self.new.called_at ≡ (if is_again then Some self.old.passed
+            else self.old.called_at) }
+        ensures spread { self.new.spread ≡ (if is_again then spread_on self.old.spread 1
+            else self.old.spread) }
+        ensures others { self.new ≡ record self.old {
+          rows = self.new.rows;
+          called_at = self.new.called_at;
+          spread = self.new.spread;
+        } }
     {
         if is_again {
             self.called_at = Some(self.passed);
@@ -182,7 +203,8 @@ impl Retries {
 
     /// The call of the server at a place is through, and is a link of this number now.
     pub fn reach(&mut self, place: usize, link: u64)
-        ensures rows { self.new.rows.items ≡ row_changed (λ row. call_reached row link) place self.old.rows.items }
+        ensures rows { self.new.rows.items ≡ row_changed
+            (λ row. call_reached row link) place self.old.rows.items }
         ensures others { self.new ≡ record self.old { rows = self.new.rows } }
     {
         if let Some(row) = self.rows.get_mut(place) {
@@ -192,7 +214,8 @@ impl Retries {
 
     /// The call of the server at a place has failed, or its link has ended.
     pub fn end(&mut self, place: usize)
-        ensures rows { self.new.rows.items ≡ row_changed (λ row. call_ended row self.old.comers) place self.old.rows.items }
+        ensures rows { self.new.rows.items ≡ row_changed
+            (λ row. call_ended row self.old.comers) place self.old.rows.items }
         ensures others { self.new ≡ record self.old { rows = self.new.rows } }
     {
         let comers = self.comers;

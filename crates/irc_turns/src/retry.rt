@@ -4,7 +4,8 @@ ghost use Rattle.std.specs.Prelude.{◌≡◌, ◌&&◌};
 /// A server that is called, and how its last call stands.
 #[derive(Drop)]
 pub struct Retry {
-    /// How many milliseconds it is unknown at least before it is called again; none where it is called once.
+    /// How many milliseconds it is unknown at least before it is called again; none where it is
+    /// called once.
     pub after: Option<u64>,
     /// Whether a call is under way.
     pub is_calling: bool,
@@ -12,14 +13,16 @@ pub struct Retry {
     pub link: Option<u64>,
     /// How many servers had connected as the last call began.
     pub comers: u64,
-    /// Whether one has connected until that call ended: it may be the same server, and where two calls cross both links end.
+    /// Whether one has connected until that call ended: it may be the same server, and where two
+    /// calls cross both links end.
     pub has_crossed: bool,
     /// Since when it is unknown, as far as is seen, with no call under way and no link of one open.
     pub since: Option<u64>,
 }
 
 impl Retry {
-    ghost use Rattle.irc_turns.specs.Retries.{not_called, call_begun, call_reached, call_ended, is_free, is_due, has_waited, unknown_since, seen};
+    ghost use Rattle.irc_turns.specs.Retries.{not_called, call_begun, call_reached, call_ended};
+    ghost use Rattle.irc_turns.specs.Retries.{is_free, is_due, has_waited, unknown_since, seen};
 
     /// A server that was not called yet.
     pub fn new(after: Option<u64>) -> Self
@@ -70,8 +73,9 @@ impl Retry {
         !self.is_calling && self.link.is_none()
     }
 
-    /// Takes in whether the server is known at a moment. It may be that it is to be called then: this side yields where both should not call at
-    /// the same time again, and waits so much longer, as no other of its network does if that can be had.
+    /// Takes in whether the server is known at a moment. It may be that it is to be called then:
+    /// this side yields where both should not call at the same time again, and waits so much
+    /// longer, as no other of its network does if that can be had.
     pub fn see(&mut self, now: u64, is_known: bool, yields: bool, spread: u64) -> bool
         ensures due { result ≡ is_due self.old now is_known yields spread }
         ensures seen { self.new ≡ seen self.old now is_known }
@@ -85,7 +89,8 @@ impl Retry {
 
     /// Whether it was unknown for long enough.
     fn has_waited(&self, now: u64, yields: bool, spread: u64) -> bool
-        ensures { result ≡ has_waited self.now.after self.now.since (self.now.has_crossed && yields) spread now }
+        ensures { result ≡ has_waited self.now.after self.now.since
+            (self.now.has_crossed && yields) spread now }
     {
         match (self.after, self.since) {
             (Some(after), Some(since)) => {

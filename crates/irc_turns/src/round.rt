@@ -1,15 +1,18 @@
 //! A round, and the turn at hand.
 ghost use Rattle.std.specs.Prelude.{◌≡◌};
 
-/// The number of the first turn: at turn 0 somebody was told something last to whom nothing was said yet, and that is long ago.
+/// The number of the first turn: at turn 0 somebody was told something last to whom nothing was
+/// said yet, and that is long ago.
 const FIRST_TURN: u64 = 64;
 
-/// A round: each socket that was ready as it began is reported once. And the turn at hand: what was reported last, and what has come of it.
+/// A round: each socket that was ready as it began is reported once. And the turn at hand: what was
+/// reported last, and what has come of it.
 #[derive(Drop)]
 pub struct Round {
     /// How many sockets are left to be reported.
     pub left: usize,
-    /// Whether nobody had come as it began: then those who are served have only more of the same to say.
+    /// Whether nobody had come as it began: then those who are served have only more of the same to
+    /// say.
     pub is_quiet: bool,
     /// How often somebody has come so far.
     pub arrivals: u64,
@@ -30,7 +33,9 @@ pub struct Round {
 }
 
 impl Round {
-    ghost use Rattle.irc_turns.specs.Rounds.{no_round, round_begun, turn_begun, wait_more, more_noted, is_round_over, one_reported, next_turn_noted};
+    ghost use Rattle.irc_turns.specs.Rounds.{no_round, round_begun, turn_begun, wait_more};
+    ghost use Rattle.irc_turns.specs.Rounds.{more_noted, is_round_over, one_reported};
+    ghost use Rattle.irc_turns.specs.Rounds.{next_turn_noted};
 
     /// No round.
     pub fn new() -> Self
@@ -73,7 +78,8 @@ impl Round {
         self.has_more = false;
     }
 
-    /// So many bytes more wait for a socket than before this turn. It is stuck where much waits, and it takes nothing.
+    /// So many bytes more wait for a socket than before this turn. It is stuck where much waits,
+    /// and it takes nothing.
     pub fn note_write(&mut self, number: usize, more: usize, is_stuck: bool)
         ensures { self.new ≡ wait_more self.old number more is_stuck }
     {
@@ -108,7 +114,8 @@ impl Round {
         self.left = self.left.saturating_sub(1);
     }
 
-    /// Takes in whether another turn follows soon: of this round, or of the next one, where nobody has come for whom that would be late.
+    /// Takes in whether another turn follows soon: of this round, or of the next one, where nobody
+    /// has come for whom that would be late.
     pub fn note_next_turn(&mut self, has_arrivals: bool, is_waiting: bool)
         ensures { self.new ≡ next_turn_noted self.old has_arrivals is_waiting }
     {

@@ -5,10 +5,12 @@ ghost use Rattle.irc_turns.specs.Spreads.{name_spread, spread_on};
 /// Spreads are below this, a prime, and so below the second that is the shortest wait.
 const SPREADS: u64 = 797;
 
-/// Whatever two spreads are apart, less than five steps by this factor have them apart by 150 at least.
+/// Whatever two spreads are apart, less than five steps by this factor have them apart by 150 at
+/// least.
 const FACTOR: u64 = 319;
 
-/// How many milliseconds a server of this name waits more before the first call that it makes again.
+/// How many milliseconds a server of this name waits more before the first call that it makes
+/// again.
 pub fn name_spread(name: &[u8]) -> u64
     ensures { result ≡ name_spread name.now }
 {

@@ -1,4 +1,5 @@
-//! One that talks to the server, a client or a link, as its turns go. Its socket is not known here, but what the system tells of it.
+//! One that talks to the server, a client or a link, as its turns go. Its socket is not known here,
+//! but what the system tells of it.
 ghost use Rattle.std.specs.Prelude.{◌≡◌, ◌≤◌, length};
 
 use crate::pace::Pace;
@@ -46,7 +47,8 @@ pub struct Talker {
     pub is_full: bool,
     /// Whether the last write took less than it was given.
     is_behind: bool,
-    /// Whether the system has told that no more bytes will come behind those that are there: it tells that once.
+    /// Whether the system has told that no more bytes will come behind those that are there: it
+    /// tells that once.
     is_ending: bool,
     /// Whether it is held back.
     is_held: bool,
@@ -63,7 +65,11 @@ pub struct Talker {
 }
 
 impl Talker {
-    ghost use Rattle.irc_turns.specs.Talking.{new_talker, told_so, takes_again, is_asked, may_take_more, is_stuck, turn_over, held_back, held_no_more, BeginsRead, IsWithin, IsTurnFront, Keeps, none_read, read_over, is_put_off, has_taken, took_none, written};
+    ghost use Rattle.irc_turns.specs.Talking.{new_talker, told_so, takes_again, is_asked};
+    ghost use Rattle.irc_turns.specs.Talking.{may_take_more, is_stuck, turn_over, held_back};
+    ghost use Rattle.irc_turns.specs.Talking.{held_no_more, BeginsRead, IsWithin, IsTurnFront};
+    ghost use Rattle.irc_turns.specs.Talking.{Keeps, none_read, read_over, is_put_off, has_taken};
+    ghost use Rattle.irc_turns.specs.Talking.{took_none, written};
 
     /// One of which the system has told nothing yet.
     pub fn new(alloc: Global, is_client: bool, serial: u64) -> Self
@@ -100,7 +106,8 @@ impl Talker {
         has_room
     }
 
-    /// Whether it has something to say and is to be asked for it. A client is not that is held back, or that has not taken its answers yet.
+    /// Whether it has something to say and is to be asked for it. A client is not that is held
+    /// back, or that has not taken its answers yet.
     /// Links are never kept waiting: two that wait for one another would do so for good.
     pub fn is_asked(&self) -> bool
         ensures { result ≡ is_asked self.now }
@@ -108,7 +115,8 @@ impl Talker {
         self.is_readable && !(self.is_client && (self.is_held || self.is_behind))
     }
 
-    /// Whether bytes may wait though nothing keeps its socket from taking them. The system has nothing to tell of it then.
+    /// Whether bytes may wait though nothing keeps its socket from taking them. The system has
+    /// nothing to tell of it then.
     pub fn may_take_more(&self) -> bool
         ensures { result ≡ may_take_more self.now }
     {
@@ -122,7 +130,8 @@ impl Talker {
         self.is_full && self.waiting.is_much(self.is_client)
     }
 
-    /// A read begins, where somebody has come so often so far: what was left of the last one is given, or the system is to be asked.
+    /// A read begins, where somebody has come so often so far: what was left of the last one is
+    /// given, or the system is to be asked.
     pub fn begin_read(&mut self, buffer: &mut [u8], arrivals: u64) -> Reading
         ensures begun { BeginsRead arrivals self.old buffer.old result self.new buffer.new }
         ensures within { IsWithin result (length buffer.old) }
@@ -135,8 +144,9 @@ impl Talker {
         }
     }
 
-    /// The system gave bytes, which filled the buffer or did not. Keeps what is behind so many lines of a client for its next turn, and tells how
-    /// many bytes are for this one. Where there is no memory, all are.
+    /// The system gave bytes, which filled the buffer or did not. Keeps what is behind so many
+    /// lines of a client for its next turn, and tells how many bytes are for this one. Where there
+    /// is no memory, all are.
     pub fn keep(&mut self, read: &[u8], is_whole: bool, lines: usize) -> usize
         ensures kept { Keeps lines read.now is_whole self.old result self.new }
         ensures within { result ≤ length read.now }
@@ -180,8 +190,8 @@ impl Talker {
         }
     }
 
-    /// A turn is over in which it was read, was answered so many bytes, and had so many put out to others; and has added to a full outbox, or
-    /// has not.
+    /// A turn is over in which it was read, was answered so many bytes, and had so many put out to
+    /// others; and has added to a full outbox, or has not.
     pub fn end_turn(&mut self, answered: usize, shown: usize, filled: Option<Mark>)
         ensures { self.new ≡ turn_over self.old answered shown filled }
     {
@@ -207,7 +217,8 @@ impl Talker {
         self.is_held = false;
     }
 
-    /// Whether a write waits, where so many bytes do in all: its socket is full, or another turn follows soon.
+    /// Whether a write waits, where so many bytes do in all: its socket is full, or another turn
+    /// follows soon.
     pub fn is_put_off(&self, turn: u64, all: usize, may_wait: bool) -> bool
         ensures { result ≡ is_put_off self.now turn all may_wait }
     {

@@ -1,5 +1,6 @@
 //! Those who talk to the server, by their numbers, and which of them are to be reported.
-ghost use Rattle.std.specs.Prelude.{◌≡◌, ℕ, false, length, drop, [], None, IfSome, IfNone, IsSome, nat_eq};
+ghost use Rattle.std.specs.Prelude.{◌≡◌, ℕ, false, length, drop, [], None, IfSome, IfNone, IsSome};
+ghost use Rattle.std.specs.Prelude.{nat_eq};
 ghost use Rattle.std.specs.List.{All};
 ghost use Rattle.std.specs.Option.{option_copied_mut};
 ghost use Rattle.slab.specs.Slab.{Updates, SameValues};
@@ -7,7 +8,11 @@ ghost use Rattle.irc_turns.specs.HeldBack.{nobody_held, round_passed};
 ghost use Rattle.irc_turns.specs.Rounds.{arrivals_after};
 ghost use Rattle.irc_turns.specs.Queues.{queue_without, queued_behind, turned_queue};
 ghost use Rattle.irc_turns.specs.Talking.{written, told_so};
-ghost use Rattle.irc_turns.specs.Numbered.{talker_at, SameButQueue, IsTalkerAdded, only, tried_again, queue_told, has_come, queue_asked, put_off_at, queue_written, round_behind, asked_again, talker_mark, mark_of_one, is_full_one, turn_ended, filled_by, IsHeldBy, ReportsFirst, LetsGo, is_due};
+ghost use Rattle.irc_turns.specs.Numbered.{talker_at, SameButQueue, IsTalkerAdded, only};
+ghost use Rattle.irc_turns.specs.Numbered.{tried_again, queue_told, has_come, queue_asked};
+ghost use Rattle.irc_turns.specs.Numbered.{put_off_at, queue_written, round_behind, asked_again};
+ghost use Rattle.irc_turns.specs.Numbered.{talker_mark, mark_of_one, is_full_one, turn_ended};
+ghost use Rattle.irc_turns.specs.Numbered.{filled_by, IsHeldBy, ReportsFirst, LetsGo, is_due};
 
 use crate::holding::Holding;
 use crate::queue::Queue;
@@ -116,11 +121,13 @@ impl Talkers {
         self.queue.remove(number);
     }
 
-    /// Takes in what the system tells of a socket, and whether somebody has come by it who was not waiting.
+    /// Takes in what the system tells of a socket, and whether somebody has come by it who was not
+    /// waiting.
     pub fn note(&mut self, number: usize, told: Told) -> bool
         ensures come { result ≡ has_come told number self.old }
         ensures queue { self.new.queue ≡ queue_told told number self.old }
-        ensures others { SameButQueue (only (λ talker. told_so talker told) number self.old) self.new }
+        ensures others { SameButQueue
+            (only (λ talker. told_so talker told) number self.old) self.new }
     {
         let Some(talker) = self.by_number.get_mut(number) else {
             return false;
@@ -134,7 +141,8 @@ impl Talkers {
         has_come
     }
 
-    /// Puts so many who are first in the queue behind those who came after them: who has just come does not wait for those who have more to say.
+    /// Puts so many who are first in the queue behind those who came after them: who has just come
+    /// does not wait for those who have more to say.
     pub fn put_behind(&mut self, count: usize)
         ensures queue { self.new.queue ≡ turned_queue count self.old.queue }
         ensures others { SameButQueue self.old self.new }
@@ -142,9 +150,10 @@ impl Talkers {
         self.queue.turn(count);
     }
 
-    /// The report of the one that is first in the queue. It leaves the queue: only what is left after the read that follows puts it back,
-    /// behind the others, so that nobody who sends without end keeps them waiting. Of one that is not to be asked now nothing is told but that it
-    /// may take bytes.
+    /// The report of the one that is first in the queue. It leaves the queue: only what is left
+    /// after the read that follows puts it back, behind the others, so that nobody who sends
+    /// without end keeps them waiting. Of one that is not to be asked now nothing is told but that
+    /// it may take bytes.
     pub fn report(&mut self, round: &mut Round) -> Option<Report>
         ensures queue { self.new.queue ≡ drop 1 self.old.queue }
         ensures first { ReportsFirst self.old self.new round.old result round.new }
@@ -175,8 +184,8 @@ impl Talkers {
         }
     }
 
-    /// Whether a write to one waits, where so many bytes do in all. Who is next to be reported waits for nothing but its socket, so that there is
-    /// room for its answers.
+    /// Whether a write to one waits, where so many bytes do in all. Who is next to be reported
+    /// waits for nothing but its socket, so that there is room for its answers.
     pub fn puts_off(&self, number: usize, all: usize, round: &Round) -> Option<bool>
         ensures { result ≡ put_off_at self.now round.now number all }
     {
@@ -185,11 +194,14 @@ impl Talkers {
         Some(talker.is_put_off(round.turn, all, may_wait))
     }
 
-    /// A write to one is over, of so many bytes in all. It took so many of them, or failed. One that has taken its answers is asked again.
+    /// A write to one is over, of so many bytes in all. It took so many of them, or failed. One
+    /// that has taken its answers is asked again.
     pub fn end_write(&mut self, number: usize, all: usize, taken: Option<usize>, round: &mut Round)
         ensures queue { self.new.queue ≡ queue_written round.old all taken number self.old }
-        ensures others { SameButQueue (only (written round.old.turn all taken) number self.old) self.new }
-        ensures round { round.new ≡ round_behind number all taken round.old (talker_at self.old number) }
+        ensures others { SameButQueue
+            (only (written round.old.turn all taken) number self.old) self.new }
+        ensures round { round.new ≡ round_behind number all taken round.old
+            (talker_at self.old number) }
     {
         let Some(talker) = self.by_number.get_mut(number) else {
             return;
@@ -197,7 +209,8 @@ impl Talkers {
         let more = talker.waiting.more(all);
         talker.end_write(round.turn, all, taken);
         round.note_write(number, more, talker.is_stuck());
-        // where it failed, what others are told of that was put into their outboxes behind the writes of this turn
+        // where it failed, what others are told of that was put into their outboxes behind the
+        // writes of this turn
         round.note_more(taken.is_none() || talker.may_take_more());
         if talker.is_asked() {
             self.queue_up(number);
@@ -235,7 +248,8 @@ impl Talkers {
         Some(Mark { number, serial })
     }
 
-    /// Holds a client back that has filled somebody's outbox, if that one's socket is full; but one that was let go has a turn first.
+    /// Holds a client back that has filled somebody's outbox, if that one's socket is full; but one
+    /// that was let go has a turn first.
     fn hold(&mut self, number: usize)
         ensures { IsHeldBy (filled_by self.old number) number self.old self.new }
     {
@@ -285,7 +299,8 @@ impl Talkers {
         }
     }
 
-    /// A socket that was full is tried again: the system tells only of much room that it takes bytes.
+    /// A socket that was full is tried again: the system tells only of much room that it takes
+    /// bytes.
     fn try_again(&mut self, number: usize)
         ensures { self.new ≡ only tried_again number self.old }
     {
@@ -306,7 +321,8 @@ impl Talkers {
         }
     }
 
-    /// Has one reported that is there, if it is not to be already. There is room: it was made as it came.
+    /// Has one reported that is there, if it is not to be already. There is room: it was made as it
+    /// came.
     fn queue_up(&mut self, number: usize)
         requires { IsSome (talker_at self.old number) }
         ensures { self.new ≡ record self.old { queue = queued_behind number self.old.queue } }

@@ -7,10 +7,12 @@ use std::marker::Model;
 /// So many bytes are written at once, so that nobody's outbox fills by the wait.
 const MANY: usize = 4096;
 
-/// So much waits for a client where whoever adds to it is held back: a quarter of the smallest outbox that is any use.
+/// So much waits for a client where whoever adds to it is held back: a quarter of the smallest
+/// outbox that is any use.
 const MUCH: usize = 8192;
 
-/// So much waits for a link where whoever adds to it is held back. A link takes what all who are behind it are told, and the bursts of others.
+/// So much waits for a link where whoever adds to it is held back. A link takes what all who are
+/// behind it are told, and the bursts of others.
 const MUCH_OF_LINK: usize = 262_144;
 
 /// How many turns without anything new a write waits at most: as many as cost no more than it does.

@@ -5,11 +5,12 @@ ghost use Rattle.irc_turns.specs.Waits.{wait_behind, wait_for};
 /// How many milliseconds a wait lasts at most.
 const LONGEST: u64 = 100;
 
-/// And how many while waits are all that tells the time: while somebody is held back, or a server is to be called again.
+/// And how many while waits are all that tells the time: while somebody is held back, or a server
+/// is to be called again.
 const SHORT: u64 = 10;
 
-/// How many milliseconds to wait: none, where there is something to do; as long as a server asks for that is to be called again; and not for long while
-/// somebody is held back.
+/// How many milliseconds to wait: none, where there is something to do; as long as a server asks
+/// for that is to be called again; and not for long while somebody is held back.
 pub fn wait_for(is_busy: bool, for_call: Option<u64>, is_holding: bool) -> u64
     ensures { result ≡ wait_for is_busy for_call is_holding }
 {
@@ -23,8 +24,9 @@ pub fn wait_for(is_busy: bool, for_call: Option<u64>, is_holding: bool) -> u64
     }
 }
 
-/// How long the next wait for a call may last, behind one that nothing has ended for so many milliseconds, or behind one that something has. Only a wait
-/// that nothing ends counts, so the first is short, and each next one is longer.
+/// How long the next wait for a call may last, behind one that nothing has ended for so many
+/// milliseconds, or behind one that something has. Only a wait that nothing ends counts, so the
+/// first is short, and each next one is longer.
 pub fn wait_behind(waited: u64) -> u64
     ensures { result ≡ wait_behind waited }
 {

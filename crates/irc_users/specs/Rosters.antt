@@ -1,4 +1,5 @@
--- How users lie in memory: each in a seat of its own, whose number it keeps, and under its nickname what it is found by.
+-- How users lie in memory: each in a seat of its own, whose number it keeps, and under its nickname
+-- what it is found by.
 use Rattle.std.specs.Prelude.{◌≡◌, ℕ, false, List, [], Option, Some}
 use Rattle.std.specs.Global.{Box}
 use Rattle.std.specs.Option.{option_map, option_map_or}
@@ -40,14 +41,17 @@ numbered seats heads = record { users = users_in seats heads; numbers = numbers_
 -- each head is that of the user in its seat, and each user in a seat has its head under its fold
 pub record IsSeating (sits : ℕ → Option User) (heads : Table Head) : Type 0 where
   pub named : (fold : List ℕ) (h : Head) → row heads fold ≡ Some h → key h.nick ≡ fold
-  pub seated : (fold : List ℕ) (h : Head) → row heads fold ≡ Some h → option_map (head h.number) (sits h.number) ≡ Some h
-  pub found : (number : ℕ) (user : User) → sits number ≡ Some user → row heads (key user.nick) ≡ Some (head number user)
+  pub seated : (fold : List ℕ) (h : Head) → row heads fold ≡ Some h
+      → option_map (head h.number) (sits h.number) ≡ Some h
+  pub found : (number : ℕ) (user : User) → sits number ≡ Some user
+      → row heads (key user.nick) ≡ Some (head number user)
 
 abbrev pub IsRoster : Slab (Box User) → Table Head → Type 0
 IsRoster seats heads = IsSeating (sitting seats) heads
 
 -- nothing has come or gone
-pub record AreKept (seats_before seats_after : Slab (Box User)) (heads_before heads_after : Table Head) : Type 0 where
+pub record AreKept (seats_before seats_after : Slab (Box User))
+    (heads_before heads_after : Table Head) : Type 0 where
   pub seats : seats_after.slots ≡ seats_before.slots
   pub heads : heads_after ≡ heads_before
 

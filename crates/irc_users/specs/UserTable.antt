@@ -1,5 +1,8 @@
--- The users of a room by nickname: a finite map whose keys are the folds of the nicknames (RFC 2812 sections 1.2.1 and 2.2). Beside it their numbers.
-use Rattle.std.specs.Prelude.{ℕ, Bool, not, ◌&&◌, ◌||◌, List, nat_eq, is_some, is_none, if◌then◌else◌, refl, Option, Some, None, Result, Ok, Err, IfOk, ◌≡◌, ◌≢◌, map}
+-- The users of a room by nickname: a finite map whose keys are the folds of the nicknames (RFC 2812
+-- sections 1.2.1 and 2.2). Beside it their numbers.
+use Rattle.std.specs.Prelude.{ℕ, Bool, not, ◌&&◌, ◌||◌, List, nat_eq, is_some, is_none}
+use Rattle.std.specs.Prelude.{if◌then◌else◌, refl, Option, Some, None, Result, Ok, Err, IfOk, ◌≡◌}
+use Rattle.std.specs.Prelude.{◌≢◌, map}
 use Rattle.std.specs.Borrow.{Bor}
 use Rattle.std.specs.Global.{Vec}
 use Rattle.std.specs.Option.{option_map}
@@ -19,9 +22,17 @@ use Rattle.irc_users.specs.declared.user.User.{User}
 abbrev pub user_code : Coded User
 user_code =
     code_by (List ℕ × (List ℕ × (List ℕ × (List ℕ × (List ℕ × Bool)))))
-    (coded× coded_name (coded× coded_name (coded× coded_name (coded× coded_name (coded× coded_name coded_bool)))))
+    (coded× coded_name (coded× coded_name
+    (coded× coded_name (coded× coded_name (coded× coded_name coded_bool)))))
     (λ u. (u.nick, (u.user, (u.host, (u.real, (u.home, u.invisible))))))
-    (λ p. record { nick = p.0; user = p.1.0; host = p.1.1.0; real = p.1.1.1.0; home = p.1.1.1.1.0; invisible = p.1.1.1.1.1 })
+    (λ p. record {
+      nick = p.0;
+      user = p.1.0;
+      host = p.1.1.0;
+      real = p.1.1.1.0;
+      home = p.1.1.1.1.0;
+      invisible = p.1.1.1.1.1;
+    })
     (λ _. refl)
 
 -- users by the folds of their nicknames, and by the same folds their numbers
@@ -36,19 +47,22 @@ users_code = code coded_name user_code
 -- users and their numbers are stored as the two tables
 abbrev pub numbered_code : Coded NumberedUsers
 numbered_code =
-    code_by (Table User × Table ℕ) (coded× users_code (code coded_name coded_ℕ)) (λ n. (n.users, n.numbers))
+    code_by (Table User × Table ℕ) (coded× users_code (code coded_name coded_ℕ))
+    (λ n. (n.users, n.numbers))
     (λ p. record { users = p.0; numbers = p.1 })
     (λ _. refl)
 
 -- a fold has a number just where it has a user, and two folds that have one number are one fold
 pub record IsNumbered (numbered : NumberedUsers) : Type 0 where
-  pub each : (fold : List ℕ) → is_some (row numbered.numbers fold) ≡ is_some (row numbered.users fold)
+  pub each : (fold : List ℕ)
+      → is_some (row numbered.numbers fold) ≡ is_some (row numbered.users fold)
   pub apart : (one other : List ℕ) (number : ℕ) → row numbered.numbers one ≡ Some number
       → row numbered.numbers other ≡ Some number → one ≡ other
 
 -- the user that has a number, or nothing where none has it
 pub record HasNumber (numbered : NumberedUsers) (number : ℕ) (found : Option User) : Type 0 where
-  pub theirs : (fold : List ℕ) → row numbered.numbers fold ≡ Some number → found ≡ row numbered.users fold
+  pub theirs : (fold : List ℕ) → row numbered.numbers fold ≡ Some number
+      → found ≡ row numbered.users fold
   pub none : ((fold : List ℕ) → row numbered.numbers fold ≢ Some number) → found ≡ None
 
 -- every fold but that of a nickname has the number that it had
@@ -90,7 +104,8 @@ is_taken table nick new = not (same nick new) && has_nick table new
 -- why the user with a nickname does not take another, if it does not
 abbrev pub rename_fault : Table User → List ℕ → List ℕ → Option RenameFault
 rename_fault table nick new =
-    if is_taken table nick new then Some Taken else (if is_none (row table (key nick)) then Some NoSuchUser else None)
+    if is_taken table nick new then Some Taken
+    else (if is_none (row table (key nick)) then Some NoSuchUser else None)
 
 -- a user is renamed unless there is a reason against it, or no memory
 abbrev pub RenamesUnless : {U : Type 0} → Option RenameFault → Result U RenameFault → Type 0
@@ -103,10 +118,13 @@ RenamesUnless fault (Err NoSuchUser) = fault ≡ Some NoSuchUser
 abbrev pub is_home : List ℕ → User → Bool
 is_home home user = pointwise nat_eq user.home home
 
--- whether a mask matches the nickname, the host, the server or the real name of a user (RFC 2812 section 3.6.1)
+-- whether a mask matches the nickname, the host, the server or the real name of a user (RFC 2812
+-- section 3.6.1)
 abbrev pub is_found_by : List ℕ → User → Bool
-is_found_by mask user = matches mask user.nick || matches mask user.host || matches mask user.home || matches mask user.real
+is_found_by mask user = matches mask user.nick || matches mask user.host || matches mask user.home
+    || matches mask user.real
 
 -- references to just these users, unless it went wrong
 abbrev pub FindsUsers : {E : Type 0} → Result (Vec (Bor User)) E → List User → Type 0
-FindsUsers found users = IfOk found (λ (references : Vec (Bor User)). map (λ user. user.now) references.items ≡ users)
+FindsUsers found users =
+    IfOk found (λ (references : Vec (Bor User)). map (λ user. user.now) references.items ≡ users)

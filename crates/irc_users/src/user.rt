@@ -43,7 +43,8 @@ impl User {
         self.home.as_bytes() == home.as_bytes()
     }
 
-    /// Whether a mask matches its nickname, its host, its server or its real name. Any bytes are a mask (RFC 2812 section 3.6.1).
+    /// Whether a mask matches its nickname, its host, its server or its real name. Any bytes are a
+    /// mask (RFC 2812 section 3.6.1).
     pub fn is_found_by(&self, mask: &[u8]) -> bool
         ensures { result ≡ is_found_by mask.now self.now }
     {

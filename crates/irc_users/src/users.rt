@@ -1,14 +1,19 @@
 //! The users of a room, by nickname and by number.
-ghost use Rattle.std.specs.Prelude.{◌≡◌, ◌↔◌, ◌&&◌, None, false, not, IfOk, IsOk, IsTrue, OnOk, OnErr, IsErrOf, filter, is_some, map, length, true};
+ghost use Rattle.std.specs.Prelude.{◌≡◌, ◌↔◌, ◌&&◌, None, false, not, IfOk, IsOk, IsTrue, OnOk};
+ghost use Rattle.std.specs.Prelude.{OnErr, IsErrOf, filter, is_some, map, length, true};
 ghost use Rattle.std.specs.Option.{option_copied, option_map};
 ghost use Rattle.std.specs.FinMap.{empty, keys, values};
 ghost use Rattle.slab.specs.Slab.{ContainsKey};
 ghost use Rattle.irc_names.specs.Fold.{key, same};
 ghost use Rattle.irc_names.specs.Tables.{row, alter};
 ghost use Rattle.irc_tables.specs.TableChanges.{tried_at, with_value, without};
-ghost use Rattle.irc_users.specs.UserTable.{HasNumber, IsNumbered, OthersKeep, FindsUsers, RenamesUnless, has_nick, is_home, is_found_by, is_taken, moved_to, number_moved, rename_fault, spelling_of, with_invisible, with_user};
+ghost use Rattle.irc_users.specs.UserTable.{HasNumber, IsNumbered, OthersKeep, FindsUsers};
+ghost use Rattle.irc_users.specs.UserTable.{RenamesUnless, has_nick, is_home, is_found_by};
+ghost use Rattle.irc_users.specs.UserTable.{is_taken, moved_to, number_moved, rename_fault};
+ghost use Rattle.irc_users.specs.UserTable.{spelling_of, with_invisible, with_user};
 ghost use Rattle.irc_users.specs.declared.user.User.{User};
-ghost use Rattle.irc_users.specs.Rosters.{AreKept, IsRoster, boxed, head, numbers_in, sitter, users_in};
+ghost use Rattle.irc_users.specs.Rosters.{AreKept, IsRoster, boxed, head, numbers_in, sitter};
+ghost use Rattle.irc_users.specs.Rosters.{users_in};
 
 use crate::fault::{RenameFault, UsersFault};
 use crate::user::User;
@@ -42,8 +47,9 @@ impl Head {
     }
 }
 
-/// Users, no two of which have one nickname by the fold. Each has a number, which it keeps from [`Users::add`] to [`Users::remove`]: that of its
-/// seat, where it lies in memory of its own, so that a user who comes or goes moves no other. What they are found by stands under their
+/// Users, no two of which have one nickname by the fold. Each has a number, which it keeps from
+/// [`Users::add`] to [`Users::remove`]: that of its seat, where it lies in memory of its own, so
+/// that a user who comes or goes moves no other. What they are found by stands under their
 /// nicknames, where a search reads little memory.
 #[derive(Drop)]
 pub struct Users {
@@ -52,7 +58,8 @@ pub struct Users {
     alloc: Global,
 }
 
-/// In a clause it is the table of its users, each under the fold of its nickname, and the table of their numbers.
+/// In a clause it is the table of its users, each under the fold of its nickname, and the table of
+/// their numbers.
 impl Model for Users {
     ghost use Rattle.irc_users.specs.UserTable.{NumberedUsers, numbered_code};
     ghost use Rattle.irc_users.specs.Rosters.{IsRoster, numbered};
@@ -92,7 +99,8 @@ impl Users {
     /// [`UsersFault::Taken`] where the nickname is taken, [`UsersFault::Memory`] where memory runs
     /// out. Nothing has changed then.
     pub fn add(&mut self, user: User) -> Result<(), UsersFault>
-        ensures taken { IsErrOf result UsersFault.Taken ↔ IsTrue (has_nick self.old.users user.nick) }
+        ensures taken { IsErrOf result UsersFault.Taken
+            ↔ IsTrue (has_nick self.old.users user.nick) }
         ensures ok { OnOk result (self.new.users ≡ with_user user self.old.users) }
         ensures numbers { OnOk result (OthersKeep user.nick self.old.numbers self.new.numbers) }
         ensures refused { OnErr result (self.new ≡ self.old) }
@@ -118,7 +126,8 @@ impl Users {
     pub fn rename(&mut self, nick: &Nick, new: &Nick) -> Result<(), RenameFault>
         ensures fault { RenamesUnless (rename_fault self.old.users nick.now new.now) result }
         ensures ok { OnOk result (self.new.users ≡ moved_to nick.now new.now self.old.users) }
-        ensures numbers { OnOk result (self.new.numbers ≡ number_moved nick.now new.now self.old.numbers) }
+        ensures numbers { OnOk result
+            (self.new.numbers ≡ number_moved nick.now new.now self.old.numbers) }
         ensures refused { OnErr result (self.new ≡ self.old) }
     {
         if is_taken(&self.heads, nick, new) {
@@ -133,10 +142,12 @@ impl Users {
         Ok(())
     }
 
-    /// Sets whether the user with a nickname has mode i; where there is no such user, nothing changes (RFC 2812 section 3.1.5).
+    /// Sets whether the user with a nickname has mode i; where there is no such user, nothing
+    /// changes (RFC 2812 section 3.1.5).
     /// No number changes. It takes no memory.
     pub fn set_invisible(&mut self, nick: &Nick, invisible: bool)
-        ensures users { self.new.users ≡ tried_at nick.now (with_invisible invisible) self.old.users }
+        ensures users { self.new.users ≡ tried_at nick.now
+            (with_invisible invisible) self.old.users }
         ensures numbers { self.new.numbers ≡ self.old.numbers }
     {
         set_mode(&mut self.seats, &mut self.heads, nick, invisible);
@@ -154,7 +165,8 @@ impl Users {
         }
     }
 
-    /// The number of the user with a nickname, if there is one. Each user has one, and no two have the same.
+    /// The number of the user with a nickname, if there is one. Each user has one, and no two have
+    /// the same.
     pub fn number(&self, nick: &Nick) -> Option<usize>
         ensures value { result ≡ row self.now.numbers (key nick.now) }
         ensures numbered { IsNumbered self.now }
@@ -182,7 +194,8 @@ impl Users {
         self.find_named(nick.as_bytes())
     }
 
-    /// The user whose nickname is the same as these bytes under the fold, which may be no nickname themselves.
+    /// The user whose nickname is the same as these bytes under the fold, which may be no nickname
+    /// themselves.
     pub fn find_named(&self, name: &[u8]) -> Option<&User>
         ensures { option_copied result ≡ row self.now.users (key name.now) }
     {
@@ -195,7 +208,8 @@ impl Users {
     /// Whether the user that [`Users::find_named`] finds for these bytes is without mode i. Nothing
     /// else of the user is looked at.
     pub fn is_visible(&self, name: &[u8]) -> Option<bool>
-        ensures { result ≡ option_map (λ user. not user.invisible) (row self.now.users (key name.now)) }
+        ensures { result ≡ option_map (λ user. not user.invisible)
+            (row self.now.users (key name.now)) }
     {
         match self.heads.get(name) {
             Some(head) => Some(!head.invisible),
@@ -203,7 +217,8 @@ impl Users {
         }
     }
 
-    /// The nickname, as it is spelled, of the user that [`Users::find_named`] finds for these bytes. Nothing else of the user is looked at.
+    /// The nickname, as it is spelled, of the user that [`Users::find_named`] finds for these
+    /// bytes. Nothing else of the user is looked at.
     pub fn spelling(&self, name: &[u8]) -> Option<&Nick>
         ensures { option_copied result ≡ spelling_of self.now.users name.now }
     {
@@ -240,8 +255,8 @@ impl Users {
         homed_count(&self.seats, &self.heads, home)
     }
 
-    /// The users whose nickname, host, server or real name a mask matches, in folded order of their nicknames. Any bytes are a mask
-    /// (RFC 2812 section 3.6.1).
+    /// The users whose nickname, host, server or real name a mask matches, in folded order of their
+    /// nicknames. Any bytes are a mask (RFC 2812 section 3.6.1).
     ///
     /// # Errors
     /// Where memory runs out.
@@ -284,7 +299,8 @@ fn homed_at<'a>(
     alloc: Global,
 ) -> Result<Vec<&'a User, Global>, AllocError>
     requires { IsRoster seats.now heads.now }
-    ensures { FindsUsers result (filter (is_home home.now) (map (sitter seats.now) (values heads.now))) }
+    ensures { FindsUsers result
+        (filter (is_home home.now) (map (sitter seats.now) (values heads.now))) }
 {
     let mut found = Vec::new(alloc);
     for head in heads.values() {
@@ -299,7 +315,8 @@ fn homed_at<'a>(
 /// How many of them are connected to a server.
 fn homed_count(seats: &Slab<Box<User, Global>>, heads: &NameMap<Head>, home: &ServerName) -> usize
     requires { IsRoster seats.now heads.now }
-    ensures { result ≡ length (filter (is_home home.now) (map (sitter seats.now) (values heads.now))) }
+    ensures { result ≡ length
+        (filter (is_home home.now) (map (sitter seats.now) (values heads.now))) }
 {
     // what a table has is no more than a number holds, which its length tells the proof
     heads.len();
@@ -320,7 +337,8 @@ fn matched_by<'a>(
     alloc: Global,
 ) -> Result<Vec<&'a User, Global>, AllocError>
     requires { IsRoster seats.now heads.now }
-    ensures { FindsUsers result (filter (is_found_by mask.now) (map (sitter seats.now) (values heads.now))) }
+    ensures { FindsUsers result
+        (filter (is_found_by mask.now) (map (sitter seats.now) (values heads.now))) }
 {
     let mut found = Vec::new(alloc);
     for head in heads.values() {
@@ -340,8 +358,10 @@ fn take_seat(
 ) -> Result<(), AllocError>
     requires roster { IsRoster seats.old heads.old }
     requires free { row heads.old (key user.value.nick) ≡ None }
-    ensures users { OnOk result (users_in seats.new heads.new ≡ with_user user.value (users_in seats.old heads.old)) }
-    ensures numbers { OnOk result (OthersKeep user.value.nick (numbers_in heads.old) (numbers_in heads.new)) }
+    ensures users { OnOk result
+        (users_in seats.new heads.new ≡ with_user user.value (users_in seats.old heads.old)) }
+    ensures numbers { OnOk result
+        (OthersKeep user.value.nick (numbers_in heads.old) (numbers_in heads.new)) }
     ensures refused { OnErr result (AreKept seats.old seats.new heads.old heads.new) }
     ensures roster { IsRoster seats.new heads.new }
 {
@@ -370,7 +390,8 @@ fn leave_seat(
     }
 }
 
-/// Gives the user with a nickname another, which no other user has, and says whether there is one. It stays in its seat; its head moves.
+/// Gives the user with a nickname another, which no other user has, and says whether there is one.
+/// It stays in its seat; its head moves.
 fn respell(
     seats: &mut Slab<Box<User, Global>>,
     heads: &mut NameMap<Head>,
@@ -379,13 +400,17 @@ fn respell(
 ) -> Result<bool, AllocError>
     requires roster { IsRoster seats.old heads.old }
     requires free { is_taken (users_in seats.old heads.old) nick.now new.now ≡ false }
-    ensures there { IfOk result (λ there. there ≡ has_nick (users_in seats.old heads.old) nick.now) }
-    ensures users { OnOk result (users_in seats.new heads.new ≡ moved_to nick.now new.now (users_in seats.old heads.old)) }
-    ensures numbers { OnOk result (numbers_in heads.new ≡ number_moved nick.now new.now (numbers_in heads.old)) }
+    ensures there { IfOk result
+        (λ there. there ≡ has_nick (users_in seats.old heads.old) nick.now) }
+    ensures users { OnOk result (users_in seats.new heads.new ≡ moved_to nick.now new.now
+        (users_in seats.old heads.old)) }
+    ensures numbers { OnOk result
+        (numbers_in heads.new ≡ number_moved nick.now new.now (numbers_in heads.old)) }
     ensures roster { IsRoster seats.new heads.new }
     ensures found { OnErr result (has_nick (users_in seats.old heads.old) nick.now ≡ true) }
     ensures refused { OnErr result (AreKept seats.old seats.new heads.old heads.new) }
-    ensures same { IfOk result (λ there. there ≡ false → AreKept seats.old seats.new heads.old heads.new) }
+    ensures same { IfOk result (λ there. there ≡ false
+        → AreKept seats.old seats.new heads.old heads.new) }
 {
     let Some(head) = heads.get(nick.as_bytes()) else {
         return Ok(false);
@@ -409,7 +434,8 @@ fn set_mode(
     invisible: bool,
 )
     requires { IsRoster seats.old heads.old }
-    ensures users { users_in seats.new heads.new ≡ tried_at nick.now (with_invisible invisible) (users_in seats.old heads.old) }
+    ensures users { users_in seats.new heads.new ≡ tried_at nick.now (with_invisible invisible)
+        (users_in seats.old heads.old) }
     ensures numbers { numbers_in heads.new ≡ numbers_in heads.old }
     ensures roster { IsRoster seats.new heads.new }
 {

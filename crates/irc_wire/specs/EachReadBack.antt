@@ -1,4 +1,5 @@
--- What is written on a link of an effect that can be sent is read as that effect, whatever the effect (RFC 2813 section 4).
+-- What is written on a link of an effect that can be sent is read as that effect, whatever the
+-- effect (RFC 2813 section 4).
 use Rattle.std.specs.Prelude.{ℕ, ⊤}
 use Rattle.irc_room.specs.effect.Effect.{Effect}
 use Rattle.irc_room.specs.effect.Effect.TheVariants.{AddUser}
@@ -15,6 +16,8 @@ AgreesOnServer known reader other = ⊤
 
 -- each effect that can be read is read back, from its line
 abbrev pub EachIsReadBack : Type 0
-EachIsReadBack = (room : Room) (known : Known) (other : Room) (others : Known) (link : ℕ) (effect : Effect)
-    → IsReadable room known (reader_of other others link) effect → AgreesOnServer known (reader_of other others link) effect
+EachIsReadBack =
+    (room : Room) (known : Known) (other : Room) (others : Known) (link : ℕ) (effect : Effect)
+    → IsReadable room known (reader_of other others link) effect
+    → AgreesOnServer known (reader_of other others link) effect
     → IsReadBack room known other others link effect

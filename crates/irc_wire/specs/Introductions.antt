@@ -1,5 +1,5 @@
--- What a server that introduces a user (RFC 2813 section 4.1.3) and one that reads the line have to know of each other, so that the line is
--- read as that user.
+-- What a server that introduces a user (RFC 2813 section 4.1.3) and one that reads the line have to
+-- know of each other, so that the line is read as that user.
 use Rattle.std.specs.Prelude.{◌≡◌, ◌≤◌, Ok, Some, [], ◌∷◌}
 use Rattle.std.specs.Option.{IfSome}
 use Rattle.irc_line.specs.Messages.{message_of}

@@ -1,4 +1,5 @@
--- Which changes of a channel's modes a line of a link tells of (RFC 2812 section 3.2.3), and that what is written of changes is read as them.
+-- Which changes of a channel's modes a line of a link tells of (RFC 2812 section 3.2.3), and that
+-- what is written of changes is read as them.
 use Rattle.std.specs.Prelude.{◌≡◌, ◌≢◌, ℕ, true, is_some, Some, Ok, Err, List, [], ◌∷◌, codes, map}
 use Rattle.std.specs.List.{list_all}
 use Rattle.irc_line.specs.Messages.{Parsed, message_of}
@@ -24,7 +25,8 @@ use Rattle.irc_link_writer.specs.Written.{wire}
 
 -- the line that changes the modes of a channel by these words
 abbrev pub mode_message : List ℕ → List ℕ → List (List ℕ) → Parsed
-mode_message name channel words = record { prefix = Some name; command = codes "MODE"; params = channel ∷ words }
+mode_message name channel words =
+    record { prefix = Some name; command = codes "MODE"; params = channel ∷ words }
 
 -- ---- a line is taken just where what is read of it is written as it is
 
@@ -33,9 +35,10 @@ pub data AreTold (channel : List ℕ) (words : List (List ℕ)) : List Effect �
   told : (doer : By) → AreTold channel words (ChangeModes doer channel (changes_of words) ∷ [])
   nothing : AreTold channel words []
 
--- A line that is taken changes the modes as its words say, or nothing. What is read of its words is written as these words, and each of these
--- keeps the rule of its letter.
-pub record IsTakenWhole (channel : List ℕ) (words : List (List ℕ)) (effects : List Effect) : Type 0 where
+-- A line that is taken changes the modes as its words say, or nothing. What is read of its words is
+-- written as these words, and each of these keeps the rule of its letter.
+pub record IsTakenWhole (channel : List ℕ) (words : List (List ℕ))
+    (effects : List Effect) : Type 0 where
   pub taken : are_changes words ≡ true
   pub rewritten : changes_written (changes_of words) ≡ words
   pub named : are_members_named (changes_of words) ≡ true
@@ -43,18 +46,23 @@ pub record IsTakenWhole (channel : List ℕ) (words : List (List ℕ)) (effects 
   pub effects_told : AreTold channel words effects
 
 abbrev pub TakenIsWrittenSo : Type 0
-TakenIsWrittenSo = (reader : Reader) (name channel : List ℕ) (words : List (List ℕ)) (effects : List Effect) → is_for_channel channel ≡ true
-    → read_by reader (mode_message name channel words) ≡ Ok effects → IsTakenWhole channel words effects
+TakenIsWrittenSo = (reader : Reader) (name channel : List ℕ) (words : List (List ℕ))
+    (effects : List Effect) → is_for_channel channel ≡ true
+    → read_by reader (mode_message name channel words) ≡ Ok effects
+    → IsTakenWhole channel words effects
 
 -- A line of which something else would be written than it is, is refused.
 abbrev pub OtherwiseWrittenIsRefused : Type 0
-OtherwiseWrittenIsRefused = (reader : Reader) (name channel : List ℕ) (words : List (List ℕ)) → is_for_channel channel ≡ true
-    → changes_written (changes_of words) ≢ words → read_by reader (mode_message name channel words) ≡ Err Parameters
+OtherwiseWrittenIsRefused = (reader : Reader) (name channel : List ℕ) (words : List (List ℕ))
+    → is_for_channel channel ≡ true
+    → changes_written (changes_of words) ≢ words
+    → read_by reader (mode_message name channel words) ≡ Err Parameters
 
 -- ---- what is written of changes is read as them
 
 -- changes that a user makes, and a reader to which that user and its server are known
-pub record AreReadBack (room : Room) (reader : Reader) (nick channel : List ℕ) (changes : List ModeChange) : Type 0 where
+pub record AreReadBack (room : Room) (reader : Reader) (nick channel : List ℕ)
+    (changes : List ModeChange) : Type 0 where
   -- they can be sent, spelled as the writer has the names stored
   pub sent : AreSentChanges room nick channel changes
   pub nick_named : IsNick nick
@@ -65,14 +73,18 @@ pub record AreReadBack (room : Room) (reader : Reader) (nick channel : List ℕ)
 
 -- each such change is taken, and read as it is
 abbrev pub WrittenChangesAreRead : Type 0
-WrittenChangesAreRead = (room : Room) (known : Known) (reader : Reader) (nick channel : List ℕ) (changes : List ModeChange)
+WrittenChangesAreRead = (room : Room) (known : Known) (reader : Reader) (nick channel : List ℕ)
+    (changes : List ModeChange)
     → AreReadBack room reader nick channel changes
-    → read_by reader (message_of (wire room known (ChangeModes (by.User nick) channel changes))) ≡ Ok (ChangeModes (by.User nick) channel changes ∷ [])
+    → read_by reader (message_of (wire room known (ChangeModes (by.User nick) channel changes)))
+    ≡ Ok (ChangeModes (by.User nick) channel changes ∷ [])
 
--- What was read of words is written as these words, and read again as it was: a server that hands a line on tells the same.
+-- What was read of words is written as these words, and read again as it was: a server that hands a
+-- line on tells the same.
 abbrev pub TakenIsReadAgain : Type 0
 TakenIsReadAgain = (words : List (List ℕ)) → are_changes words ≡ true
-    → (are_changes (changes_written (changes_of words)) ≡ true) × (changes_of (changes_written (changes_of words)) ≡ changes_of words)
+    → (are_changes (changes_written (changes_of words)) ≡ true)
+    × (changes_of (changes_written (changes_of words)) ≡ changes_of words)
 
 -- ---- what was taken can be sent on
 
@@ -86,19 +98,28 @@ pub record AreSentOn (room : Room) (words : List (List ℕ)) : Type 0 where
   pub readable : AreReadable (changes_of words)
   -- what the room writes of them is taken again, and read as these changes
   pub taken : are_changes (changes_words room (changes_of words)) ≡ true
-  pub same : changes_of (changes_words room (changes_of words)) ≡ stored_changes room (changes_of words)
+  pub same : changes_of (changes_words room (changes_of words)) ≡ stored_changes room
+      (changes_of words)
   pub named : are_members_named (stored_changes room (changes_of words)) ≡ true
 
--- Whatever its words are, a MODE line that is taken tells of changes that can be written again, and are read as the same.
+-- Whatever its words are, a MODE line that is taken tells of changes that can be written again, and
+-- are read as the same.
 abbrev pub TakenCanBeSentOn : Type 0
-TakenCanBeSentOn = (room : Room) (reader : Reader) (name channel : List ℕ) (words : List (List ℕ)) (effects : List Effect) → IsWithinLimits room
-    → is_for_channel channel ≡ true → read_by reader (mode_message name channel words) ≡ Ok effects → AreSentOn room words
+TakenCanBeSentOn = (room : Room) (reader : Reader) (name channel : List ℕ) (words : List (List ℕ))
+    (effects : List Effect) → IsWithinLimits room
+    → is_for_channel channel ≡ true → read_by reader (mode_message name channel words) ≡ Ok effects
+    → AreSentOn room words
 
--- So a next server, to which the user is known and which is told by the right link, reads of the line that it is sent the same changes, with
--- all names spelled as the room has them.
+-- So a next server, to which the user is known and which is told by the right link, reads of the
+-- line that it is sent the same changes, with all names spelled as the room has them.
 abbrev pub TakenIsReadByTheNext : Type 0
-TakenIsReadByTheNext = (room : Room) (known : Known) (reader next : Reader) (nick channel : List ℕ) (words : List (List ℕ)) (effects : List Effect)
-    → IsWithinLimits room → IsNick nick → is_for_channel channel ≡ true → read_by reader (mode_message nick channel words) ≡ Ok effects
-    → is_some (next.home (stored_nick room nick)) ≡ true → may_come next (stored_nick room nick) ≡ true
-    → read_by next (message_of (wire room known (ChangeModes (by.User nick) channel (changes_of words))))
-    ≡ Ok (ChangeModes (by.User (stored_nick room nick)) (stored_channel room channel) (stored_changes room (changes_of words)) ∷ [])
+TakenIsReadByTheNext = (room : Room) (known : Known) (reader next : Reader) (nick channel : List ℕ)
+    (words : List (List ℕ)) (effects : List Effect)
+    → IsWithinLimits room → IsNick nick → is_for_channel channel ≡ true
+    → read_by reader (mode_message nick channel words) ≡ Ok effects
+    → is_some (next.home (stored_nick room nick)) ≡ true
+    → may_come next (stored_nick room nick) ≡ true
+    → read_by next
+    (message_of (wire room known (ChangeModes (by.User nick) channel (changes_of words))))
+    ≡ Ok (ChangeModes (by.User (stored_nick room nick)) (stored_channel room channel)
+    (stored_changes room (changes_of words)) ∷ [])

@@ -1,5 +1,5 @@
--- What is written on a link and what is read there looks at no invitation. So a server, which has those of its own users alone, writes and reads as it would
--- by all of the room.
+-- What is written on a link and what is read there looks at no invitation. So a server, which has
+-- those of its own users alone, writes and reads as it would by all of the room.
 use Rattle.std.specs.Prelude.{◌≡◌, ℕ, List}
 use Rattle.irc_line.specs.Messages.{Parsed}
 use Rattle.irc_room.specs.effect.Effect.{Effect}
@@ -17,7 +17,8 @@ AlikeWriteAlike = (room other : Room) (known : Known) (effect : Effect) → AreA
 
 -- and a line means there the same, or is refused for the same
 abbrev pub AlikeMeanAlike : Type 0
-AlikeMeanAlike = (room other : Room) (known : Known) (link : ℕ) (message : Parsed) → AreAlike room other
+AlikeMeanAlike = (room other : Room) (known : Known) (link : ℕ) (message : Parsed)
+    → AreAlike room other
     → means room known link message ≡ means other known link message
 
 -- what a server has of a room is written of as all of the room

@@ -1,4 +1,5 @@
--- What is written on a link of an effect is read as that effect (RFC 2813 section 4): of which effects, and by which readers.
+-- What is written on a link of an effect is read as that effect (RFC 2813 section 4): of which
+-- effects, and by which readers.
 use Rattle.std.specs.Prelude.{◌≡◌, ℕ, true, false, ⊤, is_some, Bool, Ok, List, [], ◌∷◌}
 use Rattle.std.specs.List.{list_all}
 use Rattle.std.specs.Option.{option_map_or, IfSome}
@@ -21,15 +22,18 @@ abbrev pub is_user_far : Reader → List ℕ → Bool
 is_user_far reader nick = option_map_or reader.is_far (reader.home nick) false
 
 -- An effect as its writer has it, before it is done there, and a reader of the line.
-pub record IsReadable (room : Room) (known : Known) (reader : Reader) (effect : Effect) : Type 0 where
+pub record IsReadable (room : Room) (known : Known) (reader : Reader)
+    (effect : Effect) : Type 0 where
   -- the writer's names and texts keep their rules
   pub room_within : IsWithinLimits room
-  -- A user does it, and no server; its names are spelled as the writer has them, new ones and its texts keep their rules.
+  -- A user does it, and no server; its names are spelled as the writer has them, new ones and its
+  -- texts keep their rules.
   pub sendable : IsSendable room effect
   -- each user that it names is known to the reader
   pub users_known : list_all (λ nick. is_some (reader.home nick)) (needs_users effect) ≡ true
   -- whom the line is from, if anybody, is a user whose server is behind the link
-  pub doer_far : IfSome (message_of (wire room known effect)).prefix (λ nick. is_user_far reader nick ≡ true)
+  pub doer_far : IfSome (message_of (wire room known effect)).prefix
+      (λ nick. is_user_far reader nick ≡ true)
 
 -- an effect other than that a user comes, or that the modes of a channel change
 abbrev pub IsPlainEffect : Effect → Type 0
@@ -38,11 +42,14 @@ IsPlainEffect (ChangeModes by channel changes) = ⊥
 IsPlainEffect other = ⊤
 
 -- what is written of it is a line that is one message, which means just this effect
-pub record IsReadBack (room : Room) (known : Known) (other : Room) (others : Known) (link : ℕ) (effect : Effect) : Type 0 where
+pub record IsReadBack (room : Room) (known : Known) (other : Room) (others : Known) (link : ℕ)
+    (effect : Effect) : Type 0 where
   pub is_line : IsLine (line_text (wire room known effect))
   pub line : read_of (line_text (wire room known effect)) ≡ Ok (message_of (wire room known effect))
   pub meaning : means other others link (message_of (wire room known effect)) ≡ Ok (effect ∷ [])
 
 abbrev pub WrittenIsReadBack : Type 0
-WrittenIsReadBack = (room : Room) (known : Known) (other : Room) (others : Known) (link : ℕ) (effect : Effect) → IsPlainEffect effect
-    → IsReadable room known (reader_of other others link) effect → IsReadBack room known other others link effect
+WrittenIsReadBack = (room : Room) (known : Known) (other : Room) (others : Known) (link : ℕ)
+    (effect : Effect) → IsPlainEffect effect
+    → IsReadable room known (reader_of other others link) effect
+    → IsReadBack room known other others link effect

@@ -1,11 +1,13 @@
 -- The wires from the server at a place.
-use Rattle.std.proofs.Common.{◌≡◌, ◌<◌, ◌≤◌, ℕ, zero, suc, Some, None, List, [], ◌∷◌, refl, sym, ◌∙◌, ap, arith, length, get_or}
+use Rattle.std.proofs.Common.{◌≡◌, ◌<◌, ◌≤◌, ℕ, zero, suc, Some, None, List, [], ◌∷◌, refl, sym}
+use Rattle.std.proofs.Common.{◌∙◌, ap, arith, length, get_or}
 use Rattle.std.specs.List.{slice_get, slice_set}
 use Rattle.std.specs.Option.{option_map_or}
 use Rattle.irc_wires.specs.Wires.{Wire, Wires, new_wire, put_in, wire_at, wire_in, with_wire}
 use Rattle.irc_wires.specs.Loops.Rows.{Row}
 
-pub found_at : {X : Type 0} (xs : List X) (i : ℕ) (x : X) → i < length xs → x ≡ get_or xs i x → slice_get xs i ≡ Some x
+pub found_at : {X : Type 0} (xs : List X) (i : ℕ) (x : X) → i < length xs → x ≡ get_or xs i x
+    → slice_get xs i ≡ Some x
 found_at [] i x within is = absurd (omega (arith, within))
 found_at (y ∷ xs) zero x within is = ap Some (sym is)
 found_at (y ∷ xs) (suc i) x within is = found_at xs i x (omega (arith, within)) is
@@ -15,15 +17,19 @@ none_at [] i behind = refl
 none_at (y ∷ xs) zero behind = absurd (omega (arith, behind))
 none_at (y ∷ xs) (suc i) behind = none_at xs i (omega (arith, behind))
 
-pub wire_there : (wires : Wires) (from to : ℕ) (row : Row) → slice_get wires from ≡ Some row → wire_at wires from to ≡ wire_in to row
+pub wire_there : (wires : Wires) (from to : ℕ) (row : Row) → slice_get wires from ≡ Some row
+    → wire_at wires from to ≡ wire_in to row
 wire_there wires from to row is = ap (λ o. option_map_or (wire_in to) o new_wire) is
 
-pub wire_nowhere : (wires : Wires) (from to : ℕ) → slice_get wires from ≡ None → wire_at wires from to ≡ new_wire
+pub wire_nowhere : (wires : Wires) (from to : ℕ) → slice_get wires from ≡ None
+    → wire_at wires from to ≡ new_wire
 wire_nowhere wires from to is = ap (λ o. option_map_or (wire_in to) o new_wire) is
 
 -- a wire is changed in the row at the place
-pub changed_in : (wires : Wires) (from to : ℕ) (change : Wire → Wire) (row new : Row) → slice_get wires from ≡ Some row
-    → new ≡ put_in to (change (wire_in to row)) row → slice_set wires from new ≡ with_wire from to (change (wire_at wires from to)) wires
+pub changed_in : (wires : Wires) (from to : ℕ) (change : Wire → Wire) (row new : Row)
+    → slice_get wires from ≡ Some row → new ≡ put_in to (change (wire_in to row)) row
+    → slice_set wires from new ≡ with_wire from to (change (wire_at wires from to)) wires
 changed_in wires from to change row new is so =
     ap (slice_set wires from) so
-    ∙ ap (λ o. option_map_or (λ (r : Row). slice_set wires from (put_in to (change (option_map_or (wire_in to) o new_wire)) r)) o wires) (sym is)
+    ∙ ap (λ o. option_map_or (λ (r : Row). slice_set wires from
+    (put_in to (change (option_map_or (wire_in to) o new_wire)) r)) o wires) (sym is)

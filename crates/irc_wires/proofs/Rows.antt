@@ -1,5 +1,7 @@
 -- The wires from one server, in the code's map.
-use Rattle.std.proofs.Common.{◌≡◌, ℕ, zero, suc, min, T, true, Result, Ok, Err, OnOk, Some, None, List, [], ◌∷◌, ◌++◌, take, length, refl, sym, ◌∙◌, ap, subst, unwrap_or, append-nil, arith}
+use Rattle.std.proofs.Common.{◌≡◌, ℕ, zero, suc, min, T, true, Result, Ok, Err, OnOk, Some, None}
+use Rattle.std.proofs.Common.{List, [], ◌∷◌, ◌++◌, take, length, refl, sym, ◌∙◌, ap, subst}
+use Rattle.std.proofs.Common.{unwrap_or, append-nil, arith}
 use Rattle.std.proofs.lemmas.Bool.{and_from}
 use Rattle.std.specs.BTreeMap.{BTreeMap, UpdatesBy, get as number_in}
 use Rattle.std.specs.Cmp.{nat_cmp_total}
@@ -18,24 +20,30 @@ use Rattle.irc_wires.specs.Wires.{Wire, lines_by, new_wire, wire_in}
 
 -- what the code's map has
 
-pub found : (wires : BTreeMap ℕ Wire) (to : ℕ) (wire : Wire) → number_in nat_cmp wires to ≡ Some wire → get (numbered wires) to ≡ Some wire
+pub found : (wires : BTreeMap ℕ Wire) (to : ℕ) (wire : Wire)
+    → number_in nat_cmp wires to ≡ Some wire → get (numbered wires) to ≡ Some wire
 found wires to wire is = get-mapped nat_cmp_total nat_cmp-IsAntisymmetric wires to ∙ is
 
-pub missing : (wires : BTreeMap ℕ Wire) (to : ℕ) → number_in nat_cmp wires to ≡ None → get (numbered wires) to ≡ None
+pub missing : (wires : BTreeMap ℕ Wire) (to : ℕ) → number_in nat_cmp wires to ≡ None
+    → get (numbered wires) to ≡ None
 missing wires to is = get-mapped nat_cmp_total nat_cmp-IsAntisymmetric wires to ∙ is
 
-pub put : (old new : BTreeMap ℕ Wire) (to : ℕ) (wire : Wire) → UpdatesBy nat_cmp (nat_cmp to) old new (Some wire) → numbered new ≡ insert (numbered old) to wire
+pub put : (old new : BTreeMap ℕ Wire) (to : ℕ) (wire : Wire) → UpdatesBy nat_cmp
+    (nat_cmp to) old new (Some wire) → numbered new ≡ insert (numbered old) to wire
 put = put-mapped nat_cmp_total nat_cmp-IsAntisymmetric
 
-pub taken_out : (old new : BTreeMap ℕ Wire) (to : ℕ) → UpdatesBy nat_cmp (nat_cmp to) old new None → numbered new ≡ remove (numbered old) to
+pub taken_out : (old new : BTreeMap ℕ Wire) (to : ℕ) → UpdatesBy nat_cmp (nat_cmp to) old new None
+    → numbered new ≡ remove (numbered old) to
 taken_out = taken-mapped nat_cmp_total nat_cmp-IsAntisymmetric
 
 -- the wire to a place
 
-pub there : (wires : BTreeMap ℕ Wire) (to : ℕ) (wire : Wire) → number_in nat_cmp wires to ≡ Some wire → wire_in to (numbered wires) ≡ wire
+pub there : (wires : BTreeMap ℕ Wire) (to : ℕ) (wire : Wire)
+    → number_in nat_cmp wires to ≡ Some wire → wire_in to (numbered wires) ≡ wire
 there wires to wire is = ap (λ o. unwrap_or o new_wire) (found wires to wire is)
 
-pub nowhere : (wires : BTreeMap ℕ Wire) (to : ℕ) → number_in nat_cmp wires to ≡ None → wire_in to (numbered wires) ≡ new_wire
+pub nowhere : (wires : BTreeMap ℕ Wire) (to : ℕ) → number_in nat_cmp wires to ≡ None
+    → wire_in to (numbered wires) ≡ new_wire
 nowhere wires to is = ap (λ o. unwrap_or o new_wire) (missing wires to is)
 
 -- along a new one nothing comes
@@ -59,24 +67,30 @@ module _ (count : ℕ) (wire : Wire) (new : wire ≡ new_wire) where
       least count = omega arith
 
   pub no_lines : (lines : List (List ℕ)) → lines ≡ lines ++ lines_by count wire
-  no_lines lines = sym (append-nil lines) ∙ ap (λ ls. lines ++ ls) (sym (none_new count) ∙ ap (lines_by count) (sym new))
+  no_lines lines = sym (append-nil lines)
+      ∙ ap (λ ls. lines ++ ls) (sym (none_new count) ∙ ap (lines_by count) (sym new))
 
 -- the places of the code's map
 
-below : (place : ℕ) (es : List (ℕ × Wire)) → AllByRecursion (λ other. nat_cmp place other ≡ Less) (keys_of es) → below_all nat_cmp place es ≡ true
+below : (place : ℕ) (es : List (ℕ × Wire)) → AllByRecursion (λ other. nat_cmp place other ≡ Less)
+    (keys_of es) → below_all nat_cmp place es ≡ true
 below place [] less = refl
 below place (e ∷ es) less = and_from _ _ (ap is_lt less.0) (below place es less.1)
 
-rising : (es : List (ℕ × Wire)) → IsStrictlySortedBy nat_cmp (keys_of es) → is_sorted nat_cmp es ≡ true
+rising : (es : List (ℕ × Wire)) → IsStrictlySortedBy nat_cmp (keys_of es)
+    → is_sorted nat_cmp es ≡ true
 unfolding IsStrictlySortedBy
 rising [] sorted = refl
 rising (e ∷ es) sorted = and_from _ _ (below e.0 es sorted.0) (rising es sorted.1)
 
-pub keys_listed : (wires : BTreeMap ℕ Wire) → IsStrictlySortedBy nat_cmp (keys_of wires.entries) → keys_of wires.entries ≡ keys (numbered wires)
-keys_listed wires sorted = sym (ap keys_of (listed wires.entries (subst T (sym (rising wires.entries sorted)) tt)))
+pub keys_listed : (wires : BTreeMap ℕ Wire) → IsStrictlySortedBy nat_cmp (keys_of wires.entries)
+    → keys_of wires.entries ≡ keys (numbered wires)
+keys_listed wires sorted =
+    sym (ap keys_of (listed wires.entries (subst T (sym (rising wires.entries sorted)) tt)))
 
 -- where a call went well
 
-pub on_ok : {E : Type 0} {A B : Type 0} {R : Type 0} (r : Result R E) → OnOk r A → (A → B) → OnOk r B
+pub on_ok : {E : Type 0} {A B : Type 0} {R : Type 0} (r : Result R E) → OnOk r A → (A → B)
+    → OnOk r B
 on_ok (Ok _) a f = f a
 on_ok (Err e) a f = tt

@@ -1,9 +1,12 @@
--- What is on its way along links: in each direction bytes, and at the far end a framer that makes lines of them (RFC 2812 section 2.3).
+-- What is on its way along links: in each direction bytes, and at the far end a framer that makes
+-- lines of them (RFC 2812 section 2.3).
 --
 -- a.net has written `PING x` and CR LF to b.net, of which `PI` has come there:
 --   begun    `PI`, which is no line yet
 --   bytes    `NG x` and CR LF; once the CR has come, b.net has the line `PING x`
-use Rattle.std.specs.Prelude.{◌≡◌, ℕ, suc, ◌+◌, min, Bool, true, false, not, ◌&&◌, ◌==◌, Option, Some, None, List, [], ◌∷◌, ◌++◌, drop, take, length, unwrap_or, if◌then◌else◌, Vec}
+use Rattle.std.specs.Prelude.{◌≡◌, ℕ, suc, ◌+◌, min, Bool, true, false, not, ◌&&◌, ◌==◌, Option}
+use Rattle.std.specs.Prelude.{Some, None, List, [], ◌∷◌, ◌++◌, drop, take, length, unwrap_or}
+use Rattle.std.specs.Prelude.{if◌then◌else◌, Vec}
 use Rattle.std.specs.FinMap.{FinMap, get, insert, keys, remove}
 use Rattle.std.specs.List.{AllByRecursion, find, list_all, slice_get, slice_set}
 use Rattle.std.specs.Option.{option_map_or}
@@ -31,7 +34,10 @@ written line wire = record wire { bytes = wire.bytes ++ (line ++ crlf) }
 
 -- so many bytes have come to the far end, or all where there are fewer
 abbrev pub advanced : ℕ → Wire → Wire
-advanced count wire = record { begun = begun_behind wire.begun (take count wire.bytes); bytes = drop count wire.bytes }
+advanced count wire = record {
+  begun = begun_behind wire.begun (take count wire.bytes);
+  bytes = drop count wire.bytes;
+}
 
 -- how many these are
 abbrev pub come_by : ℕ → Wire → ℕ
@@ -122,10 +128,12 @@ pub record Direction : Type 0 where
 abbrev pub first_in : FinMap nat_cmp Wire → Option ℕ
 first_in row = find (λ to. has_byte (wire_in to row)) (keys row)
 
--- the first direction in which a byte is on its way, by the place that it is from and then the one where it goes
+-- the first direction in which a byte is on its way, by the place that it is from and then the one
+-- where it goes
 abbrev pub first_from : ℕ → Wires → Option Direction
 first_from place [] = None
-first_from place (row ∷ wires) = option_map_or (λ to. Some (record { from = place; to = to })) (first_in row) (first_from (place + 1) wires)
+first_from place (row ∷ wires) = option_map_or (λ to. Some (record { from = place; to = to }))
+    (first_in row) (first_from (place + 1) wires)
 
 abbrev pub first_direction : Wires → Option Direction
 first_direction wires = first_from 0 wires

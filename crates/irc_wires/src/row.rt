@@ -3,7 +3,9 @@ ghost use Rattle.std.specs.Prelude.{◌≡◌, ◌≤◌, length, IfOk, OnOk};
 ghost use Rattle.std.specs.FinMap.{empty, remove};
 ghost use Rattle.irc_line.specs.Limits.{max_line};
 ghost use Rattle.irc_links.specs.Loops.Numbered.{numbered};
-ghost use Rattle.irc_wires.specs.Wires.{IsLean, Yields, are_still_in, come_by, first_in, has_byte, is_still, new_wire, put_in, through_line_feed, wire_in, written};
+ghost use Rattle.irc_wires.specs.Wires.{IsLean, Yields, are_still_in, come_by, first_in, has_byte};
+ghost use Rattle.irc_wires.specs.Wires.{is_still, new_wire, put_in, through_line_feed, wire_in};
+ghost use Rattle.irc_wires.specs.Wires.{written};
 ghost use Rattle.irc_wires.specs.Loops.Rows.{advanced_in, without_still, written_in};
 
 use crate::wire::Wire;
@@ -12,7 +14,8 @@ use std::alloc::{AllocError, Global};
 use std::collections::BTreeMap;
 use std::marker::Model;
 
-/// The wires from one server, under the places of the servers that they go to. None that is still is kept.
+/// The wires from one server, under the places of the servers that they go to. None that is still
+/// is kept.
 #[derive(Drop)]
 pub(crate) struct Row {
     wires: BTreeMap<u64, Wire, Global>,
@@ -80,7 +83,8 @@ impl Row {
         }
     }
 
-    /// So many bytes come to this place, or all that are on their way where there are fewer, and each line that they complete is put behind the others.
+    /// So many bytes come to this place, or all that are on their way where there are fewer, and
+    /// each line that they complete is put behind the others.
     /// The number is how many have come.
     ///
     /// # Errors
@@ -103,7 +107,8 @@ impl Row {
         taken
     }
 
-    /// How many bytes are on their way to this place up to and with the next LF; none where no byte is.
+    /// How many bytes are on their way to this place up to and with the next LF; none where no byte
+    /// is.
     pub(crate) fn through_line_feed(&self, to: u64) -> usize
         ensures { result ≡ through_line_feed (wire_in to self.now).bytes }
     {

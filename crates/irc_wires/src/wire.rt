@@ -1,11 +1,14 @@
 //! One direction of a link: bytes on their way, and what becomes of them at the far end.
-ghost use Rattle.std.specs.Prelude.{◌≡◌, ◌<◌, ◌≤◌, ◌+◌, true, ◌++◌, drop, length, IfOk, OnErr, OnOk};
+ghost use Rattle.std.specs.Prelude.{◌≡◌, ◌<◌, ◌≤◌, ◌+◌, true, ◌++◌, drop, length, IfOk, OnErr};
+ghost use Rattle.std.specs.Prelude.{OnOk};
 ghost use Rattle.irc_line.specs.Bytes.{crlf};
 ghost use Rattle.irc_line.specs.Limits.{max_line, max_text};
 ghost use Rattle.irc_line.specs.Lines.{HasTaken, stream_for};
 ghost use Rattle.irc_line.specs.Framed.{bytes_of, found_in};
-ghost use Rattle.irc_wires.specs.Wires.{Yields, advanced, come_by, has_byte, is_still, lines_by, new_wire, through_line_feed, written};
-ghost use Rattle.irc_wires.specs.Loops.Parts.{IsPartOfOldest, IsWithinOldest, all_end_in_feed, joined, rest_of_oldest};
+ghost use Rattle.irc_wires.specs.Wires.{Yields, advanced, come_by, has_byte, is_still, lines_by};
+ghost use Rattle.irc_wires.specs.Wires.{new_wire, through_line_feed, written};
+ghost use Rattle.irc_wires.specs.Loops.Parts.{IsPartOfOldest, IsWithinOldest, all_end_in_feed};
+ghost use Rattle.irc_wires.specs.Loops.Parts.{joined, rest_of_oldest};
 
 use irc_line::laws::pieces_complete_the_same;
 use irc_line::{Framer, Line, Text};
@@ -89,8 +92,8 @@ impl Wire {
         through_first_feed(rest_of_oldest(&self.texts, self.come))
     }
 
-    /// So many bytes come to the far end, or all where there are fewer, and each line that they complete is put behind the others. The number is how many have
-    /// come.
+    /// So many bytes come to the far end, or all where there are fewer, and each line that they
+    /// complete is put behind the others. The number is how many have come.
     ///
     /// # Errors
     /// Where memory runs out.
@@ -117,7 +120,8 @@ impl Wire {
         let _come = self.come;
     }
 
-    /// At most so many bytes of the oldest text come to the far end, up to the end of the next line, and this is that line. The number is how many have come.
+    /// At most so many bytes of the oldest text come to the far end, up to the end of the next
+    /// line, and this is that line. The number is how many have come.
     fn take_part(&mut self, most: usize) -> (usize, Option<Line>)
         ensures at_most { result.0 ≤ most }
         ensures within { result.0 ≤ length self.old.bytes }
@@ -145,7 +149,8 @@ fn rest_of_oldest(texts: &LinkedList<Text, Global>, come: usize) -> &[u8]
     }
 }
 
-/// The oldest text goes where all of it has come, of which so many bytes have. The number is how many have come of that which is the oldest then.
+/// The oldest text goes where all of it has come, of which so many bytes have. The number is how
+/// many have come of that which is the oldest then.
 fn without_come(texts: &mut LinkedList<Text, Global>, come: usize) -> usize
     requires within { IsWithinOldest come texts.old }
     requires feeds { all_end_in_feed texts.old ≡ true }

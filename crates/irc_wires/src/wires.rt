@@ -3,7 +3,9 @@ ghost use Rattle.std.specs.Prelude.{◌≡◌, ◌≤◌, length, replicate, IfO
 ghost use Rattle.std.specs.FinMap.{empty};
 ghost use Rattle.std.specs.Option.{option_map};
 ghost use Rattle.irc_line.specs.Limits.{max_line};
-ghost use Rattle.irc_wires.specs.Wires.{AreLean, Yields, advanced_at, are_still, come_by, first_direction, through_line_feed, wire_at, without_wire, written_at};
+ghost use Rattle.irc_wires.specs.Wires.{AreLean, Yields, advanced_at, are_still, come_by};
+ghost use Rattle.irc_wires.specs.Wires.{first_direction, through_line_feed, wire_at, without_wire};
+ghost use Rattle.irc_wires.specs.Wires.{written_at};
 ghost use Rattle.irc_wires.specs.Loops.Rows.{direction_of};
 
 use crate::row::Row;
@@ -11,7 +13,8 @@ use irc_line::Line;
 use std::alloc::{AllocError, Global};
 use std::marker::Model;
 
-/// The wires of all links of a network, by the places of its servers. None that is still is kept, so equal wires have one representation.
+/// The wires of all links of a network, by the places of its servers. None that is still is kept,
+/// so equal wires have one representation.
 #[derive(Drop)]
 pub struct Wires {
     alloc: Global,
@@ -56,7 +59,8 @@ impl Wires {
         let _rows = &self.rows;
     }
 
-    /// A server writes a line without its CR LF to another. Where no server is at the place that it is from, nothing changes.
+    /// A server writes a line without its CR LF to another. Where no server is at the place that it
+    /// is from, nothing changes.
     ///
     /// # Errors
     /// Where memory runs out.
@@ -73,8 +77,9 @@ impl Wires {
         done
     }
 
-    /// So many bytes come from one server to another, or all that are on their way where there are fewer, and each line that they complete is put behind
-    /// the others. The number is how many have come.
+    /// So many bytes come from one server to another, or all that are on their way where there are
+    /// fewer, and each line that they complete is put behind the others. The number is how many
+    /// have come.
     ///
     /// # Errors
     /// Where memory runs out.
@@ -97,7 +102,8 @@ impl Wires {
         taken
     }
 
-    /// How many bytes are on their way from one server to another up to and with the next LF; none where no byte is.
+    /// How many bytes are on their way from one server to another up to and with the next LF; none
+    /// where no byte is.
     pub fn through_line_feed(&self, from: usize, to: u64) -> usize
         ensures { result ≡ through_line_feed (wire_at self.now from to).bytes }
     {
@@ -129,7 +135,8 @@ impl Wires {
         true
     }
 
-    /// The first direction in which a byte is on its way, by the place that it is from and then the one where it goes.
+    /// The first direction in which a byte is on its way, by the place that it is from and then the
+    /// one where it goes.
     pub fn first_direction(&self) -> Option<(usize, u64)>
         ensures { option_map direction_of result ≡ first_direction self.now }
     {

@@ -1,11 +1,14 @@
 -- Between two servers there are fewer links than servers in their part.
-use Rattle.std.proofs.Common.{◌≡◌, ℕ, ◌+◌, ◌<◌, suc, Bool, true, false, cond, ◌||◌, Some, None, List, [], ◌∷◌, length, map, filter, count_by, refl, sym, ◌∙◌, ap, subst, is_some, arith, if◌then◌else◌}
+use Rattle.std.proofs.Common.{◌≡◌, ℕ, ◌+◌, ◌<◌, suc, Bool, true, false, cond, ◌||◌, Some, None}
+use Rattle.std.proofs.Common.{List, [], ◌∷◌, length, map, filter, count_by, refl, sym, ◌∙◌, ap}
+use Rattle.std.proofs.Common.{subst, is_some, arith, if◌then◌else◌}
 use Rattle.std.proofs.Math.Path.{fun_ext}
 use Rattle.std.proofs.lemmas.List.Sums.{sum_by-cons}
 use Rattle.std.specs.List.{list_any}
 use Rattle.std.specs.FinMap.{entries, keys, retain_keys}
 use Rattle.irc_names.specs.Tables.{Table, tabulate}
-use Rattle.irc_names.specs.TableLaws.{same_fold, same_fold-refl, one_fold, same_table, row-tabulate, row-keys}
+use Rattle.irc_names.specs.TableLaws.{same_fold, same_fold-refl, one_fold, same_table, row-tabulate}
+use Rattle.irc_names.specs.TableLaws.{row-keys}
 use Rattle.irc_merge.specs.Lemmas.TableWords.{row-kept, entries_kept}
 use Rattle.irc_relay.specs.Distances.{size_of_part, WaysAreShort}
 use Rattle.irc_relay.specs.Links.{Name, same, Link, joined, distance}
@@ -18,7 +21,8 @@ abbrev names_of : List Setting → List Name
 names_of settings = map (λ (s : Setting). s.name) settings
 
 abbrev passing : List Setting → (Name → Bool) → Table (Unit {0})
-passing settings test = tabulate (names_of settings) (λ server. if test server then Some (tt {0}) else None)
+passing settings test =
+    tabulate (names_of settings) (λ server. if test server then Some (tt {0}) else None)
 
 abbrev anybody : Name → Bool
 anybody server = true
@@ -39,34 +43,44 @@ or_second : (a b : Bool) → b ≡ true → (a || b) ≡ true
 or_second true b is = refl
 or_second false b is = is
 
-is_named : (settings : List Setting) (s : Name) → is_server settings s ≡ true → list_any (same_fold s) (names_of settings) ≡ true
+is_named : (settings : List Setting) (s : Name) → is_server settings s ≡ true
+    → list_any (same_fold s) (names_of settings) ≡ true
 is_named [] s there = cc
 is_named (first ∷ settings) s there = by (tell first.name s) (is_named settings s)
   where
-    by : Telling first.name s → (is_server settings s ≡ true → list_any (same_fold s) (names_of settings) ≡ true)
+    by : Telling first.name s
+        → (is_server settings s ≡ true → list_any (same_fold s) (names_of settings) ≡ true)
         → (same_fold s first.name || list_any (same_fold s) (names_of settings)) ≡ true
-    by (alike _ e) later = ap (λ b. b || list_any (same_fold s) (names_of settings)) (ap (same_fold s) e ∙ same_fold-refl s)
+    by (alike _ e) later = ap (λ b. b || list_any (same_fold s) (names_of settings))
+        (ap (same_fold s) e ∙ same_fold-refl s)
     by (unlike is _) later =
         or_second (same_fold s first.name) (list_any (same_fold s) (names_of settings))
-        (later (sym (ap (λ b. is_some (if b then Some first else setting_of settings s)) is) ∙ there))
+        (later (sym (ap (λ b. is_some (if b then Some first else setting_of settings s)) is)
+        ∙ there))
 
-is_among : (settings : List Setting) (s : Name) → is_server settings s ≡ true → list_any (same s) (servers_where settings anybody) ≡ true
+is_among : (settings : List Setting) (s : Name) → is_server settings s ≡ true
+    → list_any (same s) (servers_where settings anybody) ≡ true
 is_among settings s there =
     ap (λ test. list_any test (keys (passing settings anybody))) (fun_ext (one_test s))
     ∙ row-keys (passing settings anybody) s
-    ∙ ap is_some (row-tabulate (names_of settings) (λ server. if anybody server then Some (tt {0}) else None) s)
+    ∙ ap is_some (row-tabulate (names_of settings) (λ server. if anybody server then Some (tt {0})
+    else None) s)
     ∙ ap (λ b. is_some (cond b (Some (tt {0})) None)) (is_named settings s there)
 
 -- ---- how many of them pass a test
 
-only_those : (settings : List Setting) (test : Name → Bool) → passing settings test ≡ retain_keys (passing settings anybody) test
-only_those settings test = same_table (passing settings test) (retain_keys (passing settings anybody) test) (λ q.
+only_those : (settings : List Setting) (test : Name → Bool)
+    → passing settings test ≡ retain_keys (passing settings anybody) test
+only_those settings test =
+    same_table (passing settings test) (retain_keys (passing settings anybody) test) (λ q.
     row-tabulate (names_of settings) (λ server. if test server then Some (tt {0}) else None) q
     ∙ by (list_any (same_fold q) (names_of settings)) (test q)
     ∙ sym (row-kept (passing settings anybody) test q
-    ∙ ap (λ o. cond (test q) o None) (row-tabulate (names_of settings) (λ server. if anybody server then Some (tt {0}) else None) q)))
+    ∙ ap (λ o. cond (test q) o None) (row-tabulate (names_of settings)
+    (λ server. if anybody server then Some (tt {0}) else None) q)))
   where
-    by : (there passes : Bool) → cond there (if passes then Some (tt {0}) else None) None ≡ cond passes (cond there (Some (tt {0})) None) None
+    by : (there passes : Bool) → cond there (if passes then Some (tt {0}) else None) None
+        ≡ cond passes (cond there (Some (tt {0})) None) None
     by true true = refl
     by true false = refl
     by false true = refl
@@ -79,7 +93,8 @@ no_more : (n : ℕ) → n ≡ cond {A = ℕ} false 1 0 + n
 no_more n = omega arith
 
 counted_keys : (test : Name → Bool) (es : List (List ℕ × Unit {0}))
-    → length (map (λ (e : List ℕ × Unit {0}). e.0) (filter (λ e. test e.0) es)) ≡ count_by test (map (λ (e : List ℕ × Unit {0}). e.0) es)
+    → length (map (λ (e : List ℕ × Unit {0}). e.0) (filter (λ e. test e.0) es))
+    ≡ count_by test (map (λ (e : List ℕ × Unit {0}). e.0) es)
 counted_keys test [] = refl
 counted_keys test (e ∷ es) =
     by (test e.0) (counted_keys test es)
@@ -88,20 +103,24 @@ counted_keys test (e ∷ es) =
     rest : List (List ℕ × Unit {0})
     rest = filter (λ e. test e.0) es
 
-    by : (b : Bool) → length (map (λ (e : List ℕ × Unit {0}). e.0) rest) ≡ count_by test (map (λ (e : List ℕ × Unit {0}). e.0) es)
+    by : (b : Bool) → length (map (λ (e : List ℕ × Unit {0}). e.0) rest)
+        ≡ count_by test (map (λ (e : List ℕ × Unit {0}). e.0) es)
         → length (map (λ (e : List ℕ × Unit {0}). e.0) (cond b (e ∷ rest) rest))
         ≡ cond {A = ℕ} b 1 0 + count_by test (map (λ (e : List ℕ × Unit {0}). e.0) es)
     by true later = ap suc later ∙ one_more _
     by false later = later ∙ no_more _
 
-part_counted : (settings : List Setting) (links : List Link) (s : Name) → part_size settings links s ≡ size_of_part (servers_where settings anybody) links s
+part_counted : (settings : List Setting) (links : List Link) (s : Name)
+    → part_size settings links s ≡ size_of_part (servers_where settings anybody) links s
 part_counted settings links s =
     ap (λ (table : Table (Unit {0})). length (keys table)) (only_those settings (joined links s))
-    ∙ ap (λ es. length (map (λ (e : List ℕ × Unit {0}). e.0) es)) (entries_kept (passing settings anybody) (joined links s))
+    ∙ ap (λ es. length (map (λ (e : List ℕ × Unit {0}). e.0) es))
+    (entries_kept (passing settings anybody) (joined links s))
     ∙ counted_keys (joined links s) (entries (passing settings anybody))
 
 pub parts_hold_ways : WaysAreShort → PartsHoldWays
 parts_hold_ways short settings world s t sound known joined_so =
     subst (λ n. distance world.links s t < n) (sym (part_counted settings world.links s))
     (short (servers_where settings anybody) world.links s t sound.forest
-    (λ u v linked_so. is_among settings u (sound.ends_known u v linked_so)) (is_among settings s known) joined_so)
+    (λ u v linked_so. is_among settings u (sound.ends_known u v linked_so))
+    (is_among settings s known) joined_so)

@@ -24,7 +24,8 @@ abbrev pub registered_as : Clients → ℕ → Option (List ℕ)
 registered_as clients client = option_and_then fold_of (get clients client)
 
 -- a client and the user under a fold have one home
-pub record HaveOneHome (homes : ℕ → Option Name) (user_home : List ℕ → Option Name) (client : ℕ) (fold : List ℕ) : Type 0 where
+pub record HaveOneHome (homes : ℕ → Option Name) (user_home : List ℕ → Option Name) (client : ℕ)
+    (fold : List ℕ) : Type 0 where
   pub home : Name
   pub of_client : homes client ≡ Some home
   pub of_user : user_home fold ≡ Some home
@@ -34,20 +35,29 @@ pub record HasClient (registered : ℕ → Option (List ℕ)) (fold : List ℕ) 
   pub client : ℕ
   pub is_registered : registered client ≡ Some fold
 
--- Each registered client is a user, and its home is that client's; no two clients are one user; and each user is a client.
-pub record AreMatched (homes : ℕ → Option Name) (user_home : List ℕ → Option Name) (registered : ℕ → Option (List ℕ)) : Type 0 where
-  pub registered_is_user : (client : ℕ) (fold : List ℕ) → registered client ≡ Some fold → HaveOneHome homes user_home client fold
-  pub user_has_one : (client other : ℕ) (fold : List ℕ) → registered client ≡ Some fold → registered other ≡ Some fold → other ≡ client
-  pub user_has_client : (fold : List ℕ) (home : Name) → user_home fold ≡ Some home → HasClient registered fold
+-- Each registered client is a user, and its home is that client's; no two clients are one user; and
+-- each user is a client.
+pub record AreMatched (homes : ℕ → Option Name) (user_home : List ℕ → Option Name)
+    (registered : ℕ → Option (List ℕ)) : Type 0 where
+  pub registered_is_user : (client : ℕ) (fold : List ℕ) → registered client ≡ Some fold
+      → HaveOneHome homes user_home client fold
+  pub user_has_one : (client other : ℕ) (fold : List ℕ) → registered client ≡ Some fold
+      → registered other ≡ Some fold → other ≡ client
+  pub user_has_client : (fold : List ℕ) (home : Name) → user_home fold ≡ Some home
+      → HasClient registered fold
 
 -- in the hall of every server
 abbrev pub ClientsAreUsers : World → Type 0
-ClientsAreUsers world = (server : Name) → AreMatched (home_of world) (home_under (world.hall server).room) (registered_as (world.hall server).clients)
+ClientsAreUsers world = (server : Name) → AreMatched (home_of world)
+    (home_under (world.hall server).room) (registered_as (world.hall server).clients)
 
 abbrev pub StepKeepsMatched : Type 0
-StepKeepsMatched = (settings : List Setting) (world : World) (item : Item) → IsSound settings world → HomesAreServers settings world
-    → HomesAreJoined world → ClientsAreUsers world → refused settings world item ≡ None → ClientsAreUsers (step settings world item).world
+StepKeepsMatched = (settings : List Setting) (world : World) (item : Item) → IsSound settings world
+    → HomesAreServers settings world
+    → HomesAreJoined world → ClientsAreUsers world → refused settings world item ≡ None
+    → ClientsAreUsers (step settings world item).world
 
 -- so it is after any items of which none is refused
 abbrev pub RegisteredAreUsers : Type 0
-RegisteredAreUsers = (settings : List Setting) (items : List Item) → AreTaken settings new_world items → ClientsAreUsers (world_of settings items)
+RegisteredAreUsers = (settings : List Setting) (items : List Item)
+    → AreTaken settings new_world items → ClientsAreUsers (world_of settings items)

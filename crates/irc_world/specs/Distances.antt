@@ -7,5 +7,6 @@ use Rattle.irc_world.specs.Sound.{IsSound}
 
 -- fewer links than there are servers in their part
 abbrev pub PartsHoldWays : Type 0
-PartsHoldWays = (settings : List Setting) (world : World) (s t : Name) → IsSound settings world → is_server settings s ≡ true
+PartsHoldWays = (settings : List Setting) (world : World) (s t : Name) → IsSound settings world
+    → is_server settings s ≡ true
     → AreJoined world.links s t → distance world.links s t < part_size settings world.links s

@@ -8,9 +8,12 @@ use Rattle.irc_stage.specs.Handle.{Happening, handled}
 
 -- the homes of all users of a room pass a test
 abbrev pub HomesPass : (List ℕ → Bool) → Room → Type 0
-HomesPass passes room = (fold : List ℕ) (user : User) → row room.users fold ≡ Some user → passes user.home ≡ true
+HomesPass passes room = (fold : List ℕ) (user : User) → row room.users fold ≡ Some user
+    → passes user.home ≡ true
 
--- Whatever test the homes of a room's users pass, they pass it still after a client of a server that passes it has done something.
+-- Whatever test the homes of a room's users pass, they pass it still after a client of a server
+-- that passes it has done something.
 abbrev pub ClientsBringOwnUsers : Type 0
-ClientsBringOwnUsers = (machine : RoomMachine) (happening : Happening) (passes : List ℕ → Bool) → HomesPass passes machine.room
+ClientsBringOwnUsers = (machine : RoomMachine) (happening : Happening) (passes : List ℕ → Bool)
+    → HomesPass passes machine.room
     → passes machine.place.name ≡ true → HomesPass passes (handled machine happening).machine.room

@@ -12,9 +12,11 @@ NewWorldIsSound = (settings : List Setting) → IsSound settings new_world
 
 -- an item that is not refused leaves a network sound
 abbrev pub StepStaysSound : Type 0
-StepStaysSound = (settings : List Setting) (world : World) (item : Item) → IsSound settings world → refused settings world item ≡ None
+StepStaysSound = (settings : List Setting) (world : World) (item : Item) → IsSound settings world
+    → refused settings world item ≡ None
     → IsSound settings (step settings world item).world
 
 -- so the network is sound after any items of which none is refused
 abbrev pub WorldIsSound : Type 0
-WorldIsSound = (settings : List Setting) (items : List Item) → AreTaken settings new_world items → IsSound settings (world_of settings items)
+WorldIsSound = (settings : List Setting) (items : List Item) → AreTaken settings new_world items
+    → IsSound settings (world_of settings items)

@@ -1,4 +1,5 @@
--- Small networks, by example: what each client receives when two parts are linked, when a link is lost, and when it is back.
+-- Small networks, by example: what each client receives when two parts are linked, when a link is
+-- lost, and when it is back.
 use Rattle.std.specs.Prelude.{◌≡◌, ℕ, true, false, Option, Some, None, List, [], ◌∷◌, ◌++◌, codes}
 use Rattle.std.specs.Option.{option_map}
 use Rattle.std.specs.FinMap.{from_entries}
@@ -24,7 +25,8 @@ use Rattle.irc_world.specs.Examples.{with_peers, peer}
 abbrev pub three_peers : List Setting
 three_peers =
     with_peers (codes "a.net") (peer (codes "b.net") (codes "pw") ∷ [])
-    ∷ with_peers (codes "b.net") (peer (codes "a.net") (codes "pw") ∷ peer (codes "c.net") (codes "pw") ∷ [])
+    ∷ with_peers (codes "b.net")
+    (peer (codes "a.net") (codes "pw") ∷ peer (codes "c.net") (codes "pw") ∷ [])
     ∷ with_peers (codes "c.net") (peer (codes "b.net") (codes "pw") ∷ [])
     ∷ []
 
@@ -44,9 +46,10 @@ hall_after clients effects = record { clients = from_entries clients; room = roo
 
 -- two servers without a link, each with its hall; two clients of a.net, and then two of b.net
 abbrev pub two_apart : Hall → Hall → World
-two_apart one other = with_hall (codes "a.net") one (with_hall (codes "b.net") other (record new_world {
-  homes = codes "a.net" ∷ codes "a.net" ∷ codes "b.net" ∷ codes "b.net" ∷ [];
-}))
+two_apart one other =
+    with_hall (codes "a.net") one (with_hall (codes "b.net") other (record new_world {
+      homes = codes "a.net" ∷ codes "a.net" ∷ codes "b.net" ∷ codes "b.net" ∷ [];
+    }))
 
 abbrev pub a_to_b : Link
 a_to_b = record { near = codes "a.net"; far = codes "b.net" }
@@ -73,15 +76,21 @@ bos_doings = on_b (codes "bo") ∷ on_b (codes "cy") ∷ Join (codes "bo") (code
 abbrev pub bos_people : Hall
 bos_people = hall_after bos_clients bos_doings
 
--- The members of #c see each other come, each with the operator's flag, given by the viewer's own server; who is in no channel sees nothing.
+-- The members of #c see each other come, each with the operator's flag, given by the viewer's own
+-- server; who is in no channel sees nothing.
 pub record PeopleMeet : Type 0 where
-  pub taken : refused three_peers (two_apart als_people bos_people) (link (codes "a.net") (codes "b.net")) ≡ None
-  pub to_al : (step three_peers (two_apart als_people bos_people) (link (codes "a.net") (codes "b.net"))).lines 1
+  pub taken : refused three_peers (two_apart als_people bos_people)
+      (link (codes "a.net") (codes "b.net")) ≡ None
+  pub to_al : (step three_peers (two_apart als_people bos_people)
+      (link (codes "a.net") (codes "b.net"))).lines 1
       ≡ (codes ":bo!u@h JOIN #c" ++ crlf) ∷ (codes ":a.net MODE #c +o bo" ++ crlf) ∷ []
-  pub to_an : (step three_peers (two_apart als_people bos_people) (link (codes "a.net") (codes "b.net"))).lines 2 ≡ []
-  pub to_bo : (step three_peers (two_apart als_people bos_people) (link (codes "a.net") (codes "b.net"))).lines 3
+  pub to_an : (step three_peers (two_apart als_people bos_people)
+      (link (codes "a.net") (codes "b.net"))).lines 2 ≡ []
+  pub to_bo : (step three_peers (two_apart als_people bos_people)
+      (link (codes "a.net") (codes "b.net"))).lines 3
       ≡ (codes ":al!u@h JOIN #c" ++ crlf) ∷ (codes ":b.net MODE #c +o al" ++ crlf) ∷ []
-  pub to_cy : (step three_peers (two_apart als_people bos_people) (link (codes "a.net") (codes "b.net"))).lines 4 ≡ []
+  pub to_cy : (step three_peers (two_apart als_people bos_people)
+      (link (codes "a.net") (codes "b.net"))).lines 4 ≡ []
 
 -- ---- two sides that differ
 
@@ -137,7 +146,8 @@ topic_at stepped server =
 -- #c see what theirs had not; whichever of the two servers connects, it is the same.
 pub record SidesAreJoined : Type 0 where
   pub taken :
-      refused three_peers (two_apart als_room bos_room) (link (codes "a.net") (codes "b.net")) ≡ None
+      refused three_peers (two_apart als_room bos_room)
+      (link (codes "a.net") (codes "b.net")) ≡ None
   pub to_al : a_connects.lines 1 ≡ bo_comes
   pub to_an : a_connects.lines 2 ≡ []
   pub to_bo : a_connects.lines 3 ≡ al_comes
@@ -146,7 +156,8 @@ pub record SidesAreJoined : Type 0 where
   pub modes_there : modes_at a_connects (codes "b.net") ≡ Some (codes "+nsk" ∷ codes "bb" ∷ [])
   pub topic_there : topic_at a_connects (codes "b.net") ≡ Some (codes "x")
   pub taken_back :
-      refused three_peers (two_apart als_room bos_room) (link (codes "b.net") (codes "a.net")) ≡ None
+      refused three_peers (two_apart als_room bos_room)
+      (link (codes "b.net") (codes "a.net")) ≡ None
   pub back_to_al : b_connects.lines 1 ≡ bo_comes
   pub back_to_bo : b_connects.lines 3 ≡ al_comes
   pub modes_back : modes_at b_connects (codes "a.net") ≡ Some (codes "+nsk" ∷ codes "bb" ∷ [])
@@ -159,7 +170,8 @@ zeds_clients = (1, Registered (codes "al")) ∷ (2, Registered (codes "zed")) �
 
 abbrev pub zeds_doings : List Effect
 zeds_doings =
-    on_a (codes "al") ∷ on_a (codes "zed") ∷ Join (codes "al") (codes "#y") true ∷ Join (codes "zed") (codes "#y") false
+    on_a (codes "al") ∷ on_a (codes "zed") ∷ Join (codes "al") (codes "#y") true ∷ Join
+    (codes "zed") (codes "#y") false
     ∷ Join (codes "zed") (codes "#z") true ∷ []
 
 abbrev pub with_zed : Hall
@@ -170,7 +182,8 @@ abbrev pub other_zeds_clients : List (ℕ × Client)
 other_zeds_clients = (3, Registered (codes "bo")) ∷ (4, Registered (codes "zed")) ∷ []
 
 abbrev pub other_zeds_doings : List Effect
-other_zeds_doings = on_b (codes "bo") ∷ on_b (codes "zed") ∷ Join (codes "bo") (codes "#z") true ∷ Join (codes "zed") (codes "#z") false ∷ []
+other_zeds_doings = on_b (codes "bo") ∷ on_b (codes "zed") ∷ Join (codes "bo") (codes "#z") true
+    ∷ Join (codes "zed") (codes "#z") false ∷ []
 
 abbrev pub with_other_zed : Hall
 with_other_zed = hall_after other_zeds_clients other_zeds_doings
@@ -181,14 +194,21 @@ zed_quits = (codes ":zed!u@h QUIT :Killed (Nick collision)" ++ crlf) ∷ []
 abbrev pub zed_is_told : List (List ℕ)
 zed_is_told = (codes "ERROR :Closing link (Killed (Nick collision))" ++ crlf) ∷ []
 
--- Both are killed. Who shared a channel with one of them sees it quit, and nobody sees anybody come; both clients are closed.
+-- Both are killed. Who shared a channel with one of them sees it quit, and nobody sees anybody
+-- come; both clients are closed.
 pub record NicknamesClash : Type 0 where
-  pub taken : refused three_peers (two_apart with_zed with_other_zed) (link (codes "a.net") (codes "b.net")) ≡ None
-  pub to_al : (step three_peers (two_apart with_zed with_other_zed) (link (codes "a.net") (codes "b.net"))).lines 1 ≡ zed_quits
-  pub to_zed : (step three_peers (two_apart with_zed with_other_zed) (link (codes "a.net") (codes "b.net"))).lines 2 ≡ zed_is_told
-  pub to_bo : (step three_peers (two_apart with_zed with_other_zed) (link (codes "a.net") (codes "b.net"))).lines 3 ≡ zed_quits
-  pub to_other_zed : (step three_peers (two_apart with_zed with_other_zed) (link (codes "a.net") (codes "b.net"))).lines 4 ≡ zed_is_told
-  pub zed_is_gone : refused three_peers (step three_peers (two_apart with_zed with_other_zed) (link (codes "a.net") (codes "b.net"))).world
+  pub taken : refused three_peers (two_apart with_zed with_other_zed)
+      (link (codes "a.net") (codes "b.net")) ≡ None
+  pub to_al : (step three_peers (two_apart with_zed with_other_zed)
+      (link (codes "a.net") (codes "b.net"))).lines 1 ≡ zed_quits
+  pub to_zed : (step three_peers (two_apart with_zed with_other_zed)
+      (link (codes "a.net") (codes "b.net"))).lines 2 ≡ zed_is_told
+  pub to_bo : (step three_peers (two_apart with_zed with_other_zed)
+      (link (codes "a.net") (codes "b.net"))).lines 3 ≡ zed_quits
+  pub to_other_zed : (step three_peers (two_apart with_zed with_other_zed)
+      (link (codes "a.net") (codes "b.net"))).lines 4 ≡ zed_is_told
+  pub zed_is_gone : refused three_peers (step three_peers (two_apart with_zed with_other_zed)
+      (link (codes "a.net") (codes "b.net"))).world
       (line 2 (codes "PING x")) ≡ Some no_such_client
 
 -- ---- a link is lost, and is back
@@ -203,14 +223,18 @@ in_a_line hall = with_hall (codes "a.net") hall (record new_world {
   homes = codes "a.net" ∷ codes "b.net" ∷ codes "c.net" ∷ [];
 })
 
--- al (1) on a.net made #c, whose topic is hello, and #d; bo (2) on b.net and cy (3) on c.net joined both
+-- al (1) on a.net made #c, whose topic is hello, and #d; bo (2) on b.net and cy (3) on c.net joined
+-- both
 abbrev pub three_clients : List (ℕ × Client)
-three_clients = (1, Registered (codes "al")) ∷ (2, Registered (codes "bo")) ∷ (3, Registered (codes "cy")) ∷ []
+three_clients =
+    (1, Registered (codes "al")) ∷ (2, Registered (codes "bo")) ∷ (3, Registered (codes "cy")) ∷ []
 
 abbrev pub three_doings : List Effect
 three_doings =
-    on_a (codes "al") ∷ on_b (codes "bo") ∷ on_c (codes "cy") ∷ Join (codes "al") (codes "#c") true ∷ Join (codes "al") (codes "#d") true
-    ∷ SetTopic (by.User (codes "al")) (codes "#c") (codes "hello") ∷ Join (codes "bo") (codes "#c") false ∷ Join (codes "bo") (codes "#d") false
+    on_a (codes "al") ∷ on_b (codes "bo") ∷ on_c (codes "cy") ∷ Join (codes "al") (codes "#c") true
+    ∷ Join (codes "al") (codes "#d") true
+    ∷ SetTopic (by.User (codes "al")) (codes "#c") (codes "hello") ∷ Join (codes "bo")
+    (codes "#c") false ∷ Join (codes "bo") (codes "#d") false
     ∷ Join (codes "cy") (codes "#c") false ∷ Join (codes "cy") (codes "#d") false ∷ []
 
 abbrev pub three_people : Hall
@@ -222,23 +246,30 @@ cut_off = step three_peers (in_a_line three_people) (cut (codes "a.net") (codes 
 abbrev pub back_again : Stepped
 back_again = step three_peers cut_off.world (link (codes "a.net") (codes "b.net"))
 
--- Each side sees those of the other quit, once, in order of their servers; the text has the near end first.
+-- Each side sees those of the other quit, once, in order of their servers; the text has the near
+-- end first.
 pub record LinkIsLost : Type 0 where
-  pub taken : refused three_peers (in_a_line three_people) (cut (codes "a.net") (codes "b.net")) ≡ None
-  pub to_al : cut_off.lines 1 ≡ (codes ":bo!u@h QUIT :a.net b.net" ++ crlf) ∷ (codes ":cy!u@h QUIT :a.net b.net" ++ crlf) ∷ []
+  pub taken : refused three_peers (in_a_line three_people)
+      (cut (codes "a.net") (codes "b.net")) ≡ None
+  pub to_al : cut_off.lines 1 ≡ (codes ":bo!u@h QUIT :a.net b.net" ++ crlf)
+      ∷ (codes ":cy!u@h QUIT :a.net b.net" ++ crlf) ∷ []
   pub to_bo : cut_off.lines 2 ≡ (codes ":al!u@h QUIT :b.net a.net" ++ crlf) ∷ []
   pub to_cy : cut_off.lines 3 ≡ (codes ":al!u@h QUIT :b.net a.net" ++ crlf) ∷ []
 
--- The link is back: each side sees those of the other come to #c and #d. No topic is seen, since both sides have it.
+-- The link is back: each side sees those of the other come to #c and #d. No topic is seen, since
+-- both sides have it.
 pub record LinkIsBack : Type 0 where
   pub taken : refused three_peers cut_off.world (link (codes "a.net") (codes "b.net")) ≡ None
   pub to_al : back_again.lines 1
-      ≡ (codes ":bo!u@h JOIN #c" ++ crlf) ∷ (codes ":cy!u@h JOIN #c" ++ crlf) ∷ (codes ":bo!u@h JOIN #d" ++ crlf) ∷ (codes ":cy!u@h JOIN #d" ++ crlf) ∷ []
+      ≡ (codes ":bo!u@h JOIN #c" ++ crlf) ∷ (codes ":cy!u@h JOIN #c" ++ crlf)
+      ∷ (codes ":bo!u@h JOIN #d" ++ crlf) ∷ (codes ":cy!u@h JOIN #d" ++ crlf) ∷ []
   pub to_bo : back_again.lines 2
-      ≡ (codes ":al!u@h JOIN #c" ++ crlf) ∷ (codes ":b.net MODE #c +o al" ++ crlf) ∷ (codes ":al!u@h JOIN #d" ++ crlf)
+      ≡ (codes ":al!u@h JOIN #c" ++ crlf) ∷ (codes ":b.net MODE #c +o al" ++ crlf)
+      ∷ (codes ":al!u@h JOIN #d" ++ crlf)
       ∷ (codes ":b.net MODE #d +o al" ++ crlf) ∷ []
   pub to_cy : back_again.lines 3
-      ≡ (codes ":al!u@h JOIN #c" ++ crlf) ∷ (codes ":c.net MODE #c +o al" ++ crlf) ∷ (codes ":al!u@h JOIN #d" ++ crlf)
+      ≡ (codes ":al!u@h JOIN #c" ++ crlf) ∷ (codes ":c.net MODE #c +o al" ++ crlf)
+      ∷ (codes ":al!u@h JOIN #d" ++ crlf)
       ∷ (codes ":c.net MODE #d +o al" ++ crlf) ∷ []
 
 -- ---- what is said is heard on every server

@@ -1,5 +1,7 @@
--- A network of one server is that server: what happens to the one happens to the other, and their clients receive the same.
-use Rattle.std.specs.Prelude.{◌≡◌, ℕ, suc, true, Option, Some, None, is_some, List, [], ◌∷◌, ◌++◌, Ok, length, map, option_to_list}
+-- A network of one server is that server: what happens to the one happens to the other, and their
+-- clients receive the same.
+use Rattle.std.specs.Prelude.{◌≡◌, ℕ, suc, true, Option, Some, None, is_some, List, [], ◌∷◌, ◌++◌}
+use Rattle.std.specs.Prelude.{Ok, length, map, option_to_list}
 use Rattle.std.specs.FinMap.{empty}
 use Rattle.std.specs.Option.{option_map}
 use Rattle.irc_line.specs.Reading.{read_of}
@@ -43,13 +45,16 @@ configured config = record {
 
 -- no two servers are there that a link could join
 abbrev pub OneServerHasNoLink : Type 0
-OneServerHasNoLink = (setting : Setting) (world : World) → IsSound (setting ∷ []) world → world.links ≡ []
+OneServerHasNoLink = (setting : Setting) (world : World) → IsSound (setting ∷ []) world
+    → world.links ≡ []
 
 -- what is made of a configuration is that
 abbrev pub NewServerIsAlone : Type 0
-NewServerIsAlone = (config : Config) (server : Option View) → IsMade config (Ok server) → server ≡ Some (lone_view (configured config))
+NewServerIsAlone = (config : Config) (server : Option View) → IsMade config (Ok server)
+    → server ≡ Some (lone_view (configured config))
 
--- a server is all that a network of one server is to its clients: it knows no other, and has the clients and the room of its hall
+-- a server is all that a network of one server is to its clients: it knows no other, and has the
+-- clients and the room of its hall
 pub record IsTheServer (setting : Setting) (world : World) (view : View) : Type 0 where
   pub routes : view.routes ≡ alone_known setting.name setting.info setting.created
   pub no_ends : view.ends ≡ empty
@@ -75,28 +80,36 @@ pub record IsServed (setting : Setting) (world : World) (view : View) (item : It
   pub happening : Happening
   pub is_item : happening_at world item ≡ Some happening
   pub expected : IsExpected (machine_of view) happening
-  pub stays : IsTheServer setting (step (setting ∷ []) world item).world (served view (of_client happening)).view
-  pub lines : (client : ℕ) → (step (setting ∷ []) world item).lines client ≡ lines_to client (served view (of_client happening)).out
+  pub stays : IsTheServer setting (step (setting ∷ []) world item).world
+      (served view (of_client happening)).view
+  pub lines : (client : ℕ) → (step (setting ∷ []) world item).lines client
+      ≡ lines_to client (served view (of_client happening)).out
 
 -- any item that is not refused is one for the one server, and it does the same
 abbrev pub OneServerIsTheNetwork : Type 0
-OneServerIsTheNetwork = (setting : Setting) (world : World) (view : View) (item : Item) → IsSound (setting ∷ []) world → IsTheServer setting world view
+OneServerIsTheNetwork = (setting : Setting) (world : World) (view : View) (item : Item)
+    → IsSound (setting ∷ []) world → IsTheServer setting world view
     → refused (setting ∷ []) world item ≡ None → IsServed setting world view item
 
 -- what these items are to the one server, each when its turn comes
 abbrev pub happenings_from : List Setting → World → List Item → List Happening
 happenings_from settings world [] = []
 happenings_from settings world (item ∷ items) =
-    option_to_list (happening_at world item) ++ happenings_from settings (step settings world item).world items
+    option_to_list (happening_at world item) ++ happenings_from settings
+    (step settings world item).world items
 
 -- so the clients of a network of one server are owed what that server owes them
 abbrev pub OneServerOwes : Type 0
-OneServerOwes = (setting : Setting) (items : List Item) → AreTaken (setting ∷ []) new_world items → (client : ℕ)
-    → owed_by_network (setting ∷ []) items client ≡ owed_by_server client (lone_view setting) (happenings_from (setting ∷ []) new_world items)
+OneServerOwes = (setting : Setting) (items : List Item) → AreTaken (setting ∷ []) new_world items
+    → (client : ℕ)
+    → owed_by_network (setting ∷ []) items client ≡ owed_by_server client (lone_view setting)
+    (happenings_from (setting ∷ []) new_world items)
 
 -- What a client would do that is not there, the one server refuses as well.
 abbrev pub OneServerRefuses : Type 0
 OneServerRefuses =
-    (setting : Setting) (world : World) (view : View) (item : Item) (event : Event) → IsSound (setting ∷ []) world → IsTheServer setting world view
-    → option_map of_client (happening_at world item) ≡ Some (occurrence_of event) → refused (setting ∷ []) world item ≡ Some no_such_client
+    (setting : Setting) (world : World) (view : View) (item : Item) (event : Event)
+    → IsSound (setting ∷ []) world → IsTheServer setting world view
+    → option_map of_client (happening_at world item) ≡ Some (occurrence_of event)
+    → refused (setting ∷ []) world item ≡ Some no_such_client
     → fault_of view event ≡ Some NoSuchConnection

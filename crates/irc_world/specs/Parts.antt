@@ -7,19 +7,23 @@ use Rattle.irc_room.specs.Invitations.{of_home}
 use Rattle.irc_world.specs.World.{Setting, World}
 use Rattle.irc_world.specs.Sound.{IsSound}
 
--- A server keeps of its part's room all but the invitations of other servers' users (our own choice).
+-- A server keeps of its part's room all but the invitations of other servers' users (our own
+-- choice).
 abbrev pub view_at : World → Name → Room
 view_at world server = of_home server (world.hall server).room
 
 abbrev pub ViewIsWellFormed : Type 0
-ViewIsWellFormed = (settings : List Setting) (world : World) (server : Name) → IsSound settings world → IsWellFormed (view_at world server)
+ViewIsWellFormed = (settings : List Setting) (world : World) (server : Name)
+    → IsSound settings world → IsWellFormed (view_at world server)
 
 -- a client has a number that was given, and is in one part alone
 pub record IsNumberedOnce (world : World) (client : ℕ) (server : Name) : Type 0 where
   pub first : 1 ≤ client
   pub last : client ≤ length world.homes
-  pub nowhere_else : (other : Name) → is_some (get (world.hall other).clients client) ≡ true → AreJoined world.links server other
+  pub nowhere_else : (other : Name) → is_some (get (world.hall other).clients client) ≡ true
+      → AreJoined world.links server other
 
 abbrev pub ClientsAreNumberedOnce : Type 0
-ClientsAreNumberedOnce = (settings : List Setting) (world : World) (server : Name) (client : ℕ) → IsSound settings world
+ClientsAreNumberedOnce = (settings : List Setting) (world : World) (server : Name) (client : ℕ)
+    → IsSound settings world
     → is_some (get (world.hall server).clients client) ≡ true → IsNumberedOnce world client server

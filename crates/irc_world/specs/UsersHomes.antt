@@ -9,24 +9,31 @@ use Rattle.irc_world.specs.Sound.{IsSound, AreTaken}
 use Rattle.irc_world.specs.Homes.{HomesPass}
 
 abbrev pub HomesAreServers : List Setting → World → Type 0
-HomesAreServers settings world = (server : Name) → HomesPass (is_server settings) (world.hall server).room
+HomesAreServers settings world =
+    (server : Name) → HomesPass (is_server settings) (world.hall server).room
 
 abbrev pub StepKeepsHomes : Type 0
-StepKeepsHomes = (settings : List Setting) (world : World) (item : Item) → IsSound settings world → HomesAreServers settings world
+StepKeepsHomes = (settings : List Setting) (world : World) (item : Item) → IsSound settings world
+    → HomesAreServers settings world
     → refused settings world item ≡ None → HomesAreServers settings (step settings world item).world
 
 -- so it is after any items of which none is refused
 abbrev pub UsersHomesAreServers : Type 0
-UsersHomesAreServers = (settings : List Setting) (items : List Item) → AreTaken settings new_world items → HomesAreServers settings (world_of settings items)
+UsersHomesAreServers = (settings : List Setting) (items : List Item)
+    → AreTaken settings new_world items → HomesAreServers settings (world_of settings items)
 
 -- each user's home is in the part whose room it is in
 abbrev pub HomesAreJoined : World → Type 0
-HomesAreJoined world = (server : Name) → HomesPass (λ home. joined world.links home server) (world.hall server).room
+HomesAreJoined world =
+    (server : Name) → HomesPass (λ home. joined world.links home server) (world.hall server).room
 
 abbrev pub StepKeepsHomesJoined : Type 0
-StepKeepsHomesJoined = (settings : List Setting) (world : World) (item : Item) → IsSound settings world → HomesAreServers settings world
-    → HomesAreJoined world → refused settings world item ≡ None → HomesAreJoined (step settings world item).world
+StepKeepsHomesJoined = (settings : List Setting) (world : World) (item : Item)
+    → IsSound settings world → HomesAreServers settings world
+    → HomesAreJoined world → refused settings world item ≡ None
+    → HomesAreJoined (step settings world item).world
 
 -- and so is that after any items of which none is refused
 abbrev pub UsersHomesAreJoined : Type 0
-UsersHomesAreJoined = (settings : List Setting) (items : List Item) → AreTaken settings new_world items → HomesAreJoined (world_of settings items)
+UsersHomesAreJoined = (settings : List Setting) (items : List Item)
+    → AreTaken settings new_world items → HomesAreJoined (world_of settings items)

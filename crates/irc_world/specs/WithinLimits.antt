@@ -1,4 +1,5 @@
--- The limits of the network: rooms keep to theirs, whatever the items bring that keep to theirs (RFC 2812 sections 1.2, 1.3 and 2.3).
+-- The limits of the network: rooms keep to theirs, whatever the items bring that keep to theirs
+-- (RFC 2812 sections 1.2, 1.3 and 2.3).
 use Rattle.std.specs.Prelude.{◌≡◌, ℕ, true, ⊤, Some, None, List}
 use Rattle.std.specs.List.{AllByRecursion}
 use Rattle.std.specs.FinMap.{get}
@@ -15,10 +16,12 @@ use Rattle.irc_world.specs.Refused.{refused}
 use Rattle.irc_world.specs.Owed.{world_of}
 use Rattle.irc_world.specs.Sound.{IsSound, AreTaken}
 
--- the room of a hall keeps to its limits, and so does what a client has given that is not registered
+-- the room of a hall keeps to its limits, and so does what a client has given that is not
+-- registered
 pub record IsHallWithin (hall : Hall) : Type 0 where
   pub room : IsWithinLimits hall.room
-  pub given : (client : ℕ) (pending : Pending) → get hall.clients client ≡ Some (Registering pending) → IsPendingWithin pending
+  pub given : (client : ℕ) (pending : Pending)
+      → get hall.clients client ≡ Some (Registering pending) → IsPendingWithin pending
 
 abbrev pub IsWorldWithin : World → Type 0
 IsWorldWithin world = (server : Name) → IsHallWithin (world.hall server)
@@ -34,10 +37,13 @@ abbrev pub AreNamed : List Setting → Type 0
 AreNamed settings = (server : Name) → is_server settings server ≡ true → IsServer server
 
 abbrev pub StepKeepsLimits : Type 0
-StepKeepsLimits = (settings : List Setting) (world : World) (item : Item) → AreNamed settings → IsSound settings world → IsWorldWithin world
-    → IsItemWithin item → refused settings world item ≡ None → IsWorldWithin (step settings world item).world
+StepKeepsLimits = (settings : List Setting) (world : World) (item : Item) → AreNamed settings
+    → IsSound settings world → IsWorldWithin world
+    → IsItemWithin item → refused settings world item ≡ None
+    → IsWorldWithin (step settings world item).world
 
 -- so rooms keep to their limits after any such items of which none is refused
 abbrev pub RoomsKeepLimits : Type 0
-RoomsKeepLimits = (settings : List Setting) (items : List Item) → AreNamed settings → AllByRecursion IsItemWithin items
+RoomsKeepLimits = (settings : List Setting) (items : List Item) → AreNamed settings
+    → AllByRecursion IsItemWithin items
     → AreTaken settings new_world items → IsWorldWithin (world_of settings items)

@@ -1,6 +1,8 @@
--- The network as its people know it: its servers, the links between them, and for each part that links join one room with its clients. No
--- message, route, token, burst or queue is in it (RFC 2810 section 3).
-use Rattle.std.specs.Prelude.{ℕ, zero, suc, Bool, ◌||◌, Option, Some, None, is_some, List, [], count_by, map, if◌then◌else◌}
+-- The network as its people know it: its servers, the links between them, and for each part that
+-- links join one room with its clients. No message, route, token, burst or queue is in it (RFC 2810
+-- section 3).
+use Rattle.std.specs.Prelude.{ℕ, zero, suc, Bool, ◌||◌, Option, Some, None, is_some, List, []}
+use Rattle.std.specs.Prelude.{count_by, map, if◌then◌else◌}
 use Rattle.std.specs.List.{find, slice_get}
 use Rattle.std.specs.Option.{option_map, option_map_or}
 use Rattle.std.specs.FinMap.{empty, keys, values}
@@ -24,8 +26,8 @@ pub record Hall : Type 0 where
   pub clients : Clients
   pub room : Room
 
--- Links, the newest first; the home of each client that ever connected, in the order of their numbers, which begin with 1; and for each server
--- the hall of the part that it is in.
+-- Links, the newest first; the home of each client that ever connected, in the order of their
+-- numbers, which begin with 1; and for each server the hall of the part that it is in.
 pub record World : Type 0 where
   pub links : List Link
   pub homes : List Name
@@ -33,7 +35,8 @@ pub record World : Type 0 where
 
 -- nobody is there, and no link
 abbrev pub new_world : World
-new_world = record { links = []; homes = []; hall = λ server. record { clients = empty; room = no_room } }
+new_world =
+    record { links = []; homes = []; hall = λ server. record { clients = empty; room = no_room } }
 
 -- how the server of this name is set up, if there is one
 abbrev pub setting_of : List Setting → Name → Option Setting
@@ -46,7 +49,8 @@ is_server settings server = is_some (setting_of settings server)
 -- these of the servers, in order of name
 abbrev pub servers_where : List Setting → (Name → Bool) → List Name
 servers_where settings test =
-    keys (tabulate (map (λ (s : Setting). s.name) settings) (λ server. if test server then Some (tt {0}) else None))
+    keys (tabulate (map (λ (s : Setting). s.name) settings) (λ server. if test server
+    then Some (tt {0}) else None))
 
 -- the home of a client, if there ever was one of this number
 abbrev pub home_in : List Name → ℕ → Option Name
@@ -77,12 +81,14 @@ joined_place settings links own = record {
   info = own.info;
   created = own.created;
   links = count_by (has_end own.name) links;
-  servers = values (tabulate (map (λ (s : Setting). s.name) settings) (known_from settings links own.name));
+  servers = values
+      (tabulate (map (λ (s : Setting). s.name) settings) (known_from settings links own.name));
 }
 
 -- where the clients of a server are; a name that is no server's stands alone
 abbrev pub place_at : List Setting → List Link → Name → Place
-place_at settings links server = option_map_or (joined_place settings links) (setting_of settings server) (alone server [] [])
+place_at settings links server =
+    option_map_or (joined_place settings links) (setting_of settings server) (alone server [] [])
 
 -- the room machine of a part, as one of its servers' clients meet it
 abbrev pub machine_at : List Setting → World → Name → RoomMachine
@@ -94,4 +100,7 @@ machine_at settings world server = record {
 
 -- everybody who is joined to a server has this hall
 abbrev pub with_hall : Name → Hall → World → World
-with_hall server hall world = record world { hall = λ other. if joined world.links other server then hall else world.hall other }
+with_hall server hall world = record world {
+  hall = λ other. if joined world.links other server
+      then hall else world.hall other;
+}

@@ -18,9 +18,11 @@ pub record IsWorld (settings : List Setting) (world : World) : Type 0 where
   pub within : IsWorldWithin world
 
 abbrev pub StepKeepsWorld : Type 0
-StepKeepsWorld = (settings : List Setting) (world : World) (item : Item) → AreNamed settings → IsWorld settings world → IsItemWithin item
+StepKeepsWorld = (settings : List Setting) (world : World) (item : Item) → AreNamed settings
+    → IsWorld settings world → IsItemWithin item
     → refused settings world item ≡ None → IsWorld settings (step settings world item).world
 
 abbrev pub TakenMakeWorld : Type 0
-TakenMakeWorld = (settings : List Setting) (items : List Item) → AreNamed settings → AllByRecursion IsItemWithin items → AreTaken settings new_world items
+TakenMakeWorld = (settings : List Setting) (items : List Item) → AreNamed settings
+    → AllByRecursion IsItemWithin items → AreTaken settings new_world items
     → IsWorld settings (world_of settings items)

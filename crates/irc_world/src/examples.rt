@@ -1,15 +1,20 @@
 //! A small network, by example.
 ghost use Rattle.irc_world.specs.Examples.{WhoIsRefused};
-ghost use Rattle.irc_world.specs.Networks.{BoIsHeard, LinkIsBack, LinkIsLost, NicknamesClash, PeopleMeet, SidesAreJoined};
-ghost use Rattle.irc_world.specs.SmallWorlds.{ErrorComesLast, InvitedAtHome, KillsComeFirst, LinesAtMost, LostInOrder, OperatorBeforeVoice, PasswordsDiffer, Whereabouts};
+ghost use Rattle.irc_world.specs.Networks.{BoIsHeard, LinkIsBack, LinkIsLost, NicknamesClash};
+ghost use Rattle.irc_world.specs.Networks.{PeopleMeet, SidesAreJoined};
+ghost use Rattle.irc_world.specs.SmallWorlds.{ErrorComesLast, InvitedAtHome, KillsComeFirst};
+ghost use Rattle.irc_world.specs.SmallWorlds.{LinesAtMost, LostInOrder, OperatorBeforeVoice};
+ghost use Rattle.irc_world.specs.SmallWorlds.{PasswordsDiffer, Whereabouts};
 
-/// What is refused where there are three servers, no link and nobody: names of no server, numbers of no client, a link that is not there to be cut, and
-/// links between servers of which one is no peer, keeps another password, or is the same server.
+/// What is refused where there are three servers, no link and nobody: names of no server, numbers
+/// of no client, a link that is not there to be cut, and links between servers of which one is no
+/// peer, keeps another password, or is the same server.
 pub fn who_is_refused()
     ensures { WhoIsRefused }
 {}
 
-/// Two servers are linked, on each of which somebody has made one channel: its members see each other come, and who is in no channel sees nothing.
+/// Two servers are linked, on each of which somebody has made one channel: its members see each
+/// other come, and who is in no channel sees nothing.
 pub fn people_meet()
     ensures { PeopleMeet }
 {}
@@ -20,7 +25,8 @@ pub fn sides_are_joined()
     ensures { SidesAreJoined }
 {}
 
-/// Two servers are linked that have users of one nickname: both are killed, and nobody sees anybody come by a channel that one of them alone was in.
+/// Two servers are linked that have users of one nickname: both are killed, and nobody sees anybody
+/// come by a channel that one of them alone was in.
 pub fn nicknames_clash()
     ensures { NicknamesClash }
 {}
@@ -30,19 +36,21 @@ pub fn link_is_lost()
     ensures { LinkIsLost }
 {}
 
-/// The link is back: those of the other side are seen to come to both channels, and no topic is told again.
+/// The link is back: those of the other side are seen to come to both channels, and no topic is
+/// told again.
 pub fn link_is_back()
     ensures { LinkIsBack }
 {}
 
-/// What is said in a channel is heard by its members on every server of the part, and not by whoever says it.
+/// What is said in a channel is heard by its members on every server of the part, and not by
+/// whoever says it.
 pub fn bo_is_heard()
     ensures { BoIsHeard }
 {}
 
-/// How many lines servers need at most: for a link of two that are empty, of two with people, of two
-/// with one nickname, and of two pairs; for a text, for who leaves, and for who connects; for a link
-/// that is lost, between pairs too, and for one that is back.
+/// How many lines servers need at most: for a link of two that are empty, of two with people, of
+/// two with one nickname, and of two pairs; for a text, for who leaves, and for who connects; for a
+/// link that is lost, between pairs too, and for one that is back.
 pub fn lines_at_most()
     ensures { LinesAtMost }
 {}
@@ -72,7 +80,8 @@ pub fn operator_before_voice()
     ensures { OperatorBeforeVoice }
 {}
 
-/// Those of a lost side quit server by server and nickname by nickname, whichever end of the link is named first.
+/// Those of a lost side quit server by server and nickname by nickname, whichever end of the link
+/// is named first.
 pub fn lost_in_order()
     ensures { LostInOrder }
 {}

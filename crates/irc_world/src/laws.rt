@@ -1,5 +1,5 @@
-//! What holds of the network, whatever is given to it. Each law is a function that does nothing, and its contract is the law: the check
-//! proves it, and a crate above may cite it.
+//! What holds of the network, whatever is given to it. Each law is a function that does nothing,
+//! and its contract is the law: the check proves it, and a crate above may cite it.
 ghost use Rattle.irc_world.specs.Bystanders.{OnlyConnectedReceive, OtherPartsStay, WaitingStay};
 ghost use Rattle.irc_world.specs.ClientsUsers.{RegisteredAreUsers, StepKeepsMatched};
 ghost use Rattle.irc_world.specs.Homes.{ClientsBringOwnUsers};
@@ -7,20 +7,23 @@ ghost use Rattle.irc_world.specs.Laws.{NewWorldIsSound, StepStaysSound, WorldIsS
 ghost use Rattle.irc_world.specs.Bounds.{OneServerTellsNobody};
 ghost use Rattle.irc_world.specs.Distances.{PartsHoldWays};
 ghost use Rattle.irc_world.specs.Even.{CutIsEven, LinkIsEven, SameWorldsGoOn};
-ghost use Rattle.irc_world.specs.OneServer.{NewServerIsAlone, OneServerHasNoLink, OneServerIsTheNetwork, OneServerOwes, OneServerRefuses};
+ghost use Rattle.irc_world.specs.OneServer.{NewServerIsAlone, OneServerHasNoLink};
+ghost use Rattle.irc_world.specs.OneServer.{OneServerIsTheNetwork, OneServerOwes, OneServerRefuses};
 ghost use Rattle.irc_world.specs.WorldHolds.{StepKeepsWorld, TakenMakeWorld};
 ghost use Rattle.irc_world.specs.Numbers.{NextNumberIsNew, NumbersStay};
 ghost use Rattle.irc_world.specs.Parts.{ClientsAreNumberedOnce, ViewIsWellFormed};
 ghost use Rattle.irc_world.specs.WithinLimits.{RoomsKeepLimits, StepKeepsLimits};
-ghost use Rattle.irc_world.specs.UsersHomes.{StepKeepsHomes, StepKeepsHomesJoined, UsersHomesAreJoined, UsersHomesAreServers};
+ghost use Rattle.irc_world.specs.UsersHomes.{StepKeepsHomes, StepKeepsHomesJoined};
+ghost use Rattle.irc_world.specs.UsersHomes.{UsersHomesAreJoined, UsersHomesAreServers};
 
 /// A network with no link and nobody in it is sound.
 pub fn new_world_is_sound()
     ensures { NewWorldIsSound }
 {}
 
-/// An item that is not refused leaves a sound network sound: links are a forest, servers that are joined have one hall, its room is well formed, and its
-/// clients have their homes in that part. Each end of a link is a server that there is.
+/// An item that is not refused leaves a sound network sound: links are a forest, servers that are
+/// joined have one hall, its room is well formed, and its clients have their homes in that part.
+/// Each end of a link is a server that there is.
 pub fn step_stays_sound()
     ensures { StepStaysSound }
 {
@@ -41,8 +44,8 @@ pub fn world_is_sound()
     step_stays_sound();
 }
 
-/// A network of one server is that server: an item that is not refused is one that the server takes, it does the same to both, and each client receives the
-/// same lines.
+/// A network of one server is that server: an item that is not refused is one that the server
+/// takes, it does the same to both, and each client receives the same lines.
 pub fn one_server_is_the_network()
     ensures { OneServerIsTheNetwork }
 {
@@ -60,7 +63,8 @@ pub fn new_server_is_alone()
     ensures { NewServerIsAlone }
 {}
 
-/// Over any items of which none is refused, the clients of a network of one server are owed just what that server owes them.
+/// Over any items of which none is refused, the clients of a network of one server are owed just
+/// what that server owes them.
 pub fn one_server_owes()
     ensures { OneServerOwes }
 {
@@ -69,13 +73,15 @@ pub fn one_server_owes()
     step_stays_sound();
 }
 
-/// What a network of one server refuses because no such client is there, that server refuses as well.
+/// What a network of one server refuses because no such client is there, that server refuses as
+/// well.
 pub fn one_server_refuses()
     ensures { OneServerRefuses }
 {}
 
-/// Where a link between two servers is not refused, either of them may connect: afterwards the same servers are joined and linked, each has the same
-/// hall and the same place, and each client receives the same lines.
+/// Where a link between two servers is not refused, either of them may connect: afterwards the same
+/// servers are joined and linked, each has the same hall and the same place, and each client
+/// receives the same lines.
 pub fn link_is_even()
     ensures { LinkIsEven }
 {
@@ -94,7 +100,8 @@ pub fn cut_is_even()
     irc_relay::laws_of_forests::link_taken_out();
 }
 
-/// So it does for all that comes after: two networks that are one but for which ends of links were named first go on the same.
+/// So it does for all that comes after: two networks that are one but for which ends of links were
+/// named first go on the same.
 pub fn same_worlds_go_on()
     ensures { SameWorldsGoOn }
 {
@@ -120,7 +127,8 @@ pub fn next_number_is_new()
     ensures { NextNumberIsNew }
 {}
 
-/// What a server keeps of the room of its part, all but the invitations of other servers' users, is well formed.
+/// What a server keeps of the room of its part, all but the invitations of other servers' users, is
+/// well formed.
 pub fn view_is_well_formed()
     ensures { ViewIsWellFormed }
 {
@@ -132,7 +140,8 @@ pub fn one_server_tells_nobody()
     ensures { OneServerTellsNobody }
 {}
 
-/// What a client does makes users of its own server alone: where the homes of all users of its part pass a test, and its own server does, they pass it still.
+/// What a client does makes users of its own server alone: where the homes of all users of its part
+/// pass a test, and its own server does, they pass it still.
 pub fn clients_bring_own_users()
     ensures { ClientsBringOwnUsers }
 {
@@ -171,7 +180,8 @@ pub fn step_keeps_homes_joined()
     irc_merge::laws::split_has_nothing_new();
 }
 
-/// After any items of which none is refused, each user's home is in the part whose room the user is in.
+/// After any items of which none is refused, each user's home is in the part whose room the user is
+/// in.
 pub fn users_homes_are_joined()
     ensures { UsersHomesAreJoined }
 {
@@ -180,8 +190,8 @@ pub fn users_homes_are_joined()
     step_stays_sound();
 }
 
-/// Where each registered client is a user whose home is that client's, no two clients are one user, and each user is a client, an item that is not
-/// refused leaves it so.
+/// Where each registered client is a user whose home is that client's, no two clients are one user,
+/// and each user is a client, an item that is not refused leaves it so.
 pub fn step_keeps_matched()
     ensures { StepKeepsMatched }
 {
@@ -191,8 +201,8 @@ pub fn step_keeps_matched()
     irc_server::laws::users_come_and_go();
 }
 
-/// After any items of which none is refused, each registered client is a user of its part whose home is that client's, no two clients are one user,
-/// and each user is a client.
+/// After any items of which none is refused, each registered client is a user of its part whose
+/// home is that client's, no two clients are one user, and each user is a client.
 pub fn registered_are_users()
     ensures { RegisteredAreUsers }
 {
@@ -202,8 +212,9 @@ pub fn registered_are_users()
     step_stays_sound();
 }
 
-/// Where servers have names that a server may have, rooms that keep to their limits do so still after an item that is not refused: who connects comes from
-/// a host that is one, and a line has neither NUL, CR nor LF.
+/// Where servers have names that a server may have, rooms that keep to their limits do so still
+/// after an item that is not refused: who connects comes from a host that is one, and a line has
+/// neither NUL, CR nor LF.
 pub fn step_keeps_limits()
     ensures { StepKeepsLimits }
 {
@@ -246,7 +257,8 @@ pub fn taken_make_world()
     rooms_keep_limits();
 }
 
-/// A connection that is not registered stays when a link is made or lost, with what it has given, and sees nothing of it.
+/// A connection that is not registered stays when a link is made or lost, with what it has given,
+/// and sees nothing of it.
 pub fn waiting_stay()
     ensures { WaitingStay }
 {
@@ -255,7 +267,8 @@ pub fn waiting_stay()
     irc_relay::laws_of_forests::link_taken_out();
 }
 
-/// A part of the network that an item is not about has the hall that it had, its servers know the same of the network, and nobody in it receives anything.
+/// A part of the network that an item is not about has the hall that it had, its servers know the
+/// same of the network, and nobody in it receives anything.
 pub fn other_parts_stay()
     ensures { OtherPartsStay }
 {
@@ -266,7 +279,8 @@ pub fn other_parts_stay()
     irc_relay::laws_of_forests::joined_over_link();
 }
 
-/// Who is not connected receives nothing: neither a number that was never given nor one whose client is gone.
+/// Who is not connected receives nothing: neither a number that was never given nor one whose
+/// client is gone.
 pub fn only_connected_receive()
     ensures { OnlyConnectedReceive }
 {}

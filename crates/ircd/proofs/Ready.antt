@@ -1,5 +1,6 @@
 -- How serving ends: before `ready` is printed, while it is, or behind it.
-use Rattle.std.proofs.Common.{◌≡◌, ◌∙◌, ℕ, Option, Result, Ok, Err, IsErrAnd, List, [], inl, inr, refl, sym, subst}
+use Rattle.std.proofs.Common.{◌≡◌, ◌∙◌, ℕ, Option, Result, Ok, Err, IsErrAnd, List, [], inl, inr}
+use Rattle.std.proofs.Common.{refl, sym, subst}
 use Rattle.std.specs.Prelude.{⊤}
 use Rattle.std.specs.Io.KnownBytes.{Appends}
 use Rattle.irc_outbox.specs.Calls.{Call}
@@ -11,10 +12,12 @@ use Rattle.irc_engine.specs.Telling.{RunsTelling}
 use Rattle.irc_engine.specs.Laws.Tellings.{runs_tell_some}
 use Rattle.irc_journal.specs.Saying.{AreSomeSaid}
 use Rattle.irc_endings.specs.declared.fault.Stop.{Stop}
-use Rattle.irc_endings.specs.declared.fault.Stop.TheVariants.{Usage, BadScript, BadConfiguration, Failed}
+use Rattle.irc_endings.specs.declared.fault.Stop.TheVariants.{Usage, BadScript, BadConfiguration}
+use Rattle.irc_endings.specs.declared.fault.Stop.TheVariants.{Failed}
 use Rattle.ircd.specs.declared.setup.Setup.{Setup}
 use Rattle.ircd.specs.Loops.Turns.{IsOfFile, TakesTurns}
-use Rattle.ircd.specs.Serving.{IsCutShort, IsOpened, IsReadSetup, IsTextOf, Serves, ServesFile, ServesText}
+use Rattle.ircd.specs.Serving.{IsCutShort, IsOpened, IsReadSetup, IsTextOf, Serves, ServesFile}
+use Rattle.ircd.specs.Serving.{ServesText}
 use Rattle.ircd.specs.Serving.IsCutShort.{printing, unprinted}
 use Rattle.irc_endings.specs.Ready.{ready_text}
 use Rattle.irc_endings.specs.Sinks.{Wrote, sink}
@@ -29,86 +32,118 @@ nothing_said : (held : Option (List ℕ)) → AreSomeSaid held held
 nothing_said held = ([], refl)
 
 -- `ready` is cut short
-module _ {W : Type 0} (is_after : W → List Call → Type 0) (turns : ℕ) (old new : EngineView W) (held after said said_after : Option (List ℕ)) where
-  cut_by : (r : Result (Unit {0}) Stop) → Wrote held after ready_text → AreSomeSaid said said_after → IsErrAnd r (λ stop. stop ≡ Failed)
+module _ {W : Type 0} (is_after : W → List Call → Type 0) (turns : ℕ) (old new : EngineView W)
+    (held after said said_after : Option (List ℕ)) where
+  cut_by : (r : Result (Unit {0}) Stop) → Wrote held after ready_text
+      → AreSomeSaid said said_after → IsErrAnd r (λ stop. stop ≡ Failed)
       → Serves is_after turns old new held after said said_after r
   cut_by (Ok _) tells some failed = absurd failed
-  cut_by (Err stop) tells some failed = subst (λ s. Serves is_after turns old new held after said said_after (Err s)) (sym failed) (tells, some)
+  cut_by (Err stop) tells some failed = subst (λ s.
+      Serves is_after turns old new held after said said_after (Err s)) (sym failed) (tells, some)
 
   -- it was printed, and turns were taken
-  pub ready_said : (r : Result (Unit {0}) Stop) → Appends held after ready_text → Wrote held after ready_text
-      → TakesTurns is_after old turns new said said_after r → Serves is_after turns old new held after said said_after r
+  pub ready_said : (r : Result (Unit {0}) Stop) → Appends held after ready_text
+      → Wrote held after ready_text → TakesTurns is_after old turns new said said_after r
+      → Serves is_after turns old new held after said said_after r
   ready_said (Ok _) appended tells gone = (appended, gone)
   ready_said (Err stop) appended tells gone = cut_by (Err stop) tells gone.1 gone.0
 
-pub ready_cut : {W : Type 0} (is_after : W → List Call → Type 0) (turns : ℕ) (old new : EngineView W) (held after said : Option (List ℕ))
-    (r : Result (Unit {0}) Stop) → Wrote held after ready_text → IsErrAnd r (λ stop. stop ≡ Failed) → Serves is_after turns old new held after said said r
-ready_cut is_after turns old new held after said r tells failed = cut_by is_after turns old new held after said said r tells (nothing_said said) failed
+pub ready_cut : {W : Type 0} (is_after : W → List Call → Type 0) (turns : ℕ)
+    (old new : EngineView W) (held after said : Option (List ℕ))
+    (r : Result (Unit {0}) Stop) → Wrote held after ready_text → IsErrAnd r (λ stop. stop ≡ Failed)
+    → Serves is_after turns old new held after said said r
+ready_cut is_after turns old new held after said r tells failed =
+    cut_by is_after turns old new held after said said r tells (nothing_said said) failed
 
 -- a turn is not taken
-pub turns_stopped : {W : Type 0} (is_after : W → List Call → Type 0) (old : EngineView W) (turns : ℕ) (new : EngineView W) (said said_after : Option (List ℕ))
-    (r : Result (Unit {0}) EngineFault) → RunsTelling is_after old said turns new said_after r → TakesTurns is_after old turns new said said_after (Err Failed)
-turns_stopped is_after old turns new said said_after r runs = (refl, runs_tell_some is_after old said turns new said_after r runs)
+pub turns_stopped : {W : Type 0} (is_after : W → List Call → Type 0) (old : EngineView W)
+    (turns : ℕ) (new : EngineView W) (said said_after : Option (List ℕ))
+    (r : Result (Unit {0}) EngineFault) → RunsTelling is_after old said turns new said_after r
+    → TakesTurns is_after old turns new said said_after (Err Failed)
+turns_stopped is_after old turns new said said_after r runs =
+    (refl, runs_tell_some is_after old said turns new said_after r runs)
 
 -- a text sets nothing up
-stopped_by : (text : List ℕ) (turns : ℕ) (stop : Stop) (held said : Option (List ℕ)) → IsReadSetup text (Err stop) → ServesText text turns (Err stop) held held said said
+stopped_by : (text : List ℕ) (turns : ℕ) (stop : Stop) (held said : Option (List ℕ))
+    → IsReadSetup text (Err stop) → ServesText text turns (Err stop) held held said said
 stopped_by text turns BadConfiguration held said bad = (bad, refl, refl)
 stopped_by text turns Failed held said bad = unprinted refl refl
 stopped_by text turns Usage held said bad = absurd bad
 stopped_by text turns (BadScript line) held said bad = absurd bad
 
-pub text_refused : (text : List ℕ) (turns : ℕ) (r : Result (Unit {0}) Stop) (stop : Stop) (held said : Option (List ℕ))
-    → IsReadSetup text (Err stop) → IsErrAnd r (λ e. e ≡ stop) → ServesText text turns r held held said said
+pub text_refused : (text : List ℕ) (turns : ℕ) (r : Result (Unit {0}) Stop) (stop : Stop)
+    (held said : Option (List ℕ)) → IsReadSetup text (Err stop) → IsErrAnd r (λ e. e ≡ stop)
+    → ServesText text turns r held held said said
 text_refused text turns (Ok _) stop held said bad failed = absurd failed
 text_refused text turns (Err e) stop held said bad failed =
-    subst (λ s. ServesText text turns (Err s) held held said said) (sym failed) (stopped_by text turns stop held said bad)
+    subst (λ s. ServesText text turns (Err s) held held said said) (sym failed)
+    (stopped_by text turns stop held said bad)
 
 -- nobody listens
-pub not_opened : (text : List ℕ) (turns : ℕ) (r : Result (Unit {0}) Stop) (stop : Stop) (held said : Option (List ℕ))
-    → stop ≡ Failed → IsErrAnd r (λ e. e ≡ stop) → ServesText text turns r held held said said
+pub not_opened : (text : List ℕ) (turns : ℕ) (r : Result (Unit {0}) Stop) (stop : Stop)
+    (held said : Option (List ℕ)) → stop ≡ Failed → IsErrAnd r (λ e. e ≡ stop)
+    → ServesText text turns r held held said said
 not_opened text turns (Ok _) stop held said is failed = absurd failed
 not_opened text turns (Err e) stop held said is failed =
-    subst (λ s. ServesText text turns (Err s) held held said said) (sym (failed ∙ is)) (unprinted refl refl)
+    subst (λ s. ServesText text turns (Err s) held held said said) (sym (failed ∙ is))
+    (unprinted refl refl)
 
 -- what it sets up is served
-pub text_served : (turns : ℕ) (first last : EngineView (LateWire MioWire)) (text : List ℕ) (setup : Setup) (held after said said_after : Option (List ℕ)) (r : Result (Unit {0}) Stop)
-    → IsTextOf text setup → IsOpened setup first → Serves (λ wire calls. ⊤) turns first last held after said said_after r
+pub text_served : (turns : ℕ) (first last : EngineView (LateWire MioWire)) (text : List ℕ)
+    (setup : Setup) (held after said said_after : Option (List ℕ)) (r : Result (Unit {0}) Stop)
+    → IsTextOf text setup → IsOpened setup first
+    → Serves (λ wire calls. ⊤) turns first last held after said said_after r
     → ServesText text turns r held after said said_after
-text_served turns first last text setup held after said said_after (Ok _) is opened serves = record {
-  setup = setup;
-  is_text_of = is;
-  first = first;
-  last = last;
-  is_opened = opened;
-  is_ready = serves.0;
-  taken = serves.1;
-}
-text_served turns first last text setup held after said said_after (Err Failed) is opened serves = printing setup is serves.0 serves.1
-text_served turns first last text setup held after said said_after (Err BadConfiguration) is opened serves = absurd serves
-text_served turns first last text setup held after said said_after (Err Usage) is opened serves = absurd serves
-text_served turns first last text setup held after said said_after (Err (BadScript line)) is opened serves = absurd serves
+text_served turns first last text setup held after said said_after (Ok _) is opened serves =
+    record {
+      setup = setup;
+      is_text_of = is;
+      first = first;
+      last = last;
+      is_opened = opened;
+      is_ready = serves.0;
+      taken = serves.1;
+    }
+text_served turns first last text setup held after said said_after (Err Failed) is opened serves =
+    printing setup is serves.0 serves.1
+text_served turns first last text setup held after said said_after
+    (Err BadConfiguration) is opened serves = absurd serves
+text_served turns first last text setup held after said said_after (Err Usage) is opened serves =
+    absurd serves
+text_served turns first last text setup held after said said_after
+    (Err (BadScript line)) is opened serves = absurd serves
 
 -- a file is not read
-pub file_refused : (turns : ℕ) (r : Result (Unit {0}) Stop) (stop : Stop) (held said : Option (List ℕ)) → IsOfFile stop → IsErrAnd r (λ e. e ≡ stop)
+pub file_refused : (turns : ℕ) (r : Result (Unit {0}) Stop) (stop : Stop)
+    (held said : Option (List ℕ)) → IsOfFile stop → IsErrAnd r (λ e. e ≡ stop)
     → ServesFile turns r held held said said
 file_refused turns (Ok _) stop held said (inl is) failed = absurd failed
 file_refused turns (Ok _) stop held said (inr is) failed = absurd failed
-file_refused turns (Err e) stop held said (inl is) failed = subst (λ s. ServesFile turns (Err s) held held said said) (sym (failed ∙ is)) (refl, refl)
+file_refused turns (Err e) stop held said (inl is) failed =
+    subst (λ s. ServesFile turns (Err s) held held said said) (sym (failed ∙ is)) (refl, refl)
 file_refused turns (Err e) stop held said (inr is) failed =
-    subst (λ s. ServesFile turns (Err s) held held said said) (sym (failed ∙ is)) (tells_nothing held ready_text, nothing_said said)
+    subst (λ s. ServesFile turns (Err s) held held said said) (sym (failed ∙ is))
+    (tells_nothing held ready_text, nothing_said said)
 
 -- what was printed where it is cut short is a front of `ready`, and what was said is of links
-cut_short : (text : List ℕ) (held after said said_after : Option (List ℕ)) → IsCutShort text held after said said_after
-    → Wrote held after ready_text × AreSomeSaid said said_after
-cut_short text held after said said_after (unprinted is same) =
-    (subst (λ a. Wrote held a ready_text) (sym is) (tells_nothing held ready_text), subst (λ a. AreSomeSaid said a) (sym same) (nothing_said said))
+cut_short : (text : List ℕ) (held after said said_after : Option (List ℕ))
+    → IsCutShort text held after said said_after → Wrote held after ready_text
+    × AreSomeSaid said said_after
+cut_short text held after said said_after (unprinted is same) = (
+  subst (λ a. Wrote held a ready_text) (sym is) (tells_nothing held ready_text),
+  subst (λ a. AreSomeSaid said a) (sym same) (nothing_said said),
+)
 cut_short text held after said said_after (printing setup is tells some) = (tells, some)
 
 -- a file is served by the text that it holds
-pub file_served : (text : List ℕ) (turns : ℕ) (r : Result (Unit {0}) Stop) (held after said said_after : Option (List ℕ))
-    → ServesText text turns r held after said said_after → ServesFile turns r held after said said_after
+pub file_served : (text : List ℕ) (turns : ℕ) (r : Result (Unit {0}) Stop)
+    (held after said said_after : Option (List ℕ))
+    → ServesText text turns r held after said said_after
+    → ServesFile turns r held after said said_after
 file_served text turns (Ok _) held after said said_after served = (text, served)
-file_served text turns (Err Failed) held after said said_after served = cut_short text held after said said_after served
-file_served text turns (Err BadConfiguration) held after said said_after served = (served.1, served.2)
+file_served text turns (Err Failed) held after said said_after served =
+    cut_short text held after said said_after served
+file_served text turns (Err BadConfiguration) held after said said_after served =
+    (served.1, served.2)
 file_served text turns (Err Usage) held after said said_after served = absurd served
 file_served text turns (Err (BadScript line)) held after said said_after served = absurd served

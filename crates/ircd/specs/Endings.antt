@@ -15,7 +15,8 @@ abbrev pub IsStatus : ℕ → Type 0
 IsStatus status = (ending : Result (Unit {0}) Stop) × (status ≡ exit_status ending)
 
 -- the status is that of how the script's run ended, and so is what is said on standard error
-pub record EndsRun (status : ℕ) (remaining old new errors errors_after : Option (List ℕ)) : Type 0 where
+pub record EndsRun (status : ℕ) (remaining old new errors errors_after : Option (List ℕ)) :
+    Type 0 where
   pub ending : Result (Unit {0}) SimFault
   pub ran : Ran remaining ending old new
   pub status_is : status ≡ exit_status (ending_of ending)
@@ -31,18 +32,23 @@ AsksForRun words = task_of (texts_of words) ≡ Some runs_script
 
 -- wherever they ask for serving as a file says, for so many turns
 abbrev pub WhereServing : List (String Global) → (List ℕ → ℕ → Type 0) → Type 0
-WhereServing words Is = (file : List ℕ) (turns : ℕ) → task_of (texts_of words) ≡ Some (serves file turns) → Is file turns
+WhereServing words Is = (file : List ℕ) (turns : ℕ)
+    → task_of (texts_of words) ≡ Some (serves file turns) → Is file turns
 
 -- ---- readers and writers, by what they have and what they hold
 
 abbrev pub TellsUsage : {E : Type 0} → (E → Option (List ℕ)) → E → E → Type 0
-TellsUsage told_to errors errors_after = Wrote (told_to errors) (told_to errors_after) (stop_line Usage)
+TellsUsage told_to errors errors_after =
+    Wrote (told_to errors) (told_to errors_after) (stop_line Usage)
 
-abbrev pub EndsRunOn : {R W E : Type 0} → (R → Option (List ℕ)) → (W → Option (List ℕ)) → (E → Option (List ℕ))
-    → ℕ → R → W → W → E → E → Type 0
+abbrev pub EndsRunOn : {R W E : Type 0} → (R → Option (List ℕ)) → (W → Option (List ℕ))
+    → (E → Option (List ℕ)) → ℕ → R → W → W → E → E → Type 0
 EndsRunOn remaining printed told_to status input output output_after errors errors_after =
-    EndsRun status (remaining input) (printed output) (printed output_after) (told_to errors) (told_to errors_after)
+    EndsRun status (remaining input) (printed output) (printed output_after) (told_to errors)
+    (told_to errors_after)
 
-abbrev pub EndsServingOn : {W E : Type 0} → (W → Option (List ℕ)) → (E → Option (List ℕ)) → ℕ → ℕ → W → W → E → E → Type 0
+abbrev pub EndsServingOn : {W E : Type 0} → (W → Option (List ℕ)) → (E → Option (List ℕ)) → ℕ → ℕ
+    → W → W → E → E → Type 0
 EndsServingOn printed told_to turns status output output_after errors errors_after =
-    EndsServing turns status (printed output) (printed output_after) (told_to errors) (told_to errors_after)
+    EndsServing turns status (printed output) (printed output_after) (told_to errors)
+    (told_to errors_after)

@@ -1,5 +1,6 @@
 -- What a configuration sets up, and how serving ends.
-use Rattle.std.specs.Prelude.{◌≡◌, ℕ, true, false, Option, Some, None, Result, Ok, Err, List, [], ◌∷◌, map, option_map, is_some, string_bytes, ⊤}
+use Rattle.std.specs.Prelude.{◌≡◌, ℕ, true, false, Option, Some, None, Result, Ok, Err, List, []}
+use Rattle.std.specs.Prelude.{◌∷◌, map, option_map, is_some, string_bytes, ⊤}
 use Rattle.std.specs.Io.KnownBytes.{Appends}
 use Rattle.std.specs.Net.Grammar.{IsSocketText}
 use Rattle.std.specs.declared.net.socket_addr.SocketAddr.{SocketAddr}
@@ -22,7 +23,8 @@ use Rattle.irc_sockets.specs.declared.listening.Listening.{Listening}
 use Rattle.irc_sockets.specs.declared.mio_wire.MioWire.{MioWire}
 use Rattle.irc_sockets.specs.Listening.{ListensAt}
 use Rattle.irc_endings.specs.declared.fault.Stop.{Stop}
-use Rattle.irc_endings.specs.declared.fault.Stop.TheVariants.{Usage, BadScript, BadConfiguration, Failed}
+use Rattle.irc_endings.specs.declared.fault.Stop.TheVariants.{Usage, BadScript, BadConfiguration}
+use Rattle.irc_endings.specs.declared.fault.Stop.TheVariants.{Failed}
 use Rattle.ircd.specs.declared.setup.Setup.{Setup}
 use Rattle.irc_endings.specs.Sinks.{Wrote}
 use Rattle.irc_endings.specs.Ready.{ready_text}
@@ -39,7 +41,8 @@ IsAddress (Some text) (Some address) = IsSocketText text address
 IsAddress None (Some address) = ⊥
 IsAddress (Some text) None = ⊥
 
--- a peer is called by its name, at the address that is written for that, and again after so many seconds as are set, if they are
+-- a peer is called by its name, at the address that is written for that, and again after so many
+-- seconds as are set, if they are
 pub record IsCallee (peer : PeerSettings) (callee : Callee) : Type 0 where
   pub name : callee.name ≡ string_bytes peer.name
   pub address : IsAddress (option_map string_bytes peer.connect) (Some callee.address)
@@ -49,19 +52,25 @@ pub record IsCallee (peer : PeerSettings) (callee : Callee) : Type 0 where
 pub data AreCalled : List PeerSettings → List Callee → Type 0 where
   nobody : AreCalled [] []
   uncalled : {first : PeerSettings} {rest : List PeerSettings} {callees : List Callee}
-      → IsAddress (option_map string_bytes first.connect) None → AreCalled rest callees → AreCalled (first ∷ rest) callees
-  called : {first : PeerSettings} {rest : List PeerSettings} {callee : Callee} {callees : List Callee}
-      → IsCallee first callee → AreCalled rest callees → AreCalled (first ∷ rest) (callee ∷ callees)
+      → IsAddress (option_map string_bytes first.connect) None → AreCalled rest callees
+      → AreCalled (first ∷ rest) callees
+  called : {first : PeerSettings} {rest : List PeerSettings} {callee : Callee}
+      {callees : List Callee} → IsCallee first callee → AreCalled rest callees
+      → AreCalled (first ∷ rest) (callee ∷ callees)
 
 -- a peer is to be called, and its address, or its name, is none
 pub data CannotBeCalled (peer : PeerSettings) : Type 0 where
-  no_address : {text : List ℕ} → option_map string_bytes peer.connect ≡ Some text → IsNoAddress text → CannotBeCalled peer
-  no_name : {text : List ℕ} → option_map string_bytes peer.connect ≡ Some text → ¬ (IsServer (string_bytes peer.name)) → CannotBeCalled peer
+  no_address : {text : List ℕ} → option_map string_bytes peer.connect ≡ Some text → IsNoAddress text
+      → CannotBeCalled peer
+  no_name : {text : List ℕ} → option_map string_bytes peer.connect ≡ Some text
+      → ¬ (IsServer (string_bytes peer.name)) → CannotBeCalled peer
 
 -- so is one of these
 pub data IsSomeUncalled : List PeerSettings → Type 0 where
-  this : {first : PeerSettings} {rest : List PeerSettings} → CannotBeCalled first → IsSomeUncalled (first ∷ rest)
-  later : {first : PeerSettings} {rest : List PeerSettings} → IsSomeUncalled rest → IsSomeUncalled (first ∷ rest)
+  this : {first : PeerSettings} {rest : List PeerSettings} → CannotBeCalled first
+      → IsSomeUncalled (first ∷ rest)
+  later : {first : PeerSettings} {rest : List PeerSettings} → IsSomeUncalled rest
+      → IsSomeUncalled (first ∷ rest)
 
 -- a peer as the server knows it
 abbrev pub peer_set : PeerSettings → KnownPeer
@@ -74,8 +83,9 @@ pub record Configures (settings : Settings) (config : Config) : Type 0 where
   pub created : config.own.created.items ≡ string_bytes settings.created
   pub peers : map known_peer config.peers.items ≡ map peer_set settings.peers.items
 
--- The server is made of the settings, without clients, and of their name; where it listens, whom it calls, and again when, by its own name too, how many connections an address
--- may have and how much may wait is theirs.
+-- The server is made of the settings, without clients, and of their name; where it listens, whom it
+-- calls, and again when, by its own name too, how many connections an address may have and how much
+-- may wait is theirs.
 pub record IsSetUp (settings : Settings) (setup : Setup) : Type 0 where
   pub config : Config
   pub configures : Configures settings config
@@ -90,13 +100,16 @@ pub record IsSetUp (settings : Settings) (setup : Setup) : Type 0 where
   pub client_room : setup.client_room ≡ settings.client_room
   pub link_room : setup.link_room ≡ settings.link_room
 
--- why nothing is set up by settings: an address that is none, a peer that cannot be called, a name that is no server's, or a server that is refused
+-- why nothing is set up by settings: an address that is none, a peer that cannot be called, a name
+-- that is no server's, or a server that is refused
 pub data IsRefused (settings : Settings) : Type 0 where
   clients : IsNoAddress (string_bytes settings.listen) → IsRefused settings
-  links : {text : List ℕ} → option_map string_bytes settings.listen_links ≡ Some text → IsNoAddress text → IsRefused settings
+  links : {text : List ℕ} → option_map string_bytes settings.listen_links ≡ Some text
+      → IsNoAddress text → IsRefused settings
   called : IsSomeUncalled settings.peers.items → IsRefused settings
   own_name : ¬ (IsServer (string_bytes settings.name)) → IsRefused settings
-  server : (config : Config) → Configures settings config → is_some (config_fault config) ≡ true → IsRefused settings
+  server : (config : Config) → Configures settings config → is_some (config_fault config) ≡ true
+      → IsRefused settings
 
 -- what comes of settings
 abbrev pub SetsUp : Settings → Result Setup Stop → Type 0
@@ -106,7 +119,8 @@ SetsUp settings (Err Failed) = ⊤
 SetsUp settings (Err Usage) = ⊥
 SetsUp settings (Err (BadScript line)) = ⊥
 
--- what comes of a text: it is a configuration whose settings set this up; or it is none, or one whose settings are refused
+-- what comes of a text: it is a configuration whose settings set this up; or it is none, or one
+-- whose settings are refused
 pub record IsTextOf (text : List ℕ) (setup : Setup) : Type 0 where
   pub settings : Settings
   pub read : AreSettingsOf text (Ok settings)
@@ -114,7 +128,8 @@ pub record IsTextOf (text : List ℕ) (setup : Setup) : Type 0 where
 
 pub data IsBadText (text : List ℕ) : Type 0 where
   unreadable : is_configuration text ≡ false → IsBadText text
-  refused : (settings : Settings) → AreSettingsOf text (Ok settings) → IsRefused settings → IsBadText text
+  refused : (settings : Settings) → AreSettingsOf text (Ok settings) → IsRefused settings
+      → IsBadText text
 
 abbrev pub IsReadSetup : List ℕ → Result Setup Stop → Type 0
 IsReadSetup text (Ok setup) = IsTextOf text setup
@@ -126,10 +141,16 @@ IsReadSetup text (Err (BadScript line)) = ⊥
 -- where a server that was set up is to listen, and how many connections an address may have there
 abbrev pub listening_of : Setup → Listening
 listening_of setup =
-    record { clients = setup.clients; links = setup.links; connections_per_address = setup.connections_per_address }
+    record {
+      clients = setup.clients;
+      links = setup.links;
+      connections_per_address = setup.connections_per_address;
+    }
 
--- An engine is open: it has served nobody, its server is the one that was set up, an outbox has room for as much as was set up, and its wire is one around a
--- wire that listens where that was, and calls whom that was to call, again by that spread; KILLs are written back from the server of that name.
+-- An engine is open: it has served nobody, its server is the one that was set up, an outbox has
+-- room for as much as was set up, and its wire is one around a wire that listens where that was,
+-- and calls whom that was to call, again by that spread; KILLs are written back from the server of
+-- that name.
 pub record IsOpened (setup : Setup) (engine : EngineView (LateWire MioWire)) : Type 0 where
   pub wire : LateWire MioWire
   pub sockets : MioWire
@@ -139,10 +160,11 @@ pub record IsOpened (setup : Setup) (engine : EngineView (LateWire MioWire)) : T
   pub spread : sockets.calls.retries.spread ≡ setup.spread
   pub is_new : IsNew setup.server wire setup.client_room setup.link_room engine
 
--- `ready` was printed, all turns were taken, and behind each what there was to tell of links was said; else a front of `ready` was printed, the
--- program failed, and what was said is of links
-abbrev pub Serves : {W : Type 0} → (W → List Call → Type 0) → ℕ → EngineView W → EngineView W → Option (List ℕ) → Option (List ℕ)
-    → Option (List ℕ) → Option (List ℕ) → Result (Unit {0}) Stop → Type 0
+-- `ready` was printed, all turns were taken, and behind each what there was to tell of links was
+-- said; else a front of `ready` was printed, the program failed, and what was said is of links
+abbrev pub Serves : {W : Type 0} → (W → List Call → Type 0) → ℕ → EngineView W → EngineView W
+    → Option (List ℕ) → Option (List ℕ) → Option (List ℕ) → Option (List ℕ) → Result (Unit {0}) Stop
+    → Type 0
 Serves is_after turns old new printed printed_after errors errors_after (Ok _) =
     Appends printed printed_after ready_text × ToldTurns is_after old errors turns new errors_after
 Serves is_after turns old new printed printed_after errors errors_after (Err Failed) =
@@ -151,15 +173,20 @@ Serves is_after turns old new printed printed_after errors errors_after (Err Bad
 Serves is_after turns old new printed printed_after errors errors_after (Err Usage) = ⊥
 Serves is_after turns old new printed printed_after errors errors_after (Err (BadScript line)) = ⊥
 
--- where the program failed: nothing was printed or said; or the text sets up a server, a front of `ready` was printed, and what was said is of links
-pub data IsCutShort (text : List ℕ) (printed printed_after errors errors_after : Option (List ℕ)) : Type 0 where
-  unprinted : printed_after ≡ printed → errors_after ≡ errors → IsCutShort text printed printed_after errors errors_after
-  printing : (setup : Setup) → IsTextOf text setup → Wrote printed printed_after ready_text → AreSomeSaid errors errors_after
+-- where the program failed: nothing was printed or said; or the text sets up a server, a front of
+-- `ready` was printed, and what was said is of links
+pub data IsCutShort (text : List ℕ) (printed printed_after errors errors_after : Option (List ℕ)) :
+    Type 0 where
+  unprinted : printed_after ≡ printed → errors_after ≡ errors
       → IsCutShort text printed printed_after errors errors_after
+  printing : (setup : Setup) → IsTextOf text setup → Wrote printed printed_after ready_text
+      → AreSomeSaid errors errors_after → IsCutShort text printed printed_after errors errors_after
 
--- A text was served: it sets up a server; once this was open, `ready` was printed, and all of so many turns were taken, with what there was to tell of
--- links said behind each. Sockets keep no account of their calls.
-pub record IsServed (text : List ℕ) (turns : ℕ) (printed printed_after errors errors_after : Option (List ℕ)) : Type 0 where
+-- A text was served: it sets up a server; once this was open, `ready` was printed, and all of so
+-- many turns were taken, with what there was to tell of links said behind each. Sockets keep no
+-- account of their calls.
+pub record IsServed (text : List ℕ) (turns : ℕ)
+    (printed printed_after errors errors_after : Option (List ℕ)) : Type 0 where
   pub setup : Setup
   pub is_text_of : IsTextOf text setup
   pub first : EngineView (LateWire MioWire)
@@ -168,18 +195,25 @@ pub record IsServed (text : List ℕ) (turns : ℕ) (printed printed_after error
   pub is_ready : Appends printed printed_after ready_text
   pub taken : ToldTurns (λ wire calls. ⊤) first errors turns last errors_after
 
--- How serving by a text ends: anything was printed or said only where the text sets up a server; a bad text is refused, and nothing printed or said.
-abbrev pub ServesText : List ℕ → ℕ → Result (Unit {0}) Stop → (printed printed_after errors errors_after : Option (List ℕ)) → Type 0
-ServesText text turns (Ok _) printed printed_after errors errors_after = IsServed text turns printed printed_after errors errors_after
+-- How serving by a text ends: anything was printed or said only where the text sets up a server; a
+-- bad text is refused, and nothing printed or said.
+abbrev pub ServesText : List ℕ → ℕ → Result (Unit {0}) Stop
+    → (printed printed_after errors errors_after : Option (List ℕ)) → Type 0
+ServesText text turns (Ok _) printed printed_after errors errors_after =
+    IsServed text turns printed printed_after errors errors_after
 ServesText text turns (Err BadConfiguration) printed printed_after errors errors_after =
     IsBadText text × (printed_after ≡ printed) × (errors_after ≡ errors)
-ServesText text turns (Err Failed) printed printed_after errors errors_after = IsCutShort text printed printed_after errors errors_after
+ServesText text turns (Err Failed) printed printed_after errors errors_after =
+    IsCutShort text printed printed_after errors errors_after
 ServesText text turns (Err Usage) printed printed_after errors errors_after = ⊥
 ServesText text turns (Err (BadScript line)) printed printed_after errors errors_after = ⊥
 
--- How serving by a file ends. What the file holds no clause can tell: some text, or none where it cannot be read.
-abbrev pub ServesFile : ℕ → Result (Unit {0}) Stop → (printed printed_after errors errors_after : Option (List ℕ)) → Type 0
-ServesFile turns (Err BadConfiguration) printed printed_after errors errors_after = (printed_after ≡ printed) × (errors_after ≡ errors)
+-- How serving by a file ends. What the file holds no clause can tell: some text, or none where it
+-- cannot be read.
+abbrev pub ServesFile : ℕ → Result (Unit {0}) Stop
+    → (printed printed_after errors errors_after : Option (List ℕ)) → Type 0
+ServesFile turns (Err BadConfiguration) printed printed_after errors errors_after =
+    (printed_after ≡ printed) × (errors_after ≡ errors)
 ServesFile turns (Err Failed) printed printed_after errors errors_after =
     Wrote printed printed_after ready_text × AreSomeSaid errors errors_after
 ServesFile turns (Err Usage) printed printed_after errors errors_after = ⊥
@@ -187,8 +221,10 @@ ServesFile turns (Err (BadScript line)) printed printed_after errors errors_afte
 ServesFile turns (Ok _) printed printed_after errors errors_after =
     (text : List ℕ) × IsServed text turns printed printed_after errors errors_after
 
--- the status is that of how serving ended, and so is what is said last on standard error, behind what was said of links
-pub record EndsServing (turns status : ℕ) (printed printed_after errors errors_after : Option (List ℕ)) : Type 0 where
+-- the status is that of how serving ended, and so is what is said last on standard error, behind
+-- what was said of links
+pub record EndsServing (turns status : ℕ)
+    (printed printed_after errors errors_after : Option (List ℕ)) : Type 0 where
   pub ending : Result (Unit {0}) Stop
   pub by_then : Option (List ℕ)
   pub served : ServesFile turns ending printed printed_after errors by_then

@@ -1,4 +1,5 @@
-//! `ircd sim` runs a script of clients on one IRC server; `ircd serve` serves clients on TCP sockets.
+//! `ircd sim` runs a script of clients on one IRC server; `ircd serve` serves clients on TCP
+//! sockets.
 #![tactic(auto)]
 
 ghost use Rattle.std.specs.Process.{exit_status};

@@ -1,7 +1,8 @@
 //! The program, on whatever streams it is given.
 ghost use Rattle.std.specs.Prelude.{◌≡◌};
 ghost use Rattle.irc_endings.specs.declared.fault.Stop.TheVariants.{Usage};
-ghost use Rattle.ircd.specs.Endings.{AsksForRun, AsksNothing, EndsRunOn, EndsServingOn, IsStatus, TellsUsage, WhereServing};
+ghost use Rattle.ircd.specs.Endings.{AsksForRun, AsksNothing, EndsRunOn, EndsServingOn, IsStatus};
+ghost use Rattle.ircd.specs.Endings.{TellsUsage, WhereServing};
 ghost use Rattle.irc_endings.specs.Statuses.{ending_of, status_of};
 
 use crate::serve::serve;
@@ -11,8 +12,8 @@ use std::fs::Files;
 use std::io::{Read, Write};
 use std::net::Net;
 
-/// Does what the words behind the program's name ask for, and gives the exit status. Where that is not 0, the reason is written
-/// to `errors`. Wrong words are found before anything is read.
+/// Does what the words behind the program's name ask for, and gives the exit status. Where that is
+/// not 0, the reason is written to `errors`. Wrong words are found before anything is read.
 pub fn run<T: AllocGlobal + Files + Net, R: Read, W: Write, E: Write>(
     rt: &T,
     words: &[String],

@@ -16,12 +16,15 @@ use std::fs::{Files, read_to_string};
 use std::io::{ErrorKind, Write};
 use std::net::Net;
 
-/// Serves as a file says, for so many turns. Says `ready` as soon as clients and servers can connect, and the servers that it calls are called,
-/// whether they are reached or not. What becomes of links is said to `errors` behind each turn.
+/// Serves as a file says, for so many turns. Says `ready` as soon as clients and servers can
+/// connect, and the servers that it calls are called, whether they are reached or not. What becomes
+/// of links is said to `errors` behind each turn.
 ///
 /// # Errors
-/// - [`Stop::BadConfiguration`] where the file cannot be read, or is no configuration. Then nothing is printed.
-/// - [`Stop::Failed`] where the system lets nobody listen, where `ready` cannot be written, and behind a turn that is not done: the device
+/// - [`Stop::BadConfiguration`] where the file cannot be read, or is no configuration. Then nothing
+/// is printed.
+/// - [`Stop::Failed`] where the system lets nobody listen, where `ready` cannot be written, and
+/// behind a turn that is not done: the device
 ///   failed, or memory ran out.
 pub fn serve<T: AllocGlobal + Files + Net, W: Write, E: Write>(
     rt: &T,
@@ -94,7 +97,8 @@ fn run_engine<W: Wire, O: Write, E: Write>(
     output: &mut O,
     errors: &mut E,
 ) -> Result<(), Stop>
-    ensures { IsRun W.is_after turns engine.old engine.new (O.contents output.old) (O.contents output.new)
+    ensures { IsRun W.is_after turns engine.old engine.new (O.contents output.old)
+        (O.contents output.new)
         (E.contents errors.old) (E.contents errors.new) result }
 {
     say_ready(output)?;

@@ -1,4 +1,5 @@
-//! `ircd serve` on files: its words, its statuses, and what it says. What it does over sockets stands in `tests_sockets` and `tests/`.
+//! `ircd serve` on files: its words, its statuses, and what it says. What it does over sockets
+//! stands in `tests_sockets` and `tests/`.
 use crate::program::run;
 use crate::program_tests::add_words;
 use std::alloc::Global;

@@ -1,9 +1,11 @@
 //! What a configuration sets up: the server, where it listens, and whom it calls.
-ghost use Rattle.std.specs.Prelude.{◌≡◌, ◌++◌, ◌∷◌, [], IfOk, OnOk, map, option_map, option_to_list, string_bytes};
+ghost use Rattle.std.specs.Prelude.{◌≡◌, ◌++◌, ◌∷◌, [], IfOk, OnOk, map, option_map};
+ghost use Rattle.std.specs.Prelude.{option_to_list, string_bytes};
 ghost use Rattle.irc_stage.specs.View.{known_peer};
 ghost use Rattle.irc_turns.specs.Spreads.{name_spread};
 ghost use Rattle.ircd.specs.Serving.{Configures, IsReadSetup, SetsUp, peer_set};
-ghost use Rattle.ircd.specs.Loops.SettingUp.{FindsAddress, FindsCallee, FindsCallees, FindsName, FindsOptional};
+ghost use Rattle.ircd.specs.Loops.SettingUp.{FindsAddress, FindsCallee, FindsCallees, FindsName};
+ghost use Rattle.ircd.specs.Loops.SettingUp.{FindsOptional};
 
 use irc_endings::Stop;
 use irc_names::ServerName;
@@ -28,7 +30,8 @@ pub struct Setup {
     pub links: Option<SocketAddr>,
     /// The servers that it calls, in the order of its peers.
     pub callees: Vec<Callee, Global>,
-    /// How many milliseconds more it waits before the first call that it makes again, by its own name.
+    /// How many milliseconds more it waits before the first call that it makes again, by its own
+    /// name.
     pub spread: u64,
     /// How many clients may be connected from one address, if there is a limit.
     pub connections_per_address: Option<u16>,
@@ -41,8 +44,8 @@ pub struct Setup {
 /// What a text sets up.
 ///
 /// # Errors
-/// [`Stop::BadConfiguration`] where the text is no configuration, an address in it is none, or no server is made of it;
-/// [`Stop::Failed`] where memory runs out.
+/// [`Stop::BadConfiguration`] where the text is no configuration, an address in it is none, or no
+/// server is made of it; [`Stop::Failed`] where memory runs out.
 pub fn read_setup(alloc: Global, text: &str) -> Result<Setup, Stop>
     ensures { IsReadSetup text.now result }
 {

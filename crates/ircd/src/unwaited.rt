@@ -5,7 +5,8 @@ use libc::types::pollfd;
 use std::io;
 use std::io::{ErrorKind, Stderr, Write};
 
-/// Standard error. Where it takes nothing at once, as a pipe that nobody reads and that is full, a write fails.
+/// Standard error. Where it takes nothing at once, as a pipe that nobody reads and that is full, a
+/// write fails.
 #[derive(Drop)]
 pub(crate) struct Unwaited {
     pub errors: Stderr,
@@ -25,7 +26,8 @@ impl Write for Unwaited {
     }
 }
 
-/// Whether standard error takes bytes at once. A pipe that does takes 4096 bytes at least, and no line of the program is longer than that.
+/// Whether standard error takes bytes at once. A pipe that does takes 4096 bytes at least, and no
+/// line of the program is longer than that.
 fn takes_some() -> bool {
     let mut asked = [pollfd {
         fd: STDERR_FILENO,

@@ -37,7 +37,8 @@ static BOTH: [&[u8]; 8] = [
     b":a.net TOPIC #m :hello\r\n",
 ];
 
-/// The link of a burst, and its lines, where 31 users of a.net are in #c: only the last four of the lines are looked at.
+/// The link of a burst, and its lines, where 31 users of a.net are in #c: only the last four of the
+/// lines are looked at.
 static LAST_FOUR: [&[u8]; 4] = [
     b":a.net NJOIN #c :@n01,n02,n03,n04,n05,n06,n07,n08,n09,n10\r\n",
     b":a.net NJOIN #c :n11,n12,n13,n14,n15,n16,n17,n18,n19,n20\r\n",
@@ -55,7 +56,8 @@ static WRITTEN: [&[u8]; 6] = [
     b":a.net NJOIN #c :@al,+bo,@+cy,dee\r\n",
 ];
 
-/// A nickname, a server's name, a channel's, a mask of a ban, a text and a description, each as long as one may be.
+/// A nickname, a server's name, a channel's, a mask of a ban, a text and a description, each as
+/// long as one may be.
 static LONG_NICK: &[u8] = b"nnnnnnnnnnnnnnnnnnnnnnnnnnnnnn";
 
 static LONG_SERVER: &[u8] = b"sssssssssssssssssssssssssssssssssssssssssssssssssssssssssss.net";

@@ -1,4 +1,5 @@
-//! The lines with which a link begins, each with what it says, or why it closes the link (RFC 2813 section 4.1); and who may link.
+//! The lines with which a link begins, each with what it says, or why it closes the link (RFC 2813
+//! section 4.1); and who may link.
 use crate::shown::{Shown, append, close_word, reason_word};
 use crate::stage::{add_neighbour, fill, routes, server};
 use arrayvec::ArrayVec;
@@ -62,7 +63,8 @@ static ROWS: [Row; 32] = [
     (true, b":bo MODE #c +m", b" order"),
 ];
 
-/// The password that is kept for a peer of a name, the password that was given, the name, and why it is refused.
+/// The password that is kept for a peer of a name, the password that was given, the name, and why
+/// it is refused.
 type Peer = (
     Option<&'static [u8]>,
     &'static [u8],

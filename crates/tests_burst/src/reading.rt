@@ -1,4 +1,5 @@
-//! Lines of servers, each with what it tells, or why it closes the link (RFC 2813 section 4, RFC 2812 section 3.7.1).
+//! Lines of servers, each with what it tells, or why it closes the link (RFC 2813 section 4, RFC
+//! 2812 section 3.7.1).
 use crate::shown::{Shown, append, reason_word};
 use crate::stage::{add_neighbour, come, fill, join, routes, server};
 use arrayvec::ArrayVec;

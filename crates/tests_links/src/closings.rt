@@ -250,7 +250,8 @@ fn fills(server: &mut Server, end: u32, out: &mut Batch) -> bool {
     all
 }
 
-/// Whether what is put out is the end of the link 7 for this reason, then what its loss does, server by server, and then the word by the other link.
+/// Whether what is put out is the end of the link 7 for this reason, then what its loss does,
+/// server by server, and then the word by the other link.
 fn is_put_for(out: &Batch, standing: Standing, reason: CloseReason) -> bool {
     let end = Out::LinkClose(7, reason);
     let loss = Out::LinkLine(8, b":a.net SQUIT b.net :a.net b.net");
@@ -276,7 +277,8 @@ fn takes_lines(alloc: Global, server: &mut Server, lines: &[&[u8]], out: &mut Ba
     all && happens(alloc, server, &AFTERWARDS, out)
 }
 
-/// Whether a link is closed as a row says, where b.net has come so far, and c.net has told of servers with numbers below this.
+/// Whether a link is closed as a row says, where b.net has come so far, and c.net has told of
+/// servers with numbers below this.
 fn closes(alloc: Global, standing: Standing, end: u32, closing: &Closing) -> bool {
     let Some(mut server) = server(alloc) else {
         return false;

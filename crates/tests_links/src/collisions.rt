@@ -1,8 +1,10 @@
-//! Nicknames that two users would have: both are taken out (RFC 2813 section 4.1.5 and RFC 2812 section 3.7.1).
+//! Nicknames that two users would have: both are taken out (RFC 2813 section 4.1.5 and RFC 2812
+//! section 3.7.1).
 use crate::happening::{Row, Step, rows_hold};
 use irc_batch::Out;
 
-/// b.net is linked by 7, with bo, zed and gil, and c.net by 8, with cy. al is client 1 and an client 2. All but zed and gil are in #c.
+/// b.net is linked by 7, with bo, zed and gil, and c.net by 8, with cy. al is client 1 and an
+/// client 2. All but zed and gil are in #c.
 static SCENE: [Step; 21] = [
     Step::Connects(1),
     Step::Says(1, b"NICK al"),

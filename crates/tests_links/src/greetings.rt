@@ -1,4 +1,5 @@
-//! Handshakes and bursts, at the end that is called and at the end that calls (RFC 2813 section 4.1).
+//! Handshakes and bursts, at the end that is called and at the end that calls (RFC 2813 section
+//! 4.1).
 use crate::happening::{Row, Step, rows_hold};
 use irc_batch::Out;
 use irc_server::CloseReason;
@@ -186,7 +187,8 @@ static OF_ONE_CLIENT: [Row; 5] = [
             Out::Line(1, b":a.net 255 al :I have 1 clients and 1 servers"),
         ],
     ),
-    // What a burst brings is shown: member by member, then the modes that raise something, then a topic that is greater.
+    // What a burst brings is shown: member by member, then the modes that raise something, then a
+    // topic that is greater.
     (
         &[
             Step::Calls(7, b"b.net"),
@@ -229,7 +231,8 @@ static OF_ONE_CLIENT: [Row; 5] = [
 ];
 
 static OF_TWO_SERVERS: [Row; 4] = [
-    // By distance first, and then by name; each with the number and the distance that the newcomer has to know it by.
+    // By distance first, and then by name; each with the number and the distance that the newcomer
+    // has to know it by.
     (
         &[
             Step::IsCalled(9),

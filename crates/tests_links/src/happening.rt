@@ -29,7 +29,8 @@ pub enum Step {
 /// What happens, and what is put out for that, in order. A line is without its CR LF here.
 pub type Row = (&'static [Step], &'static [Out<'static>]);
 
-/// a.net, which describes itself as A, may be linked to b.net, c.net and d.net; these give the passwords pw, pq and pd.
+/// a.net, which describes itself as A, may be linked to b.net, c.net and d.net; these give the
+/// passwords pw, pq and pd.
 pub fn server(alloc: Global) -> Option<Server> {
     match config(alloc) {
         Ok(config) => Server::new(alloc, config).ok(),

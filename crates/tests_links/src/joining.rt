@@ -1,9 +1,10 @@
-//! Channels that two sides have when they are linked: spellings, modes and topics are joined (our own choice).
+//! Channels that two sides have when they are linked: spellings, modes and topics are joined (our
+//! own choice).
 use crate::happening::{Row, Step, rows_hold};
 use irc_batch::Out;
 
-/// al, client 1, has made #key, #private, #limit, #ban and #Spelled. c.net is linked by 8, with cy, b.net by 7, with bo: no line of its channels
-/// has come.
+/// al, client 1, has made #key, #private, #limit, #ban and #Spelled. c.net is linked by 8, with cy,
+/// b.net by 7, with bo: no line of its channels has come.
 static OUR_SIDE: [Step; 22] = [
     Step::Connects(1),
     Step::Says(1, b"NICK al"),
@@ -31,7 +32,8 @@ static OUR_SIDE: [Step; 22] = [
 
 /// What b.net tells of the channels, each with modes of its own.
 static THEIRS: [Row; 6] = [
-    // The greater key takes the place of the lesser one; what is set here alone is shown to nobody here.
+    // The greater key takes the place of the lesser one; what is set here alone is shown to nobody
+    // here.
     (
         &[
             Step::Hears(7, b":b.net NJOIN #key :@bo"),
@@ -450,7 +452,8 @@ static ALONE: [Step; 16] = [
     Step::Hears(7, b"NICK ben 1 u h 1 + :Ben"),
 ];
 
-/// The channel of this side has ended before the one of the other is told: that is made anew, with its own spelling, modes and topic.
+/// The channel of this side has ended before the one of the other is told: that is made anew, with
+/// its own spelling, modes and topic.
 static ENDED: [Row; 1] = [(
     &[
         Step::Hears(7, b"NICK zed 1 u h 1 + :Zed"),
@@ -528,7 +531,8 @@ static LAST: [Step; 11] = [
     Step::Hears(7, b"NICK bo 2 u h 2 + :Bo"),
 ];
 
-/// The last of them has the same channel as the one in the middle: in its spelling, with all modes and the greater topic.
+/// The last of them has the same channel as the one in the middle: in its spelling, with all modes
+/// and the greater topic.
 static COME_TO_THE_LAST: [Row; 1] = [(
     &[
         Step::Hears(7, b":c.net NJOIN #C :@bo"),

@@ -3,8 +3,8 @@ use crate::happening::{Row, Step, rows_hold};
 use irc_batch::Out;
 use irc_server::CloseReason;
 
-/// b.net is linked by 7, with aa.net behind it, and c.net by 8. zed (client 1), al (client 2), bo and ed of b.net, cy of aa.net and dee of c.net are in #c; fay
-/// of b.net is not.
+/// b.net is linked by 7, with aa.net behind it, and c.net by 8. zed (client 1), al (client 2), bo
+/// and ed of b.net, cy of aa.net and dee of c.net are in #c; fay of b.net is not.
 static SCENE: [Step; 22] = [
     Step::Connects(1),
     Step::Says(1, b"NICK zed"),
@@ -31,7 +31,8 @@ static SCENE: [Step; 22] = [
 ];
 
 static ROWS: [Row; 9] = [
-    // All behind a link are lost with it, in order of name; the users of each quit in order of nickname, with the two ends of the link as text.
+    // All behind a link are lost with it, in order of name; the users of each quit in order of
+    // nickname, with the two ends of the link as text.
     (
         &[Step::Loses(7)],
         &[
@@ -55,7 +56,8 @@ static ROWS: [Row; 9] = [
             Out::LinkLine(7, b":a.net SQUIT c.net :a.net c.net"),
         ],
     ),
-    // A SQUIT is of one server, and keeps its prefix and its text; the numbers of that server are free then.
+    // A SQUIT is of one server, and keeps its prefix and its text; the numbers of that server are
+    // free then.
     (
         &[
             Step::Hears(7, b":b.net SQUIT aa.net :b.net aa.net"),
@@ -104,7 +106,8 @@ static ROWS: [Row; 9] = [
             Out::LinkLine(7, b":a.net SERVER c.net 2 4 :C"),
         ],
     ),
-    // A link on which nobody has named itself is lost without a word; so is each other link afterwards.
+    // A link on which nobody has named itself is lost without a word; so is each other link
+    // afterwards.
     (
         &[
             Step::IsCalled(9),
@@ -160,7 +163,8 @@ static ROWS: [Row; 9] = [
             Out::LinkLine(8, b":zed QUIT :Connection closed"),
         ],
     ),
-    // Its server lost by the neighbour's own word, the link stays; and the text of a loss is the neighbour's name as before.
+    // Its server lost by the neighbour's own word, the link stays; and the text of a loss is the
+    // neighbour's name as before.
     (
         &[
             Step::Hears(8, b":c.net SQUIT c.net :x"),

@@ -1,10 +1,12 @@
-//! The links by which a line goes on: along the tree, toward those whom it is for, and never back (RFC 2813 section 5).
+//! The links by which a line goes on: along the tree, toward those whom it is for, and never back
+//! (RFC 2813 section 5).
 use crate::happening::{Row, Step, happens, rows_hold, server};
 use irc_batch::{Batch, Out};
 use std::alloc::Global;
 
-/// b.net is linked by 7, with bo and ben, c.net by 8, with cy and cas, and d.net by 9, with dee. al, client 1, is the operator of #c; an, client 2, and all of
-/// b.net and c.net are in it. A link 6 is not up yet.
+/// b.net is linked by 7, with bo and ben, c.net by 8, with cy and cas, and d.net by 9, with dee.
+/// al, client 1, is the operator of #c; an, client 2, and all of b.net and c.net are in it. A link
+/// 6 is not up yet.
 static SCENE: [Step; 26] = [
     Step::Connects(1),
     Step::Says(1, b"NICK al"),
@@ -81,7 +83,8 @@ static TEXTS: [Row; 14] = [
             Out::LinkLine(8, b":dee NOTICE #c :hi"),
         ],
     ),
-    // Once the last member behind a link has left, no more by that one; once one is there, by that one too.
+    // Once the last member behind a link has left, no more by that one; once one is there, by that
+    // one too.
     (
         &[
             Step::Hears(8, b":cy PART #c :x"),
@@ -156,7 +159,8 @@ static TEXTS: [Row; 14] = [
             Out::LinkLine(8, b":dee PRIVMSG #c :hi"),
         ],
     ),
-    // A text is cut by the server of its sender, so that all clients are shown the same: 498 bytes come, and 490 are left.
+    // A text is cut by the server of its sender, so that all clients are shown the same: 498 bytes
+    // come, and 490 are left.
     (
         &[Step::Says(1, LONG)],
         &[
@@ -395,7 +399,8 @@ static OTHERS: [Row; 14] = [
             Out::Close(1),
         ],
     ),
-    // What does nothing is left out: who is there already, or is not there, or is a user of the server itself.
+    // What does nothing is left out: who is there already, or is not there, or is a user of the
+    // server itself.
     (
         &[
             Step::Hears(7, b":bo JOIN #c"),

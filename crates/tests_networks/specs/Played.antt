@@ -1,6 +1,7 @@
 -- What is read of a network that was made of some configurations and was given some items since,
 -- one after another, with bytes that came in between.
-use Rattle.std.specs.Prelude.{◌≡◌, ⊤, ℕ, ◌≤◌, true, None, Some, Option, Result, Ok, Err, List, [], ◌∷◌, ◌++◌}
+use Rattle.std.specs.Prelude.{◌≡◌, ⊤, ℕ, ◌≤◌, true, None, Some, Option, Result, Ok, Err, List, []}
+use Rattle.std.specs.Prelude.{◌∷◌, ◌++◌}
 use Rattle.std.specs.Option.{option_map}
 use Rattle.irc_net.specs.ByteNetwork.{is_byte_rest, net_in_lines}
 use Rattle.irc_net.specs.ItemLaws.{ClosesNoLink, OpensBothEnds}
@@ -27,7 +28,8 @@ use Rattle.irc_net.specs.World.{Setting, new_world}
 
 -- what is so of a network, whatever configurations and items it has come from
 abbrev pub OfEachRun : NetView → (List Config → List Item → Type 0) → Type 0
-OfEachRun net Is = (configs : List Config) (items : List Item) → HasRun configs items net → Is configs items
+OfEachRun net Is = (configs : List Config) (items : List Item) → HasRun configs items net
+    → Is configs items
 
 -- ---- what is done
 
@@ -40,7 +42,8 @@ GoesOn old new = OfEachRun old (λ configs items. HasRun configs items new)
 
 -- an item that is taken stands behind those before it
 abbrev pub PlaysOn : NetView → Item → Result Answer NetFault → NetView → Type 0
-PlaysOn old item (Ok answer) new = IsItemWithin item → OfEachRun old (λ configs items. HasRun configs (items ++ item ∷ []) new)
+PlaysOn old item (Ok answer) new =
+    IsItemWithin item → OfEachRun old (λ configs items. HasRun configs (items ++ item ∷ []) new)
 PlaysOn old item (Err fault) new = ⊤
 
 -- an item is refused for this cause, or taken if there is none and memory is there
@@ -50,23 +53,28 @@ Answered None (Err fault) = fault ≡ Memory
 Answered (Some refusal) (Ok answer) = ⊥
 Answered (Some refusal) (Err fault) = fault ≡ fault_by refusal
 
-pub record IsAnswered (item : Item) (result : Result Answer NetFault) (configs : List Config) (items : List Item) : Type 0 where
+pub record IsAnswered (item : Item) (result : Result Answer NetFault) (configs : List Config)
+    (items : List Item) : Type 0 where
   pub settings : List Setting
   pub are_settings : AreSettingsOf configs settings
   pub answered : Answered (refused settings (world_of settings items) item) result
 
 abbrev pub AnswersAsOwed : NetView → Item → Result Answer NetFault → Type 0
-AnswersAsOwed net item result = is_byte_rest net.network ≡ true → OfEachRun net (IsAnswered item result)
+AnswersAsOwed net item result =
+    is_byte_rest net.network ≡ true → OfEachRun net (IsAnswered item result)
 
 -- it is refused so by a network at rest
-pub record IsRefusedSo (net : NetView) (item : Item) (configs : List Config) (items : List Item) : Type 0 where
+pub record IsRefusedSo (net : NetView) (item : Item) (configs : List Config)
+    (items : List Item) : Type 0 where
   pub settings : List Setting
   pub are_settings : AreSettingsOf configs settings
-  pub refused_so : item_fault net.network item ≡ option_map fault_by (refused settings (world_of settings items) item)
+  pub refused_so : item_fault net.network item ≡ option_map fault_by
+      (refused settings (world_of settings items) item)
 
 -- ---- what is read
 
-pub record AreOwed (net : NetView) (client : ℕ) (lines : List (List ℕ)) (configs : List Config) (items : List Item) : Type 0 where
+pub record AreOwed (net : NetView) (client : ℕ) (lines : List (List ℕ)) (configs : List Config)
+    (items : List Item) : Type 0 where
   pub settings : List Setting
   pub are_settings : AreSettingsOf configs settings
   pub front : IsFront lines (owed_by_network settings items client)
@@ -86,11 +94,13 @@ TookFew net count = OfEachRun net (IsFew count)
 pub record IsWholeRoom (net : NetView) (configs : List Config) (items : List Item) : Type 0 where
   pub settings : List Setting
   pub are_settings : AreSettingsOf configs settings
-  pub received : is_byte_rest net.network ≡ true → (client : ℕ) → received_by net.network.network client ≡ owed_by_network settings items client
+  pub received : is_byte_rest net.network ≡ true → (client : ℕ)
+      → received_by net.network.network client ≡ owed_by_network settings items client
   pub servers : is_byte_rest net.network ≡ true → IsOneRoom net.network.network
   pub coming : IsSound (net_in_lines net.network)
   pub closes_none : ClosesNoLink (net_in_lines net.network)
-  pub opens : (near far : Name) → fault_at_rest (net_in_lines net.network) (link near far) ≡ None → OpensBothEnds (net_in_lines net.network) near far
+  pub opens : (near far : Name) → fault_at_rest (net_in_lines net.network) (link near far) ≡ None
+      → OpensBothEnds (net_in_lines net.network) near far
 
 abbrev pub IsWhole : NetView → Type 0
 IsWhole net = OfEachRun net (IsWholeRoom net)
@@ -98,9 +108,11 @@ IsWhole net = OfEachRun net (IsWholeRoom net)
 -- ---- of any run
 
 pub record RunIsOwed (net : NetView) (configs : List Config) (items : List Item) : Type 0 where
-  pub owed : (client : ℕ) → AreOwed net client (received_by net.network.network client) configs items
+  pub owed : (client : ℕ)
+      → AreOwed net client (received_by net.network.network client) configs items
   pub few : IsFew net.network.network.taken configs items
-  pub refused_so : is_byte_rest net.network ≡ true → (item : Item) → IsRefusedSo net item configs items
+  pub refused_so : is_byte_rest net.network ≡ true → (item : Item)
+      → IsRefusedSo net item configs items
   pub whole : IsWholeRoom net configs items
 
 abbrev pub RunsAreOwed : Type 0

@@ -8,7 +8,8 @@ ghost use Rattle.irc_net.specs.Calls.{IsGivable};
 ghost use Rattle.irc_net.specs.Faults.{is_refusal};
 ghost use Rattle.irc_net.specs.NetworkViews.{item_of};
 ghost use Rattle.irc_sites.specs.Loops.Queues.{line_bytes};
-ghost use Rattle.tests_networks.specs.Played.{AnswersAsOwed, Begins, GoesOn, IsWhole, PlaysOn, ReadsOwed, RunsAreOwed, TookFew};
+ghost use Rattle.tests_networks.specs.Played.{AnswersAsOwed, Begins, GoesOn, IsWhole, PlaysOn};
+ghost use Rattle.tests_networks.specs.Played.{ReadsOwed, RunsAreOwed, TookFew};
 
 #[cfg(test)]
 mod tests;

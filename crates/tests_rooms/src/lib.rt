@@ -1,4 +1,5 @@
-//! Tests of rooms and what they stand on: what the standard and the table of effects say of them, row by row.
+//! Tests of rooms and what they stand on: what the standard and the table of effects say of them,
+//! row by row.
 #![tactic(auto)]
 
 #[cfg(test)]

@@ -4,8 +4,8 @@ use crate::script::{Shown, append, append_word, changes, show_modes};
 use irc_modes::{ModeChange, Modes};
 use std::alloc::Global;
 
-/// The modes of two sides, and what comes of them. Several lines of one side stand behind one another
-/// with a `;` between them.
+/// The modes of two sides, and what comes of them. Several lines of one side stand behind one
+/// another with a `;` between them.
 struct Sides {
     one: &'static str,
     other: &'static str,

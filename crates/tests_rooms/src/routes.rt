@@ -8,10 +8,11 @@ use std::alloc::Global;
 use std::process::Abort;
 use std::test::Fail;
 
-/// `add LINK UPLINK NAME NUMBER` adds a server that is so many links away and has that number on its link, and `fill LINK COUNT` as
-/// many more; `lose LINK` loses those behind a link. `out` shows our own number for a server, `in LINK NUMBER` the server of a number,
-/// `away` how far away a server is, `via` the server that it is linked to on this side, `behind` the servers behind a link, `told`
-/// those of which its neighbour is told, `all` all.
+/// `add LINK UPLINK NAME NUMBER` adds a server that is so many links away and has that number on
+/// its link, and `fill LINK COUNT` as many more; `lose LINK` loses those behind a link. `out` shows
+/// our own number for a server, `in LINK NUMBER` the server of a number, `away` how far away a
+/// server is, `via` the server that it is linked to on this side, `behind` the servers behind a
+/// link, `told` those of which its neighbour is told, `all` all.
 const SERVERS: &str = "\
 add 1 a.net b.net 1 =
 add 1 b.net c.net 2 =

@@ -1,17 +1,23 @@
 //! A language of small scripts on one room, that of the server a.net.
 //!
-//! A line is a verb and its words, then ` =`, and what comes of it. What comes of an effect is who sees it, those of other
-//! servers in brackets, and the line that they are shown; that it is idle, as it does nothing; or why it is refused.
+//! A line is a verb and its words, then ` =`, and what comes of it. What comes of an effect is who
+//! sees it, those of other servers in brackets, and the line that they are shown; that it is idle,
+//! as it does nothing; or why it is refused.
 //!
-//! - `user NICK HOME HOST REAL`, `nick NICK NEW`, `quit NICK TEXT`, `make NICK CHANNEL`, `join NICK CHANNEL`,
-//!   `part NICK CHANNEL TEXT`, `kick BY CHANNEL NICK`, `mode BY CHANNEL MODES`, `topic BY CHANNEL TEXT`, `say BY TARGET TEXT`,
-//!   `note BY TARGET TEXT`, `invite BY NICK CHANNEL`, `set NICK +i` and `set NICK -i` are the effects. Who makes a channel is its
+//! - `user NICK HOME HOST REAL`, `nick NICK NEW`, `quit NICK TEXT`, `make NICK CHANNEL`, `join NICK
+//! CHANNEL`,
+//! `part NICK CHANNEL TEXT`, `kick BY CHANNEL NICK`, `mode BY CHANNEL MODES`, `topic BY CHANNEL
+//! TEXT`, `say BY TARGET TEXT`,
+//! `note BY TARGET TEXT`, `invite BY NICK CHANNEL`, `set NICK +i` and `set NICK -i` are the
+//! effects. Who makes a channel is its
 //!   operator. A `*` that changes modes or a topic is a server.
 //! - `respell CHANNEL` spells a channel's name as given, where that is greater by bytes; nobody
 //!   is shown anything.
-//! - `state CHANNEL` shows its modes, key, limit and bans, its topic behind a `:`, its members with their marks, and who is
+//! - `state CHANNEL` shows its modes, key, limit and bans, its topic behind a `:`, its members with
+//! their marks, and who is
 //!   invited behind a `?`.
-//! - `users`, `home SERVER` and `channels NICK` show all users, those of a server, and the channels of one. `invited NICK CHANNEL` tells
+//! - `users`, `home SERVER` and `channels NICK` show all users, those of a server, and the channels
+//! of one. `invited NICK CHANNEL` tells
 //!   whether a user is invited to a channel.
 ghost use Rattle.std.specs.Prelude.{◌≡◌};
 ghost use Rattle.irc_room.specs.Effects.{brings_free};

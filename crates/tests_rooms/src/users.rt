@@ -6,7 +6,8 @@ use irc_users::{UserName, Users, UsersFault};
 use std::alloc::Global;
 use std::process::Abort;
 
-/// Users as in the scripts of rooms; `home` and `like` show those of a server, and those that a mask matches.
+/// Users as in the scripts of rooms; `home` and `like` show those of a server, and those that a
+/// mask matches.
 const USERS: &str = "\
 user [x one.net 10.0.0.1 Xavier =
 user zed two.net cafe.org Z. E. D. =
@@ -20,8 +21,8 @@ like *.NET = Alice zed [x
 like *liddell = Alice
 like nobody =";
 
-/// `hold` notes the number of a user, `held` shows whether a user has it, and `at` who has it; `nick` gives a user another nickname, and `gone`
-/// takes one out.
+/// `hold` notes the number of a user, `held` shows whether a user has it, and `at` who has it;
+/// `nick` gives a user another nickname, and `gone` takes one out.
 const NUMBERS: &str = "\
 user al one.net 10.0.0.1 Al =
 user bo one.net 10.0.0.2 Bo =

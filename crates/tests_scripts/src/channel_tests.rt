@@ -4,7 +4,8 @@ use std::alloc::Global;
 use std::io;
 use std::io::Write;
 
-/// Each entry is judged by what those before have left. The channel is named as its maker spelled it, in a 366 as it was asked for.
+/// Each entry is judged by what those before have left. The channel is named as its maker spelled
+/// it, in a 366 as it was asked for.
 const JOINING: &str = "\
 > say 1 JOIN
 1 :a.net 461 al JOIN :Not enough parameters
@@ -278,7 +279,8 @@ const THIRTY_ONE: &str = "\
 1 :a.net 366 aa #c :End of NAMES list
 ";
 
-/// Whether a text, behind the joining of so many clients, is run to its end, and what is printed ends as it says.
+/// Whether a text, behind the joining of so many clients, is run to its end, and what is printed
+/// ends as it says.
 fn crowd_ends(alloc: Global, members: usize, text: &str) -> bool {
     let mut script = Vec::new(alloc);
     let mut printed = Vec::new(alloc);

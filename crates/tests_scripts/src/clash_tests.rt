@@ -1,9 +1,10 @@
-//! A nickname on both sides of a new link (RFC 2812 section 3.7.1): what the clients of both servers
-//! receive. What is expected is that of the RFC's lines in the wording of docs/PROFILE.md, none of it
-//! taken from the program.
+//! A nickname on both sides of a new link (RFC 2812 section 3.7.1): what the clients of both
+//! servers receive. What is expected is that of the RFC's lines in the wording of docs/PROFILE.md,
+//! none of it taken from the program.
 use crate::running::prints_network;
 
-/// A nickname on both sides: both holders are killed, each side sees its own go, and nobody is seen to come. The channel that one of them had alone is gone.
+/// A nickname on both sides: both holders are killed, each side sees its own go, and nobody is seen
+/// to come. The channel that one of them had alone is gone.
 const CLASH: &str = "\
 > server a.net
 > server b.net

@@ -1,7 +1,8 @@
 //! INVITE (RFC 2812 section 3.2.7).
 use crate::running::prints;
 
-/// To a channel that is not there anybody invites anybody. The second parameter is one name, and no list.
+/// To a channel that is not there anybody invites anybody. The second parameter is one name, and no
+/// list.
 const INVITING: &str = "\
 > say 1 INVITE
 1 :a.net 461 al INVITE :Not enough parameters
@@ -48,7 +49,8 @@ fn members_invite_outsiders(rt: HostRuntime) {
     assert!(rt; prints(rt.alloc(), 3, INVITING));
 }
 
-/// Under mode i only an operator invites. An invitation is used up by joining, and ends with its channel.
+/// Under mode i only an operator invites. An invitation is used up by joining, and ends with its
+/// channel.
 const BY_INVITATION: &str = "\
 > say 1 JOIN #c
 1 :al!u@h JOIN #c

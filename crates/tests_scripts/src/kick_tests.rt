@@ -1,7 +1,8 @@
 //! KICK (RFC 2812 section 3.2.8).
 use crate::running::prints;
 
-/// A kicked member sees its own kick, and none behind it. Without a text the kicker's nickname stands there; a longer text is cut to 160 bytes.
+/// A kicked member sees its own kick, and none behind it. Without a text the kicker's nickname
+/// stands there; a longer text is cut to 160 bytes.
 const KICKING: &str = "\
 > say 1 JOIN #c
 1 :al!u@h JOIN #c
@@ -60,7 +61,8 @@ fn members_see_who_is_kicked(rt: HostRuntime) {
     assert!(rt; prints(rt.alloc(), 3, KICKING));
 }
 
-/// A kicker that is no member is told so first, then that it is no operator, and last that the other is no member.
+/// A kicker that is no member is told so first, then that it is no operator, and last that the
+/// other is no member.
 const REFUSED: &str = "\
 > say 1 KICK
 1 :a.net 461 al KICK :Not enough parameters
@@ -96,7 +98,8 @@ fn only_operators_kick_members(rt: HostRuntime) {
     assert!(rt; prints(rt.alloc(), 3, REFUSED));
 }
 
-/// One channel is meant for all nicknames, more go with as many, and empty entries do not count. Each is judged by what the kicks before have left.
+/// One channel is meant for all nicknames, more go with as many, and empty entries do not count.
+/// Each is judged by what the kicks before have left.
 const PAIRED: &str = "\
 > say 1 JOIN #a,#b,#d
 1 :al!u@h JOIN #a

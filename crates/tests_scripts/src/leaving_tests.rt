@@ -1,7 +1,8 @@
 //! PART, JOIN 0, QUIT and lost connections (RFC 2812 sections 3.1.7, 3.2.1 and 3.2.2).
 use crate::running::prints;
 
-/// The text is cut to 160 bytes, and the nickname stands for none. A channel that is named twice is left once.
+/// The text is cut to 160 bytes, and the nickname stands for none. A channel that is named twice is
+/// left once.
 const PARTING: &str = "\
 > say 1 JOIN #A,#b
 1 :al!u@h JOIN #A
@@ -106,7 +107,8 @@ fn join_0_leaves_all_channels(rt: HostRuntime) {
     assert!(rt; prints(rt.alloc(), 2, LEAVING_ALL));
 }
 
-/// However many channels are shared. Who quits is told last and closed; who is gone is told nothing.
+/// However many channels are shared. Who quits is told last and closed; who is gone is told
+/// nothing.
 const QUITTING: &str = "\
 > say 1 JOIN #c,#d
 1 :al!u@h JOIN #c

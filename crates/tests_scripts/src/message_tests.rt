@@ -148,7 +148,8 @@ fn lines_are_cut_at_510_bytes(rt: HostRuntime) {
     assert!(rt; prints(rt.alloc(), 3, LONG));
 }
 
-/// Each text goes to those who are members when it is said: who joins, takes another nickname, leaves, quits or is kicked in between counts.
+/// Each text goes to those who are members when it is said: who joins, takes another nickname,
+/// leaves, quits or is kicked in between counts.
 const TO_WHO_IS_THERE: &str = "\
 > say 1 JOIN #a,#b
 1 :al!u@h JOIN #a

@@ -1,7 +1,9 @@
-//! MODE, and what modes keep from happening (RFC 2812 sections 3.1.5 and 3.2.3; RFC 2811 section 4).
+//! MODE, and what modes keep from happening (RFC 2812 sections 3.1.5 and 3.2.3; RFC 2811 section
+//! 4).
 use crate::running::prints;
 
-/// Changes are shown as their letters in order, with a sign wherever it changes, and their parameters behind them.
+/// Changes are shown as their letters in order, with a sign wherever it changes, and their
+/// parameters behind them.
 const CHANGING: &str = "\
 > say 1 JOIN #c
 1 :al!u@h JOIN #c
@@ -69,7 +71,8 @@ fn private_is_no_second_secret(rt: HostRuntime) {
     assert!(rt; prints(rt.alloc(), 1, PRIVACY));
 }
 
-/// Another key wants the first to be taken away, which is shown with the key; a channel that was left keeps none.
+/// Another key wants the first to be taken away, which is shown with the key; a channel that was
+/// left keeps none.
 const KEYS: &str = "\
 > say 1 JOIN #c
 1 :al!u@h JOIN #c
@@ -131,7 +134,8 @@ fn bans_are_listed_in_folded_order(rt: HostRuntime) {
     assert!(rt; prints(rt.alloc(), 2, BANS));
 }
 
-/// An invitation is wanted under mode i; then no ban may match, the key has to be right, and there has to be room.
+/// An invitation is wanted under mode i; then no ban may match, the key has to be right, and there
+/// has to be room.
 const KEPT_OUT: &str = "\
 > say 1 JOIN #c
 1 :al!u@h JOIN #c
@@ -172,7 +176,8 @@ fn who_may_not_join_is_told_why(rt: HostRuntime) {
     assert!(rt; prints(rt.alloc(), 2, KEPT_OUT));
 }
 
-/// An outsider under mode n, who has no voice under mode m, and whom a ban matches, are not heard; a voice helps.
+/// An outsider under mode n, who has no voice under mode m, and whom a ban matches, are not heard;
+/// a voice helps.
 const SILENCED: &str = "\
 > say 1 JOIN #c
 1 :al!u@h JOIN #c
@@ -221,7 +226,8 @@ fn who_may_not_speak_is_told_so(rt: HostRuntime) {
     assert!(rt; prints(rt.alloc(), 2, SILENCED));
 }
 
-/// The thirty-first ban is refused, but not one that is there; where one is taken away before, there is room.
+/// The thirty-first ban is refused, but not one that is there; where one is taken away before,
+/// there is room.
 const FULL: &str = "\
 > say 1 JOIN #c
 1 :al!u@h JOIN #c
@@ -291,8 +297,8 @@ fn a_channel_has_thirty_bans(rt: HostRuntime) {
     assert!(rt; prints(rt.alloc(), 1, FULL));
 }
 
-/// Each letter takes its parameter or is told that there is none. Of some letters only the first counts, and of those with a parameter the
-/// first three.
+/// Each letter takes its parameter or is told that there is none. Of some letters only the first
+/// counts, and of those with a parameter the first three.
 const READING: &str = "\
 > say 1 JOIN #c
 1 :al!u@h JOIN #c
@@ -329,7 +335,8 @@ fn letters_are_read_in_turn(rt: HostRuntime) {
     assert!(rt; prints(rt.alloc(), 2, READING));
 }
 
-/// Who is no operator is told so once, and may see the bans; an operator that steps back in a command was one at its start.
+/// Who is no operator is told so once, and may see the bans; an operator that steps back in a
+/// command was one at its start.
 const REFUSED: &str = "\
 > say 1 JOIN #c
 1 :al!u@h JOIN #c
@@ -391,7 +398,8 @@ fn the_key_is_told_to_members(rt: HostRuntime) {
     assert!(rt; prints(rt.alloc(), 2, TOLD));
 }
 
-/// A user sees and changes its own mode alone. Letters that are no mode are told once, before what changes.
+/// A user sees and changes its own mode alone. Letters that are no mode are told once, before what
+/// changes.
 const OWN: &str = "\
 > say 1 MODE al
 1 :a.net 221 al +

@@ -1,12 +1,14 @@
 //! Networks of servers (RFC 2813): what clients of several servers receive of each other, how many
-//! lines servers take for it, and what is refused. What is expected is that of the RFC's lines in the
-//! wording of docs/PROFILE.md, none of it taken from the program.
+//! lines servers take for it, and what is refused. What is expected is that of the RFC's lines in
+//! the wording of docs/PROFILE.md, none of it taken from the program.
 //!
-//! A settle takes each time the oldest line of the first direction, by the names of its two servers; so what stands between two of its lines follows.
+//! A settle takes each time the oldest line of the first direction, by the names of its two
+//! servers; so what stands between two of its lines follows.
 use crate::running::{add_parts, add_text, is_run, prints_network, prints_parts};
 use std::alloc::{AllocError, Global};
 
-/// Two servers, al on one and bo on the other. What a client is answered is there at once; what others see comes with the lines that are taken.
+/// Two servers, al on one and bo on the other. What a client is answered is there at once; what
+/// others see comes with the lines that are taken.
 const TWO: &str = "\
 > server a.net
 > server b.net
@@ -128,8 +130,9 @@ const THREE: &str = "\
 = 2
 ";
 
-/// The link between the first two is lost: who was on the other side quits, once, with the near end's name in front. As it is back, each side sees the
-/// other's members come, channel by channel. Both sides have the topic, so nobody is told of it, but the middle server passes its line on.
+/// The link between the first two is lost: who was on the other side quits, once, with the near
+/// end's name in front. As it is back, each side sees the other's members come, channel by channel.
+/// Both sides have the topic, so nobody is told of it, but the middle server passes its line on.
 const LOST_AND_BACK: &str = "\
 > say 1 JOIN #c
 1 :al!u@h JOIN #c
@@ -208,7 +211,8 @@ fn a_link_is_lost_and_is_back(rt: HostRuntime) {
     assert!(rt; prints_parts(rt.alloc(), &[THREE, LOST_AND_BACK]));
 }
 
-/// What bo says goes to both neighbours of its server, whichever is first; what al says to cy passes by.
+/// What bo says goes to both neighbours of its server, whichever is first; what al says to cy
+/// passes by.
 const TREE: &str = "\
 > say 1 JOIN #c
 1 :al!u@h JOIN #c
@@ -268,7 +272,8 @@ fn lines_go_along_the_tree(rt: HostRuntime) {
     assert!(rt; prints_parts(rt.alloc(), &[THREE, TREE]));
 }
 
-/// What is asked is answered by the asker's server of the whole network: where somebody is, how many links away, how many servers there are.
+/// What is asked is answered by the asker's server of the whole network: where somebody is, how
+/// many links away, how many servers there are.
 const ASKING: &str = "\
 > say 1 JOIN #c
 1 :al!u@h JOIN #c
@@ -312,9 +317,9 @@ fn the_whole_network_is_asked(rt: HostRuntime) {
     assert!(rt; prints_parts(rt.alloc(), &[THREE, ASKING]));
 }
 
-/// Nicknames of 30 bytes, the most: one is taken on the third server, changed to another, named in a
-/// mode and written to. While the link is lost a user of the second server takes it too, so both are
-/// killed as it is back.
+/// Nicknames of 30 bytes, the most: one is taken on the third server, changed to another, named in
+/// a mode and written to. While the link is lost a user of the second server takes it too, so both
+/// are killed as it is back.
 const LONG_NICKNAMES: &str = "\
 > say 1 JOIN #c
 1 :al!u@h JOIN #c
@@ -391,7 +396,8 @@ fn the_longest_nicknames_go_across_servers(rt: HostRuntime) {
     assert!(rt; prints_parts(rt.alloc(), &[THREE, LONG_NICKNAMES]));
 }
 
-/// A channel is told in five lines: its member, its modes, its bans, three at most in a line, and its topic.
+/// A channel is told in five lines: its member, its modes, its bans, three at most in a line, and
+/// its topic.
 const BURST: &str = "\
 > server a.net
 > server b.net
@@ -443,8 +449,8 @@ fn modes_bans_and_topic_are_told(rt: HostRuntime) {
     assert!(rt; prints_network(rt.alloc(), BURST));
 }
 
-/// Names of no server, links that are there, that are not, or that would be two ways; and what is given while a line is on its way. A topic of its own on each
-/// side is no cause.
+/// Names of no server, links that are there, that are not, or that would be two ways; and what is
+/// given while a line is on its way. A topic of its own on each side is no cause.
 /// What is refused changes nothing, and a client that is refused has no number.
 const REFUSALS: &str = "\
 > server a.net
@@ -540,7 +546,8 @@ fn what_a_network_refuses(rt: HostRuntime) {
     assert!(rt; prints_network(rt.alloc(), REFUSALS));
 }
 
-/// al and an on one server, bo and cy on another; al and bo have each made #c. The servers are linked, and nothing has come.
+/// al and an on one server, bo and cy on another; al and bo have each made #c. The servers are
+/// linked, and nothing has come.
 pub const LINKED: &str = "\
 > server a.net
 > server b.net
@@ -643,7 +650,8 @@ static ORDERS: [&str; 20] = [
     "bbabaa", "bbbaaa",
 ];
 
-/// Appends the deliveries of an order to a script, and what is printed of them: those to a.net, and to b.net.
+/// Appends the deliveries of an order to a script, and what is printed of them: those to a.net, and
+/// to b.net.
 pub fn add_deliveries(
     order: &str,
     deliveries: [&[&str]; 2],

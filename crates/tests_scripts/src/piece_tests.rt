@@ -1,9 +1,11 @@
-//! Links carry bytes, which come in pieces cut anywhere (RFC 2813 section 3.3, RFC 2812 section 2.3).
+//! Links carry bytes, which come in pieces cut anywhere (RFC 2813 section 3.3, RFC 2812 section
+//! 2.3).
 use crate::network_tests::LINKED;
 use crate::running::{add_parts, is_run, prints_network};
 use std::alloc::{AllocError, Global};
 
-/// The CR of the first line comes, and with it the line; its LF is on its way still. Then all that is left comes, and is answered with two lines.
+/// The CR of the first line comes, and with it the line; its LF is on its way still. Then all that
+/// is left comes, and is answered with two lines.
 const HANDSHAKE: &str = "\
 > server a.net
 > server b.net
@@ -23,7 +25,8 @@ fn a_line_comes_without_its_line_feed(rt: HostRuntime) {
     assert!(rt; prints_network(rt.alloc(), HANDSHAKE));
 }
 
-/// A line feed that completes nothing is delivered, and nothing is where no byte is on its way; a part of a line is on its way all the same.
+/// A line feed that completes nothing is delivered, and nothing is where no byte is on its way; a
+/// part of a line is on its way all the same.
 const ALONE: &str = "\
 > server a.net
 > server b.net
@@ -66,7 +69,8 @@ static RECEIVED: [&str; 4] = [
     "",
 ];
 
-/// Appends so many pieces of so many bytes to a script in each direction, one and the other in turn.
+/// Appends so many pieces of so many bytes to a script in each direction, one and the other in
+/// turn.
 fn add_pieces(count: usize, size: &str, script: &mut Vec<u8>) -> Result<(), AllocError> {
     for _ in 0..count {
         for direction in &["a.net b.net", "b.net a.net"] {
@@ -107,7 +111,8 @@ fn have_received(alloc: Global, received: &[&str], output: &[u8]) -> bool {
     true
 }
 
-/// Whether the bursts of a link cross in so many pieces of so many bytes, and each client receives its lines by them, none left for the settle.
+/// Whether the bursts of a link cross in so many pieces of so many bytes, and each client receives
+/// its lines by them, none left for the settle.
 pub fn crosses(
     alloc: Global,
     linked: &[&str],

@@ -1,7 +1,8 @@
 //! ISON, LUSERS, LIST, WHOIS and WHO (RFC 2812 sections 4.9, 3.4.2, 3.2.6, 3.6.2 and 3.6.1).
 use crate::running::prints;
 
-/// Words are parted by spaces, in each parameter; nicknames are written as stored, in the order given.
+/// Words are parted by spaces, in each parameter; nicknames are written as stored, in the order
+/// given.
 const ISON: &str = "\
 > say 2 ISON
 2 :a.net 461 bo ISON :Not enough parameters

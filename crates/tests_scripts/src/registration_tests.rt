@@ -1,7 +1,9 @@
-//! Connections before they register, and what only the server answers (RFC 2812 sections 3.1 and 3.7).
+//! Connections before they register, and what only the server answers (RFC 2812 sections 3.1 and
+//! 3.7).
 use crate::running::prints;
 
-/// The user name is cut to 10 bytes, and a byte that is none of its own becomes `_`; a later USER replaces an earlier.
+/// The user name is cut to 10 bytes, and a byte that is none of its own becomes `_`; a later USER
+/// replaces an earlier.
 const EITHER_ORDER: &str = "\
 > server a.net
 > connect a.net h
@@ -179,7 +181,8 @@ fn lines_for_the_server_are_answered(rt: HostRuntime) {
     assert!(rt; prints(rt.alloc(), 1, REGISTERED));
 }
 
-/// A foreign prefix is ignored, and so is a line of nothing or with a NUL. A CR ends a line too; spaces count as one.
+/// A foreign prefix is ignored, and so is a line of nothing or with a NUL. A CR ends a line too;
+/// spaces count as one.
 const READ: &str = "\
 > say 1 :AL PING x
 1 :a.net PONG a.net :x

@@ -1,9 +1,10 @@
-//! How a test runs a script, and how it is written. What is expected is that of the RFC's replies in the wording of docs/PROFILE.md, none of
-//! it taken from the program.
+//! How a test runs a script, and how it is written. What is expected is that of the RFC's replies
+//! in the wording of docs/PROFILE.md, none of it taken from the program.
 //!
-//! A text is a script and what it prints. A line behind `> ` is a line of the script, and below it stands what is printed there, in order;
-//! all that is printed is compared.
-//! `%` stands for 160 bytes `x`, which is the most of a topic and of the text of a PART, a KICK or a QUIT.
+//! A text is a script and what it prints. A line behind `> ` is a line of the script, and below it
+//! stands what is printed there, in order; all that is printed is compared.
+//! `%` stands for 160 bytes `x`, which is the most of a topic and of the text of a PART, a KICK or
+//! a QUIT.
 use irc_script::run_sim;
 use std::alloc::{AllocError, Global};
 use std::cmp::min;
@@ -47,7 +48,8 @@ const CY: &str = "\
 3 :a.net 422 cy :MOTD File is missing
 ";
 
-/// Whether the script of a text, behind the registration of so many clients, is run to its end and prints just what the text says.
+/// Whether the script of a text, behind the registration of so many clients, is run to its end and
+/// prints just what the text says.
 pub fn prints(alloc: Global, clients: usize, text: &str) -> bool {
     prints_in_pieces(alloc, usize::MAX, clients, text)
 }
@@ -67,7 +69,8 @@ pub fn prints_parts(alloc: Global, parts: &[&str]) -> bool {
         && output == printed
 }
 
-/// Whether the script of a text, behind the registration of so many clients, is run so where a read gives at most so many bytes.
+/// Whether the script of a text, behind the registration of so many clients, is run so where a read
+/// gives at most so many bytes.
 pub fn prints_in_pieces(alloc: Global, size: usize, clients: usize, text: &str) -> bool {
     let mut script = Vec::new(alloc);
     let mut printed = Vec::new(alloc);

@@ -1,10 +1,12 @@
-//! Calls that are made again: a wire calls who is not known once it was so for long enough, and nobody who is.
+//! Calls that are made again: a wire calls who is not known once it was so for long enough, and
+//! nobody who is.
 use irc_names::ServerName;
 use irc_outbox::{Ready, Wire};
 use irc_sockets::{Callee, Listening, MioWire};
 use std::net::SocketAddr;
 
-/// How often a wire is asked while a second has to pass: it waits ten milliseconds each time, and one behind whatever has come.
+/// How often a wire is asked while a second has to pass: it waits ten milliseconds each time, and
+/// one behind whatever has come.
 const TIMES: u64 = 20_000;
 
 /// How often one is asked which may not call. In so many waits of 100 ms two seconds pass.
@@ -44,7 +46,8 @@ fn calls(rt: &HostRuntime, address: SocketAddr, retry: Option<u16>) -> Option<Mi
     MioWire::listen(rt, rt.alloc(), listening, callees, 0).ok()
 }
 
-/// The number of the next link of a wire that is told each time whether the server that it would call is known.
+/// The number of the next link of a wire that is told each time whether the server that it would
+/// call is known.
 fn linked(wire: &mut MioWire, times: u64, is_known: bool) -> Option<u64> {
     for _time in 0..times {
         if wire.would_call().is_some() {
@@ -57,7 +60,8 @@ fn linked(wire: &mut MioWire, times: u64, is_known: bool) -> Option<u64> {
     None
 }
 
-/// Whether a wire whose first link was closed has another, where it is told this of the server, so many times asked.
+/// Whether a wire whose first link was closed has another, where it is told this of the server, so
+/// many times asked.
 fn calls_again(rt: &HostRuntime, retry: Option<u16>, times: u64, is_known: bool) -> Option<bool> {
     let called = listens(rt)?;
     let address = called.address_for_links().ok()??;

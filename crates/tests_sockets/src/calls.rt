@@ -7,7 +7,8 @@ use std::cmp::min;
 /// No read has more room.
 const MOST: usize = 40;
 
-/// What is told to be ready: as [`Ready`], without the host, and with a name only for a server that was called.
+/// What is told to be ready: as [`Ready`], without the host, and with a name only for a server that
+/// was called.
 #[derive(Clone, Copy, PartialEq, Eq)]
 enum Report {
     Idle,
@@ -95,7 +96,8 @@ static ROWS: [Row; 7] = [
             Call::Tells(Report::Idle),
         ],
     },
-    // Behind a report that no read follows comes the next step, also where some of the bytes were read before.
+    // Behind a report that no read follows comes the next step, also where some of the bytes were
+    // read before.
     Row {
         happens: &[
             Step::Client(1),

@@ -1,5 +1,5 @@
-//! A conversation of two, line by line, and what is written to each of them for it: the replies of RFC 2812 section 5.1 and the lines of its section 3 as
-//! docs/PROFILE.md words them.
+//! A conversation of two, line by line, and what is written to each of them for it: the replies of
+//! RFC 2812 section 5.1 and the lines of its section 3 as docs/PROFILE.md words them.
 use crate::steps::{Step, add_step};
 use irc_outbox::WireStep;
 use std::alloc::Global;
@@ -179,8 +179,8 @@ pub(crate) fn add_lines(alloc: Global, steps: &mut Vec<WireStep, Global>, lines:
     true
 }
 
-/// What is left of a text behind what is written to somebody for the lines from one place to another, the other being there or not; nothing where the
-/// text begins otherwise.
+/// What is left of a text behind what is written to somebody for the lines from one place to
+/// another, the other being there or not; nothing where the text begins otherwise.
 pub(crate) fn behind_lines(
     text: &[u8],
     conn: u64,
@@ -197,8 +197,8 @@ pub(crate) fn behind_lines(
     Some(rest)
 }
 
-/// What is left of a text behind what tells the other of somebody's loss, where so many lines have been said: nothing is told before both are in the
-/// channel.
+/// What is left of a text behind what tells the other of somebody's loss, where so many lines have
+/// been said: nothing is told before both are in the channel.
 fn behind_loss(text: &[u8], lost: u64, lines: usize) -> Option<&[u8]> {
     if lines < BOTH_ARE_IN {
         Some(text)
@@ -214,7 +214,8 @@ pub(crate) fn is_written(text: &[u8], conn: u64, lines: usize) -> bool {
     behind_lines(text, conn, 0, lines, true) == Some(b"".as_slice())
 }
 
-/// What is left of a text behind what the first lines call for, and behind what tells of the other's loss then; nothing where the text begins otherwise.
+/// What is left of a text behind what the first lines call for, and behind what tells of the
+/// other's loss then; nothing where the text begins otherwise.
 pub(crate) fn behind_told(text: &[u8], lost: u64, lines: usize) -> Option<&[u8]> {
     let rest = behind_lines(text, other_than(lost), 0, lines, true)?;
     behind_loss(rest, lost, lines)

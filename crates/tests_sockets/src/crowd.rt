@@ -44,7 +44,8 @@ fn is_closed(socket: &mut TcpStream) -> bool {
         && matches!(socket.read(&mut buffer), Ok(0))
 }
 
-/// Whether of three clients the last is closed unreported, where two may come; and whether one more comes once the first is gone.
+/// Whether of three clients the last is closed unreported, where two may come; and whether one more
+/// comes once the first is gone.
 fn is_limited(rt: &HostRuntime) -> Option<bool> {
     let mut wire = listens(rt, Some(2))?;
     let mut sockets = connected(rt, &wire, 3)?;

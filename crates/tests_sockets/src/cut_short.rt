@@ -1,5 +1,6 @@
-//! The bytes of a conversation end at each place in turn, within a line or behind it: what is written is what the lines that have come whole call for, and
-//! the end of a connection is told behind that.
+//! The bytes of a conversation end at each place in turn, within a line or behind it: what is
+//! written is what the lines that have come whole call for, and the end of a connection is told
+//! behind that.
 use crate::conversation::{
     CONVERSATION, OPEN, Said, add_lines, behind_told, is_written, other_than,
 };
@@ -10,7 +11,8 @@ use irc_names::first_bytes;
 use irc_outbox::{MemoryWire, WireStep};
 use std::alloc::Global;
 
-/// The conversation is held on a wire up to a line of which so many bytes come; then the connection that says it ends. Tells whether it is added.
+/// The conversation is held on a wire up to a line of which so many bytes come; then the connection
+/// that says it ends. Tells whether it is added.
 fn add_cut(
     alloc: Global,
     steps: &mut Vec<WireStep, Global>,

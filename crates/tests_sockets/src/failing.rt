@@ -1,4 +1,5 @@
-//! One read or one write fails, at each place of a conversation in turn. Who fails is lost there, the other is told once, and goes on alone.
+//! One read or one write fails, at each place of a conversation in turn. Who fails is lost there,
+//! the other is told once, and goes on alone.
 use crate::conversation::{
     AL, BO, CONVERSATION, LINES, OPEN, OPENINGS, behind_lines, behind_told, is_written, other_than,
 };
@@ -20,7 +21,8 @@ static NARROW: [Step; OPENINGS] = [
 /// How many things happen in all; so something more may happen at a place from 0 to this.
 const PLACES: usize = OPENINGS + LINES;
 
-/// Who is lost: all that the lines up to `written` call for was written to it, and all that those up to `told` do to the other, who is told behind that.
+/// Who is lost: all that the lines up to `written` call for was written to it, and all that those
+/// up to `told` do to the other, who is told behind that.
 #[derive(Drop)]
 struct Loss {
     conn: u64,
@@ -56,7 +58,8 @@ fn lost_by_read(conn: u64, place: usize) -> Option<Loss> {
     })
 }
 
-/// Who is lost by the next write that fails from a place on: nobody where nothing is written any more.
+/// Who is lost by the next write that fails from a place on: nobody where nothing is written any
+/// more.
 fn lost_by_write(conn: u64, place: usize) -> Option<Loss> {
     if place <= beginning(conn) {
         return None;
@@ -69,7 +72,8 @@ fn lost_by_write(conn: u64, place: usize) -> Option<Loss> {
     })
 }
 
-/// One thing happens more, and another before it where this is the place. Tells whether it is added.
+/// One thing happens more, and another before it where this is the place. Tells whether it is
+/// added.
 fn add_at(
     alloc: Global,
     steps: &mut Vec<WireStep, Global>,
@@ -115,7 +119,8 @@ fn runs(alloc: Global, wire: &mut MemoryWire, closings: &mut Closings) -> bool {
     runs_noting(alloc, wire, closings, 4096, 20)
 }
 
-/// Whether just what the other is to hear is written to it: all that the first lines call for, the loss, and what the lines behind it call for.
+/// Whether just what the other is to hear is written to it: all that the first lines call for, the
+/// loss, and what the lines behind it call for.
 fn goes_on_alone(text: &[u8], lost: u64, lines: usize) -> bool {
     match behind_told(text, lost, lines) {
         Some(rest) => {
@@ -148,7 +153,8 @@ fn is_so(wire: &MemoryWire, closings: &[u64], loss: &Option<Loss>) -> bool {
     }
 }
 
-/// Whether the conversation with something more at a place is held so that this one is lost, or nobody.
+/// Whether the conversation with something more at a place is held so that this one is lost, or
+/// nobody.
 fn loses(alloc: Global, place: usize, fault: &Step, loss: &Option<Loss>) -> bool {
     let closings = &mut Closings::new();
     match disturbed(alloc, &OPEN, place, fault) {
@@ -197,8 +203,8 @@ fn a_write_may_fail_at_each_place(rt: HostRuntime) {
     assert!(rt; writes_may_fail(rt.alloc(), AL) && writes_may_fail(rt.alloc(), BO));
 }
 
-/// Whether al, whose socket took no more than its first ten bytes, is lost by a write that fails at this place or, before there is something to write,
-/// at al's second line.
+/// Whether al, whose socket took no more than its first ten bytes, is lost by a write that fails at
+/// this place or, before there is something to write, at al's second line.
 fn is_lost_with_bytes(wire: &MemoryWire, closings: &[u64], place: usize) -> bool {
     let first: &[u8] = if place <= OPENINGS + 1 {
         b""

@@ -1,4 +1,5 @@
-//! A server more than the 256 that may be known: the link that tells of it is closed, and all that it has told of is lost with it.
+//! A server more than the 256 that may be known: the link that tells of it is closed, and all that
+//! it has told of is lost with it.
 use crate::hostile::{
     AFTERWARDS, ARE_TWO, B_GREETS, B_HEARS, BEFORE, C_HEARS, add_lines, al_hears, behind_beginning,
     c_hears, is_closed, runs,
@@ -9,7 +10,8 @@ use irc_outbox::{MemoryWire, WireStep};
 use itoa::Buffer;
 use std::alloc::{AllocError, Global};
 
-/// Servers are named by numbers from this on, and numbered so too: their names stand in the order of these.
+/// Servers are named by numbers from this on, and numbered so too: their names stand in the order
+/// of these.
 const FIRST: u32 = 101;
 
 /// A number and what stands around it come behind these bytes.
@@ -116,7 +118,8 @@ fn a_peer_beyond_the_last_server_is_closed(rt: HostRuntime) {
     assert!(rt; turns_away(rt.alloc()));
 }
 
-/// What is left of a text behind a number and what stands around it; nothing where it begins otherwise.
+/// What is left of a text behind a number and what stands around it; nothing where it begins
+/// otherwise.
 fn behind_word<'a>(text: &'a [u8], front: &[u8], number: u32, end: &[u8]) -> Option<&'a [u8]> {
     let mut digits = Buffer::new();
     text.strip_prefix(front)?
@@ -124,7 +127,8 @@ fn behind_word<'a>(text: &'a [u8], front: &[u8], number: u32, end: &[u8]) -> Opt
         .strip_prefix(end)
 }
 
-/// What is left of a text behind the line that tells of the server at a place; a.net numbers them from 4 on.
+/// What is left of a text behind the line that tells of the server at a place; a.net numbers them
+/// from 4 on.
 fn behind_server(text: &[u8], place: u32) -> Option<&[u8]> {
     let number = FIRST.saturating_add(place);
     let rest = behind_word(text, b":b.net SERVER n", number, b".net 3 ")?;

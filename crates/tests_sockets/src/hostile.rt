@@ -1,4 +1,5 @@
-//! A peer breaks a rule of links (docs/PROFILE.md, "Why a link is closed"): its link is closed, once, and nothing that comes behind that line is taken.
+//! A peer breaks a rule of links (docs/PROFILE.md, "Why a link is closed"): its link is closed,
+//! once, and nothing that comes behind that line is taken.
 //! Whoever else is there is told as of any lost link, and goes on.
 use crate::lent::{Closings, Lent};
 use crate::memory::runs_over;
@@ -41,13 +42,15 @@ NICK al 1 u h 1 + :Al\r
 :a.net NJOIN #c :@al\r
 ";
 
-/// What comes by 7 right behind the line that closes it: were it taken, b.net would be linked, or al killed.
+/// What comes by 7 right behind the line that closes it: were it taken, b.net would be linked, or
+/// al killed.
 const MORE: &[u8] = b"PASS pw 0210010001 TREE|\r
 SERVER b.net 1 1 :B\r
 :b.net KILL al :Nick collision\r
 ";
 
-/// It comes once more; al asks who is there, and words pass by the other link, both ways. In the end the socket of 7 takes whatever is written.
+/// It comes once more; al asks who is there, and words pass by the other link, both ways. In the
+/// end the socket of 7 takes whatever is written.
 pub(crate) static AFTERWARDS: [Step; 4] = [
     Step::Bytes(7, MORE),
     Step::Bytes(1, b"LUSERS\r\nPRIVMSG cy :yo\r\n"),
@@ -60,7 +63,8 @@ const AL_HEARS: &[u8] = b":cy!u@h PRIVMSG #c :ho\r\n";
 
 pub(crate) const C_HEARS: &[u8] = b":al PRIVMSG cy :yo\r\n";
 
-/// What happens on 7 before the line that closes it. What is written by 7 in all; by 8, and to al, from then to the words.
+/// What happens on 7 before the line that closes it. What is written by 7 in all; by 8, and to al,
+/// from then to the words.
 struct Scene {
     happens: &'static [Step],
     to_b: &'static [u8],
@@ -120,7 +124,8 @@ static LINKED: Scene = Scene {
     to_al: ARE_TWO,
 };
 
-/// b.net is linked, and its socket takes ten bytes: it is closed once it has taken the rest, and not read before.
+/// b.net is linked, and its socket takes ten bytes: it is closed once it has taken the rest, and
+/// not read before.
 static SLOW: Scene = Scene {
     happens: &[Step::Linked(7), Step::Room(7, 10), Step::Bytes(7, B_GREETS)],
     to_b: B_HEARS,
@@ -128,7 +133,8 @@ static SLOW: Scene = Scene {
     to_al: ARE_TWO,
 };
 
-/// f.net is behind b.net. zo of b.net and ed of f.net are in the channel, and quit server by server.
+/// f.net is behind b.net. zo of b.net and ed of f.net are in the channel, and quit server by
+/// server.
 static CROWDED: Scene = Scene {
     happens: &[
         Step::Linked(7),
@@ -162,7 +168,8 @@ NICK zo 2 u h 3 + :Zo\r
 ",
 };
 
-/// Lines that close the link of who has not named itself: for UnknownCommand, Parameters, Order, UnknownPeer, Password and AlreadyKnown.
+/// Lines that close the link of who has not named itself: for UnknownCommand, Parameters, Order,
+/// UnknownPeer, Password and AlreadyKnown.
 static IN_HANDSHAKE: [&[u8]; 6] = [
     b"FOO\r\n",
     b"PASS pw 0210010000 TREE|\r\n",
@@ -172,7 +179,8 @@ static IN_HANDSHAKE: [&[u8]; 6] = [
     b"PASS pq 0210010001 TREE|\r\nSERVER c.net 1 1 :C\r\n",
 ];
 
-/// Lines of b.net that close its link: for UnknownCommand, Parameters twice, BadToken, WrongDirection, BadName, AlreadyKnown and Order.
+/// Lines of b.net that close its link: for UnknownCommand, Parameters twice, BadToken,
+/// WrongDirection, BadName, AlreadyKnown and Order.
 static BEHIND_HANDSHAKE: [&[u8]; 8] = [
     b"FOO\r\n",
     b":b.net SQUIT b.net\r\n",

@@ -1,6 +1,8 @@
-//! A wire in memory that is lent to an engine, so that it can be looked at behind the engine's turns.
+//! A wire in memory that is lent to an engine, so that it can be looked at behind the engine's
+//! turns.
 ghost use Rattle.std.specs.Prelude.{⊤, ◌≤◌, length, IfOk};
-ghost use Rattle.irc_outbox.specs.Calls.{Call, asks, reads, writes, closes, bytes_got, Adds, FitsIn, Keeps};
+ghost use Rattle.irc_outbox.specs.Calls.{Call, asks, reads, writes, closes, bytes_got, Adds};
+ghost use Rattle.irc_outbox.specs.Calls.{FitsIn, Keeps};
 
 use arrayvec::ArrayVec;
 use irc_names::ServerName;

@@ -48,8 +48,8 @@ fn a_link_has_the_room_of_a_link(rt: HostRuntime) {
     assert!(rt; is_lost_by_overflow(rt.alloc()));
 }
 
-/// al is in a channel, b.net calls, shakes hands and tells of its user b. Its stream ends within the line that brings b into the channel. al looks b up
-/// before that and after.
+/// al is in a channel, b.net calls, shakes hands and tells of its user b. Its stream ends within
+/// the line that brings b into the channel. al looks b up before that and after.
 static CUT_SHORT: [Step; 9] = [
     Step::Client(1),
     Step::Room(1, 65536),

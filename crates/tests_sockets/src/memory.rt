@@ -119,7 +119,8 @@ pub(crate) fn times(line: &[u8], text: &[u8]) -> usize {
     count
 }
 
-/// Whether al is lost as its outbox overflows, and bo, who shares two channels with al, is told once.
+/// Whether al is lost as its outbox overflows, and bo, who shares two channels with al, is told
+/// once.
 fn is_told_once(alloc: Global) -> bool {
     match wire(alloc, &OVERFLOW) {
         Some(mut wire) => {
@@ -138,7 +139,8 @@ fn who_reads_nothing_is_lost(rt: HostRuntime) {
     assert!(rt; is_told_once(rt.alloc()));
 }
 
-/// al, cy and dd, whose sockets take nothing, share a channel with bo. Then one ends, a read of one fails, and a write to one for whom bytes wait.
+/// al, cy and dd, whose sockets take nothing, share a channel with bo. Then one ends, a read of one
+/// fails, and a write to one for whom bytes wait.
 static LOSSES: [Step; 12] = [
     Step::Client(1),
     Step::Bytes(1, b"NICK al\r\nUSER u 0 * :Al\r\nJOIN #c\r\n"),
@@ -180,7 +182,8 @@ fn who_ends_or_fails_is_lost(rt: HostRuntime) {
     assert!(rt; are_lost(rt.alloc()));
 }
 
-/// The server closes al, whose socket takes nothing yet; what comes then is reported, and not read. bo connects behind that.
+/// The server closes al, whose socket takes nothing yet; what comes then is reported, and not read.
+/// bo connects behind that.
 static SHUT: [Step; 6] = [
     Step::Client(1),
     Step::Bytes(1, b"NICK al\r\nQUIT :bye\r\n"),
@@ -190,7 +193,8 @@ static SHUT: [Step; 6] = [
     Step::Client(2),
 ];
 
-/// Whether al is read and written up to that, and closed. One turn is taken for each step, but for that of al when al is closed.
+/// Whether al is read and written up to that, and closed. One turn is taken for each step, but for
+/// that of al when al is closed.
 fn is_shut(alloc: Global) -> bool {
     match wire(alloc, &SHUT) {
         Some(mut wire) => {

@@ -1,4 +1,5 @@
-//! What a loss tells others fills the outboxes of some: they are lost in the same turn, and the server is told of each once, the lowest number first.
+//! What a loss tells others fills the outboxes of some: they are lost in the same turn, and the
+//! server is told of each once, the lowest number first.
 use crate::lent::Closings;
 use crate::memory::runs_noting;
 use crate::steps::{Step, wire};
@@ -22,7 +23,8 @@ static CROWD: [Step; 13] = [
     Step::Room(2, 65536),
 ];
 
-/// How many turns are taken up to the one in which al is lost, and with it; and how many are enough for all.
+/// How many turns are taken up to the one in which al is lost, and with it; and how many are enough
+/// for all.
 const LOSS: u64 = 11;
 
 const ALL: u64 = 20;
@@ -112,7 +114,8 @@ fn room(more: usize) -> usize {
     FOR_DD.len().saturating_add(more)
 }
 
-/// Whether nobody is lost before the turn in which al is, where outboxes have this room, and bo has heard nothing of a loss.
+/// Whether nobody is lost before the turn in which al is, where outboxes have this room, and bo has
+/// heard nothing of a loss.
 fn is_calm(alloc: Global, room: usize) -> bool {
     let closings = &mut Closings::new();
     match wire(alloc, &CROWD) {

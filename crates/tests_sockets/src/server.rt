@@ -8,7 +8,8 @@ use irc_routes::Own;
 use irc_server::{Config, Event, Peer, Server};
 use std::alloc::{AllocError, Global};
 
-/// A server a.net that nobody is connected to. It may be linked to b.net and c.net; these give the passwords pw and pq.
+/// A server a.net that nobody is connected to. It may be linked to b.net and c.net; these give the
+/// passwords pw and pq.
 pub(crate) fn server(alloc: Global) -> Option<Server>
     ensures { IfSome result HasNobody }
 {

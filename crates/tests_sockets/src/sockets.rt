@@ -89,7 +89,8 @@ fn a_client_on_loopback_is_served(rt: HostRuntime) {
     assert!(rt; is_answered(&rt));
 }
 
-/// Whether a client is served whose address begins with a colon: its host begins with a zero. A machine without such addresses shows nothing.
+/// Whether a client is served whose address begins with a colon: its host begins with a zero. A
+/// machine without such addresses shows nothing.
 fn is_served_behind_a_colon(rt: &HostRuntime) -> bool {
     let Some(wire) = listens(rt, "[::1]:0") else {
         return true;

@@ -3,7 +3,8 @@ use irc_names::{Host, ServerName};
 use irc_outbox::{MemoryWire, WireStep};
 use std::alloc::{AllocError, Global};
 
-/// One thing that happens, as [`WireStep`]. Each client comes from host `h`, and the server that was called is `b.net`.
+/// One thing that happens, as [`WireStep`]. Each client comes from host `h`, and the server that
+/// was called is `b.net`.
 #[derive(Drop)]
 pub(crate) enum Step {
     Client(u64),

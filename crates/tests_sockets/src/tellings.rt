@@ -1,4 +1,5 @@
-//! What an engine says of its links, line by line; a link is called and calls, comes up, is refused, closed and lost.
+//! What an engine says of its links, line by line; a link is called and calls, comes up, is
+//! refused, closed and lost.
 use crate::server::server;
 use crate::steps::{Step, add, add_step, wire};
 use irc_engine::Engine;

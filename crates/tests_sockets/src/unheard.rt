@@ -1,6 +1,7 @@
 //! What an engine says where nobody hears it, and of a call that has reached nobody.
 ghost use Rattle.std.specs.Prelude.{⊤, IfOk, ◌≤◌, length};
-ghost use Rattle.irc_outbox.specs.Calls.{Call, asks, reads, writes, closes, bytes_got, Adds, FitsIn, Keeps};
+ghost use Rattle.irc_outbox.specs.Calls.{Call, asks, reads, writes, closes, bytes_got, Adds};
+ghost use Rattle.irc_outbox.specs.Calls.{FitsIn, Keeps};
 
 use crate::lent::{Closings, Lent};
 use crate::server::server;

@@ -1,4 +1,5 @@
-//! Tests of names, lines and replies: what the standard and the table of replies say of them, row by row.
+//! Tests of names, lines and replies: what the standard and the table of replies say of them, row
+//! by row.
 #![tactic(auto)]
 
 #[cfg(test)]

@@ -65,8 +65,8 @@ fn streams_are_cut_into_lines(rt: HostRuntime) {
     );
 }
 
-/// Each line: a line of a client, and what it is read as: the prefix behind a colon, the command and the parameters, parted by
-/// `|`; or its fault.
+/// Each line: a line of a client, and what it is read as: the prefix behind a colon, the command
+/// and the parameters, parted by `|`; or its fault.
 const MESSAGES: &str = "\
 PING => PING
 ping x => ping|x

@@ -1,11 +1,13 @@
 //! Names and masks (RFC 2812, sections 2.2, 2.3.1 and 2.5).
 //!
-//! A row is a verb, a word, and a text to the end of the line; a text of `-` stands for an empty one.
+//! A row is a verb, a word, and a text to the end of the line; a text of `-` stands for an empty
+//! one.
 //!
 //! - `fold BYTES FOLDS`: the fold of each byte is the byte at its place.
 //! - `is KIND NAME`, `no KIND BYTES`: these bytes are a name of the kind, or none.
 //! - `match MASK TEXT`, `miss MASK TEXT`: the mask matches the text, or does not.
-//! - `same KIND NAME NAME`, `less KIND NAME NAME`: the names are the same, or the first comes before the second. The kind `exact`
+//! - `same KIND NAME NAME`, `less KIND NAME NAME`: the names are the same, or the first comes
+//! before the second. The kind `exact`
 //!   is of nicknames as they are spelled.
 use irc_names::{
     BanMask, ChannelName, Exact, Host, Nick, ServerName, fold, is_ban_mask, is_channel, is_host,

@@ -6,8 +6,8 @@ use irc_numerics::{ClientWords, Listed, Mark, NameList, OnChannel, Reply, Visibi
 use std::alloc::Global;
 use std::process::Abort;
 
-/// The lines of the server a.net to al, or to a client that has no nickname yet. Other users and what they gave are `bo`, a
-/// channel is `#c`, a count is 2.
+/// The lines of the server a.net to al, or to a client that has no nickname yet. Other users and
+/// what they gave are `bo`, a channel is `#c`, a count is 2.
 const LINES: &str = "\
 :a.net 001 al :Welcome to the Internet Relay Network bo!u@h
 :a.net 002 al :Your host is a.net, running version treeircd-1
@@ -327,7 +327,8 @@ fn modes_are_written(rt: HostRuntime) {
     assert!(rt; says(&given, "al", &plain, ":a.net 221 al +"));
 }
 
-/// What bo is on a channel, who may know of that, and how it stands in the answers to WHOIS, WHO and NAMES.
+/// What bo is on a channel, who may know of that, and how it stands in the answers to WHOIS, WHO
+/// and NAMES.
 static MARKS: [(Mark, Visibility, &str, &str, &str); 3] = [
     (
         Mark::Operator,

@@ -1,4 +1,5 @@
-//! Lines of a link, each with the effects that it tells of and what is written of these, or why it is refused (RFC 2813 section 4).
+//! Lines of a link, each with the effects that it tells of and what is written of these, or why it
+//! is refused (RFC 2813 section 4).
 ghost use Rattle.std.specs.Prelude.{◌≡◌};
 ghost use Rattle.irc_room.specs.Effects.{brings_free};
 
@@ -14,8 +15,8 @@ use std::alloc::Global;
 use std::process::Abort;
 use std::test::Fail;
 
-/// The link of a line, the line, what is read of it, and what is written of that to another server. The effects are done, so that the next line
-/// meets them.
+/// The link of a line, the line, what is read of it, and what is written of that to another server.
+/// The effects are done, so that the next line meets them.
 type Row = (u64, &'static [u8], &'static [u8], &'static [u8]);
 
 /// The link to another server.
@@ -176,7 +177,8 @@ const REFUSED: [Row; 24] = [
     (1, b":bo MODE #a:b +m", b" bad name", b""),
 ];
 
-/// The words of a MODE, by the rules of their letters: those at their limits are taken, and handed on; those outside are refused.
+/// The words of a MODE, by the rules of their letters: those at their limits are taken, and handed
+/// on; those outside are refused.
 const MODE_WORDS: [Row; 18] = [
     (
         1,

@@ -19,7 +19,8 @@ is_left other channel = list_any (survives other) (entries channel.members)
 
 -- two channels are alike, if each of them is left in its half
 abbrev pub alike_if_left : Room → Room → Channel → Channel → Bool
-alike_if_left one other here there = if is_left other here && is_left one there then are_alike here there else true
+alike_if_left one other here there = if is_left other here && is_left one there
+    then are_alike here there else true
 
 -- a channel of the one half is alike with that of the other, if both are left
 abbrev pub agrees_on : Room → Room → List ℕ × Channel → Bool

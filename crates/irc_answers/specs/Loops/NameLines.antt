@@ -26,28 +26,38 @@ is_shown all member = all || not member.invisible
 
 -- the names of some members, of those that are named
 abbrev pub named_among : Naming → List (List ℕ × Flags) → List Listed
-named_among naming members = filter_map (listed naming.room.now.room.users (is_shown naming.all)) members
+named_among naming members =
+    filter_map (listed naming.room.now.room.users (is_shown naming.all)) members
 
--- a call puts names into the lines of a channel: lines that are full are appended, and the names of the last are held
+-- a call puts names into the lines of a channel: lines that are full are appended, and the names of
+-- the last are held
 abbrev pub Fills
-    : Result (Unit {0}) AllocError → Channel → List Listed → Vec Act → ArrayVec Listed → Vec Act → ArrayVec Listed → Type 0
+    : Result (Unit {0}) AllocError → Channel → List Listed → Vec Act → ArrayVec Listed → Vec Act
+    → ArrayVec Listed → Type 0
 Fills result channel names old before new after =
-    OnOk result (Came max_names (name_line channel) old.items before.items names new.items after.items)
+    OnOk result
+    (Came max_names (name_line channel) old.items before.items names new.items after.items)
 
 -- the name of the member with a nickname, if it is named
 abbrev pub FillsOne
-    : Result (Unit {0}) AllocError → Naming → List ℕ → Flags → Vec Act → ArrayVec Listed → Vec Act → ArrayVec Listed → Type 0
-FillsOne result naming name flags = Fills result naming.channel.now (named_among naming ((key name, flags) ∷ []))
+    : Result (Unit {0}) AllocError → Naming → List ℕ → Flags → Vec Act → ArrayVec Listed → Vec Act
+    → ArrayVec Listed → Type 0
+FillsOne result naming name flags =
+    Fills result naming.channel.now (named_among naming ((key name, flags) ∷ []))
 
 -- the names of the members of some rows
 abbrev pub FillsEach
-    : Result (Unit {0}) AllocError → Naming → List (Row Flags) → Vec Act → ArrayVec Listed → Vec Act → ArrayVec Listed → Type 0
-FillsEach result naming rows = Fills result naming.channel.now (named_among naming (map row_entry rows))
+    : Result (Unit {0}) AllocError → Naming → List (Row Flags) → Vec Act → ArrayVec Listed → Vec Act
+    → ArrayVec Listed → Type 0
+FillsEach result naming rows =
+    Fills result naming.channel.now (named_among naming (map row_entry rows))
 
--- the members before a fold that none of them has and those behind it: between them stands a new one, whatever it is there
+-- the members before a fold that none of them has and those behind it: between them stands a new
+-- one, whatever it is there
 abbrev pub ArePartedAt : List ℕ → Channel → List (Row Flags) → List (Row Flags) → Type 0
 ArePartedAt fold channel before behind =
-    (flags : Flags) → rows_of (alter fold (λ _. Some flags) channel.members) ≡ map row_entry before ++ (fold, flags) ∷ map row_entry behind
+    (flags : Flags) → rows_of (alter fold (λ _. Some flags) channel.members) ≡ map row_entry before
+    ++ (fold, flags) ∷ map row_entry behind
 
 -- the names of a channel, if it is listed
 abbrev pub names_if_listed : Room → User → Channel → List Act

@@ -27,7 +27,8 @@ IsMark length (Line conn span) = IsSpan length span
 IsMark length (LinkLine link span) = IsSpan length span
 IsMark length other = ⊤
 
--- How a batch lies in its bytes: the line at hand is the last of them, so a batch without a line at hand, as one that is cleared, keeps none.
+-- How a batch lies in its bytes: the line at hand is the last of them, so a batch without a line at
+-- hand, as one that is cleared, keeps none.
 pub record Lies (length : ℕ) (held : Span) (marks : List Mark) : Type 0 where
   pub at_hand : IsSpan length held
   pub last : held.end ≡ length

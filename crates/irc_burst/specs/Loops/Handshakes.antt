@@ -15,9 +15,11 @@ abbrev pub meant_at : Arrival → Parsed → Result (List Told) CloseReason
 meant_at at message = deeds_meant at.room.now.room at.routes.now at.link message
 
 abbrev pub opening_at : Bool → Arrival → Parsed → Result Opening CloseReason
-opening_at has_password at message = handshake_meant has_password at.room.now.room at.routes.now at.link message
+opening_at has_password at message =
+    handshake_meant has_password at.room.now.room at.routes.now at.link message
 
--- What is read is what the line comes to. Memory may run out where it is a MODE, whose reading takes memory.
+-- What is read is what the line comes to. Memory may run out where it is a MODE, whose reading
+-- takes memory.
 abbrev pub IsOpened : Parsed → Result Opening CloseReason → Result Opening BurstFault → Type 0
 IsOpened message meant (Ok opening) = meant ≡ Ok opening
 IsOpened message meant (Err (Closes reason)) = meant ≡ Err reason
@@ -25,9 +27,11 @@ IsOpened message meant (Err Memory) = is_mode_line message ≡ true
 
 -- the same of a line that came so
 abbrev pub IsOpenedAt : Bool → Arrival → Parsed → Result Opening BurstFault → Type 0
-IsOpenedAt has_password at message result = IsOpened message (opening_at has_password at message) result
+IsOpenedAt has_password at message result =
+    IsOpened message (opening_at has_password at message) result
 
--- A line closes the link for this reason. Memory may run out where it is a MODE, whose reading takes memory.
+-- A line closes the link for this reason. Memory may run out where it is a MODE, whose reading
+-- takes memory.
 abbrev pub IsOutOfPlace : Parsed → Result (List Told) CloseReason → BurstFault → Type 0
 IsOutOfPlace message meant (Closes reason) = out_of_place meant ≡ reason
 IsOutOfPlace message meant Memory = is_mode_line message ≡ true

@@ -1,5 +1,6 @@
 -- Lines put behind others, part by part of a burst.
-use Rattle.std.specs.Prelude.{◌≡◌, ℕ, Bool, Option, Some, None, List, [], ◌∷◌, ◌++◌, filter, map, option_to_list, if◌then◌else◌}
+use Rattle.std.specs.Prelude.{◌≡◌, ℕ, Bool, Option, Some, None, List, [], ◌∷◌, ◌++◌, filter, map}
+use Rattle.std.specs.Prelude.{option_to_list, if◌then◌else◌}
 use Rattle.std.specs.Borrow.{Bor}
 use Rattle.std.specs.Global.{Vec}
 use Rattle.std.specs.List.{filter_map, flat_map}
@@ -22,7 +23,8 @@ use Rattle.irc_routes.specs.declared.server_row.ServerRow.{ServerRow}
 use Rattle.irc_merge.specs.Bursts.{in_lines, members_a_line, bans_a_line}
 use Rattle.irc_link_writer.specs.Written.{introduction}
 use Rattle.irc_burst_lines.specs.declared.njoin_line.Member.{Member}
-use Rattle.irc_burst_lines.specs.DeedLines.{server_parts, members_text, njoin_parts, mode_parts, topic_parts}
+use Rattle.irc_burst_lines.specs.DeedLines.{server_parts, members_text, njoin_parts, mode_parts}
+use Rattle.irc_burst_lines.specs.DeedLines.{topic_parts}
 use Rattle.irc_burst_lines.specs.BurstLines.{is_near}
 
 abbrev pub lines_now : List (ArrayVec ℕ) → List (List ℕ)
@@ -51,7 +53,8 @@ told_text members = members_text (told_members members)
 
 -- a list with one member more, if there is one
 abbrev pub Gains : Vec Member → Option Member → Vec Member → Type 0
-Gains old member new = told_members new.items ≡ told_members old.items ++ option_to_list (option_map told_member member)
+Gains old member new = told_members new.items ≡ told_members old.items
+    ++ option_to_list (option_map told_member member)
 
 -- ---- changes
 
@@ -96,7 +99,8 @@ abbrev pub near_members : (List ℕ → Bool) → Table User → Channel → Lis
 near_members passes users channel = filter_map (near_member passes users) (entries channel.members)
 
 abbrev pub member_lines : List ℕ → List ℕ → List (List ℕ × Flags) → List Written
-member_lines server channel members = map (njoin_parts server channel) (in_lines members_a_line members)
+member_lines server channel members =
+    map (njoin_parts server channel) (in_lines members_a_line members)
 
 abbrev pub settings_lines : List ℕ → List ℕ → List ModeChange → List Written
 settings_lines server channel [] = []
@@ -106,7 +110,8 @@ abbrev pub ban_lines : List ℕ → List ℕ → List ModeChange → List Writte
 ban_lines server channel changes = map (mode_parts server channel) (in_lines bans_a_line changes)
 
 abbrev pub topic_lines : List ℕ → List ℕ → List ℕ → List Written
-topic_lines server channel topic = if is_nil topic then [] else topic_parts server channel topic ∷ []
+topic_lines server channel topic =
+    if is_nil topic then [] else topic_parts server channel topic ∷ []
 
 -- what a channel is told by where these of its members are told of
 abbrev pub channel_lines : List ℕ → Channel → List (List ℕ × Flags) → List Written
@@ -118,7 +123,8 @@ channel_lines server channel (member ∷ members) =
     ++ topic_lines server channel.name channel.topic))
 
 abbrev pub channel_told : Known → ℕ → Table User → Channel → List Written
-channel_told known link users channel = channel_lines known.name channel (near_members (is_near known link) users channel)
+channel_told known link users channel =
+    channel_lines known.name channel (near_members (is_near known link) users channel)
 
 -- ---- the same, as the code has them
 
@@ -138,7 +144,8 @@ abbrev pub near_row : Known → ℕ → Room → Row Flags → Option (List ℕ 
 near_row known link room r = near_member (is_near known link) room.users (row_entry r)
 
 abbrev pub near_rows : Known → ℕ → Room → List (Row Flags) → List (List ℕ × Flags)
-near_rows known link room rows = filter_map (near_member (is_near known link) room.users) (map row_entry rows)
+near_rows known link room rows =
+    filter_map (near_member (is_near known link) room.users) (map row_entry rows)
 
 abbrev pub told_in : Known → ℕ → Room → Channel → List Written
 told_in known link room channel = channel_told known link room.users channel
@@ -147,4 +154,5 @@ abbrev pub channels_told : Known → ℕ → Room → List Written
 channels_told known link room = flat_map (channel_told known link room.users) (values room.channels)
 
 abbrev pub rows_told : Known → ℕ → Room → List (Row Channel) → List Written
-rows_told known link room rows = flat_map (λ (r : Row Channel). channel_told known link room.users r.value) rows
+rows_told known link room rows =
+    flat_map (λ (r : Row Channel). channel_told known link room.users r.value) rows

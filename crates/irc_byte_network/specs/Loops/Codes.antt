@@ -9,4 +9,5 @@ use Rattle.irc_byte_network.specs.ByteNetwork.{ByteNetwork}
 
 abbrev pub byte_network_code : Coded ByteNetwork
 byte_network_code =
-    code_by (Network × Wires) (coded× network_code wires_row.coded) (λ n. (n.network, n.wires)) (λ p. record { network = p.0; wires = p.1 }) (λ _. refl)
+    code_by (Network × Wires) (coded× network_code wires_row.coded) (λ n. (n.network, n.wires))
+    (λ p. record { network = p.0; wires = p.1 }) (λ _. refl)

@@ -9,7 +9,8 @@ use Rattle.irc_network.specs.Calls.{course_at}
 use Rattle.irc_network.specs.Network.{Network}
 use Rattle.irc_network.specs.Views.{receipts_of}
 use Rattle.irc_wires.specs.Wires.{Direction, wire_at}
-use Rattle.irc_byte_network.specs.ByteNetwork.{ByteCourse, ByteNetwork, all_heard, bytes_come, completed_in}
+use Rattle.irc_byte_network.specs.ByteNetwork.{ByteCourse, ByteNetwork, all_heard, bytes_come}
+use Rattle.irc_byte_network.specs.ByteNetwork.{completed_in}
 
 abbrev pub byte_course : ByteNetwork → List Receipt → ByteCourse
 byte_course net lines = record { net = net; receipts = receipts_of lines }

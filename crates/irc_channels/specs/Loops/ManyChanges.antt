@@ -1,5 +1,5 @@
--- What the code's loop over changes of modes is at, where it changes the members: they are changed apart from the modes of the channel,
--- since these do not touch each other.
+-- What the code's loop over changes of modes is at, where it changes the members: they are changed
+-- apart from the modes of the channel, since these do not touch each other.
 use Rattle.std.specs.Prelude.{ℕ, Bool, Option, Some, List, fold}
 use Rattle.std.specs.Option.{option_map}
 use Rattle.irc_names.specs.Fold.{key}
@@ -17,8 +17,10 @@ flag_changed plus other flags = flags
 
 -- what a change of a mode does to the members
 abbrev pub members_changed : Bool → ModeLetter → Option (List ℕ) → Table Flags → Table Flags
-members_changed plus letter.Operator (Some word) members = alter (key word) (option_map (flag_changed plus letter.Operator)) members
-members_changed plus letter.Voice (Some word) members = alter (key word) (option_map (flag_changed plus letter.Voice)) members
+members_changed plus letter.Operator (Some word) members =
+    alter (key word) (option_map (flag_changed plus letter.Operator)) members
+members_changed plus letter.Voice (Some word) members =
+    alter (key word) (option_map (flag_changed plus letter.Voice)) members
 members_changed plus other word members = members
 
 abbrev pub members_step : Table Flags → ModeChange → Table Flags

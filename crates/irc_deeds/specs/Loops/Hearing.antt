@@ -11,7 +11,8 @@ use Rattle.irc_handshake.specs.Peers.{refusal}
 use Rattle.irc_stage.specs.View.{End, View, password_for}
 use Rattle.irc_deeds.specs.declared.heard.Heard.{Heard as Code}
 use Rattle.irc_deeds.specs.declared.heard.Heard.TheVariants as code
-use Rattle.irc_deeds.specs.Heard.{Heard, ignored, closes, password, meets, tells, met_unless, opened}
+use Rattle.irc_deeds.specs.Heard.{Heard, ignored, closes, password, meets, tells, met_unless}
+use Rattle.irc_deeds.specs.Heard.{opened}
 
 -- what the code's value says
 abbrev pub heard_of : Code → Heard
@@ -38,7 +39,8 @@ given_of end = unwrap_or end.password []
 
 -- the handshake's second line
 abbrev pub greeted : View → End → List ℕ → List ℕ → Heard
-greeted view end name info = met_unless (refusal (password_for view name) (given_of end) view.routes name) name info
+greeted view end name info =
+    met_unless (refusal (password_for view name) (given_of end) view.routes name) name info
 
 abbrev pub opened_as : View → End → Opening → Heard
 opened_as view end opening = opened view end (Ok opening)

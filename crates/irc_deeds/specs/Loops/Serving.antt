@@ -1,5 +1,7 @@
--- What the code does of what happens by a link, from one moment of a server and of what it has put out to a later one.
-use Rattle.std.specs.Prelude.{◌≡◌, ℕ, ⊤, Option, Some, Result, List, [], ◌++◌, is_none, is_some, true, map, if◌then◌else◌}
+-- What the code does of what happens by a link, from one moment of a server and of what it has put
+-- out to a later one.
+use Rattle.std.specs.Prelude.{◌≡◌, ℕ, ⊤, Option, Some, Result, List, [], ◌++◌, is_none, is_some}
+use Rattle.std.specs.Prelude.{true, map, if◌then◌else◌}
 use Rattle.std.specs.FinMap.{get}
 use Rattle.std.specs.Option.{option_and_then}
 use Rattle.irc_batch.specs.Batches.{Batch, line_on}
@@ -13,7 +15,8 @@ use Rattle.irc_stage.specs.Loops.Linking.{IsMetAt}
 use Rattle.irc_stage.specs.Loops.Stage.{behind_sent, served_at, view_of}
 use Rattle.irc_deeds.specs.DeedTold.{deeds_told, link_lost, losses, lost_behind}
 use Rattle.irc_deeds.specs.Heard.{Heard, meets, tells}
-use Rattle.irc_deeds.specs.LinkServed.{after_heard, line_served, link_opened, met_by, on_link, opening_parts}
+use Rattle.irc_deeds.specs.LinkServed.{after_heard, line_served, link_opened, met_by, on_link}
+use Rattle.irc_deeds.specs.LinkServed.{opening_parts}
 
 -- a link is open
 abbrev pub IsOpenAt : ℕ → Stage → Type 0
@@ -40,33 +43,41 @@ Serves served out new out_after = served_at new out_after.outs ≡ behind_sent o
 
 -- a link is opened
 abbrev pub Opens : ℕ → Option (List ℕ) → Stage → Batch → Stage → Batch → Type 0
-Opens link starts old out new out_after = Serves (link_opened (view_of old) link starts) out new out_after
+Opens link starts old out new out_after =
+    Serves (link_opened (view_of old) link starts) out new out_after
 
 -- a line comes by a link
 abbrev pub Hears : ℕ → Result Parsed LineFault → Stage → Batch → Stage → Batch → Type 0
-Hears link read old out new out_after = Serves (line_served (view_of old) link read (get (view_of old).ends link)) out new out_after
+Hears link read old out new out_after =
+    Serves (line_served (view_of old) link read (get (view_of old).ends link)) out new out_after
 
--- what it is heard as is done: what is told comes by a link that counts, and who names itself by one that is open
+-- what it is heard as is done: what is told comes by a link that counts, and who names itself by
+-- one that is open
 abbrev pub IsHearable : ℕ → Heard → Stage → Type 0
 IsHearable link (tells told) stage = IsMetAt link stage
 IsHearable link (meets name info) stage = IsOpenAt link stage
 IsHearable link other stage = ⊤
 
 abbrev pub Follows : ℕ → Heard → Stage → Batch → Stage → Batch → Type 0
-Follows link heard old out new out_after = Serves (after_heard (view_of old) link heard) out new out_after
+Follows link heard old out new out_after =
+    Serves (after_heard (view_of old) link heard) out new out_after
 
 abbrev pub Meets : ℕ → List ℕ → List ℕ → Stage → Batch → Stage → Batch → Type 0
-Meets link name info old out new out_after = Serves (met_by link name info (view_of old)) out new out_after
+Meets link name info old out new out_after =
+    Serves (met_by link name info (view_of old)) out new out_after
 
 -- a link is lost
 abbrev pub Loses : ℕ → Stage → Batch → Stage → Batch → Type 0
-Loses link old out new out_after = served_at new out_after.outs ≡ link_lost link (served_at old out.outs)
+Loses link old out new out_after =
+    served_at new out_after.outs ≡ link_lost link (served_at old out.outs)
 
 abbrev pub LosesBehind : ℕ → Stage → Batch → Stage → Batch → Type 0
 LosesBehind link old out new out_after =
-    served_at new out_after.outs ≡ deeds_told (Some link) (lost_behind (view_of old) link (get (view_of old).ends link)) (served_at old out.outs)
+    served_at new out_after.outs ≡ deeds_told (Some link)
+    (lost_behind (view_of old) link (get (view_of old).ends link)) (served_at old out.outs)
 
 abbrev pub LosesAll : ℕ → List ℕ → Stage → Batch → Stage → Batch → Type 0
 LosesAll link far old out new out_after =
     served_at new out_after.outs
-    ≡ deeds_told (Some link) (losses (view_of old).routes.name far (names_behind (view_of old).routes link)) (served_at old out.outs)
+    ≡ deeds_told (Some link) (losses (view_of old).routes.name far
+    (names_behind (view_of old).routes link)) (served_at old out.outs)

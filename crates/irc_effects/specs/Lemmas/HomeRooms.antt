@@ -1,5 +1,6 @@
 -- A room with the invitations of one server's users alone.
-use Rattle.std.proofs.Common.{◌≡◌, ℕ, Bool, true, false, cond, Option, Some, None, List, refl, sym, ◌∙◌, ap, subst, is_some, option_map}
+use Rattle.std.proofs.Common.{◌≡◌, ℕ, Bool, true, false, cond, Option, Some, None, List, refl, sym}
+use Rattle.std.proofs.Common.{◌∙◌, ap, subst, is_some, option_map}
 use Rattle.std.specs.Option.{option_and_then}
 use Rattle.std.specs.FinMap.{retain_keys}
 use Rattle.irc_names.specs.Tables.{Table, row, each}
@@ -7,24 +8,29 @@ use Rattle.irc_names.specs.TableLaws.{same_table, row-each, row-retain_keys, eac
 use Rattle.irc_channels.specs.declared.channel.Channel.{Channel}
 use Rattle.irc_effects.specs.Room.{Room, IsSoundRow}
 use Rattle.irc_effects.specs.After.{after}
-use Rattle.irc_effects.specs.Invitations.{is_at, inviting_only, of_home, HomeIsWellFormed, HomeOfHome}
+use Rattle.irc_effects.specs.Invitations.{is_at, inviting_only, of_home, HomeIsWellFormed}
+use Rattle.irc_effects.specs.Invitations.{HomeOfHome}
 use Rattle.irc_effects.specs.Lemmas.Rows.{not_none, not_true, same_some}
 use Rattle.irc_effects.specs.Lemmas.InvitingOnly.{keeping}
 
-pub row-of_home : (home : List ℕ) (room : Room) (fold : List ℕ)
-    → row (of_home home room).channels fold ≡ option_map (inviting_only (is_at home room.users)) (row room.channels fold)
+pub row-of_home : (home : List ℕ) (room : Room) (fold : List ℕ) → row (of_home home room).channels
+    fold ≡ option_map (inviting_only (is_at home room.users)) (row room.channels fold)
 unfolding of_home
-row-of_home home room fold = row-each (keeping (is_at home room.users)) room.channels fold ∙ as_map (row room.channels fold)
+row-of_home home room fold = row-each (keeping (is_at home room.users)) room.channels fold
+    ∙ as_map (row room.channels fold)
   where
-    as_map : (o : Option Channel) → option_and_then (keeping (is_at home room.users)) o ≡ option_map (inviting_only (is_at home room.users)) o
+    as_map : (o : Option Channel) → option_and_then (keeping (is_at home room.users)) o
+        ≡ option_map (inviting_only (is_at home room.users)) o
     as_map None = refl
     as_map (Some channel) = refl
 
 fewer_invited : (stays : List ℕ → Bool) (invited : Table (Unit {0})) (q : List ℕ)
     → is_some (row (retain_keys invited stays) q) ≡ true → is_some (row invited q) ≡ true
-fewer_invited stays invited q there = by_test (stays q) (sym (ap is_some (row-retain_keys invited stays q)) ∙ there)
+fewer_invited stays invited q there =
+    by_test (stays q) (sym (ap is_some (row-retain_keys invited stays q)) ∙ there)
   where
-    by_test : (b : Bool) → is_some (cond b (row invited q) None) ≡ true → is_some (row invited q) ≡ true
+    by_test : (b : Bool) → is_some (cond b (row invited q) None) ≡ true
+        → is_some (row invited q) ≡ true
     by_test true there = there
     by_test false there = not_true there
 
@@ -32,7 +38,8 @@ pub home_is_well_formed : HomeIsWellFormed
 unfolding of_home
 home_is_well_formed home room well = record {
   users_named = well.users_named;
-  channels_sound = λ fold channel at. by_row fold (row room.channels fold) refl channel (sym (row-of_home home room fold) ∙ at);
+  channels_sound = λ fold channel at. by_row fold (row room.channels fold) refl channel
+      (sym (row-of_home home room fold) ∙ at);
 }
   where
     kept_sound : (fold : List ℕ) (before : Channel) → IsSoundRow room.users fold before
@@ -40,18 +47,23 @@ home_is_well_formed home room well = record {
     kept_sound fold before was = record {
       named = was.named;
       members_known = was.members_known;
-      invited_known = λ q there. was.invited_known q (fewer_invited (is_at home room.users) before.invited q there);
+      invited_known = λ q there. was.invited_known q
+          (fewer_invited (is_at home room.users) before.invited q there);
       some_member = was.some_member;
     }
 
-    by_row : (fold : List ℕ) (o : Option Channel) → row room.channels fold ≡ o → (after : Channel)
-        → option_map (inviting_only (is_at home room.users)) o ≡ Some after → IsSoundRow room.users fold after
+    by_row : (fold : List ℕ) (o : Option Channel) → row room.channels fold ≡ o
+        → (after : Channel) → option_map (inviting_only (is_at home room.users)) o ≡ Some after
+        → IsSoundRow room.users fold after
     by_row fold None at after is = not_none after is
     by_row fold (Some before) at after is =
-        subst (IsSoundRow room.users fold) (same_some _ after is) (kept_sound fold before (well.channels_sound fold before at))
+        subst (IsSoundRow room.users fold) (same_some _ after is)
+        (kept_sound fold before (well.channels_sound fold before at))
 
-twice_kept : (stays : List ℕ → Bool) (invited : Table (Unit {0})) → retain_keys (retain_keys invited stays) stays ≡ retain_keys invited stays
-twice_kept stays invited = same_table (retain_keys (retain_keys invited stays) stays) (retain_keys invited stays) (λ q.
+twice_kept : (stays : List ℕ → Bool) (invited : Table (Unit {0}))
+    → retain_keys (retain_keys invited stays) stays ≡ retain_keys invited stays
+twice_kept stays invited =
+    same_table (retain_keys (retain_keys invited stays) stays) (retain_keys invited stays) (λ q.
     row-retain_keys (retain_keys invited stays) stays q
     ∙ ap (λ o. cond (stays q) o None) (row-retain_keys invited stays q)
     ∙ by_test (stays q) (row invited q)
@@ -66,7 +78,8 @@ unfolding of_home
 home_of_home home room =
     let stays = is_at home room.users in
     ap (λ (channels : Table Channel). record room { channels = channels })
-    (each-turned (keeping stays) (keeping stays) Some (keeping stays) room.channels (λ fold channel at.
+    (each-turned (keeping stays) (keeping stays) Some (keeping stays) room.channels
+    (λ fold channel at.
     ap (λ t. Some (record channel { invited = t })) (twice_kept stays channel.invited))
     ∙ each_itself (each (keeping stays) room.channels))
   where
@@ -75,4 +88,5 @@ home_of_home home room =
     same_row (Some channel) = refl
 
     each_itself : (table : Table Channel) → each Some table ≡ table
-    each_itself table = same_table (each Some table) table (λ q. row-each Some table q ∙ same_row (row table q))
+    each_itself table =
+        same_table (each Some table) table (λ q. row-each Some table q ∙ same_row (row table q))

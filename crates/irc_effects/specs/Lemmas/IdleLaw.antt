@@ -1,22 +1,27 @@
 -- What does nothing leaves the room as it is.
-use Rattle.std.proofs.Common.{◌≡◌, ℕ, Bool, true, false, not, ◌&&◌, Option, Some, None, List, refl, ap, is_some, unwrap_or}
+use Rattle.std.proofs.Common.{◌≡◌, ℕ, Bool, true, false, not, ◌&&◌, Option, Some, None, List, refl}
+use Rattle.std.proofs.Common.{ap, is_some, unwrap_or}
 use Rattle.std.specs.Option.{option_and_then, option_map_or}
 use Rattle.irc_names.specs.Fold.{key}
 use Rattle.irc_names.specs.Tables.{Table, row}
 use Rattle.irc_channels.specs.declared.channel.Channel.{Channel}
 use Rattle.irc_channels.specs.Channels.{has_member, new_channel, joined, left}
-use Rattle.irc_effects.specs.declared.effect.Effect.TheVariants.{AddUser, Rename, Quit, Join, Part, Kick, ChangeModes, SetTopic, Say, Invite, UserMode}
+use Rattle.irc_effects.specs.declared.effect.Effect.TheVariants.{AddUser, Rename, Quit, Join, Part}
+use Rattle.irc_effects.specs.declared.effect.Effect.TheVariants.{Kick, ChangeModes, SetTopic, Say}
+use Rattle.irc_effects.specs.declared.effect.Effect.TheVariants.{Invite, UserMode}
 use Rattle.irc_effects.specs.Room.{Room}
 use Rattle.irc_effects.specs.After.{after, alter_channel}
 use Rattle.irc_effects.specs.Laws.{IdleChangesNothing}
 use Rattle.irc_effects.specs.Lemmas.Rows.{alter_same, not_true, if_true, if_not}
 
-is_in : (nick : List ℕ) (op : Bool) (name : List ℕ) (channel : Option Channel) → option_map_or (has_member nick) channel false ≡ true
+is_in : (nick : List ℕ) (op : Bool) (name : List ℕ) (channel : Option Channel)
+    → option_map_or (has_member nick) channel false ≡ true
     → Some (joined nick op (unwrap_or channel (new_channel name))) ≡ channel
 is_in nick op name None there = not_true there
 is_in nick op name (Some channel) there = ap Some (if_true (has_member nick channel) _ _ there)
 
-is_out : (nick : List ℕ) (channel : Option Channel) → (is_some channel && not (option_map_or (has_member nick) channel false)) ≡ true
+is_out : (nick : List ℕ) (channel : Option Channel)
+    → (is_some channel && not (option_map_or (has_member nick) channel false)) ≡ true
     → option_and_then (left nick) channel ≡ channel
 is_out nick None none = refl
 is_out nick (Some channel) none = if_not (has_member nick channel) _ _ none
@@ -33,9 +38,12 @@ unfolding after
 idle_changes_nothing room (AddUser user) idle = not_true idle
 idle_changes_nothing room (Rename nick new) idle = not_true idle
 idle_changes_nothing room (Quit nick text) idle = not_true idle
-idle_changes_nothing room (Join nick name op) idle = alter_channel_same name _ room (is_in (key nick) op name (row room.channels (key name)) idle)
-idle_changes_nothing room (Part nick name text) idle = alter_channel_same name _ room (is_out (key nick) (row room.channels (key name)) idle)
-idle_changes_nothing room (Kick by name nick text) idle = alter_channel_same name _ room (is_out (key nick) (row room.channels (key name)) idle)
+idle_changes_nothing room (Join nick name op) idle =
+    alter_channel_same name _ room (is_in (key nick) op name (row room.channels (key name)) idle)
+idle_changes_nothing room (Part nick name text) idle =
+    alter_channel_same name _ room (is_out (key nick) (row room.channels (key name)) idle)
+idle_changes_nothing room (Kick by name nick text) idle =
+    alter_channel_same name _ room (is_out (key nick) (row room.channels (key name)) idle)
 idle_changes_nothing room (ChangeModes by name changes) idle = not_true idle
 idle_changes_nothing room (SetTopic by name text) idle = not_true idle
 idle_changes_nothing room (Say by notice target text) idle = not_true idle

@@ -1,5 +1,7 @@
 -- Changes of modes keep a channel's modes within their limits.
-use Rattle.std.proofs.Common.{◌≡◌, ℕ, ◌≤◌, Bool, true, false, ◌&&◌, if◌then◌else◌, Option, Some, None, List, [], ◌∷◌, filter, cond, nat_le, refl, sym, ◌∙◌, ap, subst, arith}
+use Rattle.std.proofs.Common.{◌≡◌, ℕ, ◌≤◌, Bool, true, false, ◌&&◌, if◌then◌else◌, Option, Some}
+use Rattle.std.proofs.Common.{None, List, [], ◌∷◌, filter, cond, nat_le, refl, sym, ◌∙◌, ap, subst}
+use Rattle.std.proofs.Common.{arith}
 use Rattle.std.specs.List.{list_all, AllByRecursion}
 use Rattle.std.specs.Option.{IfSome}
 use Rattle.std.specs.Cmp.{first_so, second_so}
@@ -16,7 +18,8 @@ use Rattle.irc_modes.specs.declared.modes.ModeLetter.{ModeLetter}
 use Rattle.irc_modes.specs.declared.modes.ModeLetter.TheVariants as letter
 use Rattle.irc_channels.specs.declared.channel.Channel.{Channel}
 use Rattle.irc_names.specs.Digits.{number_of}
-use Rattle.irc_modes.specs.Modes.{is_limit, key_changed, limit_changed, with_ban, ban_changed, bans_by_word, mode_changed}
+use Rattle.irc_modes.specs.Modes.{is_limit, key_changed, limit_changed, with_ban, ban_changed}
+use Rattle.irc_modes.specs.Modes.{bans_by_word, mode_changed}
 use Rattle.irc_channels.specs.Channels.{modes_changed, letter_changed, changed, all_changed}
 use Rattle.irc_modes.specs.Lemmas.BanPlaces.{with_rises, rises-filter}
 use Rattle.irc_effects.specs.Limits.{IsCarriedText, IsChannelWithin, IsBanCarried}
@@ -25,11 +28,14 @@ both : (a b : Bool) → a ≡ true → b ≡ true → (a && b) ≡ true
 both a b p q = cc
 
 -- what all of a list is, all that is kept of it is
-all_filter : {X : Type 0} (p q : X → Bool) (xs : List X) → list_all p xs ≡ true → list_all p (filter q xs) ≡ true
+all_filter : {X : Type 0} (p q : X → Bool) (xs : List X) → list_all p xs ≡ true
+    → list_all p (filter q xs) ≡ true
 all_filter p q [] all = refl
-all_filter p q (x ∷ xs) all = by (q x) (first_so (p x) (list_all p xs) all) (all_filter p q xs (second_so (p x) (list_all p xs) all))
+all_filter p q (x ∷ xs) all = by (q x) (first_so (p x) (list_all p xs) all)
+    (all_filter p q xs (second_so (p x) (list_all p xs) all))
   where
-    by : (test : Bool) → p x ≡ true → list_all p (filter q xs) ≡ true → list_all p (cond test (x ∷ filter q xs) (filter q xs)) ≡ true
+    by : (test : Bool) → p x ≡ true → list_all p (filter q xs) ≡ true
+        → list_all p (cond test (x ∷ filter q xs) (filter q xs)) ≡ true
     by true first rest = both (p x) (list_all p (filter q xs)) first rest
     by false first rest = rest
 
@@ -51,8 +57,8 @@ all_with p mask bans is all =
     (both (p mask) (list_all p (filter (before mask) bans)) is
     (all_filter p (before mask) bans all))
 
-ban_kept : (plus : Bool) (mask : List ℕ) (bans : List (List ℕ)) → is_ban_mask mask ≡ true → is_carried mask ≡ true → AreBans bans
-    → AreBans (ban_changed plus mask bans)
+ban_kept : (plus : Bool) (mask : List ℕ) (bans : List (List ℕ)) → is_ban_mask mask ≡ true
+    → is_carried mask ≡ true → AreBans bans → AreBans (ban_changed plus mask bans)
 ban_kept true mask bans is carried all = record {
   in_order = with_rises mask bans all.in_order;
   masks = all_with is_ban_mask mask bans is all.masks;
@@ -69,13 +75,15 @@ bans_kept : (plus : Bool) (word : Option (List ℕ)) (bans : List (List ℕ))
 bans_kept plus None bans carried all = all
 bans_kept plus (Some word) bans carried all = by (is_ban_mask word) refl
   where
-    by : (test : Bool) → is_ban_mask word ≡ test → AreBans (if test then ban_changed plus word bans else bans)
+    by : (test : Bool) → is_ban_mask word ≡ test
+        → AreBans (if test then ban_changed plus word bans else bans)
     by true is = ban_kept plus word bans is carried all
     by false other = all
 
 -- ---- the other modes
 
-key_kept : (plus : Bool) (word before : Option (List ℕ)) → IfSome before IsKey → IfSome (key_changed plus word before) IsKey
+key_kept : (plus : Bool) (word before : Option (List ℕ)) → IfSome before IsKey
+    → IfSome (key_changed plus word before) IsKey
 key_kept true None before is = is
 key_kept true (Some word) before is = by (is_key word) refl
   where
@@ -84,7 +92,8 @@ key_kept true (Some word) before is = by (is_key word) refl
     by false other = is
 key_kept false word before is = tt
 
-in_range : (number most : ℕ) → (nat_le 1 number && nat_le number most) ≡ true → (1 ≤ number) × (number ≤ most)
+in_range : (number most : ℕ) → (nat_le 1 number && nat_le number most) ≡ true
+    → (1 ≤ number) × (number ≤ most)
 in_range number most is =
     let least : nat_le 1 number ≡ true = first_so (nat_le 1 number) (nat_le number most) is in
     let fits : nat_le number most ≡ true = second_so (nat_le 1 number) (nat_le number most) is in
@@ -92,13 +101,16 @@ in_range number most is =
 
 limit_number : (word : List ℕ) → is_limit word ≡ true → IsLimit (number_of word)
 unfolding is_limit
-limit_number word is = let range = in_range (number_of word) max_limit (second_so _ _ is) in record { least = range.0; most = range.1 }
+limit_number word is = let range = in_range (number_of word) max_limit (second_so _ _ is) in
+    record { least = range.0; most = range.1 }
 
-limit_kept : (plus : Bool) (word : Option (List ℕ)) (before : Option ℕ) → IfSome before IsLimit → IfSome (limit_changed plus word before) IsLimit
+limit_kept : (plus : Bool) (word : Option (List ℕ)) (before : Option ℕ) → IfSome before IsLimit
+    → IfSome (limit_changed plus word before) IsLimit
 limit_kept true None before is = is
 limit_kept true (Some word) before is = by (is_limit word) refl
   where
-    by : (test : Bool) → is_limit word ≡ test → IfSome (if test then Some (number_of word) else before) IsLimit
+    by : (test : Bool) → is_limit word ≡ test
+        → IfSome (if test then Some (number_of word) else before) IsLimit
     by true limit = limit_number word limit
     by false other = is
 limit_kept false word before is = tt
@@ -123,14 +135,20 @@ same_kept before after key limit bans kept = record {
   carried = ap (list_all is_carried) bans ∙ kept.carried;
 }
 
-mode_kept : (plus : Bool) (which : ModeLetter) (word : Option (List ℕ)) (modes : Modes) → IsBanCarried which word → AreKept modes
-    → AreKept (mode_changed plus which word modes)
-mode_kept plus letter.InviteOnly word modes carried kept = same_kept modes (mode_changed plus letter.InviteOnly word modes) refl refl refl kept
-mode_kept plus letter.Moderated word modes carried kept = same_kept modes (mode_changed plus letter.Moderated word modes) refl refl refl kept
-mode_kept plus letter.NoOutside word modes carried kept = same_kept modes (mode_changed plus letter.NoOutside word modes) refl refl refl kept
-mode_kept plus letter.TopicLocked word modes carried kept = same_kept modes (mode_changed plus letter.TopicLocked word modes) refl refl refl kept
-mode_kept plus letter.Private word modes carried kept = same_kept modes (mode_changed plus letter.Private word modes) refl refl refl kept
-mode_kept plus letter.Secret word modes carried kept = same_kept modes (mode_changed plus letter.Secret word modes) refl refl refl kept
+mode_kept : (plus : Bool) (which : ModeLetter) (word : Option (List ℕ)) (modes : Modes)
+    → IsBanCarried which word → AreKept modes → AreKept (mode_changed plus which word modes)
+mode_kept plus letter.InviteOnly word modes carried kept =
+    same_kept modes (mode_changed plus letter.InviteOnly word modes) refl refl refl kept
+mode_kept plus letter.Moderated word modes carried kept =
+    same_kept modes (mode_changed plus letter.Moderated word modes) refl refl refl kept
+mode_kept plus letter.NoOutside word modes carried kept =
+    same_kept modes (mode_changed plus letter.NoOutside word modes) refl refl refl kept
+mode_kept plus letter.TopicLocked word modes carried kept =
+    same_kept modes (mode_changed plus letter.TopicLocked word modes) refl refl refl kept
+mode_kept plus letter.Private word modes carried kept =
+    same_kept modes (mode_changed plus letter.Private word modes) refl refl refl kept
+mode_kept plus letter.Secret word modes carried kept =
+    same_kept modes (mode_changed plus letter.Secret word modes) refl refl refl kept
 mode_kept plus letter.Operator word modes carried kept = kept
 mode_kept plus letter.Voice word modes carried kept = kept
 mode_kept plus letter.Key word modes carried kept = record {
@@ -152,17 +170,26 @@ mode_kept plus letter.Limit word modes carried kept = record {
   carried = kept.carried;
 }
 mode_kept plus letter.Ban word modes carried kept =
-    let bans = bans_kept plus word modes.bans carried (record { in_order = kept.within.in_order; masks = kept.within.masks; carried = kept.carried }) in
+    let bans = bans_kept plus word modes.bans carried (record {
+      in_order = kept.within.in_order;
+      masks = kept.within.masks;
+      carried = kept.carried;
+    }) in
     record {
-      within = record { key = kept.within.key; limit = kept.within.limit; in_order = bans.in_order; masks = bans.masks };
+      within = record {
+        key = kept.within.key;
+        limit = kept.within.limit;
+        in_order = bans.in_order;
+        masks = bans.masks;
+      };
       carried = bans.carried;
     }
 
 -- ---- a channel
 
 -- a channel with other modes, and whatever other members and invitations
-other_modes : (before after : Channel) → after.name ≡ before.name → after.topic ≡ before.topic → IsChannelWithin before
-    → AreKept after.modes → IsChannelWithin after
+other_modes : (before after : Channel) → after.name ≡ before.name → after.topic ≡ before.topic
+    → IsChannelWithin before → AreKept after.modes → IsChannelWithin after
 other_modes before after name topic within kept = record {
   name = subst IsChannel (sym name) within.name;
   topic = subst IsCarriedText (sym topic) within.topic;
@@ -174,36 +201,54 @@ kept_modes : (channel : Channel) → IsChannelWithin channel → AreKept channel
 kept_modes channel within = record { within = within.modes; carried = within.bans_carried }
 
 -- a channel with the same name, topic and modes
-pub same_within : (before after : Channel) → after.name ≡ before.name → after.topic ≡ before.topic → after.modes ≡ before.modes
-    → IsChannelWithin before → IsChannelWithin after
+pub same_within : (before after : Channel) → after.name ≡ before.name → after.topic ≡ before.topic
+    → after.modes ≡ before.modes → IsChannelWithin before → IsChannelWithin after
 same_within before after name topic modes within =
-    other_modes before after name topic within (subst AreKept (sym modes) (kept_modes before within))
+    other_modes before after name topic within
+    (subst AreKept (sym modes) (kept_modes before within))
 
 -- a letter that is a mode of the channel
-of_modes : (plus : Bool) (which : ModeLetter) (word : Option (List ℕ)) (channel : Channel) → IsBanCarried which word → IsChannelWithin channel
+of_modes : (plus : Bool) (which : ModeLetter) (word : Option (List ℕ)) (channel : Channel)
+    → IsBanCarried which word → IsChannelWithin channel
     → IsChannelWithin (modes_changed (mode_changed plus which word) channel)
 of_modes plus which word channel carried within =
     other_modes channel (modes_changed (mode_changed plus which word) channel) refl refl within
     (mode_kept plus which word channel.modes carried (kept_modes channel within))
 
-letter_within : (plus : Bool) (which : ModeLetter) (word : Option (List ℕ)) (channel : Channel) → IsBanCarried which word → IsChannelWithin channel
+letter_within : (plus : Bool) (which : ModeLetter) (word : Option (List ℕ)) (channel : Channel)
+    → IsBanCarried which word → IsChannelWithin channel
     → IsChannelWithin (letter_changed plus which word channel)
-letter_within plus letter.Operator (Some word) channel carried within = same_within channel _ refl refl refl within
-letter_within plus letter.Voice (Some word) channel carried within = same_within channel _ refl refl refl within
-letter_within plus letter.Operator None channel carried within = same_within channel _ refl refl refl within
-letter_within plus letter.Voice None channel carried within = same_within channel _ refl refl refl within
-letter_within plus letter.InviteOnly word channel carried within = of_modes plus letter.InviteOnly word channel carried within
-letter_within plus letter.Moderated word channel carried within = of_modes plus letter.Moderated word channel carried within
-letter_within plus letter.NoOutside word channel carried within = of_modes plus letter.NoOutside word channel carried within
-letter_within plus letter.TopicLocked word channel carried within = of_modes plus letter.TopicLocked word channel carried within
-letter_within plus letter.Private word channel carried within = of_modes plus letter.Private word channel carried within
-letter_within plus letter.Secret word channel carried within = of_modes plus letter.Secret word channel carried within
-letter_within plus letter.Key word channel carried within = of_modes plus letter.Key word channel carried within
-letter_within plus letter.Limit word channel carried within = of_modes plus letter.Limit word channel carried within
-letter_within plus letter.Ban word channel carried within = of_modes plus letter.Ban word channel carried within
+letter_within plus letter.Operator (Some word) channel carried within =
+    same_within channel _ refl refl refl within
+letter_within plus letter.Voice (Some word) channel carried within =
+    same_within channel _ refl refl refl within
+letter_within plus letter.Operator None channel carried within =
+    same_within channel _ refl refl refl within
+letter_within plus letter.Voice None channel carried within =
+    same_within channel _ refl refl refl within
+letter_within plus letter.InviteOnly word channel carried within =
+    of_modes plus letter.InviteOnly word channel carried within
+letter_within plus letter.Moderated word channel carried within =
+    of_modes plus letter.Moderated word channel carried within
+letter_within plus letter.NoOutside word channel carried within =
+    of_modes plus letter.NoOutside word channel carried within
+letter_within plus letter.TopicLocked word channel carried within =
+    of_modes plus letter.TopicLocked word channel carried within
+letter_within plus letter.Private word channel carried within =
+    of_modes plus letter.Private word channel carried within
+letter_within plus letter.Secret word channel carried within =
+    of_modes plus letter.Secret word channel carried within
+letter_within plus letter.Key word channel carried within =
+    of_modes plus letter.Key word channel carried within
+letter_within plus letter.Limit word channel carried within =
+    of_modes plus letter.Limit word channel carried within
+letter_within plus letter.Ban word channel carried within =
+    of_modes plus letter.Ban word channel carried within
 
-pub changes_within : (changes : List ModeChange) (channel : Channel) → AllByRecursion (λ (c : ModeChange). IsBanCarried c.letter c.word) changes
+pub changes_within : (changes : List ModeChange) (channel : Channel)
+    → AllByRecursion (λ (c : ModeChange). IsBanCarried c.letter c.word) changes
     → IsChannelWithin channel → IsChannelWithin (all_changed changes channel)
 changes_within [] channel carried within = within
 changes_within (c ∷ changes) channel carried within =
-    changes_within changes (changed c channel) carried.1 (letter_within c.plus c.letter c.word channel carried.0 within)
+    changes_within changes (changed c channel) carried.1
+    (letter_within c.plus c.letter c.word channel carried.0 within)

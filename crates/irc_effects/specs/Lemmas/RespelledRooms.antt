@@ -1,6 +1,7 @@
 -- A room in which the name of a channel was spelled in the greater of two ways: what it is then,
 -- by its rows.
-use Rattle.std.proofs.Common.{◌≡◌, ◌≢◌, ℕ, Bool, true, false, cond, Option, Some, None, List, refl, sym, ◌∙◌, ap, is_some, option_map, if◌then◌else◌}
+use Rattle.std.proofs.Common.{◌≡◌, ◌≢◌, ℕ, Bool, true, false, cond, Option, Some, None, List, refl}
+use Rattle.std.proofs.Common.{sym, ◌∙◌, ap, is_some, option_map, if◌then◌else◌}
 use Rattle.std.specs.Ordering.{is_lt}
 use Rattle.std.specs.Option.{option_and_then, option_map_or}
 use Rattle.irc_names.specs.Fold.{key}
@@ -8,7 +9,8 @@ use Rattle.irc_names.specs.Greater.{bytes_cmp, greater}
 use Rattle.irc_names.specs.GreaterLaws.{greater-itself}
 use Rattle.irc_names.specs.Names.{IsChannel}
 use Rattle.irc_names.specs.Tables.{Table, row}
-use Rattle.irc_names.specs.TableLaws.{same_fold, one_fold, row-alter, row-alter_same, row-alter_other}
+use Rattle.irc_names.specs.TableLaws.{same_fold, one_fold, row-alter, row-alter_same}
+use Rattle.irc_names.specs.TableLaws.{row-alter_other}
 use Rattle.irc_users.specs.declared.user.User.{User}
 use Rattle.irc_channels.specs.declared.channel.Channel.{Channel}
 use Rattle.irc_channels.specs.Channels.{has_member, is_invited, respelled}
@@ -18,7 +20,9 @@ use Rattle.irc_effects.specs.After.{titled_by}
 use Rattle.irc_effects.specs.Limits.{IsChannelWithin}
 use Rattle.irc_effects.specs.Invitations.{is_at, of_home}
 use Rattle.irc_effects.specs.OtherInvitations.{uninviting}
-use Rattle.irc_effects.specs.Respelled.{unnamed, RespelledIsWellFormed, RespelledIsWithinLimits, OneRowRespelled, AllElseStays, RespelledOnce, HomeIsRespelled, AlikeAreRespelledAlike}
+use Rattle.irc_effects.specs.Respelled.{unnamed, RespelledIsWellFormed, RespelledIsWithinLimits}
+use Rattle.irc_effects.specs.Respelled.{OneRowRespelled, AllElseStays, RespelledOnce}
+use Rattle.irc_effects.specs.Respelled.{HomeIsRespelled, AlikeAreRespelledAlike}
 use Rattle.irc_effects.specs.Lemmas.Rows.{alter_same}
 use Rattle.irc_effects.specs.Lemmas.WellFormedLaw.{there_mapped as channel_mapped}
 use Rattle.irc_effects.specs.Lemmas.LimitsKept.{there_mapped as row_mapped}

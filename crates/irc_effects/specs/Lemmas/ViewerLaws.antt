@@ -1,5 +1,7 @@
 -- Viewers stand in folded order, and one that is shown something stands there once.
-use Rattle.std.proofs.Common.{◌≡◌, ℕ, Bool, true, false, cond, ◌&&◌, T, Option, Some, None, List, [], ◌∷◌, refl, sym, ◌∙◌, ap, subst, map, filter_map, if◌then◌else◌, option_map}
+use Rattle.std.proofs.Common.{◌≡◌, ℕ, Bool, true, false, cond, ◌&&◌, T, Option, Some, None, List}
+use Rattle.std.proofs.Common.{[], ◌∷◌, refl, sym, ◌∙◌, ap, subst, map, filter_map, if◌then◌else◌}
+use Rattle.std.proofs.Common.{option_map}
 use Rattle.std.specs.declared.cmp.Ordering.{Ordering}
 use Rattle.std.specs.declared.cmp.Ordering.TheVariants.{Less, Equal, Greater}
 use Rattle.std.specs.Ordering.{is_lt, is_eq}
@@ -33,11 +35,13 @@ less_is Less h = refl
 less_is Equal h = absurd h
 less_is Greater h = absurd h
 
-pub below_none : (q : List ℕ) (es : List (List ℕ × User)) → T (below_all fold_cmp q es) → find fold_cmp q es ≡ None
+pub below_none : (q : List ℕ) (es : List (List ℕ × User)) → T (below_all fold_cmp q es)
+    → find fold_cmp q es ≡ None
 below_none q [] h = refl
 below_none q (e ∷ es) h =
     let parts = both_true _ _ h in
-    ap (λ b. cond b (Some e.1) (find fold_cmp q es)) (less_apart (fold_cmp q e.0) parts.0) ∙ below_none q es parts.1
+    ap (λ b. cond b (Some e.1) (find fold_cmp q es)) (less_apart (fold_cmp q e.0) parts.0)
+    ∙ below_none q es parts.1
 
 -- an entry stands under its nickname's fold
 abbrev pub IsNamed : List ℕ × User → Type 0
@@ -54,19 +58,23 @@ all_named (e ∷ es) rise named =
           (λ q user is. named q user (later q user parts.0 is (same_fold q e.0) refl)),
     )
   where
-    later : (q : List ℕ) (user : User) → T (below_all fold_cmp e.0 es) → find fold_cmp q es ≡ Some user → (b : Bool) → same_fold q e.0 ≡ b
+    later : (q : List ℕ) (user : User) → T (below_all fold_cmp e.0 es)
+        → find fold_cmp q es ≡ Some user → (b : Bool) → same_fold q e.0 ≡ b
         → cond (same_fold q e.0) (Some e.1) (find fold_cmp q es) ≡ Some user
-    later q user below is true one = let none = below_none e.0 es below in let folds = ap (λ f. find fold_cmp f es) (one_fold q e.0 one) in cc
+    later q user below is true one = let none = below_none e.0 es below in let folds =
+        ap (λ f. find fold_cmp f es) (one_fold q e.0 one) in cc
     later q user below is false two = ap (λ b. cond b (Some e.1) (find fold_cmp q es)) two ∙ is
 
 pub table_named : (users : Table User)
     → ((q : List ℕ) (user : User) → row users q ≡ Some user → key user.nick ≡ q)
     → AllByRecursion IsNamed (entries users)
-table_named users named = all_named (entries users) (entries_sorted users) (λ q user is. named q user (get-entries users q ∙ is))
+table_named users named = all_named (entries users) (entries_sorted users)
+    (λ q user is. named q user (get-entries users q ∙ is))
 
 -- what is shown to a user is shown to it by its nickname
 pub record IsOwn (shown : User → Option Showing) : Type 0 where
-  pub viewer : (user : User) (showing : Showing) → shown user ≡ Some showing → showing.viewer ≡ user.nick
+  pub viewer : (user : User) (showing : Showing) → shown user ≡ Some showing
+      → showing.viewer ≡ user.nick
 
 viewers : (User → Option Showing) → List (List ℕ × User) → List (List ℕ)
 viewers shown es = map (λ (s : Showing). s.viewer) (filter_map shown (map (λ e. e.1) es))
@@ -83,34 +91,46 @@ below_shown shown own x (e ∷ es) named below =
   where
     by_shown : (o : Option Showing) → shown e.1 ≡ o → T (is_lt (fold_cmp x e.0))
         → AllByRecursion (λ y. fold_cmp x (key y) ≡ Less) (viewers shown es)
-        → AllByRecursion (λ y. fold_cmp x (key y) ≡ Less) (map (λ (s : Showing). s.viewer) (cons_option o (filter_map shown (map (λ e. e.1) es))))
+        → AllByRecursion (λ y. fold_cmp x (key y) ≡ Less)
+        (map (λ (s : Showing). s.viewer) (cons_option o (filter_map shown (map (λ e. e.1) es))))
     by_shown None is lt rest = rest
-    by_shown (Some s) is lt rest = (ap (fold_cmp x) (ap key (own.viewer e.1 s is) ∙ named.0) ∙ less_is _ lt, rest)
+    by_shown (Some s) is lt rest =
+        (ap (fold_cmp x) (ap key (own.viewer e.1 s is) ∙ named.0) ∙ less_is _ lt, rest)
 
-shown_rise : (shown : User → Option Showing) → IsOwn shown → (es : List (List ℕ × User)) → AllByRecursion IsNamed es → T (is_sorted fold_cmp es)
+shown_rise : (shown : User → Option Showing) → IsOwn shown → (es : List (List ℕ × User))
+    → AllByRecursion IsNamed es → T (is_sorted fold_cmp es)
     → IsStrictlySortedBy name_cmp (viewers shown es)
 unfolding viewers IsStrictlySortedBy
 shown_rise shown own [] named rise = tt
 shown_rise shown own (e ∷ es) named rise =
     let parts = both_true _ _ rise in
-    by_shown (shown e.1) refl (below_shown shown own e.0 es named.1 parts.0) (shown_rise shown own es named.1 parts.1)
+    by_shown (shown e.1) refl (below_shown shown own e.0 es named.1 parts.0)
+    (shown_rise shown own es named.1 parts.1)
   where
     by_shown : (o : Option Showing) → shown e.1 ≡ o
         → AllByRecursion (λ y. fold_cmp e.0 (key y) ≡ Less) (viewers shown es)
-        → IsStrictlySortedBy name_cmp (viewers shown es)
-        → IsStrictlySortedBy name_cmp (map (λ (s : Showing). s.viewer) (cons_option o (filter_map shown (map (λ e. e.1) es))))
+        → IsStrictlySortedBy name_cmp (viewers shown es) → IsStrictlySortedBy name_cmp
+        (map (λ (s : Showing). s.viewer) (cons_option o (filter_map shown (map (λ e. e.1) es))))
     by_shown None is below rest = rest
-    by_shown (Some s) is below rest =
-        (subst (λ k. AllByRecursion (λ y. fold_cmp k (key y) ≡ Less) (viewers shown es)) (sym (ap key (own.viewer e.1 s is) ∙ named.0)) below, rest)
+    by_shown (Some s) is below rest = (
+      subst (λ k. AllByRecursion (λ y. fold_cmp k (key y) ≡ Less) (viewers shown es))
+          (sym (ap key (own.viewer e.1 s is) ∙ named.0)) below,
+      rest,
+    )
 
 own_line : (b : Bool) (user : User) (line : Option (List ℕ)) (showing : Showing)
-    → (if b then option_map (λ l. record { viewer = user.nick; line = l }) line else None) ≡ Some showing → showing.viewer ≡ user.nick
+    → (if b then option_map (λ l. record { viewer = user.nick; line = l }) line else None)
+    ≡ Some showing → showing.viewer ≡ user.nick
 own_line true user None showing is = not_none showing is
-own_line true user (Some l) showing is = sym (ap (λ (s : Showing). s.viewer) (same_some (record { viewer = user.nick; line = l }) showing is))
+own_line true user (Some l) showing is = sym (ap (λ (s : Showing). s.viewer)
+    (same_some (record { viewer = user.nick; line = l }) showing is))
 own_line false user line showing is = not_none showing is
 
 pub own_showing : (room : Room) (effect : Effect) → IsOwn (shown_to room effect)
-own_showing room effect = record { viewer = λ user showing is. own_line (sees room effect user.nick) user (shown_line room effect user) showing is }
+own_showing room effect = record {
+  viewer = λ user showing is.
+      own_line (sees room effect user.nick) user (shown_line room effect user) showing is;
+}
 
 pub each_viewer_once : EachViewerOnce
 unfolding seen viewers IsStrictlySortedBy
@@ -122,4 +142,5 @@ each_viewer_once room effect well = by_idle (is_idle room effect)
         (if b then [] else filter_map (shown_to room effect) (values room.users)))
     by_idle true = tt
     by_idle false =
-        shown_rise (shown_to room effect) (own_showing room effect) (entries room.users) (table_named room.users well.users_named) (entries_sorted room.users)
+        shown_rise (shown_to room effect) (own_showing room effect) (entries room.users)
+        (table_named room.users well.users_named) (entries_sorted room.users)

@@ -11,7 +11,10 @@ use Rattle.irc_engine.specs.Knowing.{HasAs, HasNobody}
 one_view : (a b : View) → Some a ≡ Some b → a ≡ b
 one_view a b same = cc same
 
-pub made_has_nobody : (config : Config) (server : Option View) → IsMade config (Ok server) → HasNobody server
+pub made_has_nobody : (config : Config) (server : Option View) → IsMade config (Ok server)
+    → HasNobody server
 made_has_nobody config server made conn view is =
-    subst (λ (v : View). HasAs v conn None) (one_view (made_view config) view (sym made.1 ∙ is))
-    (ap is_some (get-empty {X = Client} nat_cmp conn), ap is_some (get-empty {X = End} nat_cmp conn))
+    subst (λ (v : View). HasAs v conn None) (one_view (made_view config) view (sym made.1 ∙ is)) (
+      ap is_some (get-empty {X = Client} nat_cmp conn),
+      ap is_some (get-empty {X = End} nat_cmp conn),
+    )

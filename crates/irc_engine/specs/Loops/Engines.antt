@@ -7,12 +7,19 @@ use Rattle.irc_engine.specs.Turning.{EngineView}
 use Rattle.irc_engine.specs.Loops.Moments.{moment_of}
 
 abbrev pub engine_view : {W : Type 0} → Engine W → EngineView W
-engine_view engine = record { failed = engine.failed; rooms = engine.rooms; now = moment_of engine.core }
+engine_view engine =
+    record { failed = engine.failed; rooms = engine.rooms; now = moment_of engine.core }
 
 -- Where the wire could not tell what is ready, nothing but the wire has changed.
 abbrev pub with_wire : {W : Type 0} → W → Engine W → Engine W
 with_wire wire engine =
-    record engine { core = record engine.core { connections = record engine.core.connections { wire = wire } }; settled = engine.settled }
+    record engine {
+      core = record engine.core {
+        connections =
+            record engine.core.connections { wire = wire };
+      };
+      settled = engine.settled;
+    }
 
 abbrev pub ChangesWireAlone : {W : Type 0}
     → Result (Unit {0}) EngineFault → Engine W → Engine W → Type 0

@@ -17,20 +17,26 @@ use Rattle.irc_engine.specs.Loops.Moments.{moment_of, IsNobodyNoted}
 use Rattle.irc_engine.specs.Loops.Tables.{connection_of}
 
 -- These calls have written, and just those that are still pending have yet to be written to.
-pub record Flushing (pending : ℕ → Bool) (was : ℕ → Option Connection) (calls : List Call) (now : ℕ → Option Connection) : Type 0 where
+pub record Flushing (pending : ℕ → Bool) (was : ℕ → Option Connection) (calls : List Call)
+    (now : ℕ → Option Connection) : Type 0 where
   pub write_some : list_all is_some_write calls ≡ true
   pub sorted : IsStrictlySortedBy nat_cmp (destinations calls)
-  pub behind : (q : ℕ) → pending q ≡ true → AllByRecursion (λ d. nat_cmp d q ≡ Less) (destinations calls)
+  pub behind : (q : ℕ) → pending q ≡ true
+      → AllByRecursion (λ d. nat_cmp d q ≡ Less) (destinations calls)
   pub at_most : (q : ℕ) → times_written q calls + one_if (pending q) ≤ one_if (has_some_at (was q))
-  pub unless_closed : (q : ℕ) → is_some (now q) ≡ true → times_written q calls + one_if (pending q) ≡ one_if (has_some_at (was q))
+  pub unless_closed : (q : ℕ) → is_some (now q) ≡ true
+      → times_written q calls + one_if (pending q) ≡ one_if (has_some_at (was q))
 
 -- so far it is in order, but for those that are pending
-pub record Halfway {W : Type 0} (pending : BTreeSet ℕ) (old : Core W) (calls : List Call) (now : Core W) : Type 0 where
+pub record Halfway {W : Type 0} (pending : BTreeSet ℕ) (old : Core W) (calls : List Call)
+    (now : Core W) : Type 0 where
   pub all_told : AllTold (moment_of now)
   pub marks : (q : ℕ) → IsMarkedAt q (has pending q) now.connections
-  pub flushing : Flushing (has pending) (connection_of old.connections.table) calls (connection_of now.connections.table)
+  pub flushing : Flushing (has pending) (connection_of old.connections.table) calls
+      (connection_of now.connections.table)
 
-pub record FlushesSoFar {W : Type 0} (is_after : W → List Call → Type 0) (pending : BTreeSet ℕ) (old now : Core W) : Type 0 where
+pub record FlushesSoFar {W : Type 0} (is_after : W → List Call → Type 0) (pending : BTreeSet ℕ)
+    (old now : Core W) : Type 0 where
   pub exchanges : List Call
   pub ran : Ran is_after exchanges [] nothing_of (moment_of old) (moment_of now)
   pub told : AllTold (moment_of old) → AllTold (moment_of now)

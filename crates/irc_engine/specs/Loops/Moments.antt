@@ -1,5 +1,6 @@
 -- The engine's parts as one moment.
-use Rattle.std.specs.Prelude.{◌≡◌, ℕ, Bool, true, false, Option, Some, None, Result, Ok, Err, List, [], ◌∷◌, take}
+use Rattle.std.specs.Prelude.{◌≡◌, ℕ, Bool, true, false, Option, Some, None, Result, Ok, Err, List}
+use Rattle.std.specs.Prelude.{[], ◌∷◌, take}
 use Rattle.irc_outbox.specs.declared.wire.Got.{Got}
 use Rattle.irc_outbox.specs.declared.wire.Got.TheVariants.{Bytes, Later, End}
 use Rattle.irc_outbox.specs.declared.wire.IoFault.{IoFault}
@@ -41,9 +42,11 @@ AsksFor is_after events old new = Ran is_after [] events nothing_of (moment_of o
 
 -- So many bytes at the front of the buffer are heard, as those of one connection.
 abbrev pub HearsFrom : {W : Type 0} → (W → List Call → Type 0) → ℕ → ℕ → Core W → Core W → Type 0
-HearsFrom is_after conn count old new = Ran is_after [] [] (only_of conn (take count old.buffer.items)) (moment_of old) (moment_of new)
+HearsFrom is_after conn count old new =
+    Ran is_after [] [] (only_of conn (take count old.buffer.items)) (moment_of old) (moment_of new)
 
--- whether a server knows another, by any way, or is that one; one for which memory ran out is taken for one that does
+-- whether a server knows another, by any way, or is that one; one for which memory ran out is taken
+-- for one that does
 abbrev pub knows_at : Option View → List ℕ → Bool
 knows_at None name = true
 knows_at (Some view) name = is_known view.routes name
@@ -77,15 +80,19 @@ KeepsOrder old new = IsInOrder (moment_of old) → IsInOrder (moment_of new)
 abbrev pub IsNobodyNoted : {W : Type 0} → Core W → Type 0
 IsNobodyNoted core = (conn : ℕ) → has core.connections.waiting conn ≡ false
 
--- the engine and its server know the same of each other: between two turns, within one, and before an event
+-- the engine and its server know the same of each other: between two turns, within one, and before
+-- an event
 abbrev pub IsSettledIn : {W : Type 0} → Core W → Type 0
-IsSettledIn core = IsSettled core.server (connection_of core.connections.table) (lost_at core.connections.lost)
+IsSettledIn core =
+    IsSettled core.server (connection_of core.connections.table) (lost_at core.connections.lost)
 
 abbrev pub IsAtOneIn : {W : Type 0} → Core W → Type 0
-IsAtOneIn core = IsAtOne core.server (connection_of core.connections.table) (lost_at core.connections.lost)
+IsAtOneIn core =
+    IsAtOne core.server (connection_of core.connections.table) (lost_at core.connections.lost)
 
 abbrev pub IsToHearIn : {W : Type 0} → Event → Core W → Type 0
-IsToHearIn event core = IsToHear event core.server (connection_of core.connections.table) (lost_at core.connections.lost)
+IsToHearIn event core = IsToHear event core.server (connection_of core.connections.table)
+    (lost_at core.connections.lost)
 
 -- a connection is open, as one of this kind
 abbrev pub IsOpenAs : {W : Type 0} → ℕ → Kind → Core W → Type 0

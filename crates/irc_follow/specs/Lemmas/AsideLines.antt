@@ -1,5 +1,6 @@
 -- A line that says no deed changes nothing that has to fit, and nothing is put out upon it.
-use Rattle.std.proofs.Common.{◌≡◌, ℕ, Bool, true, false, cond, Option, Some, List, [], ◌∷◌, refl, sym, ◌∙◌, ap, subst, option_map}
+use Rattle.std.proofs.Common.{◌≡◌, ℕ, Bool, true, false, cond, Option, Some, List, [], ◌∷◌, refl}
+use Rattle.std.proofs.Common.{sym, ◌∙◌, ap, subst, option_map}
 use Rattle.std.specs.FinMap.{get, insert}
 use Rattle.std.specs.Option.{option_map_or}
 use Rattle.irc_line.specs.Reading.{read_of}
@@ -23,17 +24,25 @@ module _ (s : Fixed) (p t : Name) (w : of_side.Part) (view : View) (fits : Fits 
     kept = record view { ends = insert view.ends k (record end { password = Some word }) }
 
     end_kept : (q : ℕ) → option_map far_of (get kept.ends q) ≡ option_map far_of (get view.ends q)
-    end_kept q = ap (option_map far_of) (get-with view.ends k (record end { password = Some word }) q) ∙ by (same_number q k) refl
+    end_kept q =
+        ap (option_map far_of) (get-with view.ends k (record end { password = Some word }) q)
+        ∙ by (same_number q k) refl
       where
-        by : (b : Bool) → same_number q k ≡ b → option_map far_of (cond b (Some (record end { password = Some word })) (get view.ends q)) ≡ option_map far_of (get view.ends q)
-        by true one = sym (ap (option_map far_of) (ap (get view.ends) (one_number q k one) ∙ is_end))
+        by : (b : Bool) → same_number q k ≡ b → option_map far_of
+            (cond b (Some (record end { password = Some word })) (get view.ends q))
+            ≡ option_map far_of (get view.ends q)
+        by true one =
+            sym (ap (option_map far_of) (ap (get view.ends) (one_number q k one) ∙ is_end))
         by false two = refl
 
     there : (q : ℕ) (e : End) → get kept.ends q ≡ Some e → IsNumberOf s q
-    there q e is = by (same_number q k) refl (sym (get-with view.ends k (record end { password = Some word }) q) ∙ is)
+    there q e is = by (same_number q k) refl
+        (sym (get-with view.ends k (record end { password = Some word }) q) ∙ is)
       where
-        by : (b : Bool) → same_number q k ≡ b → cond b (Some (record end { password = Some word })) (get view.ends q) ≡ Some e → IsNumberOf s q
-        by true one found = subst (IsNumberOf s) (sym (one_number q k one)) (fits.no_others k end is_end)
+        by : (b : Bool) → same_number q k ≡ b → cond b (Some (record end { password = Some word }))
+            (get view.ends q) ≡ Some e → IsNumberOf s q
+        by true one found =
+            subst (IsNumberOf s) (sym (one_number q k one)) (fits.no_others k end is_end)
         by false two found = fits.no_others q e found
 
     kept_fits : Fits s t w kept
@@ -49,13 +58,21 @@ module _ (s : Fixed) (p t : Name) (w : of_side.Part) (view : View) (fits : Fits 
     }
 
     kept_is : with_password k word view ≡ kept
-    kept_is = ap (λ o. option_map_or (λ (e : End). record view { ends = insert view.ends k (record e { password = Some word }) }) o view) is_end
+    kept_is = ap (λ o. option_map_or (λ (e : End). record view {
+      ends = insert view.ends k
+          (record e { password = Some word });
+    }) o view) is_end
 
-  heard_stays : (k : ℕ) (end : End) → get view.ends k ≡ Some end → (what : Heard) → IsNothing what → PutsOutNothing s t w (after_heard view k what)
+  heard_stays : (k : ℕ) (end : End) → get view.ends k ≡ Some end → (what : Heard) → IsNothing what
+      → PutsOutNothing s t w (after_heard view k what)
   heard_stays k end is_end ignored nothing = record { fits = fits; silent = refl }
   heard_stays k end is_end (closes why) nothing = absurd nothing
   heard_stays k end is_end (password word) nothing =
-      record { fits = subst (Fits s t w) (sym (kept_is k end is_end word)) (kept_fits k end is_end word); silent = refl }
+      record {
+        fits = subst (Fits s t w) (sym (kept_is k end is_end word))
+            (kept_fits k end is_end word);
+        silent = refl;
+      }
   heard_stays k end is_end (meets name info) nothing = absurd nothing
   heard_stays k end is_end (tells []) nothing = record { fits = fits; silent = refl }
   heard_stays k end is_end (tells (told ∷ later)) nothing = absurd nothing
@@ -63,5 +80,7 @@ module _ (s : Fixed) (p t : Name) (w : of_side.Part) (view : View) (fits : Fits 
 pub aside_stays : AsideStays
 unfolding served
 aside_stays s p t w view line fits aside =
-    subst (λ (o : Option End). PutsOutNothing s t w (line_served view (number s p) (read_of line) o)) (sym aside.is_end)
-    (heard_stays s p t w view fits (number s p) aside.end aside.is_end (heard view (number s p) aside.end (read_of line)) aside.nothing)
+    subst (λ (o : Option End). PutsOutNothing s t w
+    (line_served view (number s p) (read_of line) o)) (sym aside.is_end)
+    (heard_stays s p t w view fits (number s p) aside.end aside.is_end
+    (heard view (number s p) aside.end (read_of line)) aside.nothing)

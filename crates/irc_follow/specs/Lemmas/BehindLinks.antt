@@ -1,5 +1,6 @@
 -- Behind a link of a server are just the servers of that side.
-use Rattle.std.proofs.Common.{◌≡◌, ◌≢◌, Bool, true, false, cond, not, ◌&&◌, Option, Some, None, List, refl, sym, ◌∙◌, ap, subst, option_map}
+use Rattle.std.proofs.Common.{◌≡◌, ◌≢◌, Bool, true, false, cond, not, ◌&&◌, Option, Some, None}
+use Rattle.std.proofs.Common.{List, refl, sym, ◌∙◌, ap, subst, option_map}
 use Rattle.std.proofs.lemmas.Bool.{eqb-true, eq-eqb}
 use Rattle.std.specs.List.{list_any}
 use Rattle.std.specs.Option.{option_and_then}
@@ -7,7 +8,8 @@ use Rattle.irc_names.specs.Tables.{row, each, tabulate}
 use Rattle.irc_names.specs.TableLaws.{row-each, row-tabulate, same_fold}
 use Rattle.irc_room.specs.Lemmas.Rows.{same_some}
 use Rattle.irc_relay.specs.Distances.{EndsAreAmong, IsAmong}
-use Rattle.irc_relay.specs.Links.{Name, same, Link, joined, links_without, toward, AreJoined, AreLinked, HasSides, IsForest, IsLeft}
+use Rattle.irc_relay.specs.Links.{Name, same, Link, joined, links_without, toward, AreJoined}
+use Rattle.irc_relay.specs.Links.{AreLinked, HasSides, IsForest, IsLeft}
 use Rattle.irc_relay.specs.Lemmas.TellingNames.{Telling, alike, unlike, tell, same_unless}
 use Rattle.irc_relay.specs.Lemmas.NextHops.{linked_back, linked_joined, next_hop}
 use Rattle.irc_relay.specs.Lemmas.LinkTakenOut.{sides, taken_out, tests_tell, without_turned}
@@ -18,7 +20,8 @@ use Rattle.irc_follow.specs.Tree.{Shape, index_in, shape, shape_in}
 use Rattle.irc_follow.specs.Part.{Fixed, info_in, number, IsFixed}
 use Rattle.irc_follow.specs.AtRest.{AreRight, BehindIsThatSide}
 use Rattle.irc_follow.specs.Lemmas.SideAtRest.{joined_among, joined_so}
-use Rattle.irc_follow.specs.Lemmas.NamedRows.{if_passes, keys_of_set, listed, mark, names_of, names_passing, same_mark}
+use Rattle.irc_follow.specs.Lemmas.NamedRows.{if_passes, keys_of_set, listed, mark, names_of}
+use Rattle.irc_follow.specs.Lemmas.NamedRows.{names_passing, same_mark}
 use Rattle.irc_follow.specs.Lemmas.PlacesOfNames.{one_place}
 
 pub joined_test : (links : List Link) (x t : Name) → AreJoined links x t → joined links x t ≡ true
@@ -36,21 +39,27 @@ pub record RowIsThere (s : Fixed) (known : Known) (links : List Link) (t x : Nam
   pub is : row_of known x ≡ Some r
   pub shape : shape r ≡ shape_in s.names (info_in s.settings) links t x
 
-module _ (s : Fixed) (links : List Link) (routes : Name → Known) (t : Name) (right : AreRight s links routes) (among : IsAmong s.names t) where
+module _ (s : Fixed) (links : List Link) (routes : Name → Known) (t : Name)
+    (right : AreRight s links routes) (among : IsAmong s.names t) where
   abbrev due : Name → Shape
   due x = shape_in s.names (info_in s.settings) links t x
 
   pub row_says : (x : Name) (r : ServerRow) → row_of (routes t) x ≡ Some r → RowSays s links t x r
-  row_says x r is = by (joined links x t) (tell x t) refl (ap (option_map shape) (sym is) ∙ right.rows t x among)
+  row_says x r is =
+      by (joined links x t) (tell x t) refl (ap (option_map shape) (sym is) ∙ right.rows t x among)
     where
-      by : (b : Bool) → Telling x t → joined links x t ≡ b → Some (shape r) ≡ cond (joined links x t && not (same x t)) (Some (due x)) None → RowSays s links t x r
+      by : (b : Bool) → Telling x t → joined links x t ≡ b → Some (shape r)
+          ≡ cond (joined links x t && not (same x t)) (Some (due x)) None → RowSays s links t x r
       by true (unlike z two) so says = record {
-        shape = same_some (shape r) (due x) (says ∙ (λ i. cond (so i && not (z i)) (Some (due x)) None));
+        shape = same_some (shape r) (due x)
+            (says ∙ (λ i. cond (so i && not (z i)) (Some (due x)) None));
         joined = joined_so links x t so;
         apart = two;
       }
-      by true (alike z e) so says = absurd (let none = says ∙ (λ i. cond (so i && not (z i)) (Some (due x)) None) in cc none)
-      by false other so says = absurd (let none = says ∙ ap (λ b. cond (b && not (same x t)) (Some (due x)) None) so in cc none)
+      by true (alike z e) so says =
+          absurd (let none = says ∙ (λ i. cond (so i && not (z i)) (Some (due x)) None) in cc none)
+      by false other so says = absurd (let none = says
+          ∙ ap (λ b. cond (b && not (same x t)) (Some (due x)) None) so in cc none)
 
   pub row_is_there : (x : Name) → AreJoined links x t → x ≢ t → RowIsThere s (routes t) links t x
   row_is_there x so two =
@@ -58,12 +67,14 @@ module _ (s : Fixed) (links : List Link) (routes : Name → Known) (t : Name) (r
       (right.rows t x among
       ∙ (λ i. cond (joined_test links x t so i && not (same_unless x t two i)) (Some (due x)) None))
     where
-      by : (o : Option ServerRow) → row_of (routes t) x ≡ o → option_map shape o ≡ Some (due x) → RowIsThere s (routes t) links t x
+      by : (o : Option ServerRow) → row_of (routes t) x ≡ o → option_map shape o ≡ Some (due x)
+          → RowIsThere s (routes t) links t x
       by None is says = absurd (cc says)
       by (Some r) is says = record { r = r; is = is; shape = same_some (shape r) (due x) says }
 
 -- a server of that side is behind the link, and is no other
-module _ (s : Fixed) (links : List Link) (routes : Name → Known) (t u : Name) (fixed : IsFixed s) (forest : IsForest links) (ends : EndsAreAmong s.names links)
+module _ (s : Fixed) (links : List Link) (routes : Name → Known) (t u : Name) (fixed : IsFixed s)
+    (forest : IsForest links) (ends : EndsAreAmong s.names links)
     (right : AreRight s links routes) (linked : AreLinked links t u) where
   t_among : IsAmong s.names t
   t_among = ends t u linked
@@ -92,11 +103,12 @@ module _ (s : Fixed) (links : List Link) (routes : Name → Known) (t u : Name) 
   there_among : (q : Name) → AreJoined links q t → IsAmong s.names q
   there_among q so = joined_among s.names links q t forest ends t_among so
 
-  known_listed : (q : Name) → IsAmong s.names q → list_any (same_fold q) (names_of s.settings) ≡ true
+  known_listed : (q : Name) → IsAmong s.names q
+      → list_any (same_fold q) (names_of s.settings) ≡ true
   known_listed q known = listed s.settings q ∙ fixed.listed q ∙ known
 
-  forth_row : (q : Name) (r : ServerRow) → row_of (routes t) q ≡ Some r → is_behind (number s u) r ≡ true
-      → cond (list_any (same_fold q) (names_of s.settings)) (test q) None ≡ Some (tt {0})
+  forth_row : (q : Name) (r : ServerRow) → row_of (routes t) q ≡ Some r → is_behind (number s u) r
+      ≡ true → cond (list_any (same_fold q) (names_of s.settings)) (test q) None ≡ Some (tt {0})
   forth_row q r is behind_it =
       let says = row_says s links routes t right t_among q r is in
       let known = there_among q says.joined in
@@ -104,55 +116,77 @@ module _ (s : Fixed) (links : List Link) (routes : Name → Known) (t u : Name) 
       let same_place : index_in s.names (toward links t q) ≡ index_in s.names u =
       sym (ap (λ (x : Shape). x.link) says.shape) ∙ eqb-true r.link (number s u) behind_it in
       let way : toward links t q ≡ u =
-      one_place s.names (toward links t q) u (ends (toward links t q) t (linked_back links t (toward links t q) hop.linked)) same_place in
+      one_place s.names (toward links t q) u (ends (toward links t q) t
+      (linked_back links t (toward links t q) hop.linked)) same_place in
       let on_side : AreJoined left q u =
-      subst (λ ls. AreJoined ls q u) turned (of_link.only_behind q (says.joined ∙ linked_joined links t u linked) way) in
-      (λ i. cond (known_listed q known i) (cond (joined_test left u q (sym on_side) i) (Some (tt {0})) None) None)
+      subst (λ ls. AreJoined ls q u) turned
+      (of_link.only_behind q (says.joined ∙ linked_joined links t u linked) way) in
+      (λ i. cond (known_listed q known i)
+      (cond (joined_test left u q (sym on_side) i) (Some (tt {0})) None) None)
 
   back_row : (q : Name) → is_server s.settings q ≡ true → AreJoined left q u
-      → option_and_then (λ (x : ServerRow). Some (mark x)) (option_and_then (if_passes (λ (r : ServerRow). r.name) passing) (row_of (routes t) q)) ≡ Some (tt {0})
+      → option_and_then (λ (x : ServerRow). Some (mark x)) (option_and_then
+      (if_passes (λ (r : ServerRow). r.name) passing) (row_of (routes t) q)) ≡ Some (tt {0})
   back_row q known on_side =
-      let together : AreJoined links q t = (rest.kept q u on_side).joined ∙ sym (linked_joined links t u linked) in
+      let together : AreJoined links q t =
+      (rest.kept q u on_side).joined ∙ sym (linked_joined links t u linked) in
       let two : q ≢ t = λ e. rest.parted (subst (λ x. AreJoined left x u) e on_side) in
       let found = row_is_there s links routes t right t_among q together two in
-      let way : toward links t q ≡ u = of_link.behind q (subst (λ ls. AreJoined ls q u) (sym turned) on_side) in
+      let way : toward links t q ≡ u =
+      of_link.behind q (subst (λ ls. AreJoined ls q u) (sym turned) on_side) in
       let behind_it : is_behind (number s u) found.r ≡ true =
-      eq-eqb found.r.link (number s u) (ap (λ (x : Shape). x.link) found.shape ∙ ap (index_in s.names) way) in
-      ap (λ o. option_and_then (λ (x : ServerRow). Some (mark x)) (option_and_then (if_passes (λ (r : ServerRow). r.name) passing) o)) found.is
-      ∙ ap (λ b. option_and_then (λ (x : ServerRow). Some (mark x)) (cond b (Some found.r) None)) behind_it
+      eq-eqb found.r.link (number s u) (ap (λ (x : Shape). x.link) found.shape
+      ∙ ap (index_in s.names) way) in
+      ap (λ o. option_and_then (λ (x : ServerRow). Some (mark x))
+      (option_and_then (if_passes (λ (r : ServerRow). r.name) passing) o)) found.is
+      ∙ ap (λ b. option_and_then (λ (x : ServerRow). Some (mark x)) (cond b (Some found.r) None))
+      behind_it
 
   -- a server of a name is behind the link just where it is of that side
-  one_server : (q : Name) → option_and_then (λ (x : ServerRow). Some (mark x)) (row (each (if_passes (λ (r : ServerRow). r.name) passing) (routes t).rows) q)
+  one_server : (q : Name) → option_and_then (λ (x : ServerRow). Some (mark x))
+      (row (each (if_passes (λ (r : ServerRow). r.name) passing) (routes t).rows) q)
       ≡ row (tabulate (names_of s.settings) test) q
   one_server q =
-      ap (option_and_then (λ (x : ServerRow). Some (mark x))) (row-each (if_passes (λ (r : ServerRow). r.name) passing) (routes t).rows q)
-      ∙ same_mark _ _ (forth (row_of (routes t) q) refl) (back (list_any (same_fold q) (names_of s.settings)) (joined left u q) refl refl)
+      ap (option_and_then (λ (x : ServerRow). Some (mark x)))
+      (row-each (if_passes (λ (r : ServerRow). r.name) passing) (routes t).rows q)
+      ∙ same_mark _ _ (forth (row_of (routes t) q) refl)
+      (back (list_any (same_fold q) (names_of s.settings)) (joined left u q) refl refl)
       ∙ sym (row-tabulate (names_of s.settings) test q)
     where
       forth : (o : Option ServerRow) → row_of (routes t) q ≡ o
-          → option_and_then (λ (x : ServerRow). Some (mark x)) (option_and_then (if_passes (λ (r : ServerRow). r.name) passing) (row_of (routes t) q)) ≡ Some (tt {0})
+          → option_and_then (λ (x : ServerRow). Some (mark x)) (option_and_then
+          (if_passes (λ (r : ServerRow). r.name) passing) (row_of (routes t) q)) ≡ Some (tt {0})
           → cond (list_any (same_fold q) (names_of s.settings)) (test q) None ≡ Some (tt {0})
       forth None is some = absurd (let none =
-          sym (ap (λ o. option_and_then (λ (x : ServerRow). Some (mark x)) (option_and_then (if_passes (λ (r : ServerRow). r.name) passing) o)) is) ∙ some in cc none)
+          sym (ap (λ o. option_and_then (λ (x : ServerRow). Some (mark x)) (option_and_then
+          (if_passes (λ (r : ServerRow). r.name) passing) o)) is) ∙ some in cc none)
       forth (Some r) is some = by (passing r) refl
         where
-          by : (b : Bool) → passing r ≡ b → cond (list_any (same_fold q) (names_of s.settings)) (test q) None ≡ Some (tt {0})
+          by : (b : Bool) → passing r ≡ b
+              → cond (list_any (same_fold q) (names_of s.settings)) (test q) None ≡ Some (tt {0})
           by true passes = forth_row q r is passes
           by false fails = absurd (let none =
-              sym (ap (λ o. option_and_then (λ (x : ServerRow). Some (mark x)) (option_and_then (if_passes (λ (r : ServerRow). r.name) passing) o)) is
-              ∙ ap (λ b. option_and_then (λ (x : ServerRow). Some (mark x)) (cond b (Some r) None)) fails) ∙ some in cc none)
+              sym (ap (λ o. option_and_then (λ (x : ServerRow). Some (mark x))
+              (option_and_then (if_passes (λ (r : ServerRow). r.name) passing) o)) is
+              ∙ ap (λ b. option_and_then (λ (x : ServerRow). Some (mark x))
+              (cond b (Some r) None)) fails) ∙ some in cc none)
 
       back : (b c : Bool) → list_any (same_fold q) (names_of s.settings) ≡ b → joined left u q ≡ c
           → cond (list_any (same_fold q) (names_of s.settings)) (test q) None ≡ Some (tt {0})
-          → option_and_then (λ (x : ServerRow). Some (mark x)) (option_and_then (if_passes (λ (r : ServerRow). r.name) passing) (row_of (routes t) q)) ≡ Some (tt {0})
-      back true true known so some = back_row q (sym (listed s.settings q) ∙ known) (sym (joined_so left u q so))
-      back true false known so some = absurd (let none = sym (λ i. cond (known i) (cond (so i) (Some (tt {0})) None) None) ∙ some in cc none)
-      back false c known so some = absurd (let none = sym (ap (λ b. cond b (test q) None) known) ∙ some in cc none)
+          → option_and_then (λ (x : ServerRow). Some (mark x)) (option_and_then
+          (if_passes (λ (r : ServerRow). r.name) passing) (row_of (routes t) q)) ≡ Some (tt {0})
+      back true true known so some =
+          back_row q (sym (listed s.settings q) ∙ known) (sym (joined_so left u q so))
+      back true false known so some = absurd (let none = sym
+          (λ i. cond (known i) (cond (so i) (Some (tt {0})) None) None) ∙ some in cc none)
+      back false c known so some =
+          absurd (let none = sym (ap (λ b. cond b (test q) None) known) ∙ some in cc none)
 
 pub behind_is_that_side : BehindIsThatSide
 behind_is_that_side s links routes t u fixed forest ends right linked =
     names_passing (λ (r : ServerRow). r.name) (routes t).rows (is_behind (number s u))
     (λ q r is. ((right.numbered t (ends t u linked)).rows q r is).named)
-    ∙ keys_of_set (each (if_passes (λ (r : ServerRow). r.name) (is_behind (number s u))) (routes t).rows)
+    ∙ keys_of_set (each (if_passes (λ (r : ServerRow). r.name) (is_behind (number s u)))
+    (routes t).rows)
     (tabulate (names_of s.settings) (test s links routes t u fixed forest ends right linked))
     (one_server s links routes t u fixed forest ends right linked)

@@ -1,6 +1,9 @@
--- A server, the neighbour by whose line it is told of a deed, and another neighbour, which takes its lines: the ends of the links between them, which servers are
--- behind them, what a line is heard as, and what is told on to all.
-use Rattle.std.proofs.Common.{◌≡◌, ◌≢◌, ℕ, Bool, true, false, ◌&&◌, Option, Some, None, Ok, List, [], ◌∷◌, ◌++◌, nat_eq, refl, sym, ◌∙◌, ap, map, filter, option_map, is_some, if◌then◌else◌}
+-- A server, the neighbour by whose line it is told of a deed, and another neighbour, which takes
+-- its lines: the ends of the links between them, which servers are behind them, what a line is
+-- heard as, and what is told on to all.
+use Rattle.std.proofs.Common.{◌≡◌, ◌≢◌, ℕ, Bool, true, false, ◌&&◌, Option, Some, None, Ok, List}
+use Rattle.std.proofs.Common.{[], ◌∷◌, ◌++◌, nat_eq, refl, sym, ◌∙◌, ap, map, filter, option_map}
+use Rattle.std.proofs.Common.{is_some, if◌then◌else◌}
 use Rattle.std.proofs.lemmas.Bool.{eqb-true, eq-eqb}
 use Rattle.std.specs.FinMap.{get}
 use Rattle.std.specs.Option.{option_map_or}
@@ -57,18 +60,22 @@ pub record HasEnd (view : View) (k : ℕ) (far : Name) : Type 0 where
   pub there : get view.ends k ≡ Some end
   pub named : end.far ≡ Some far
 
-pub met_end : (view : View) (k : ℕ) (far : Name) → option_map far_of (get view.ends k) ≡ Some (Some far) → HasEnd view k far
+pub met_end : (view : View) (k : ℕ) (far : Name)
+    → option_map far_of (get view.ends k) ≡ Some (Some far) → HasEnd view k far
 met_end view k far is = by (get view.ends k) refl is
   where
-    by : (o : Option End) → get view.ends k ≡ o → option_map far_of o ≡ Some (Some far) → HasEnd view k far
+    by : (o : Option End) → get view.ends k ≡ o → option_map far_of o ≡ Some (Some far)
+        → HasEnd view k far
     by None there none = cc none
-    by (Some end) there some = record { end = end; there = there; named = same_some end.far (Some far) some }
+    by (Some end) there some =
+        record { end = end; there = there; named = same_some end.far (Some far) some }
 
 pub but_none : (links : List ℕ) → but None links ≡ links
 but_none [] = refl
 but_none (link ∷ links) = ap (λ l. link ∷ l) (but_none links)
 
-module _ (s : Fixed) (p t u : Name) (w : of_side.Part) (view other : View) (takes : TakesFrom s.streams t p) (next : TakesFrom s.streams u t) (apart : u ≢ p)
+module _ (s : Fixed) (p t u : Name) (w : of_side.Part) (view other : View)
+    (takes : TakesFrom s.streams t p) (next : TakesFrom s.streams u t) (apart : u ≢ p)
     (writer : Fits s t w view) (reader : Fits s u w other) where
   sound : IsSoundPart s w
   sound = writer.sound
@@ -87,37 +94,45 @@ module _ (s : Fixed) (p t u : Name) (w : of_side.Part) (view other : View) (take
 
   -- ---- the ends of the link between them
 
-  far_met : (x y : Name) → AreLinked w.tree.forest x y → w.tree.knows y ≡ true → far_end w x y ≡ Some (Some y)
+  far_met : (x y : Name) → AreLinked w.tree.forest x y → w.tree.knows y ≡ true
+      → far_end w x y ≡ Some (Some y)
   far_met x y there known =
-      ap (λ b. if b then Some (if w.tree.knows y then Some y else None) else None) ((tests_tell w.tree.forest x y x).2.1 there)
+      ap (λ b. if b then Some (if w.tree.knows y then Some y else None) else None)
+      ((tests_tell w.tree.forest x y x).2.1 there)
       ∙ ap (λ b. Some (if b then Some y else None)) known
 
   pub readers_end : HasEnd other (number s t) t
-  readers_end = met_end other (number s t) t (reader.ends t t_among ∙ far_met u t u_linked (sound.tree.here_known t writer.here))
+  readers_end = met_end other (number s t) t (reader.ends t t_among
+      ∙ far_met u t u_linked (sound.tree.here_known t writer.here))
 
   pub writers_end : HasEnd view (number s u) u
   writers_end = met_end view (number s u) u
-      (writer.ends u u_among ∙ far_met t u (linked_back w.tree.forest u t u_linked) (sound.tree.here_known u reader.here))
+      (writer.ends u u_among ∙ far_met t u (linked_back w.tree.forest u t u_linked)
+      (sound.tree.here_known u reader.here))
 
   pub not_back : nat_eq (number s p) (number s u) ≡ false
   not_back = by (nat_eq (number s p) (number s u)) refl
     where
       by : (b : Bool) → nat_eq (number s p) (number s u) ≡ b → b ≡ false
       by false is = refl
-      by true is = absurd (apart (sym (one_place s.names p u p_among (eqb-true (number s p) (number s u) is))))
+      by true is = absurd
+          (apart (sym (one_place s.names p u p_among (eqb-true (number s p) (number s u) is))))
 
-  all_of : (ends : Ends) → get ends (number s u) ≡ get view.ends (number s u) → filter (λ n. nat_eq n (number s u)) (met_links ends) ≡ number s u ∷ []
+  all_of : (ends : Ends) → get ends (number s u) ≡ get view.ends (number s u)
+      → filter (λ n. nat_eq n (number s u)) (met_links ends) ≡ number s u ∷ []
   all_of ends same_end =
       among_met (number s u) ends
-      ∙ ap (λ o. if option_map_or is_met o false then number s u ∷ [] else []) (same_end ∙ writers_end.there)
+      ∙ ap (λ o. if option_map_or is_met o false then number s u ∷ [] else [])
+      (same_end ∙ writers_end.there)
       ∙ ap (λ o. if is_some o then number s u ∷ [] else []) writers_end.named
 
   pub to_all : filter (λ n. nat_eq n (number s u)) (met_links view.ends) ≡ number s u ∷ []
   to_all = all_of view.ends refl
 
   -- what is told to all, whether it goes back or not, goes to this one
-  pub told_all : (back : Bool) (parts : Written) (before : Served) → get before.view.ends (number s u) ≡ get view.ends (number s u)
-      → lines_on (number s u) (told_on_all (if back then None else Some (number s p)) parts before).out
+  pub told_all : (back : Bool) (parts : Written) (before : Served)
+      → get before.view.ends (number s u) ≡ get view.ends (number s u) → lines_on (number s u)
+      (told_on_all (if back then None else Some (number s p)) parts before).out
       ≡ lines_on (number s u) before.out ++ (line_text parts ∷ [])
   told_all back parts before ends =
       let arrival = if back then None else Some (number s p) in
@@ -126,51 +141,64 @@ module _ (s : Fixed) (p t u : Name) (w : of_side.Part) (view other : View) (take
       (on_these (number s u) (but arrival (met_links before.view.ends)) parts
       ∙ ap (map (λ _. line_text parts)) (by back ∙ all_of before.view.ends ends))
     where
-      by : (b : Bool) → filter (λ n. nat_eq n (number s u)) (but (if b then None else Some (number s p)) (met_links before.view.ends))
+      by : (b : Bool) → filter (λ n. nat_eq n (number s u))
+          (but (if b then None else Some (number s p)) (met_links before.view.ends))
           ≡ filter (λ n. nat_eq n (number s u)) (met_links before.view.ends)
       by true = ap (filter (λ n. nat_eq n (number s u))) (but_none (met_links before.view.ends))
       by false = but_another (number s u) (number s p) not_back (met_links before.view.ends)
 
   -- ---- who is behind it
 
-  pub there_row : (x : Name) → w.tree.knows x ≡ true → x ≢ u
-      → option_map (λ (r : ServerRow). r.link) (row_of other.routes x) ≡ Some (number s (toward w.tree.forest u x))
+  pub there_row : (x : Name) → w.tree.knows x ≡ true → x ≢ u → option_map (λ (r : ServerRow).
+      r.link) (row_of other.routes x) ≡ Some (number s (toward w.tree.forest u x))
   there_row x known two =
       ap (λ routes. of_known.next_hop routes x) reader.routes
-      ∙ link_of (row_of (w.tree.routes u) x) (shape_in s.names (info_in s.settings) w.tree.forest u x) (shape_at s w sound u x reader.here known two)
+      ∙ link_of (row_of (w.tree.routes u) x) (shape_in s.names
+      (info_in s.settings) w.tree.forest u x) (shape_at s w sound u x reader.here known two)
 
-  pub is_behind : (x : Name) → w.tree.knows x ≡ true → toward w.tree.forest u x ≡ t → x ≢ u → is_behind_link other.routes (number s t) x ≡ true
+  pub is_behind : (x : Name) → w.tree.knows x ≡ true → toward w.tree.forest u x ≡ t → x ≢ u
+      → is_behind_link other.routes (number s t) x ≡ true
   is_behind x known way two =
-      ap (λ o. option_map_or (nat_eq (number s t)) o false) (there_row x known two ∙ ap (λ n. Some (number s n)) way)
+      ap (λ o. option_map_or (nat_eq (number s t)) o false)
+      (there_row x known two ∙ ap (λ n. Some (number s n)) way)
       ∙ eq-eqb (number s t) (number s t) refl
 
-  pub far_behind : (x : Name) → w.tree.knows x ≡ true → IsFar s w x → is_behind_link other.routes (number s t) x ≡ true
-  far_behind x known far = is_behind x known (far u t reader.here next) (far_is_another s t u w other next reader x far)
+  pub far_behind : (x : Name) → w.tree.knows x ≡ true → IsFar s w x
+      → is_behind_link other.routes (number s t) x ≡ true
+  far_behind x known far =
+      is_behind x known (far u t reader.here next) (far_is_another s t u w other next reader x far)
 
   abbrev pub far_reader : Reader
   far_reader = reader_of other.room other.routes (number s t)
 
-  pub server_may_come : (x : Name) → is_server x ≡ true → is_behind_link other.routes (number s t) x ≡ true → may_come far_reader x ≡ true
+  pub server_may_come : (x : Name) → is_server x ≡ true
+      → is_behind_link other.routes (number s t) x ≡ true → may_come far_reader x ≡ true
   server_may_come x named behind =
       ap (λ b. if b then is_behind_link other.routes (number s t) x
-      else (if is_nick x then option_map_or (is_behind_link other.routes (number s t)) (far_reader.home x) true else true)) named
+      else (if is_nick x then option_map_or (is_behind_link other.routes (number s t))
+      (far_reader.home x) true else true)) named
       ∙ behind
 
   -- ---- what a line is heard as
 
-  module _ (known : IsKnownOfLines) (parts : Written) (plain : IsPlain parts) (whole : IsWhole parts) where
-    heard_so : (said : List Told) → deeds_meant other.room other.routes (number s t) (message_of parts) ≡ Ok said
+  module _ (known : IsKnownOfLines) (parts : Written) (plain : IsPlain parts)
+      (whole : IsWhole parts) where
+    heard_so : (said : List Told)
+        → deeds_meant other.room other.routes (number s t) (message_of parts) ≡ Ok said
         → heard other (number s t) readers_end.end (read_of (line_text parts)) ≡ tells said
     heard_so said meant =
-        line_heard known.written known.alone other (number s t) readers_end.end parts plain whole (ap is_some readers_end.named) ∙ ap of_met meant
+        line_heard known.written known.alone other (number s t) readers_end.end parts plain whole
+        (ap is_some readers_end.named) ∙ ap of_met meant
 
     -- one line goes there, and says the deed
-    pub goes_on : AreCarriedParts parts → (deed : Deed) (said : List Told) (line : List ℕ) (client : ℕ) → saying s w t u deed ≡ tells said
-        → deeds_meant other.room other.routes (number s t) (message_of parts) ≡ Ok said → IsDoable s w deed
+    pub goes_on : AreCarriedParts parts → (deed : Deed) (said : List Told) (line : List ℕ)
+        (client : ℕ) → saying s w t u deed ≡ tells said → deeds_meant other.room other.routes
+        (number s t) (message_of parts) ≡ Ok said → IsDoable s w deed
         → lines_on (number s u) (neighbour_served s p view line).out ≡ line_text parts ∷ []
         → GoesOn s t u w other deed ((machine s client).sends t p view line u)
     goes_on carried deed said line client saying_is meant doable lines = told (line_text parts)
-        (ap (λ b. if b then [] else lines_on (number s u) (neighbour_served s p view line).out) (same_unless u p apart) ∙ lines)
+        (ap (λ b. if b then [] else lines_on (number s u) (neighbour_served s p view line).out)
+        (same_unless u p apart) ∙ lines)
         (record {
           is_line = known.as_line parts carried;
           end = readers_end.end;

@@ -1,5 +1,8 @@
--- A server that takes a line which says that the network has a server more is then what it has to be.
-use Rattle.std.proofs.Common.{◌≡◌, ◌≢◌, ℕ, suc, Bool, true, false, cond, ◌&&◌, ◌||◌, Option, Some, None, List, [], ◌∷◌, is_none, refl, sym, ◌∙◌, ap, subst, unwrap_or, option_map, if◌then◌else◌}
+-- A server that takes a line which says that the network has a server more is then what it has to
+-- be.
+use Rattle.std.proofs.Common.{◌≡◌, ◌≢◌, ℕ, suc, Bool, true, false, cond, ◌&&◌, ◌||◌, Option, Some}
+use Rattle.std.proofs.Common.{None, List, [], ◌∷◌, is_none, refl, sym, ◌∙◌, ap, subst, unwrap_or}
+use Rattle.std.proofs.Common.{option_map, if◌then◌else◌}
 use Rattle.std.specs.FinMap.{get, insert}
 use Rattle.std.specs.Option.{option_map_or}
 use Rattle.irc_line.specs.Reading.{read_of}
@@ -8,7 +11,8 @@ use Rattle.irc_relay.specs.Distances.{IsAmong}
 use Rattle.irc_relay.specs.Links.{Name, same, toward, distance, linked, AreLinked}
 use Rattle.irc_relay.specs.Relay.{TakesFrom}
 use Rattle.irc_relay.specs.Lemmas.TellingNames.{Telling, alike, unlike, tell, same_when}
-use Rattle.irc_relay.specs.Lemmas.NextHops.{distance_self, linked_back, next_hop, toward_linked, linked_joined}
+use Rattle.irc_relay.specs.Lemmas.NextHops.{distance_self, linked_back, next_hop, toward_linked}
+use Rattle.irc_relay.specs.Lemmas.NextHops.{linked_joined}
 use Rattle.irc_relay.specs.Lemmas.LinkTakenOut.{tests_tell}
 use Rattle.irc_routes.specs.declared.server_row.ServerRow.{ServerRow}
 use Rattle.irc_routes.specs.Known.{added, row_of, smallest_free, token_in, token_out}
@@ -32,13 +36,19 @@ use Rattle.irc_follow.specs.Lemmas.PartEffects.{gain_keeps}
 use Rattle.irc_follow.specs.Lemmas.SaidEffect.{own_name}
 
 -- a row more, where it is taken
-row_more : (k : ℕ) (uplink name : List ℕ) (distance token : ℕ) (info : List ℕ) (before : Served) → is_taken before.view.routes k name token ≡ true
-    → (told_by k (a_server uplink name distance token info) before).view ≡ with_row k uplink name distance token info before.view
+row_more : (k : ℕ) (uplink name : List ℕ) (distance token : ℕ) (info : List ℕ) (before : Served)
+    → is_taken before.view.routes k name token ≡ true
+    → (told_by k (a_server uplink name distance token info) before).view
+    ≡ with_row k uplink name distance token info before.view
 unfolding told_by
 row_more k uplink name distance token info before is =
-    ap (λ b. (if b then gain_told k uplink name info (record before { view = with_row k uplink name distance token info before.view }) else before).view) is
+    ap (λ b. (if b then gain_told k uplink name info (record before {
+      view =
+          with_row k uplink name distance token info before.view;
+    }) else before).view) is
 
-module _ (s : Fixed) (fixed : IsFixed s) (p t : Name) (w : of_side.Part) (view : View) (takes : TakesFrom s.streams t p) (fits : Fits s t w view)
+module _ (s : Fixed) (fixed : IsFixed s) (p t : Name) (w : of_side.Part) (view : View)
+    (takes : TakesFrom s.streams t p) (fits : Fits s t w view)
     (uplink name words : List ℕ) (doable : IsDoableGain s w uplink name words) where
   sound : IsSoundPart s w
   sound = fits.sound
@@ -68,16 +78,24 @@ module _ (s : Fixed) (fixed : IsFixed s) (p t : Name) (w : of_side.Part) (view :
   pub taken : is_taken view.routes (number s p) name (told_token w.tree p name) ≡ true
   taken =
       ap (λ known. is_taken known (number s p) name (told_token w.tree p name)) fits.routes
-      ∙ ap (λ q. is_taken (w.tree.routes t) (number s q) name (told_token w.tree q name)) (sym toward_name)
-      ∙ ap (λ o. is_none o && is_none (token_in (w.tree.routes t) (number s (toward w.tree.forest t name)) (told_token w.tree (toward w.tree.forest t name) name)))
-      (tree_of.added_so s.names info fixed.servers fixed.few w.tree sound.tree uplink name words doable.can t fits.here)
-      ∙ ap is_none (tree_of.number_free s.names info fixed.servers fixed.few w.tree sound.tree uplink name words doable.can t fits.here)
+      ∙ ap (λ q. is_taken (w.tree.routes t) (number s q) name (told_token w.tree q name))
+      (sym toward_name)
+      ∙ ap (λ o. is_none o && is_none (token_in (w.tree.routes t) (number s (toward w.tree.forest t
+      name)) (told_token w.tree (toward w.tree.forest t name) name)))
+      (tree_of.added_so s.names info fixed.servers fixed.few w.tree sound.tree uplink name words
+      doable.can t fits.here)
+      ∙ ap is_none (tree_of.number_free s.names info fixed.servers fixed.few w.tree sound.tree
+      uplink name words doable.can t fits.here)
 
-  pub routes_now : added (number s p) uplink name (distance w.tree.forest t name) (told_token w.tree p name) words view.routes ≡ now.tree.routes t
+  pub routes_now : added (number s p) uplink name (distance w.tree.forest t name)
+      (told_token w.tree p name) words view.routes ≡ now.tree.routes t
   routes_now =
-      ap (added (number s p) uplink name (distance w.tree.forest t name) (told_token w.tree p name) words) fits.routes
-      ∙ ap (λ q. added (number s q) uplink name (distance w.tree.forest t name) (told_token w.tree q name) words (w.tree.routes t)) (sym toward_name)
-      ∙ sym (tree_of.told_here s.names info fixed.servers fixed.few w.tree sound.tree uplink name words doable.can t fits.here)
+      ap (added (number s p) uplink name (distance w.tree.forest t name)
+      (told_token w.tree p name) words) fits.routes
+      ∙ ap (λ q. added (number s q) uplink name (distance w.tree.forest t name)
+      (told_token w.tree q name) words (w.tree.routes t)) (sym toward_name)
+      ∙ sym (tree_of.told_here s.names info fixed.servers fixed.few w.tree sound.tree uplink name
+      words doable.can t fits.here)
 
   pub gain_sound : IsSoundPart s now
   unfolding done
@@ -111,7 +129,8 @@ module _ (s : Fixed) (fixed : IsFixed s) (p t : Name) (w : of_side.Part) (view :
 
   -- ---- by a line of a server that is there
 
-  told_fits : name ≢ p → Fits s t now (with_row (number s p) uplink name (distance w.tree.forest t name) (told_token w.tree p name) words view)
+  told_fits : name ≢ p → Fits s t now (with_row (number s p) uplink name
+      (distance w.tree.forest t name) (told_token w.tree p name) words view)
   told_fits two = record {
     here = fits.here;
     sound = gain_sound;
@@ -131,7 +150,10 @@ module _ (s : Fixed) (fixed : IsFixed s) (p t : Name) (w : of_side.Part) (view :
 
     pub with_far_is : with_far (number s p) name view ≡ met
     with_far_is =
-        ap (λ o. option_map_or (λ (e : End). record view { ends = insert view.ends (number s p) (record e { far = Some name }) }) o view) is_end
+        ap (λ o. option_map_or (λ (e : End). record view {
+          ends = insert view.ends (number s p)
+              (record e { far = Some name });
+        }) o view) is_end
 
     pub is_t : uplink ≡ t
     is_t =
@@ -142,55 +164,74 @@ module _ (s : Fixed) (fixed : IsFixed s) (p t : Name) (w : of_side.Part) (view :
     one_away =
         ap (distance w.tree.forest t) is_p
         ∙ (next_hop w.tree.forest t p sound.tree.forest (linked_joined w.tree.forest t p p_linked)
-        (λ e. tree_of.another s.names info fixed.servers fixed.few w.tree sound.tree t name fits.here doable.can.unknown (is_p ∙ sym e))).nearer
-        ∙ ap (λ q. suc (distance w.tree.forest q p)) (toward_linked w.tree.forest t p sound.tree.forest p_linked)
+        (λ e. tree_of.another s.names info fixed.servers fixed.few w.tree sound.tree t name
+        fits.here doable.can.unknown (is_p ∙ sym e))).nearer
+        ∙ ap (λ q. suc (distance w.tree.forest q p))
+        (toward_linked w.tree.forest t p sound.tree.forest p_linked)
         ∙ ap suc (distance_self w.tree.forest p)
 
     number_one : told_token w.tree p name ≡ 1
     number_one =
         ap (λ n. unwrap_or (token_out (w.tree.routes p) n) (smallest_free (w.tree.routes p))) is_p
-        ∙ ap (λ b. unwrap_or (if b then Some 1 else option_map (λ (r : ServerRow). r.ours) (row_of (w.tree.routes p) p)) (smallest_free (w.tree.routes p)))
+        ∙ ap (λ b. unwrap_or (if b then Some 1 else option_map (λ (r : ServerRow). r.ours)
+        (row_of (w.tree.routes p) p)) (smallest_free (w.tree.routes p)))
         (ap (λ n. same n p) (sound.tree.named p p_among) ∙ same_when p p refl)
 
     pub row_now : with_row (number s p) view.routes.name name 1 1 words met
-        ≡ with_row (number s p) uplink name (distance w.tree.forest t name) (told_token w.tree p name) words met
+        ≡ with_row (number s p) uplink name (distance w.tree.forest t name)
+        (told_token w.tree p name) words met
     row_now =
-        ap (λ u. with_row (number s p) u name 1 1 words met) (own_name s p t w view takes fits ∙ sym is_t)
+        ap (λ u. with_row (number s p) u name 1 1 words met)
+        (own_name s p t w view takes fits ∙ sym is_t)
         ∙ ap (λ d. with_row (number s p) uplink name d 1 words met) (sym one_away)
-        ∙ ap (λ k. with_row (number s p) uplink name (distance w.tree.forest t name) k words met) (sym number_one)
+        ∙ ap (λ k. with_row (number s p) uplink name (distance w.tree.forest t name) k words met)
+        (sym number_one)
 
-    end_now : (x : Name) → IsAmong s.names x → Telling x name → option_map far_of (get met.ends (number s x)) ≡ far_end now t x
+    end_now : (x : Name) → IsAmong s.names x → Telling x name
+        → option_map far_of (get met.ends (number s x)) ≡ far_end now t x
     end_now x among (alike is e) =
-        ap (option_map far_of) (get-with view.ends (number s p) (record end { far = Some name }) (number s x)
-        ∙ ap (λ b. cond b (Some (record end { far = Some name })) (get view.ends (number s x))) (same_number-is (number s x) (number s p) (ap (number s) (e ∙ is_p))))
+        ap (option_map far_of)
+        (get-with view.ends (number s p) (record end { far = Some name }) (number s x)
+        ∙ ap (λ b. cond b (Some (record end { far = Some name })) (get view.ends (number s x)))
+        (same_number-is (number s x) (number s p) (ap (number s) (e ∙ is_p))))
         ∙ ap (λ n. Some (Some n)) (sym e)
-        ∙ sym (ap (λ b. if b then Some (if w.tree.knows x || same x name then Some x else None) else None) (linked_so)
-        ∙ ap (λ b. Some (if b then Some x else None)) (ap (λ b. w.tree.knows x || b) is ∙ or_true (w.tree.knows x)))
+        ∙ sym (ap (λ b. if b then Some (if w.tree.knows x || same x name then Some x else None)
+        else None) (linked_so)
+        ∙ ap (λ b. Some (if b then Some x else None)) (ap (λ b. w.tree.knows x || b) is
+        ∙ or_true (w.tree.knows x)))
       where
         or_true : (b : Bool) → (b || true) ≡ true
         or_true true = refl
         or_true false = refl
 
         linked_so : linked w.tree.forest t x ≡ true
-        linked_so = ap (linked w.tree.forest t) (e ∙ is_p) ∙ (tests_tell w.tree.forest t p t).2.1 p_linked
+        linked_so =
+            ap (linked w.tree.forest t) (e ∙ is_p) ∙ (tests_tell w.tree.forest t p t).2.1 p_linked
     end_now x among (unlike other two) =
-        ap (option_map far_of) (get-with view.ends (number s p) (record end { far = Some name }) (number s x)
-        ∙ ap (λ b. cond b (Some (record end { far = Some name })) (get view.ends (number s x))) (apart (same_number (number s x) (number s p)) refl))
+        ap (option_map far_of)
+        (get-with view.ends (number s p) (record end { far = Some name }) (number s x)
+        ∙ ap (λ b. cond b (Some (record end { far = Some name })) (get view.ends (number s x)))
+        (apart (same_number (number s x) (number s p)) refl))
         ∙ fits.ends x among
         ∙ sym (other_end x other)
       where
         apart : (b : Bool) → same_number (number s x) (number s p) ≡ b → b ≡ false
         apart false is = refl
-        apart true is = absurd (two (one_place s.names x p among (one_number (number s x) (number s p) is) ∙ sym is_p))
+        apart true is = absurd
+            (two (one_place s.names x p among (one_number (number s x) (number s p) is) ∙ sym is_p))
 
     numbers_now : (k : ℕ) (e : End) → get met.ends k ≡ Some e → IsNumberOf s k
-    numbers_now k e there = by (same_number k (number s p)) refl (sym (get-with view.ends (number s p) (record end { far = Some name }) k) ∙ there)
+    numbers_now k e there = by (same_number k (number s p)) refl
+        (sym (get-with view.ends (number s p) (record end { far = Some name }) k) ∙ there)
       where
-        by : (b : Bool) → same_number k (number s p) ≡ b → cond b (Some (record end { far = Some name })) (get view.ends k) ≡ Some e → IsNumberOf s k
-        by true is found = record { server = p; among = p_among; is = sym (one_number k (number s p) is) }
+        by : (b : Bool) → same_number k (number s p) ≡ b → cond b
+            (Some (record end { far = Some name })) (get view.ends k) ≡ Some e → IsNumberOf s k
+        by true is found =
+            record { server = p; among = p_among; is = sym (one_number k (number s p) is) }
         by false is found = fits.no_others k e found
 
-    met_fits : Fits s t now (with_row (number s p) uplink name (distance w.tree.forest t name) (told_token w.tree p name) words met)
+    met_fits : Fits s t now (with_row (number s p) uplink name (distance w.tree.forest t name)
+        (told_token w.tree p name) words met)
     met_fits = record {
       here = fits.here;
       sound = gain_sound;
@@ -205,10 +246,14 @@ module _ (s : Fixed) (fixed : IsFixed s) (p t : Name) (w : of_side.Part) (view :
     pub taken_met : is_taken view.routes (number s p) name 1 ≡ true
     taken_met = ap (is_taken view.routes (number s p) name) (sym number_one) ∙ taken
 
-    met_view : (met_by (number s p) name words view).view ≡ with_row (number s p) uplink name (distance w.tree.forest t name) (told_token w.tree p name) words met
+    met_view : (met_by (number s p) name words view).view ≡ with_row (number s p) uplink name
+        (distance w.tree.forest t name) (told_token w.tree p name) words met
     met_view =
-        ap (λ v. (told_by (number s p) (a_server view.routes.name name 1 1 words) (with_sent (on_link (number s p) (owes view (number s p) name)) (in_silence v))).view) with_far_is
-        ∙ row_more (number s p) view.routes.name name 1 1 words (with_sent (on_link (number s p) (owes view (number s p) name)) (in_silence met)) taken_met
+        ap (λ v. (told_by (number s p) (a_server view.routes.name name 1 1 words) (with_sent
+        (on_link (number s p) (owes view (number s p) name)) (in_silence v))).view)
+        with_far_is
+        ∙ row_more (number s p) view.routes.name name 1 1 words (with_sent
+        (on_link (number s p) (owes view (number s p) name)) (in_silence met)) taken_met
         ∙ row_now
 
   -- ----
@@ -220,20 +265,27 @@ module _ (s : Fixed) (fixed : IsFixed s) (p t : Name) (w : of_side.Part) (view :
       (subst (Fits s t now) (sym (met_view e end is_end)) (met_fits e end is_end))
     where
       choose : Bool → Heard
-      choose b = if b then meets name words else tells (a_server uplink name (distance w.tree.forest t name) (told_token w.tree p name) words ∷ [])
+      choose b = if b then meets name words else tells (a_server uplink name
+          (distance w.tree.forest t name) (told_token w.tree p name) words ∷ [])
   heard_fits end is_end (unlike is two) =
       subst (λ what. Fits s t now (after_heard view (number s p) what).view) (sym (ap (choose) is))
       (subst (Fits s t now)
-      (sym (row_more (number s p) uplink name (distance w.tree.forest t name) (told_token w.tree p name) words (in_silence view) taken)) (told_fits two))
+      (sym (row_more (number s p) uplink name (distance w.tree.forest t name)
+      (told_token w.tree p name) words (in_silence view) taken)) (told_fits two))
     where
       choose : Bool → Heard
-      choose b = if b then meets name words else tells (a_server uplink name (distance w.tree.forest t name) (told_token w.tree p name) words ∷ [])
+      choose b = if b then meets name words else tells (a_server uplink name
+          (distance w.tree.forest t name) (told_token w.tree p name) words ∷ [])
 
-pub said_gain_fits : (s : Fixed) → IsFixed s → (p t : Name) (w : of_side.Part) (view : View) → TakesFrom s.streams t p → Fits s t w view
-    → (uplink name words : List ℕ) (line : List ℕ) → Says s p t w view (gains uplink name words) line
+pub said_gain_fits : (s : Fixed) → IsFixed s → (p t : Name) (w : of_side.Part) (view : View)
+    → TakesFrom s.streams t p → Fits s t w view → (uplink name words : List ℕ) (line : List ℕ)
+    → Says s p t w view (gains uplink name words) line
     → Fits s t (done s w (gains uplink name words)) (neighbour_served s p view line).view
 unfolding done served
 said_gain_fits s fixed p t w view takes fits uplink name words line says =
-    subst (λ (o : Option End). Fits s t (done s w (gains uplink name words)) (line_served view (number s p) (read_of line) o).view) (sym says.is_end)
-    (subst (λ what. Fits s t (done s w (gains uplink name words)) (after_heard view (number s p) what).view) (sym says.means)
-    (heard_fits s fixed p t w view takes fits uplink name words says.doable says.end says.is_end (tell name p)))
+    subst (λ (o : Option End). Fits s t (done s w (gains uplink name words))
+    (line_served view (number s p) (read_of line) o).view) (sym says.is_end)
+    (subst (λ what. Fits s t (done s w (gains uplink name words))
+    (after_heard view (number s p) what).view) (sym says.means)
+    (heard_fits s fixed p t w view takes fits uplink name words says.doable says.end says.is_end
+    (tell name p)))

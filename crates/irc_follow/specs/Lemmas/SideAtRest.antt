@@ -1,5 +1,6 @@
 -- The side of a server is sound while nothing is under way.
-use Rattle.std.proofs.Common.{◌≡◌, true, not, ◌&&◌, Some, None, List, sym, ◌∙◌, ap, subst, if◌then◌else◌}
+use Rattle.std.proofs.Common.{◌≡◌, true, not, ◌&&◌, Some, None, List, sym, ◌∙◌, ap, subst}
+use Rattle.std.proofs.Common.{if◌then◌else◌}
 use Rattle.irc_room.specs.Readers.{home_under}
 use Rattle.irc_relay.specs.Distances.{EndsAreAmong, IsAmong}
 use Rattle.irc_relay.specs.Links.{Name, same, Link, part, joined, toward, AreJoined, IsForest}
@@ -17,20 +18,23 @@ pub joined_so : (links : List Link) (x t : Name) → joined links x t ≡ true �
 joined_so links x t so = (tests_tell links x t x).1.0 so
 
 -- links of the world join servers that there are
-pub ends_there : (s : Fixed) (world : World) → IsFixed s → IsWorld s.settings world → EndsAreAmong s.names world.links
+pub ends_there : (s : Fixed) (world : World) → IsFixed s → IsWorld s.settings world
+    → EndsAreAmong s.names world.links
 ends_there s world fixed holds t u linked = sym (fixed.listed t) ∙ holds.sound.ends_known t u linked
 
 -- who is joined to a server is one
-pub joined_among : (names : List Name) (links : List Link) (x server : Name) → IsForest links → EndsAreAmong names links → IsAmong names server
-    → AreJoined links x server → IsAmong names x
+pub joined_among : (names : List Name) (links : List Link) (x server : Name) → IsForest links
+    → EndsAreAmong names links → IsAmong names server → AreJoined links x server → IsAmong names x
 joined_among names links x server forest ends among joined_there = by (tell x server)
   where
     by : Telling x server → IsAmong names x
     by (alike _ e) = subst (IsAmong names) (sym e) among
-    by (unlike _ two) = ends x (toward links x server) (next_hop links x server forest joined_there two).linked
+    by (unlike _ two) =
+        ends x (toward links x server) (next_hop links x server forest joined_there two).linked
 
 -- of two servers that are joined, others are joined to both or to neither
-pub joined_alike : (links : List Link) (x t server : Name) → AreJoined links t server → joined links x t ≡ joined links x server
+pub joined_alike : (links : List Link) (x t server : Name) → AreJoined links t server
+    → joined links x t ≡ joined links x server
 joined_alike links x t server together = ap (λ p. same (part links x) p) together
 
 pub part_at_rest_is_sound : PartAtRestIsSound
@@ -40,9 +44,11 @@ part_at_rest_is_sound s world routes server fixed of holds right among = record 
     ends = ends;
     here_known = λ t here. here;
     known_among = there;
-    joined = λ t x here known. joined_so world.links t server here ∙ sym (joined_so world.links x server known);
+    joined = λ t x here known. joined_so world.links t server here
+        ∙ sym (joined_so world.links x server known);
     rows = λ t x here. right.rows t x (there t here)
-        ∙ ap (λ b. if b && not (same x t) then Some (shape_in s.names (info_in s.settings) world.links t x) else None)
+        ∙ ap (λ b. if b && not (same x t)
+        then Some (shape_in s.names (info_in s.settings) world.links t x) else None)
         (joined_alike world.links x t server (joined_so world.links t server here));
     numbered = right.numbered;
     named = right.named;
@@ -53,7 +59,8 @@ part_at_rest_is_sound s world routes server fixed of holds right among = record 
   well = holds.sound.well_formed server;
   within = (holds.within server).room;
   at_known = holds.homes_joined server;
-  registered = λ client fold is. subst (λ homes. HaveOneHome (home_in homes) (home_under (world.hall server).room) client fold) (sym of.homes)
+  registered = λ client fold is. subst (λ homes. HaveOneHome (home_in homes)
+      (home_under (world.hall server).room) client fold) (sym of.homes)
       ((holds.clients_users server).registered_is_user client fold is);
 }
   where
@@ -61,4 +68,5 @@ part_at_rest_is_sound s world routes server fixed of holds right among = record 
     ends = ends_there s world fixed holds
 
     there : (x : Name) → joined world.links x server ≡ true → IsAmong s.names x
-    there x known = joined_among s.names world.links x server holds.sound.forest ends among (joined_so world.links x server known)
+    there x known = joined_among s.names world.links x server holds.sound.forest ends among
+        (joined_so world.links x server known)

@@ -1,5 +1,7 @@
--- Of what clients are told, who looks for anything else finds nothing: for lines on a link, say, or for links that are closed.
-use Rattle.std.proofs.Common.{◌≡◌, ℕ, Bool, true, false, Option, Some, None, List, [], ◌∷◌, ◌++◌, append-nil, filter_map, refl, ◌∙◌, ap, if◌then◌else◌}
+-- Of what clients are told, who looks for anything else finds nothing: for lines on a link, say, or
+-- for links that are closed.
+use Rattle.std.proofs.Common.{◌≡◌, ℕ, Bool, true, false, Option, Some, None, List, [], ◌∷◌, ◌++◌}
+use Rattle.std.proofs.Common.{append-nil, filter_map, refl, ◌∙◌, ap, if◌then◌else◌}
 use Rattle.std.proofs.lemmas.List.Elements.{filter_map-append}
 use Rattle.std.specs.FinMap.{entries}
 use Rattle.std.specs.List.{cons_option, flat_map}
@@ -7,7 +9,8 @@ use Rattle.irc_batch.specs.Batches.{Sent, end_of, line_to}
 use Rattle.irc_room.specs.effect.Effect.{Effect}
 use Rattle.irc_room.specs.Seen.{Showing, seen}
 use Rattle.irc_stage.specs.declared.clients.Client.{Client}
-use Rattle.irc_stage.specs.EffectTold.{Served, all_changed, changed, changed_if, counts, ends_of, is_elsewhere, shown_at}
+use Rattle.irc_stage.specs.EffectTold.{Served, all_changed, changed, changed_if, counts, ends_of}
+use Rattle.irc_stage.specs.EffectTold.{is_elsewhere, shown_at}
 use Rattle.irc_stage.specs.Handle.{is_client, to_viewer}
 use Rattle.irc_stage.specs.RoomMachine.{Clients}
 use Rattle.irc_stage.specs.View.{View}
@@ -31,9 +34,11 @@ module _ {X : Type 0} (find : Sent → Option X) where
       by false rest = rest
 
   module _ (none_told : (conn : ℕ) (line : List ℕ) → find (line_to conn line) ≡ None) where
-    pub none_to_viewer : (clients : Clients) (showing : Showing) → found (to_viewer clients showing) ≡ []
+    pub none_to_viewer : (clients : Clients) (showing : Showing)
+        → found (to_viewer clients showing) ≡ []
     none_to_viewer clients showing =
-        none_for_some (λ (c : ℕ × Client). is_client showing.viewer c.1) (λ (c : ℕ × Client). line_to c.0 showing.line)
+        none_for_some (λ (c : ℕ × Client). is_client showing.viewer c.1)
+        (λ (c : ℕ × Client). line_to c.0 showing.line)
         (λ c. none_told c.0 showing.line) (entries clients)
 
     pub none_to_viewers : (clients : Clients) (showings : List Showing)
@@ -41,14 +46,15 @@ module _ {X : Type 0} (find : Sent → Option X) where
     none_to_viewers clients [] = refl
     none_to_viewers clients (showing ∷ showings) =
         filter_map-append find (to_viewer clients showing) (flat_map (to_viewer clients) showings)
-        ∙ ap (λ l. l ++ found (flat_map (to_viewer clients) showings)) (none_to_viewer clients showing)
+        ∙ ap (λ l. l ++ found (flat_map (to_viewer clients) showings))
+        (none_to_viewer clients showing)
         ∙ none_to_viewers clients showings
 
     pub none_by_effect : (view : View) (effect : Effect) → found (shown_at view effect) ≡ []
     none_by_effect view effect = by (is_elsewhere view effect)
       where
-        by : (b : Bool)
-            → found (if b then [] else flat_map (to_viewer view.clients) (seen view.room effect)) ≡ []
+        by : (b : Bool) → found (if b then []
+            else flat_map (to_viewer view.clients) (seen view.room effect)) ≡ []
         by true = refl
         by false = none_to_viewers view.clients (seen view.room effect)
 
@@ -62,17 +68,21 @@ module _ {X : Type 0} (find : Sent → Option X) where
             ∙ append-nil (found s.out)
         by false = refl
 
-    pub none_by_all : (effects : List Effect) (s : Served) → found (all_changed effects s).out ≡ found s.out
+    pub none_by_all : (effects : List Effect) (s : Served)
+        → found (all_changed effects s).out ≡ found s.out
     none_by_all [] s = refl
-    none_by_all (effect ∷ effects) s = none_by_all effects (changed_if effect s) ∙ none_by_one effect s
+    none_by_all (effect ∷ effects) s =
+        none_by_all effects (changed_if effect s) ∙ none_by_one effect s
 
     -- whoever is killed is told why, and closed
-    pub none_to_killed : ((conn : ℕ) → find (end_of conn) ≡ None) → (clients : Clients) (nick line : List ℕ)
-        → found (to_viewer clients (record { viewer = nick; line = line }) ++ ends_of nick clients) ≡ []
+    pub none_to_killed : ((conn : ℕ) → find (end_of conn) ≡ None)
+        → (clients : Clients) (nick line : List ℕ) → found
+        (to_viewer clients (record { viewer = nick; line = line }) ++ ends_of nick clients) ≡ []
     none_to_killed none_ends clients nick line =
         filter_map-append find (to_viewer clients error) (ends_of nick clients)
         ∙ ap (λ l. l ++ found (ends_of nick clients)) (none_to_viewer clients error)
-        ∙ none_for_some (λ (c : ℕ × Client). is_client nick c.1) (λ (c : ℕ × Client). end_of c.0) (λ c. none_ends c.0) (entries clients)
+        ∙ none_for_some (λ (c : ℕ × Client). is_client nick c.1) (λ (c : ℕ × Client). end_of c.0)
+        (λ c. none_ends c.0) (entries clients)
       where
         error : Showing
         error = record { viewer = nick; line = line }

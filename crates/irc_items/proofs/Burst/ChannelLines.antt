@@ -3,7 +3,8 @@ use Rattle.std.proofs.Common.{ℕ, Bool, true, false, cond, List, [], ◌∷◌,
 use Rattle.std.specs.Bool.{⊤}
 use Rattle.std.specs.List.{flat_map, AllByRecursion}
 use Rattle.irc_channels.specs.declared.channel.Channel.{Channel}
-use Rattle.irc_merge.specs.Bursts.{in_lines, members_a_line, bans_a_line, stored_members, channel_deeds, settings_line}
+use Rattle.irc_merge.specs.Bursts.{in_lines, members_a_line, bans_a_line, stored_members}
+use Rattle.irc_merge.specs.Bursts.{channel_deeds, settings_line}
 use Rattle.irc_merge.specs.Deeds.{Deed, brings, sets, tops}
 use Rattle.irc_modes.specs.Modes.{is_nil}
 use Rattle.irc_modes.specs.ModesSet.{set_changes, ban_changes}
@@ -18,30 +19,40 @@ IsOfChannel (sets server channel changes) = ⊤
 IsOfChannel (tops server channel topic) = ⊤
 IsOfChannel deed = ⊥
 
-lines_of : {X : Type 0} (line : X → Deed) → ((x : X) → IsOfChannel (line x)) → (xs : List X) → AllByRecursion IsOfChannel (map line xs)
+lines_of : {X : Type 0} (line : X → Deed) → ((x : X) → IsOfChannel (line x)) → (xs : List X)
+    → AllByRecursion IsOfChannel (map line xs)
 lines_of line each [] = tt
 lines_of line each (x ∷ xs) = (each x, lines_of line each xs)
 
-settings_of_channel : (server channel : List ℕ) (changes : List ModeChange) → AllByRecursion IsOfChannel (settings_line server channel changes)
+settings_of_channel : (server channel : List ℕ) (changes : List ModeChange)
+    → AllByRecursion IsOfChannel (settings_line server channel changes)
 settings_of_channel server channel [] = tt
 settings_of_channel server channel (change ∷ changes) = (tt, tt)
 
-topic_of_channel : (server channel topic : List ℕ) (b : Bool) → AllByRecursion IsOfChannel (cond b [] (tops server channel topic ∷ []))
+topic_of_channel : (server channel topic : List ℕ) (b : Bool)
+    → AllByRecursion IsOfChannel (cond b [] (tops server channel topic ∷ []))
 topic_of_channel server channel topic true = tt
 topic_of_channel server channel topic false = (tt, tt)
 
-deeds_of_channel : (server : List ℕ) (users : Table User) (channel : Channel) → AllByRecursion IsOfChannel (channel_deeds server users channel)
+deeds_of_channel : (server : List ℕ) (users : Table User) (channel : Channel)
+    → AllByRecursion IsOfChannel (channel_deeds server users channel)
 deeds_of_channel server users channel =
-    both_all IsOfChannel (map (brings server channel.name) (in_lines members_a_line (stored_members users channel))) _
-    (lines_of (brings server channel.name) (λ x. tt) (in_lines members_a_line (stored_members users channel)))
+    both_all IsOfChannel (map (brings server channel.name)
+    (in_lines members_a_line (stored_members users channel))) _
+    (lines_of (brings server channel.name) (λ x. tt)
+    (in_lines members_a_line (stored_members users channel)))
     (both_all IsOfChannel (settings_line server channel.name (set_changes channel.modes)) _
     (settings_of_channel server channel.name (set_changes channel.modes))
-    (both_all IsOfChannel (map (sets server channel.name) (in_lines bans_a_line (ban_changes channel.modes.bans))) _
-    (lines_of (sets server channel.name) (λ x. tt) (in_lines bans_a_line (ban_changes channel.modes.bans)))
+    (both_all IsOfChannel
+    (map (sets server channel.name) (in_lines bans_a_line (ban_changes channel.modes.bans))) _
+    (lines_of (sets server channel.name) (λ x. tt)
+    (in_lines bans_a_line (ban_changes channel.modes.bans)))
     (topic_of_channel server channel.name channel.topic (is_nil channel.topic))))
 
-pub deeds_of_channels : (server : List ℕ) (users : Table User) (channels : List Channel) → AllByRecursion IsOfChannel (flat_map (channel_deeds server users) channels)
+pub deeds_of_channels : (server : List ℕ) (users : Table User) (channels : List Channel)
+    → AllByRecursion IsOfChannel (flat_map (channel_deeds server users) channels)
 deeds_of_channels server users [] = tt
 deeds_of_channels server users (channel ∷ channels) =
-    both_all IsOfChannel (channel_deeds server users channel) (flat_map (channel_deeds server users) channels)
+    both_all IsOfChannel (channel_deeds server users channel)
+    (flat_map (channel_deeds server users) channels)
     (deeds_of_channel server users channel) (deeds_of_channels server users channels)

@@ -1,4 +1,5 @@
--- What is so of each line of a burst, whoever reads it: it tells of what the room of the server that tells has.
+-- What is so of each line of a burst, whoever reads it: it tells of what the room of the server
+-- that tells has.
 use Rattle.std.specs.Prelude.{◌≡◌, ◌≢◌, ◌≤◌, ℕ, Bool, true, Some, List, [], length}
 use Rattle.std.specs.List.{flat_map, AllByRecursion}
 use Rattle.irc_channels.specs.declared.flags.Flags.{Flags}
@@ -29,7 +30,8 @@ pub record IsTheirMember (other : Room) (member : List ℕ × Flags) : Type 0 wh
   pub there : row other.users (key member.0) ≡ Some user
   pub stored : user.nick ≡ member.0
 
-pub record AreTheirMembers (other : Room) (channel : List ℕ) (members : List (List ℕ × Flags)) : Type 0 where
+pub record AreTheirMembers (other : Room) (channel : List ℕ)
+    (members : List (List ℕ × Flags)) : Type 0 where
   pub named : IsChannel channel
   pub some : members ≢ []
   pub few : length members ≤ members_a_line
@@ -48,19 +50,24 @@ pub record IsTheirTopic (channel topic : List ℕ) : Type 0 where
 
 abbrev pub IsTold : List ℕ → Room → Deed → Type 0
 IsTold server other (does (AddUser user)) = IsTheirUser other user
-IsTold server other (brings by channel members) = (by ≡ server) × AreTheirMembers other channel members
+IsTold server other (brings by channel members) =
+    (by ≡ server) × AreTheirMembers other channel members
 IsTold server other (sets by channel changes) = (by ≡ server) × AreTheirChanges channel changes
 IsTold server other (tops by channel topic) = (by ≡ server) × IsTheirTopic channel topic
 IsTold server other deed = ⊥
 
 -- whoever is far in the room that reads is the user of the other room who has that nickname
 abbrev pub AreTheirs : (List ℕ → Bool) → Room → Room → Type 0
-AreTheirs far other room = (fold : List ℕ) (user : User) → row room.users fold ≡ Some user → far user.home ≡ true → row other.users fold ≡ Some user
+AreTheirs far other room = (fold : List ℕ) (user : User) → row room.users fold ≡ Some user
+    → far user.home ≡ true → row other.users fold ≡ Some user
 
 -- those of some members who come to a channel, once that is spelled as their line has it
-pub record AreComing (behind : List ℕ → Bool) (room : Room) (channel : List ℕ) (members : List (List ℕ × Flags)) : Type 0 where
+pub record AreComing (behind : List ℕ → Bool) (room : Room) (channel : List ℕ)
+    (members : List (List ℕ × Flags)) : Type 0 where
   pub stored : AllByRecursion (λ (m : List ℕ × Flags). IsStoredNick room m.0) members
-  pub far : AllByRecursion (λ (m : List ℕ × Flags). home_passes behind room.users (key m.0) ≡ true) members
+  pub far : AllByRecursion
+      (λ (m : List ℕ × Flags). home_passes behind room.users (key m.0) ≡ true) members
   pub few : length members ≤ members_a_line
-  pub done : EachInTurn DoesSomething (titled_by channel room) (flat_map (member_comes channel) members)
+  pub done : EachInTurn DoesSomething (titled_by channel room)
+      (flat_map (member_comes channel) members)
   pub within : AllByRecursion KeepsLimits (flat_map (member_comes channel) members)

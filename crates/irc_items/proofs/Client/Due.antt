@@ -1,4 +1,5 @@
--- What a client does at its home: it is one of that server's, and what comes from outside keeps the rules.
+-- What a client does at its home: it is one of that server's, and what comes from outside keeps the
+-- rules.
 use Rattle.std.specs.Prelude.{◌≡◌, true, Some, None, is_some, Result, List, ℕ}
 use Rattle.std.specs.FinMap.{get}
 use Rattle.irc_names.specs.Names.{IsHost}
@@ -25,6 +26,9 @@ pub record IsReadOfLine (read : Result Parsed LineFault) : Type 0 where
 
 -- a client of this server connects, says a line or goes
 abbrev pub IsDueAtHome : Fixed → World → Name → Happening → Type 0
-IsDueAtHome s world h (connects conn host) = (home_in s.homes conn ≡ Some h) × (IsHost host) × (get (world.hall h).clients conn ≡ None)
-IsDueAtHome s world h (says conn read) = (home_in s.homes conn ≡ Some h) × (is_some (get (world.hall h).clients conn) ≡ true) × (IsReadOfLine read)
-IsDueAtHome s world h (goes conn) = (home_in s.homes conn ≡ Some h) × (is_some (get (world.hall h).clients conn) ≡ true)
+IsDueAtHome s world h (connects conn host) =
+    (home_in s.homes conn ≡ Some h) × (IsHost host) × (get (world.hall h).clients conn ≡ None)
+IsDueAtHome s world h (says conn read) = (home_in s.homes conn ≡ Some h)
+    × (is_some (get (world.hall h).clients conn) ≡ true) × (IsReadOfLine read)
+IsDueAtHome s world h (goes conn) =
+    (home_in s.homes conn ≡ Some h) × (is_some (get (world.hall h).clients conn) ≡ true)

@@ -1,6 +1,8 @@
--- What the effects of a client's event make of its side, as the other servers follow it: just what the event makes of the world. What those servers show their
--- clients is just what these receive by it.
-use Rattle.std.proofs.Common.{◌≡◌, ◌≢◌, ℕ, Bool, true, false, Option, Some, None, List, [], ◌∷◌, ◌++◌, refl, sym, ◌∙◌, ap, subst, map, append-nil, if◌then◌else◌}
+-- What the effects of a client's event make of its side, as the other servers follow it: just what
+-- the event makes of the world. What those servers show their clients is just what these receive by
+-- it.
+use Rattle.std.proofs.Common.{◌≡◌, ◌≢◌, ℕ, Bool, true, false, Option, Some, None, List, [], ◌∷◌}
+use Rattle.std.proofs.Common.{◌++◌, refl, sym, ◌∙◌, ap, subst, map, append-nil, if◌then◌else◌}
 use Rattle.std.specs.FinMap.{get, retain_keys}
 use Rattle.std.specs.Option.{option_map_or}
 use Rattle.irc_room.specs.effect.Effect.{Effect}
@@ -29,7 +31,8 @@ use Rattle.irc_follow.specs.Says.{play}
 use Rattle.irc_follow.specs.Lemmas.ClientLines.{client_shown}
 use Rattle.irc_items.proofs.Common.Right.{same_kept}
 use Rattle.irc_items.proofs.Client.Due.{IsDueAtHome, client_in}
-use Rattle.irc_items.proofs.Client.OthersAlong.{IsAsHall, IsKnownOfDecisions, hall_along, hall_of, handled_so, seen_along}
+use Rattle.irc_items.proofs.Client.OthersAlong.{IsAsHall, IsKnownOfDecisions, hall_along, hall_of}
+use Rattle.irc_items.proofs.Client.OthersAlong.{handled_so, seen_along}
 
 -- the deeds of a client's event
 abbrev pub deeds_at : Fixed → World → Name → Happening → List Deed
@@ -41,38 +44,47 @@ pub record IsKnownOfEvents : Type 0 where
 
 -- ---- effects as deeds
 
-sees_effect : (client : ℕ) (room : Room) (effect : Effect) (o : Option Client) → client_sees (does effect) room o ≡ client_shown client room effect o
+sees_effect : (client : ℕ) (room : Room) (effect : Effect) (o : Option Client)
+    → client_sees (does effect) room o ≡ client_shown client room effect o
 unfolding shown_by
 sees_effect client room effect None = refl
 sees_effect client room effect (Some (Registering pending)) = refl
 sees_effect client room effect (Some (Registered nick)) =
-    append-nil (shown_along nick room (effect ∷ [])) ∙ append-nil (client_shown client room effect (Some (Registered nick)))
+    append-nil (shown_along nick room (effect ∷ []))
+    ∙ append-nil (client_shown client room effect (Some (Registered nick)))
 
 module _ (s : Fixed) (client : ℕ) where
-  pub done_along : (effects : List Effect) (w : Part) → all_done (play s client) w (map does effects) ≡ record w { hall = hall_along effects w.hall }
+  pub done_along : (effects : List Effect) (w : Part) → all_done (play s client) w
+      (map does effects) ≡ record w { hall = hall_along effects w.hall }
   unfolding done
   done_along [] w = refl
-  done_along (effect ∷ effects) w = done_along effects (record w { hall = hall_after effect w.hall })
+  done_along (effect ∷ effects) w =
+      done_along effects (record w { hall = hall_after effect w.hall })
 
-  pub seen_at_home : (t : Name) → is_home_of s.homes t client ≡ true → (effects : List Effect) (w : Part)
+  pub seen_at_home : (t : Name) → is_home_of s.homes t client ≡ true
+      → (effects : List Effect) (w : Part)
       → all_seen (play s client) t w (map does effects) ≡ seen_along client effects w.hall
   unfolding done
   seen_at_home t home [] w = refl
   seen_at_home t home (effect ∷ effects) w =
-      let rest = all_seen (play s client) t (record w { hall = hall_after effect w.hall }) (map does effects) in
-      ap (λ b. (if b then client_sees (does effect) w.hall.room (get w.hall.clients client) else []) ++ rest) home
+      let rest = all_seen (play s client) t (record w { hall = hall_after effect w.hall })
+      (map does effects) in
+      ap (λ b. (if b then client_sees (does effect) w.hall.room (get w.hall.clients client) else [])
+      ++ rest) home
       ∙ ap (λ l. l ++ rest) (sees_effect client w.hall.room effect (get w.hall.clients client))
       ∙ ap (λ l. client_shown client w.hall.room effect (get w.hall.clients client) ++ l)
       (seen_at_home t home effects (record w { hall = hall_after effect w.hall }))
 
 -- ---- the client's home
 
-pub due_home : (s : Fixed) (world : World) (h : Name) (happening : Happening) → IsDueAtHome s world h happening → home_in s.homes (client_in happening) ≡ Some h
+pub due_home : (s : Fixed) (world : World) (h : Name) (happening : Happening)
+    → IsDueAtHome s world h happening → home_in s.homes (client_in happening) ≡ Some h
 due_home s world h (connects conn host) due = due.0
 due_home s world h happening due = due.0
 
 -- a client of another server is another client
-another_client : (homes : List Name) (h t : Name) (conn q : ℕ) → home_in homes conn ≡ Some h → t ≢ h → is_home_of homes t q ≡ true → same_number q conn ≡ false
+another_client : (homes : List Name) (h t : Name) (conn q : ℕ) → home_in homes conn ≡ Some h → t ≢ h
+    → is_home_of homes t q ≡ true → same_number q conn ≡ false
 another_client homes h t conn q home apart here = by (same_number q conn) refl
   where
     by : (b : Bool) → same_number q conn ≡ b → b ≡ false
@@ -95,22 +107,27 @@ module _ (s : Fixed) (world : World) (h t : Name) (happening : Happening) where
   hall_then = hall_of (handled (machine_at s.settings world h) happening).machine
 
   hall_now : AreJoined world.links t h → world_after.hall t ≡ hall_then
-  hall_now together = ap (λ b. if b then hall_then else world.hall t) (same_when (part world.links t) (part world.links h) together)
+  hall_now together = ap (λ b. if b then hall_then else world.hall t)
+      (same_when (part world.links t) (part world.links h) together)
 
   hall_still : (AreJoined world.links t h → ⊥) → world_after.hall t ≡ world.hall t
-  hall_still apart = ap (λ b. if b then hall_then else world.hall t) (same_unless (part world.links t) (part world.links h) apart)
+  hall_still apart = ap (λ b. if b then hall_then else world.hall t)
+      (same_unless (part world.links t) (part world.links h) apart)
 
-  module _ (known : IsKnownOfDecisions) (is_world : IsWorld s.settings world) (together : AreJoined world.links t h) where
+  module _ (known : IsKnownOfDecisions) (is_world : IsWorld s.settings world)
+      (together : AreJoined world.links t h) where
     one_hall : world.hall t ≡ world.hall h
     one_hall = is_world.sound.one_hall t h together
 
     abbrev IsAs : Hall → Type 0
-    IsAs hall = IsAsHall (client_in happening) (handled (machine_at s.settings world h) happening) (hall_along effects hall) (λ q. seen_along q effects hall)
+    IsAs hall = IsAsHall (client_in happening) (handled (machine_at s.settings world h) happening)
+        (hall_along effects hall) (λ q. seen_along q effects hall)
 
     served : IsAs (world.hall t)
     served =
         subst IsAs (sym one_hall)
-        (handled_so known (home_in world.homes) (machine_at s.settings world h) (is_world.sound.well_formed h) (is_world.clients_users h) happening)
+        (handled_so known (home_in world.homes) (machine_at s.settings world h)
+        (is_world.sound.well_formed h) (is_world.clients_users h) happening)
 
     module _ (apart : t ≢ h) (home : home_in s.homes (client_in happening) ≡ Some h) where
       rooms : (hall_along effects (world.hall t)).room ≡ (world_after.hall t).room
@@ -120,31 +137,41 @@ module _ (s : Fixed) (world : World) (h t : Name) (happening : Happening) where
           ≡ retain_keys (world_after.hall t).clients (is_home_of s.homes t)
       kept_clients =
           same_kept s.homes t (hall_along effects (world.hall t)).clients hall_then.clients
-          (λ q here. sym (served.clients q (another_client s.homes h t (client_in happening) q home apart here)))
-          ∙ ap (λ (hall : Hall). retain_keys hall.clients (is_home_of s.homes t)) (sym (hall_now together))
+          (λ q here. sym (served.clients q
+          (another_client s.homes h t (client_in happening) q home apart here)))
+          ∙ ap (λ (hall : Hall). retain_keys hall.clients (is_home_of s.homes t))
+          (sym (hall_now together))
 
-      lines_of : (q : ℕ) → is_home_of s.homes t q ≡ true → seen_along q effects (world.hall t) ≡ (by_machine s.settings world h happening).lines q
-      lines_of q here = sym (served.lines q (another_client s.homes h t (client_in happening) q home apart here))
+      lines_of : (q : ℕ) → is_home_of s.homes t q ≡ true
+          → seen_along q effects (world.hall t) ≡ (by_machine s.settings world h happening).lines q
+      lines_of q here =
+          sym (served.lines q (another_client s.homes h t (client_in happening) q home apart here))
 
 -- ---- another server of the part
 
 -- Once it has followed the deeds, it is what it has to be in the world after the event.
-pub comes_to_world : IsKnownOfEvents → (s : Fixed) (world : World) (routes : Name → Known) (h t : Name) (happening : Happening) (client : ℕ) (view : View)
-    → IsFixed s → IsAmong s.names h → IsAmong s.names t → t ≢ h → AreJoined world.links t h
-    → IsWorld s.settings world → IsOfWorld s world → AreRight s world.links routes
-    → IsWorld s.settings (by_machine s.settings world h happening).world → IsDueAtHome s world h happening
-    → Fits s t (all_done (play s client) (part_of s world routes t) (deeds_at s world h happening)) view
+pub comes_to_world : IsKnownOfEvents → (s : Fixed) (world : World) (routes : Name → Known)
+    (h t : Name) (happening : Happening) (client : ℕ) (view : View) → IsFixed s → IsAmong s.names h
+    → IsAmong s.names t → t ≢ h → AreJoined world.links t h → IsWorld s.settings world
+    → IsOfWorld s world → AreRight s world.links routes → IsWorld s.settings
+    (by_machine s.settings world h happening).world → IsDueAtHome s world h happening → Fits s t
+    (all_done (play s client) (part_of s world routes t) (deeds_at s world h happening)) view
     → Fits s t (part_of s (by_machine s.settings world h happening).world routes t) view
-comes_to_world known s world routes h t happening client view fixed home_among among apart together is_world of_world right after due fits = record {
-  here = along.here;
-  sound = known.at_rest s now routes t fixed (record { homes = of_world.homes; parents = of_world.parents }) after right among;
-  peers = along.peers;
-  routes = along.routes;
-  ends = along.ends;
-  no_others = along.no_others;
-  clients = along.clients ∙ kept_clients s world h t happening known.decisions is_world together apart home;
-  room = along.room ∙ ap (of_home t) (rooms s world h t happening known.decisions is_world together apart home);
-}
+comes_to_world known s world routes h t happening client view fixed home_among among apart together
+    is_world of_world right after due fits = record {
+      here = along.here;
+      sound = known.at_rest s now routes t fixed
+          (record { homes = of_world.homes; parents = of_world.parents }) after right among;
+      peers = along.peers;
+      routes = along.routes;
+      ends = along.ends;
+      no_others = along.no_others;
+      clients = along.clients
+          ∙ kept_clients s world h t happening known.decisions is_world together apart home;
+      room = along.room
+          ∙ ap (of_home t)
+          (rooms s world h t happening known.decisions is_world together apart home);
+    }
   where
     now : World
     now = (by_machine s.settings world h happening).world
@@ -152,22 +179,34 @@ comes_to_world known s world routes h t happening client view fixed home_among a
     home : home_in s.homes (client_in happening) ≡ Some h
     home = due_home s world h happening due
 
-    along : Fits s t (record (part_of s world routes t) { hall = hall_along (effects_at (machine_at s.settings world h) happening) (world.hall t) }) view
-    along = subst (λ w. Fits s t w view) (done_along s client (effects_at (machine_at s.settings world h) happening) (part_of s world routes t)) fits
+    along : Fits s t (record (part_of s world routes t) {
+      hall = hall_along
+          (effects_at (machine_at s.settings world h) happening) (world.hall t);
+    }) view
+    along = subst (λ w. Fits s t w view) (done_along s client
+        (effects_at (machine_at s.settings world h) happening) (part_of s world routes t)) fits
 
 -- It has shown each of its clients what that receives.
-pub shows_its_clients : IsKnownOfEvents → (s : Fixed) (world : World) (routes : Name → Known) (h t : Name) (happening : Happening) (client : ℕ)
-    → t ≢ h → AreJoined world.links t h → IsWorld s.settings world → IsDueAtHome s world h happening → is_home_of s.homes t client ≡ true
-    → all_seen (play s client) t (part_of s world routes t) (deeds_at s world h happening) ≡ (by_machine s.settings world h happening).lines client
+pub shows_its_clients : IsKnownOfEvents → (s : Fixed) (world : World)
+    (routes : Name → Known) (h t : Name) (happening : Happening) (client : ℕ) → t ≢ h
+    → AreJoined world.links t h → IsWorld s.settings world → IsDueAtHome s world h happening
+    → is_home_of s.homes t client ≡ true → all_seen (play s client) t (part_of s world routes t)
+    (deeds_at s world h happening) ≡ (by_machine s.settings world h happening).lines client
 shows_its_clients known s world routes h t happening client apart together is_world due here =
-    seen_at_home s client t here (effects_at (machine_at s.settings world h) happening) (part_of s world routes t)
-    ∙ lines_of s world h t happening known.decisions is_world together apart (due_home s world h happening due) client here
+    seen_at_home s client t here (effects_at (machine_at s.settings world h) happening)
+    (part_of s world routes t)
+    ∙ lines_of s world h t happening known.decisions is_world together apart
+    (due_home s world h happening due) client here
 
 -- ---- a server of another part
 
 -- It stays as it is.
-pub elsewhere_stays : (s : Fixed) (world : World) (routes : Name → Known) (h t : Name) (happening : Happening) (view : View)
+pub elsewhere_stays : (s : Fixed) (world : World) (routes : Name → Known)
+    (h t : Name) (happening : Happening) (view : View)
     → (AreJoined world.links t h → ⊥) → Fits s t (part_of s world routes t) view
     → Fits s t (part_of s (by_machine s.settings world h happening).world routes t) view
 elsewhere_stays s world routes h t happening view apart fits =
-    subst (λ (hall : Hall). Fits s t (record { tree = (part_of s world routes t).tree; hall = hall }) view) (sym (hall_still s world h t happening apart)) fits
+    subst (λ (hall : Hall). Fits s t (record {
+      tree = (part_of s world routes t).tree;
+      hall = hall;
+    }) view) (sym (hall_still s world h t happening apart)) fits

@@ -1,5 +1,7 @@
--- The network just after a client's server has served what the client does, as its other servers are about to follow.
-use Rattle.std.proofs.Common.{◌≡◌, ℕ, ◌<◌, ◌≤◌, ◌*◌, ◌-◌, Bool, true, false, cond, Option, Some, None, is_some, length, refl, sym, ap, subst, ◌∙◌, if◌then◌else◌}
+-- The network just after a client's server has served what the client does, as its other servers
+-- are about to follow.
+use Rattle.std.proofs.Common.{◌≡◌, ℕ, ◌<◌, ◌≤◌, ◌*◌, ◌-◌, Bool, true, false, cond, Option, Some}
+use Rattle.std.proofs.Common.{None, is_some, length, refl, sym, ap, subst, ◌∙◌, if◌then◌else◌}
 use Rattle.std.specs.FinMap.{get, retain_keys}
 use Rattle.std.specs.Option.{option_map_or}
 use Rattle.irc_relay.specs.Distances.{EndsAreAmong, IsAmong}
@@ -34,7 +36,8 @@ use Rattle.irc_items.proofs.Common.Step.{IsStep}
 use Rattle.irc_items.specs.Lemmas.SetUpFacts.{fixed}
 use Rattle.irc_items.proofs.Common.SourceFacts.{IsFartherFrom, farther}
 
-none_either : {A : Type 0} (a b : Bool) → cond {A = Option A} a None None ≡ cond {A = Option A} b None None
+none_either : {A : Type 0} (a b : Bool)
+    → cond {A = Option A} a None None ≡ cond {A = Option A} b None None
 none_either true true = refl
 none_either true false = refl
 none_either false true = refl
@@ -51,21 +54,25 @@ home_fixed net world h = record {
 }
 
 -- What is known of a client's item, in a world that has the client already where it connects.
-pub record IsClientStep (net base new : Network) (world : World) (h : Name) (happening : Happening) (item : Item) : Type 0 where
+pub record IsClientStep (net base new : Network) (world : World) (h : Name) (happening : Happening)
+    (item : Item) : Type 0 where
   pub step : IsStep net new item world.homes (by_machine (settings_of net) world h happening)
   pub served : IsServedFor net base new h happening item
   pub among : IsAmong net.names h
   pub homes : base.homes ≡ world.homes
-  pub old_homes : (client : ℕ) (home : Name) → home_in net.homes client ≡ Some home → home_in world.homes client ≡ Some home
+  pub old_homes : (client : ℕ) (home : Name) → home_in net.homes client ≡ Some home
+      → home_in world.homes client ≡ Some home
   pub links : net.links ≡ world.links
   pub hall : (t : Name) → world.hall t ≡ (world_now net).hall t
   pub holds : IsWorld (settings_of net) world
   pub elsewhere : (t : Name) → (AreJoined world.links t h → ⊥) → IsElsewhere (world_now net) item t
   pub due : IsDueAtHome (home_fixed net world h) world h happening
-  pub few : length (effects_at (machine_at (settings_of net) world h) happening) * (part_size (settings_of net) world.links h - 1)
+  pub few : length (effects_at (machine_at (settings_of net) world h) happening)
+      * (part_size (settings_of net) world.links h - 1)
       ≤ most (settings_of net) (world_now net) item
 
-module _ (side : PartAtRestIsSound) {net base new : Network} {world : World} {h : Name} {happening : Happening} {item : Item}
+module _ (side : PartAtRestIsSound) {net base new : Network} {world : World} {h : Name}
+    {happening : Happening} {item : Item}
     (given : IsClientStep net base new world h happening item) where
   abbrev s : Fixed
   s = home_fixed net world h
@@ -85,39 +92,48 @@ module _ (side : PartAtRestIsSound) {net base new : Network} {world : World} {h 
   -- who takes lines is linked to whom it takes them from, and there
   pub takes_linked : (t p : Name) → TakesFrom s.streams t p → AreLinked world.links t p
   takes_linked t p takes = subst (AreLinked world.links t) takes.parent
-      (next_hop world.links t (from_one world.links h t) forest ((one_covers world.links h).joined t)
+      (next_hop world.links t (from_one world.links h t) forest
+      ((one_covers world.links h).joined t)
       (λ e. away (farther world.links forest h t takes.below) e)).linked
     where
       away : IsFartherFrom world.links h t → t ≡ from_one world.links h t → ⊥
       away far e = far.other (e ∙ source_is_one world.links h t far.joined_to)
 
   pub below_among : (t : Name) → 0 < s.streams.depth t → IsAmong net.names t
-  below_among t below = ends t (s.streams.parent t) (takes_linked t (s.streams.parent t) (record { parent = refl; below = below }))
+  below_among t below = ends t (s.streams.parent t)
+      (takes_linked t (s.streams.parent t) (record { parent = refl; below = below }))
 
   pub of_world : IsOfWorld s world
   of_world = record { homes = refl; parents = takes_linked }
 
   pub right_here : AreRight s world.links (routes_in net)
-  right_here = right_wherever s.homes s.streams (subst (λ links. AreRight (at_rest_of net) links (routes_in net)) given.links given.step.one.right)
+  right_here = right_wherever s.homes s.streams (subst
+      (λ links. AreRight (at_rest_of net) links (routes_in net)) given.links given.step.one.right)
 
   same_links : (world_now net).links ≡ world.links
   same_links = sym given.step.sound.links ∙ given.links
 
   -- a client that is there has the home that it had
-  own_clients : (t : Name) → retain_keys ((world_now net).hall t).clients (is_home_of net.homes t) ≡ retain_keys (world.hall t).clients
+  own_clients : (t : Name) → retain_keys ((world_now net).hall t).clients (is_home_of net.homes t)
+      ≡ retain_keys (world.hall t).clients
       (is_home_of world.homes t)
-  own_clients t = same_clients _ _ (λ q. get-kept ((world_now net).hall t).clients (is_home_of net.homes t) q
+  own_clients t =
+      same_clients _ _ (λ q. get-kept ((world_now net).hall t).clients (is_home_of net.homes t) q
       ∙ at q (get ((world_now net).hall t).clients q) refl
-      ∙ ap (λ o. cond (is_home_of world.homes t q) o None) (ap (λ (hall : Hall). get hall.clients q) (sym (given.hall t)))
+      ∙ ap (λ o. cond (is_home_of world.homes t q) o None)
+      (ap (λ (hall : Hall). get hall.clients q) (sym (given.hall t)))
       ∙ sym (get-kept (world.hall t).clients (is_home_of world.homes t) q))
     where
       at : (q : ℕ) (o : Option Client) → get ((world_now net).hall t).clients q ≡ o
-          → cond (is_home_of net.homes t q) (get ((world_now net).hall t).clients q) None ≡ cond (is_home_of world.homes t q)
+          → cond (is_home_of net.homes t q) (get ((world_now net).hall t).clients q) None
+          ≡ cond (is_home_of world.homes t q)
           (get ((world_now net).hall t).clients q) None
-      at q None is = ap (λ o. cond (is_home_of net.homes t q) o None) is ∙ none_either (is_home_of net.homes t q) (is_home_of world.homes t q)
+      at q None is = ap (λ o. cond (is_home_of net.homes t q) o None) is
+          ∙ none_either (is_home_of net.homes t q) (is_home_of world.homes t q)
           ∙ sym (ap (λ o. cond (is_home_of world.homes t q) o None) is)
       at q (Some client) is = ap (λ b. cond b (get ((world_now net).hall t).clients q) None)
-          (ap (λ o. option_map_or (same t) o false) (before ∙ sym (given.old_homes q there.home before)))
+          (ap (λ o. option_map_or (same t) o false)
+          (before ∙ sym (given.old_homes q there.home before)))
         where
           there : HasHomeBy (world_now net).links (world_now net).homes q t
           there = given.step.holds.sound.clients_home t q (ap is_some is)
@@ -126,20 +142,23 @@ module _ (side : PartAtRestIsSound) {net base new : Network} {world : World} {h 
           before = ap (λ homes. home_in homes q) given.step.sound.homes ∙ there.is_home
 
   -- each server is at the part of the world that it is in
-  pub fits_here : (t : Name) → IsAmong net.names t → Fits s t (part_of s world (routes_in net) t) (view_at net t)
+  pub fits_here : (t : Name) → IsAmong net.names t
+      → Fits s t (part_of s world (routes_in net) t) (view_at net t)
   fits_here t among = record {
     here = same_when (part world.links t) (part world.links t) refl;
     sound = side s world (routes_in net) t fixed_here of_world given.holds right_here among;
     peers = f.peers;
     routes = refl;
     ends = λ x x_among. f.ends x x_among
-        ∙ ap (λ links. if linked links t x then Some (if joined links x t then Some x else None) else None) same_links;
+        ∙ ap (λ links. if linked links t x then Some (if joined links x t then Some x else None)
+        else None) same_links;
     no_others = λ k end is. by k (f.no_others k end is);
     clients = f.clients ∙ own_clients t;
     room = f.room ∙ ap (λ (hall : Hall). of_home t hall.room) (sym (given.hall t));
   }
     where
-      f : Fits (at_rest_of net) t (part_of (at_rest_of net) (world_now net) (routes_in net) t) (view_at net t)
+      f : Fits (at_rest_of net) t (part_of (at_rest_of net) (world_now net) (routes_in net) t)
+          (view_at net t)
       f = given.step.one.servers t among
 
       by : (k : ℕ) → IsNumberOf (at_rest_of net) k → IsNumberOf s k

@@ -1,5 +1,6 @@
 -- A network is sound once a client's item is given.
-use Rattle.std.proofs.Common.{◌≡◌, ◌⊎◌, ℕ, ◌+◌, ◌*◌, ◌-◌, ◌≤◌, true, is_some, List, ◌++◌, length, count_by, refl, sym, ap, subst, ◌∙◌, arith, inl}
+use Rattle.std.proofs.Common.{◌≡◌, ◌⊎◌, ℕ, ◌+◌, ◌*◌, ◌-◌, ◌≤◌, true, is_some, List, ◌++◌, length}
+use Rattle.std.proofs.Common.{count_by, refl, sym, ap, subst, ◌∙◌, arith, inl}
 use Rattle.irc_relay.specs.Distances.{IsAmong}
 use Rattle.std.proofs.lemmas.List.{length-map}
 use Rattle.irc_merge.specs.Deeds.{does}
@@ -24,7 +25,8 @@ use Rattle.irc_items.specs.SetUp.{routes_in, settings_of, view_at}
 use Rattle.irc_items.specs.Sound.{owed_now, world_now, is_met, HasCalled, IsSound}
 use Rattle.irc_items.proofs.Common.Begun.{begins, IsGoingOn}
 use Rattle.irc_items.proofs.Common.Sources.{as_many, few_from_one, AreFew}
-use Rattle.irc_items.proofs.Client.Begins.{client_goes_on, fits_before, fits_home, fits_taker, from_home, AreClientLaws, IsToldByHome}
+use Rattle.irc_items.proofs.Client.Begins.{client_goes_on, fits_before, fits_home, fits_taker}
+use Rattle.irc_items.proofs.Client.Begins.{from_home, AreClientLaws, IsToldByHome}
 use Rattle.irc_items.proofs.Client.Given.{done_at}
 use Rattle.irc_items.proofs.Client.OtherServers.{deeds_at}
 use Rattle.irc_items.proofs.Client.Side.{ends, home_fixed, right_here, IsClientStep}
@@ -38,7 +40,11 @@ use Rattle.irc_items.proofs.Common.SourceFacts.{home_depth, next_to, stands_from
 turned : (sum size effects part : ℕ) → sum ≤ 0 + size * effects → part ≡ size → sum ≤ effects * part
 turned sum size effects part most same = rw same (omega arith)
 
-module _ (laws : AreClientLaws) {net base new : Network} {world : World} {h : Name} {happening : Happening} {item : Item} (given : IsClientStep net base new world h happening item) (at_home : DoesAsMachine (home_fixed net world h) world (routes_in net) h (view_at net h) happening) (tells : IsToldByHome (home_fixed net world h) world (by_machine (settings_of net) world h happening).world (routes_in net) h (view_at net h)
+module _ (laws : AreClientLaws) {net base new : Network} {world : World} {h : Name}
+    {happening : Happening} {item : Item} (given : IsClientStep net base new world h happening item)
+    (at_home : DoesAsMachine (home_fixed net world h) world (routes_in net) h
+    (view_at net h) happening) (tells : IsToldByHome (home_fixed net world h) world
+    (by_machine (settings_of net) world h happening).world (routes_in net) h (view_at net h)
     happening) where
   abbrev s : Fixed
   s = home_fixed net world h
@@ -55,13 +61,16 @@ module _ (laws : AreClientLaws) {net base new : Network} {world : World} {h : Na
     abbrev effects : ℕ
     effects = length (effects_at (machine_at (settings_of net) world h) happening)
 
-    goes_on : IsGoingOn s no_answers after source (routes_in net) new client (owed_now net client ++ (by_machine (settings_of net) world h happening).lines client)
+    goes_on : IsGoingOn s no_answers after source (routes_in net) new client
+        (owed_now net client ++ (by_machine (settings_of net) world h happening).lines client)
         (part_of s world (routes_in net)) (λ t. deeds_at s world h happening)
     goes_on = client_goes_on laws given at_home tells client
 
-    next_few : (t : Name) → s.streams.depth t ≡ 1 → length (under_way (relayed s new client) (s.streams.parent t) t) ≤ effects
+    next_few : (t : Name) → s.streams.depth t ≡ 1
+        → length (under_way (relayed s new client) (s.streams.parent t) t) ≤ effects
     next_few t one =
-        subst (λ (lines : List (List ℕ)). length lines ≤ effects) (sym on_its_way) (tells.few t (view_at new t) near.linked_to taker)
+        subst (λ (lines : List (List ℕ)). length lines ≤ effects) (sym on_its_way)
+        (tells.few t (view_at new t) near.linked_to taker)
       where
         near : IsNextTo world.links h t
         near = next_to world.links given.holds.sound.forest h t one
@@ -69,30 +78,38 @@ module _ (laws : AreClientLaws) {net base new : Network} {world : World} {h : Na
         taker : Fits s t (part_of s world (routes_in net) t) (view_at new t)
         taker = fits_taker laws given at_home tells client t (omega arith)
 
-        on_its_way : under_way (relayed s new client) (s.streams.parent t) t ≡ lines_on (number s t) (client_told (view_at net h) happening).out
-        on_its_way = ap (λ p. under_way (relayed s new client) p t) near.parent ∙ from_home laws given at_home tells client t
+        on_its_way : under_way (relayed s new client) (s.streams.parent t) t
+            ≡ lines_on (number s t) (client_told (view_at net h) happening).out
+        on_its_way = ap (λ p. under_way (relayed s new client) p t) near.parent
+            ∙ from_home laws given at_home tells client t
 
-    few : AreFew (λ e o. e ≡ h) world.links s new client (λ t. deeds_at s world h happening) (λ e o. 0) (λ e o. effects)
+    few : AreFew (λ e o. e ≡ h) world.links s new client (λ t. deeds_at s world h happening)
+        (λ e o. 0) (λ e o. effects)
     few = record {
       at_end = λ e o is.
-          let none = ap (λ v. distance world.links v (from_one world.links h v)) is ∙ home_depth world.links given.holds.sound.forest h in
+          let none = ap (λ v. distance world.links v (from_one world.links h v)) is
+          ∙ home_depth world.links given.holds.sound.forest h in
           as_many (ap (λ (lines : List (List ℕ)). length lines) (none_at_source goes_on e none));
       next = λ t e o ends on two one. next_few t one;
-      told = λ t e o ends on. as_many (length-map (effects_at (machine_at (settings_of net) world h) happening) does);
+      told = λ t e o ends on.
+          as_many (length-map (effects_at (machine_at (settings_of net) world h) happening) does);
     }
 
-    few_come : lines_coming (machine s client) s.streams (relayed s new client) net.names ≤ effects * (part_size (settings_of net) world.links h - 1)
+    few_come : lines_coming (machine s client) s.streams (relayed s new client) net.names
+        ≤ effects * (part_size (settings_of net) world.links h - 1)
     few_come =
-        let most = few_from_one goes_on (stands_from_one world.links given.holds.sound.forest h) few net.names h refl (λ e o is. is)
+        let most = few_from_one goes_on (stands_from_one world.links given.holds.sound.forest h) few
+        net.names h refl (λ e o is. is)
         (given.step.sound.set_up.once h given.among) in
         let size = part_counted net given.step.sound.set_up world.links h in
-        turned (lines_coming (machine s client) s.streams (relayed s new client) net.names) (count_by (joined world.links h) net.names - 1) effects
+        turned (lines_coming (machine s client) s.streams (relayed s new client) net.names)
+        (count_by (joined world.links h) net.names - 1) effects
         (part_size (settings_of net) world.links h - 1) most (ap (λ n. n - 1) size)
 
   -- ---- where that brings the network
 
-  pending : (client : ℕ)
-      → lines_pending (machine s client) s.streams (relayed s new client) net.names no_answers.answered no_answers.one no_answers.other
+  pending : (client : ℕ) → lines_pending (machine s client) s.streams
+      (relayed s new client) net.names no_answers.answered no_answers.one no_answers.other
       ≤ most (settings_of net) (world_now net) item
   pending client =
       let here = few_come client in
@@ -117,7 +134,8 @@ module _ (laws : AreClientLaws) {net base new : Network} {world : World} {h : Na
           (subst (λ v. Fits s v (part_of s after (routes_in net) v) (view_at new v)) (sym e)
           (fits_home laws given at_home tells)) x_among back
       by (unlike _ two) = linked_met s world (routes_in net) y x (view_at new y)
-          (subst (Fits s y (part_of s world (routes_in net) y)) (sym (given.served.other_views y two))
+          (subst (Fits s y (part_of s world (routes_in net) y))
+          (sym (given.served.other_views y two))
           (fits_before laws given at_home tells y y_among)) x_among back
 
   -- a way goes on as it did
@@ -127,18 +145,22 @@ module _ (laws : AreClientLaws) {net base new : Network} {world : World} {h : Na
       by : Telling x h → is_some (way_at new x place) ≡ is_some (way_at net x place)
       by (alike _ e) =
           ap (λ v. is_some (way_at new v place)) e ∙ ap is_some (given.served.way place)
-          ∙ stays_some (λ lines. lines ++ lines_on place (done_at net h happening).out) (way_at net h place) ∙ sym (ap (λ v. is_some (way_at net v place)) e)
+          ∙ stays_some (λ lines. lines ++ lines_on place (done_at net h happening).out)
+          (way_at net h place) ∙ sym (ap (λ v. is_some (way_at net v place)) e)
       by (unlike _ two) = ap is_some (given.served.other_ways x place two)
 
-  comes : ComesTo net new item world.homes (by_machine (settings_of net) world h happening) source (routes_in net) no_answers
+  comes : ComesTo net new item world.homes (by_machine (settings_of net) world h happening) source
+      (routes_in net) no_answers
   comes = record {
     covers = one_covers world.links h;
     right = right_here laws.events.at_rest given;
     called = called;
     under_way = λ client. begins (goes_on client);
     few = pending;
-    ways = λ x y. same_way x (number s y) ∙ given.step.sound.ways x y ∙ ap (λ links. linked links x y) given.links;
-    to_servers = λ x place there. given.step.sound.to_servers x place (sym (same_way x place) ∙ there);
+    ways = λ x y. same_way x (number s y) ∙ given.step.sound.ways x y
+        ∙ ap (λ links. linked links x y) given.links;
+    to_servers =
+        λ x place there. given.step.sound.to_servers x place (sym (same_way x place) ∙ there);
   }
 
   pub client_sound : IsSound new

@@ -1,5 +1,6 @@
 -- A network at rest is one room.
-use Rattle.std.proofs.Common.{◌≡◌, ℕ, zero, suc, true, false, Option, Some, None, List, [], ◌∷◌, ◌++◌, length, refl, sym, ap, subst, ◌∙◌, arith, cond, unwrap_or}
+use Rattle.std.proofs.Common.{◌≡◌, ℕ, zero, suc, true, false, Option, Some, None, List, [], ◌∷◌}
+use Rattle.std.proofs.Common.{◌++◌, length, refl, sym, ap, subst, ◌∙◌, arith, cond, unwrap_or}
 use Rattle.std.specs.List.{slice_get}
 use Rattle.std.specs.Option.{option_map, option_map_or}
 use Rattle.irc_relay.specs.Distances.{EndsAreAmong, IsAmong}
@@ -28,25 +29,31 @@ use Rattle.irc_items.specs.Lemmas.SetUpFacts.{fixed, listed, servers_named}
 
 -- ---- what a client has received
 
-pub beyond : {A B : Type 0} (homes : List A) (received : List B) (place : ℕ) → length received ≡ length homes → slice_get homes place ≡ None
-    → slice_get received place ≡ None
+pub beyond : {A B : Type 0} (homes : List A) (received : List B) (place : ℕ) → length received
+    ≡ length homes → slice_get homes place ≡ None → slice_get received place ≡ None
 beyond homes [] place long none = refl
 beyond [] (inbox ∷ received) place long none = absurd (cc long)
 beyond (home ∷ homes) (inbox ∷ received) zero long none = absurd (cc none)
-beyond (home ∷ homes) (inbox ∷ received) (suc place) long none = beyond homes received place (shorter long) none
+beyond (home ∷ homes) (inbox ∷ received) (suc place) long none =
+    beyond homes received place (shorter long) none
   where
     shorter : length (inbox ∷ received) ≡ length (home ∷ homes) → length received ≡ length homes
     shorter e = omega arith
 
 -- a number that was never given has received nothing
-pub nothing_received : (net : Network) (client : ℕ) → length net.received ≡ length net.homes → home_in net.homes client ≡ None → received_by net client ≡ []
+pub nothing_received : (net : Network) (client : ℕ) → length net.received ≡ length net.homes
+    → home_in net.homes client ≡ None → received_by net client ≡ []
 nothing_received net zero long none = refl
-nothing_received net (suc earlier) long none = ap (λ o. unwrap_or o []) (beyond net.homes net.received earlier long none)
+nothing_received net (suc earlier) long none =
+    ap (λ o. unwrap_or o []) (beyond net.homes net.received earlier long none)
 
-pub is_home : (homes : List Name) (client : ℕ) (home : Name) → home_in homes client ≡ Some home → is_home_of homes home client ≡ true
-is_home homes client home is = ap (λ o. option_map_or (same home) o false) is ∙ same_when home home refl
+pub is_home : (homes : List Name) (client : ℕ) (home : Name) → home_in homes client ≡ Some home
+    → is_home_of homes home client ≡ true
+is_home homes client home is =
+    ap (λ o. option_map_or (same home) o false) is ∙ same_when home home refl
 
-pub shown_at_home : (s : Fixed) (net : Network) (client : ℕ) (home : Name) → is_home_of s.homes home client ≡ true
+pub shown_at_home : (s : Fixed) (net : Network) (client : ℕ) (home : Name)
+    → is_home_of s.homes home client ≡ true
     → (relayed s net client).shown home ≡ received_by net client
 shown_at_home s net client home is = ap (λ b. cond b (received_by net client) []) is
 
@@ -57,8 +64,13 @@ flowing net sound = fixed_of net (streams_from net.links sound.source)
 pub received_is_front : ReceivedIsFront
 received_is_front net client sound = by (home_in net.homes client) refl
   where
-    by : (o : Option Name) → home_in net.homes client ≡ o → IsFront (received_by net client) (owed_now net client)
-    by None none = ([], ap (λ lines. lines ++ []) (nothing_received net client sound.inboxes none) ∙ sym (sound.nobody client none))
+    by : (o : Option Name) → home_in net.homes client ≡ o
+        → IsFront (received_by net client) (owed_now net client)
+    by None none = (
+      [],
+      ap (λ lines. lines ++ []) (nothing_received net client sound.inboxes none)
+          ∙ sym (sound.nobody client none),
+    )
     by (Some home) is = (
       later,
       ap (λ lines. lines ++ later) (sym (shown_at_home (flowing net sound) net client home at_home))
@@ -69,8 +81,10 @@ received_is_front net client sound = by (home_in net.homes client) refl
         at_home = is_home net.homes client home is
 
         later : List (List ℕ)
-        later = shown_upon (machine (flowing net sound) client) home ((flowing net sound).streams.parent home) (view_at net home)
-            (coming (machine (flowing net sound) client) (flowing net sound).streams (relayed (flowing net sound) net client) home)
+        later = shown_upon (machine (flowing net sound) client) home
+            ((flowing net sound).streams.parent home) (view_at net home)
+            (coming (machine (flowing net sound) client) (flowing net sound).streams
+            (relayed (flowing net sound) net client) home)
 
 -- ---- one room
 
@@ -81,17 +95,23 @@ pub record AreRoomLaws : Type 0 where
   pub final : RestIsFinal View (List ℕ) (List ℕ)
 
 -- the world that the items make
-pub holds_now : TakenMakeWorld → (net : Network) → IsSound net → IsWorld (settings_of net) (world_now net)
-holds_now made net sound = made (settings_of net) net.items (servers_named net sound.set_up) sound.within sound.taken
+pub holds_now : TakenMakeWorld → (net : Network) → IsSound net
+    → IsWorld (settings_of net) (world_now net)
+holds_now made net sound =
+    made (settings_of net) net.items (servers_named net sound.set_up) sound.within sound.taken
 
-pub forest_now : (net : Network) (sound : IsSound net) → IsWorld (settings_of net) (world_now net) → IsForest net.links
+pub forest_now : (net : Network) (sound : IsSound net) → IsWorld (settings_of net) (world_now net)
+    → IsForest net.links
 forest_now net sound holds = subst IsForest (sym sound.links) holds.sound.forest
 
-pub ends_now : (net : Network) (sound : IsSound net) → IsWorld (settings_of net) (world_now net) → EndsAreAmong net.names net.links
+pub ends_now : (net : Network) (sound : IsSound net) → IsWorld (settings_of net) (world_now net)
+    → EndsAreAmong net.names net.links
 ends_now net sound holds t u linked =
-    sym (listed net sound.set_up t) ∙ holds.sound.ends_known t u (subst (λ links. AreLinked links t u) sound.links linked)
+    sym (listed net sound.set_up t)
+    ∙ holds.sound.ends_known t u (subst (λ links. AreLinked links t u) sound.links linked)
 
-module _ (laws : AreRoomLaws) (net : Network) (sound : IsSound net) (rest : is_at_rest net ≡ true) where
+module _ (laws : AreRoomLaws) (net : Network) (sound : IsSound net)
+    (rest : is_at_rest net ≡ true) where
   abbrev s : Fixed
   s = fixed_of net (streams_from net.links sound.source)
 
@@ -99,11 +119,14 @@ module _ (laws : AreRoomLaws) (net : Network) (sound : IsSound net) (rest : is_a
   holds = holds_now laws.world net sound
 
   quiet : (client : ℕ) → IsAtRest (relayed s net client)
-  quiet client = nothing_under_way laws.at_rest net sound rest (forest_now net sound holds) (ends_now net sound holds) sound.links client
+  quiet client = nothing_under_way laws.at_rest net sound rest (forest_now net sound holds)
+      (ends_now net sound holds) sound.links client
 
   -- each server is what it was to be
-  fits_now : (t : Name) → IsAmong net.names t → Fits s t (part_of s (world_now net) sound.routes t) (view_at net t)
-  fits_now t among = subst (Fits s t (part_of s (world_now net) sound.routes t)) (laws.final (machine s 0) s.streams (relayed s net 0) t (quiet 0)).0
+  fits_now : (t : Name) → IsAmong net.names t
+      → Fits s t (part_of s (world_now net) sound.routes t) (view_at net t)
+  fits_now t among = subst (Fits s t (part_of s (world_now net) sound.routes t))
+      (laws.final (machine s 0) s.streams (relayed s net 0) t (quiet 0)).0
       ((sound.coming.under_way 0).fits t among)
 
   same_routes : (t : Name) → IsAmong net.names t → routes_in net t ≡ sound.routes t
@@ -112,13 +135,19 @@ module _ (laws : AreRoomLaws) (net : Network) (sound : IsSound net) (rest : is_a
   right_now : AreRight (at_rest_of net) net.links (routes_in net)
   right_now = record {
     named = λ t among. ap (λ (k : Known). k.name) (same_routes t among) ∙ right.named t among;
-    described = λ t among. ap (λ (k : Known). k.info) (same_routes t among) ∙ right.described t among;
-    created = λ t among. ap (λ (k : Known). k.created) (same_routes t among) ∙ right.created t among;
-    rows = λ t x among. ap (λ k. option_map shape (row_of k x)) (same_routes t among) ∙ right.rows t x among;
+    described =
+        λ t among. ap (λ (k : Known). k.info) (same_routes t among) ∙ right.described t among;
+    created =
+        λ t among. ap (λ (k : Known). k.created) (same_routes t among) ∙ right.created t among;
+    rows = λ t x among. ap (λ k. option_map shape (row_of k x)) (same_routes t among)
+        ∙ right.rows t x among;
     numbered = λ t among. subst IsNumbered (sym (same_routes t among)) (right.numbered t among);
-    low = λ t x r among is. right.low t x r among (ap (λ k. row_of k x) (sym (same_routes t among)) ∙ is);
-    tokens = λ t u x r among linked is link. ap (λ k. token_out k x) (same_routes t (ends_now net sound holds t u linked))
-        ∙ right.tokens t u x r among linked (ap (λ k. row_of k x) (sym (same_routes u among)) ∙ is) link;
+    low = λ t x r among is. right.low t x r among
+        (ap (λ k. row_of k x) (sym (same_routes t among)) ∙ is);
+    tokens = λ t u x r among linked is link. ap (λ k. token_out k x)
+        (same_routes t (ends_now net sound holds t u linked))
+        ∙ right.tokens t u x r among linked (ap (λ k. row_of k x) (sym (same_routes u among))
+        ∙ is) link;
   }
     where
       right : AreRight s net.links sound.routes
@@ -127,12 +156,15 @@ module _ (laws : AreRoomLaws) (net : Network) (sound : IsSound net) (rest : is_a
   no_taker : (t p : Name) → TakesFrom (streams_from net.links (λ server. server)) t p → ⊥
   no_taker t p takes = let z = distance_self net.links t in let b = takes.below in omega arith
 
-  side_now : (t : Name) → IsAmong net.names t → IsSoundPart (at_rest_of net) (part_of (at_rest_of net) (world_now net) (routes_in net) t)
-  side_now t among = laws.side (at_rest_of net) (world_now net) (routes_in net) t (fixed net sound.set_up (streams_from net.links (λ server. server)))
+  side_now : (t : Name) → IsAmong net.names t
+      → IsSoundPart (at_rest_of net) (part_of (at_rest_of net) (world_now net) (routes_in net) t)
+  side_now t among = laws.side (at_rest_of net) (world_now net) (routes_in net) t
+      (fixed net sound.set_up (streams_from net.links (λ server. server)))
       (record { homes = sound.homes; parents = λ u p takes. absurd (no_taker u p takes) }) holds
       (subst (λ links. AreRight (at_rest_of net) links (routes_in net)) sound.links right_now) among
 
-  server_now : (t : Name) → IsAmong net.names t → Fits (at_rest_of net) t (part_of (at_rest_of net) (world_now net) (routes_in net) t) (view_at net t)
+  server_now : (t : Name) → IsAmong net.names t → Fits (at_rest_of net) t
+      (part_of (at_rest_of net) (world_now net) (routes_in net) t) (view_at net t)
   server_now t among = record {
     here = f.here;
     sound = side_now t among;
@@ -153,11 +185,13 @@ module _ (laws : AreRoomLaws) (net : Network) (sound : IsSound net) (rest : is_a
   received_now : (client : ℕ) → received_by net client ≡ owed_now net client
   received_now client = by (home_in net.homes client) refl
     where
-      by : (o : Option Name) → home_in net.homes client ≡ o → received_by net client ≡ owed_now net client
+      by : (o : Option Name) → home_in net.homes client ≡ o
+          → received_by net client ≡ owed_now net client
       by None none = nothing_received net client sound.inboxes none ∙ sym (sound.nobody client none)
       by (Some home) is =
           sym (shown_at_home s net client home (is_home net.homes client home is))
-          ∙ sym (laws.final (machine s client) s.streams (relayed s net client) home (quiet client)).1
+          ∙ sym (laws.final (machine s client) s.streams (relayed s net client) home
+          (quiet client)).1
           ∙ (sound.coming.under_way client).told home (is_home net.homes client home is)
 
   pub one_room : IsOneRoom net

@@ -1,5 +1,8 @@
 -- Sums over the servers of a network, and how many servers are in a part.
-use Rattle.std.proofs.Common.{◌≡◌, ◌≢◌, ℕ, ◌+◌, ◌*◌, ◌-◌, ◌<◌, ◌≤◌, Bool, true, false, cond, not, ◌&&◌, ◌||◌, is_some, Option, Some, None, List, [], ◌∷◌, length, map, count_by, sum_by, filter_map, refl, sym, ap, subst, ◌∙◌, arith, option_map, if◌then◌else◌}
+use Rattle.std.proofs.Common.{◌≡◌, ◌≢◌, ℕ, ◌+◌, ◌*◌, ◌-◌, ◌<◌, ◌≤◌, Bool, true, false, cond, not}
+use Rattle.std.proofs.Common.{◌&&◌, ◌||◌, is_some, Option, Some, None, List, [], ◌∷◌, length, map}
+use Rattle.std.proofs.Common.{count_by, sum_by, filter_map, refl, sym, ap, subst, ◌∙◌, arith}
+use Rattle.std.proofs.Common.{option_map, if◌then◌else◌}
 use Rattle.std.proofs.lemmas.List.{length-map}
 use Rattle.std.proofs.lemmas.List.Sums.{sum_by-cons}
 use Rattle.std.specs.List.{cons_option, list_any}
@@ -20,7 +23,8 @@ use Rattle.irc_items.specs.SetUp.{named_at, setting_at, setting_now, settings_of
 abbrev number : Bool → ℕ
 number b = cond b 1 0
 
-count-cons : (test : Name → Bool) (x : Name) (xs : List Name) → count_by test (x ∷ xs) ≡ number (test x) + count_by test xs
+count-cons : (test : Name → Bool) (x : Name) (xs : List Name)
+    → count_by test (x ∷ xs) ≡ number (test x) + count_by test xs
 count-cons test x xs = sum_by-cons (λ u. number (test u)) x xs
 
 -- ---- names in a list
@@ -38,13 +42,15 @@ is_later x t xs among = by (same t x) among
 -- ---- sums
 
 -- The sum over servers, of which each of one side has at most n and the others none.
-pub sum_most : (names : List Name) (is_one : Name → Bool) (n : ℕ) (count : Name → ℕ) → ((t : Name) → IsAmong names t → is_one t ≡ true → count t ≤ n)
-    → ((t : Name) → IsAmong names t → is_one t ≡ false → count t ≡ 0) → sum_by count names ≤ count_by is_one names * n
+pub sum_most : (names : List Name) (is_one : Name → Bool) (n : ℕ) (count : Name → ℕ)
+    → ((t : Name) → IsAmong names t → is_one t ≡ true → count t ≤ n) → ((t : Name) → IsAmong names t
+    → is_one t ≡ false → count t ≡ 0) → sum_by count names ≤ count_by is_one names * n
 sum_most [] is_one n count few none = omega arith
 sum_most (x ∷ xs) is_one n count few none =
     rw (sum_by-cons count x xs, count-cons is_one x xs)
     (both (number (is_one x)) (count x) (sum_by count xs) (count_by is_one xs) (by (is_one x) refl)
-    (sum_most xs is_one n count (λ t among. few t (is_later x t xs among)) (λ t among. none t (is_later x t xs among))))
+    (sum_most xs is_one n count (λ t among. few t (is_later x t xs among))
+    (λ t among. none t (is_later x t xs among))))
   where
     by : (b : Bool) → is_one x ≡ b → count x ≤ number b * n
     by true is = let most = few x (is_first x x xs refl) is in omega arith
@@ -58,15 +64,22 @@ sum_most (x ∷ xs) is_one n count few none =
 -- The sum over servers that are on one of two sides, or on none and have nothing.
 pub two_sides : (names : List Name) (is_one is_other : Name → Bool) (count : Name → ℕ)
     → ((t : Name) → IsAmong names t → is_one t ≡ false → is_other t ≡ false → count t ≡ 0)
-    → sum_by count names ≤ sum_by (λ t. if is_one t then count t else 0) names + sum_by (λ t. if is_other t then count t else 0) names
+    → sum_by count names ≤ sum_by (λ t. if is_one t then count t else 0) names + sum_by
+    (λ t. if is_other t then count t else 0) names
 two_sides [] is_one is_other count none = omega arith
 two_sides (x ∷ xs) is_one is_other count none =
-    rw (sum_by-cons count x xs, sum_by-cons (λ t. if is_one t then count t else 0) x xs, sum_by-cons (λ t. if is_other t then count t else 0) x xs)
-    (both (count x) (cond (is_one x) (count x) 0) (cond (is_other x) (count x) 0) (sum_by count xs) (sum_by (λ t. if is_one t then count t else 0) xs)
+    rw (
+      sum_by-cons count x xs,
+      sum_by-cons (λ t. if is_one t then count t else 0) x xs,
+      sum_by-cons (λ t. if is_other t then count t else 0) x xs,
+    )
+    (both (count x) (cond (is_one x) (count x) 0) (cond (is_other x) (count x) 0) (sum_by count xs)
+    (sum_by (λ t. if is_one t then count t else 0) xs)
     (sum_by (λ t. if is_other t then count t else 0) xs) (by (is_one x) (is_other x) refl refl)
     (two_sides xs is_one is_other count (λ t among. none t (is_later x t xs among))))
   where
-    by : (b c : Bool) → is_one x ≡ b → is_other x ≡ c → count x ≤ cond b (count x) 0 + cond c (count x) 0
+    by : (b c : Bool) → is_one x ≡ b → is_other x ≡ c
+        → count x ≤ cond b (count x) 0 + cond c (count x) 0
     by true true one other = omega arith
     by true false one other = omega arith
     by false true one other = omega arith
@@ -78,7 +91,8 @@ two_sides (x ∷ xs) is_one is_other count none =
 -- ---- one that has more
 
 -- one server of a side, in the list once, has m at most, and each other of that side n
-pub record HasMost (names : List Name) (is_one : Name → Bool) (h : Name) (m n : ℕ) (count : Name → ℕ) : Type 0 where
+pub record HasMost (names : List Name) (is_one : Name → Bool) (h : Name) (m n : ℕ)
+    (count : Name → ℕ) : Type 0 where
   pub there : is_one h ≡ true
   pub once : count_by (same h) names ≡ 1
   pub most : count h ≤ m
@@ -93,7 +107,8 @@ pub counted_but : (names : List Name) (is_one : Name → Bool) (h : Name) → is
 counted_but [] is_one h there = refl
 counted_but (x ∷ xs) is_one h there =
     rw (count-cons is_one x xs, count-cons (same h) x xs, count-cons (but h is_one) x xs)
-    (both (number (is_one x)) (number (same h x)) (number (but h is_one x)) (count_by is_one xs) (count_by (same h) xs) (count_by (but h is_one) xs)
+    (both (number (is_one x)) (number (same h x)) (number (but h is_one x)) (count_by is_one xs)
+    (count_by (same h) xs) (count_by (but h is_one) xs)
     (by (tell h x)) (counted_but xs is_one h there))
   where
     plain : (b : Bool) → number b ≡ number false + number (b && not false)
@@ -102,22 +117,31 @@ counted_but (x ∷ xs) is_one h there =
 
     by : Telling h x → number (is_one x) ≡ number (same h x) + number (but h is_one x)
     by (alike is e) =
-        rw (ap (λ b. number b) is, ap (λ b. number (is_one x && not b)) is, sym (ap is_one e) ∙ there) refl
+        rw (
+          ap (λ b. number b) is,
+          ap (λ b. number (is_one x && not b)) is,
+          sym (ap is_one e)
+              ∙ there,
+        ) refl
     by (unlike is _) = rw (is) (plain (is_one x))
 
     both : (a b c k m n : ℕ) → a ≡ b + c → k ≡ m + n → a + k ≡ (b + m) + (c + n)
     both a b c k m n here rest = omega arith
 
-sum_but : (names : List Name) (is_one : Name → Bool) (h : Name) (m n : ℕ) (count : Name → ℕ) → count h ≤ m
-    → ((t : Name) → IsAmong names t → t ≢ h → is_one t ≡ true → count t ≤ n) → ((t : Name) → IsAmong names t → t ≢ h → is_one t ≡ false → count t ≡ 0)
+sum_but : (names : List Name) (is_one : Name → Bool) (h : Name) (m n : ℕ) (count : Name → ℕ)
+    → count h ≤ m → ((t : Name) → IsAmong names t → t ≢ h → is_one t ≡ true → count t ≤ n)
+    → ((t : Name) → IsAmong names t → t ≢ h → is_one t ≡ false → count t ≡ 0)
     → sum_by count names ≤ count_by (same h) names * m + count_by (but h is_one) names * n
 sum_but [] is_one h m n count most few none = omega arith
 sum_but (x ∷ xs) is_one h m n count most few none =
     rw (sum_by-cons count x xs, count-cons (same h) x xs, count-cons (but h is_one) x xs)
-    (both (number (same h x)) (number (but h is_one x)) (count x) (sum_by count xs) (count_by (same h) xs) (count_by (but h is_one) xs) (by (tell h x))
-    (sum_but xs is_one h m n count most (λ t among. few t (is_later x t xs among)) (λ t among. none t (is_later x t xs among))))
+    (both (number (same h x)) (number (but h is_one x)) (count x) (sum_by count xs)
+    (count_by (same h) xs) (count_by (but h is_one) xs) (by (tell h x))
+    (sum_but xs is_one h m n count most (λ t among. few t (is_later x t xs among))
+    (λ t among. none t (is_later x t xs among))))
   where
-    here : (b : Bool) → is_one x ≡ b → x ≢ h → count x ≤ number false * m + number (b && not false) * n
+    here : (b : Bool) → is_one x ≡ b → x ≢ h
+        → count x ≤ number false * m + number (b && not false) * n
     here true is apart = let one = few x (is_first x x xs refl) apart is in omega arith
     here false is apart = let nothing = none x (is_first x x xs refl) apart is in omega arith
 
@@ -126,18 +150,24 @@ sum_but (x ∷ xs) is_one h m n count most few none =
     at_it false one = omega arith
 
     by : Telling h x → count x ≤ number (same h x) * m + number (but h is_one x) * n
-    by (alike is e) = subst (λ b. count x ≤ number b * m + number (is_one x && not b) * n) (sym is) (at_it (is_one x) (subst (λ v. count v ≤ m) e most))
+    by (alike is e) = subst (λ b. count x ≤ number b * m + number (is_one x && not b) * n) (sym is)
+        (at_it (is_one x) (subst (λ v. count v ≤ m) e most))
     by (unlike is apart) =
-        subst (λ b. count x ≤ number b * m + number (is_one x && not b) * n) (sym is) (here (is_one x) refl (λ e. apart (sym e)))
+        subst (λ b. count x ≤ number b * m + number (is_one x && not b) * n) (sym is)
+        (here (is_one x) refl (λ e. apart (sym e)))
 
-    both : (a b c sum k l : ℕ) → c ≤ a * m + b * n → sum ≤ k * m + l * n → c + sum ≤ (a + k) * m + (b + l) * n
+    both : (a b c sum k l : ℕ) → c ≤ a * m + b * n → sum ≤ k * m + l * n
+        → c + sum ≤ (a + k) * m + (b + l) * n
     both a b c sum k l one more = omega arith
 
--- The sum over servers of one side, one of which has m at most and the others n, while those of no side have none.
-pub sum_most_but : (names : List Name) (is_one : Name → Bool) (h : Name) (m n : ℕ) (count : Name → ℕ) → HasMost names is_one h m n count
-    → ((t : Name) → IsAmong names t → is_one t ≡ false → count t ≡ 0) → sum_by count names ≤ m + (count_by is_one names - 1) * n
+-- The sum over servers of one side, one of which has m at most and the others n, while those of no
+-- side have none.
+pub sum_most_but : (names : List Name) (is_one : Name → Bool) (h : Name) (m n : ℕ)
+    (count : Name → ℕ) → HasMost names is_one h m n count → ((t : Name) → IsAmong names t
+    → is_one t ≡ false → count t ≡ 0) → sum_by count names ≤ m + (count_by is_one names - 1) * n
 sum_most_but names is_one h m n count has none =
-    all (count_by is_one names) (count_by (same h) names) (count_by (but h is_one) names) (sum_by count names) (counted_but names is_one h has.there) has.once
+    all (count_by is_one names) (count_by (same h) names) (count_by (but h is_one) names)
+    (sum_by count names) (counted_but names is_one h has.there) has.once
     (sum_but names is_one h m n count has.most has.others (λ t among _. none t among))
   where
     all : (k c r sum : ℕ) → k ≡ c + r → c ≡ 1 → sum ≤ c * m + r * n → sum ≤ m + (k - 1) * n
@@ -147,13 +177,16 @@ sum_most_but names is_one h m n count has none =
         rw rest (omega arith)
 
 -- The sum over two sides, as the ends of a link see them.
-pub sides_most : (names : List Name) (is_one is_other : Name → Bool) (g h : Name) (m n k l : ℕ) (count : Name → ℕ) → HasMost names is_one g m n count
-    → HasMost names is_other h k l count → ((t : Name) → IsAmong names t → is_one t ≡ false → is_other t ≡ false → count t ≡ 0)
-    → sum_by count names ≤ (m + (count_by is_one names - 1) * n) + (k + (count_by is_other names - 1) * l)
+pub sides_most : (names : List Name) (is_one is_other : Name → Bool) (g h : Name) (m n k l : ℕ)
+    (count : Name → ℕ) → HasMost names is_one g m n count → HasMost names is_other h k l count
+    → ((t : Name) → IsAmong names t → is_one t ≡ false → is_other t ≡ false → count t ≡ 0) → sum_by
+    count names ≤ (m + (count_by is_one names - 1) * n) + (k + (count_by is_other names - 1) * l)
 sides_most names is_one is_other g h m n k l count one other none =
     let both = two_sides names is_one is_other count none in
-    let first = sum_most_but names is_one g m n (on_side is_one count) (of_side is_one g m n one) (off_side is_one) in
-    let second = sum_most_but names is_other h k l (on_side is_other count) (of_side is_other h k l other) (off_side is_other) in
+    let first = sum_most_but names is_one g m n (on_side is_one count) (of_side is_one g m n one)
+    (off_side is_one) in
+    let second = sum_most_but names is_other h k l (on_side is_other count)
+    (of_side is_other h k l other) (off_side is_other) in
     omega arith
   where
     on_side : (Name → Bool) → (Name → ℕ) → Name → ℕ
@@ -163,7 +196,8 @@ sides_most names is_one is_other g h m n k l count one other none =
     fewer true n most few = few
     fewer false n most few = omega arith
 
-    of_side : (test : Name → Bool) (x : Name) (m n : ℕ) → HasMost names test x m n count → HasMost names test x m n (on_side test count)
+    of_side : (test : Name → Bool) (x : Name) (m n : ℕ) → HasMost names test x m n count
+        → HasMost names test x m n (on_side test count)
     of_side test x m n has = record {
       there = has.there;
       once = has.once;
@@ -171,7 +205,8 @@ sides_most names is_one is_other g h m n k l count one other none =
       others = λ t among apart is. fewer (test t) (count t) n (has.others t among apart is);
     }
 
-    off_side : (test : Name → Bool) (t : Name) → IsAmong names t → test t ≡ false → on_side test count t ≡ 0
+    off_side : (test : Name → Bool) (t : Name) → IsAmong names t → test t ≡ false
+        → on_side test count t ≡ 0
     off_side test t among is = ap (λ b. cond b (count t) 0) is
 
 -- ---- how many servers pass a test
@@ -181,16 +216,20 @@ AreOnce names = (t : Name) → IsAmong names t → count_by (same t) names ≡ 1
 
 among_counts : (names : List Name) (t : Name) → IsAmong names t → 0 < count_by (same t) names
 among_counts [] t among = absurd (cc among)
-among_counts (x ∷ xs) t among = rw (count-cons (same t) x xs) (by (same t x) (among_counts xs t) among)
+among_counts (x ∷ xs) t among =
+    rw (count-cons (same t) x xs) (by (same t x) (among_counts xs t) among)
   where
-    by : (b : Bool) → (IsAmong xs t → 0 < count_by (same t) xs) → (b || list_any (same t) xs) ≡ true → 0 < number b + count_by (same t) xs
+    by : (b : Bool) → (IsAmong xs t → 0 < count_by (same t) xs) → (b || list_any (same t) xs) ≡ true
+        → 0 < number b + count_by (same t) xs
     by true later there = omega arith
     by false later there = let more = later there in omega arith
 
 once_later : (x : Name) (xs : List Name) → AreOnce (x ∷ xs) → AreOnce xs
-once_later x xs once t among = by (same t x) (sym (count-cons (same t) x xs) ∙ once t (is_later x t xs among)) (among_counts xs t among)
+once_later x xs once t among = by (same t x) (sym (count-cons (same t) x xs)
+    ∙ once t (is_later x t xs among)) (among_counts xs t among)
   where
-    by : (b : Bool) → number b + count_by (same t) xs ≡ 1 → 0 < count_by (same t) xs → count_by (same t) xs ≡ 1
+    by : (b : Bool) → number b + count_by (same t) xs ≡ 1 → 0 < count_by (same t) xs
+        → count_by (same t) xs ≡ 1
     by true all more = absurd (let no_way : ⊥ = omega arith in no_way)
     by false all more = omega arith
 
@@ -210,8 +249,10 @@ not_again x xs once = by (list_any (same x) xs) refl
 abbrev passing : (Name → Bool) → Name → Option (Unit {0})
 passing test server = if test server then Some (tt {0}) else None
 
-no_row : (test : Name → Bool) (x : Name) (names : List Name) → list_any (same x) names ≡ false → row (tabulate names (passing test)) x ≡ None
-no_row test x names none = row-tabulate names (passing test) x ∙ ap (λ b. cond b (passing test x) None) (folds names none)
+no_row : (test : Name → Bool) (x : Name) (names : List Name) → list_any (same x) names ≡ false
+    → row (tabulate names (passing test)) x ≡ None
+no_row test x names none =
+    row-tabulate names (passing test) x ∙ ap (λ b. cond b (passing test x) None) (folds names none)
   where
     folds : (xs : List Name) → list_any (same x) xs ≡ false → list_any (same_fold x) xs ≡ false
     folds [] off = refl
@@ -221,30 +262,38 @@ no_row test x names none = row-tabulate names (passing test) x ∙ ap (λ b. con
         two true one apart = absurd (apart (one_fold x y one))
         two false one apart = refl
 
-        by : Telling x y → (list_any (same x) ys ≡ false → list_any (same_fold x) ys ≡ false) → (same_fold x y || list_any (same_fold x) ys) ≡ false
+        by : Telling x y → (list_any (same x) ys ≡ false → list_any (same_fold x) ys ≡ false)
+            → (same_fold x y || list_any (same_fold x) ys) ≡ false
         by (alike is e) later = absurd (cc (sym (ap (λ b. b || list_any (same x) ys) is) ∙ off))
         by (unlike is apart) later =
-            ap (λ b. b || list_any (same_fold x) ys) (two (same_fold x y) refl apart) ∙ later (sym (ap (λ b. b || list_any (same x) ys) is) ∙ off)
+            ap (λ b. b || list_any (same_fold x) ys) (two (same_fold x y) refl apart)
+            ∙ later (sym (ap (λ b. b || list_any (same x) ys) is) ∙ off)
 
-rows_counted : (test : Name → Bool) (names : List Name) → AreOnce names → len (tabulate names (passing test)) ≡ count_by test names
+rows_counted : (test : Name → Bool) (names : List Name) → AreOnce names
+    → len (tabulate names (passing test)) ≡ count_by test names
 rows_counted test [] once = len-empty fold_cmp (Unit {0})
 rows_counted test (x ∷ xs) once =
-    by (test x) (no_row test x xs (not_again x xs once)) ∙ ap (λ n. number (test x) + n) (rows_counted test xs (once_later x xs once))
+    by (test x) (no_row test x xs (not_again x xs once))
+    ∙ ap (λ n. number (test x) + n) (rows_counted test xs (once_later x xs once))
     ∙ sym (count-cons test x xs)
   where
     by : (b : Bool) → row (tabulate xs (passing test)) x ≡ None
-        → len (put (tabulate xs (passing test)) x (if b then Some (tt {0}) else None)) ≡ number b + len (tabulate xs (passing test))
+        → len (put (tabulate xs (passing test)) x (if b then Some (tt {0}) else None))
+        ≡ number b + len (tabulate xs (passing test))
     by true new =
         len-insert nat_list_cmp_total (tabulate xs (passing test)) x (tt {0})
-        ∙ ap (λ o. cond (is_some o) (len (tabulate xs (passing test))) (len (tabulate xs (passing test)) + 1)) new
+        ∙ ap (λ o. cond (is_some o) (len (tabulate xs (passing test)))
+        (len (tabulate xs (passing test)) + 1)) new
         ∙ omega arith
     by false new =
         len-remove nat_list_cmp_total (tabulate xs (passing test)) x
-        ∙ ap (λ o. cond (is_some o) (len (tabulate xs (passing test)) - 1) (len (tabulate xs (passing test)))) new
+        ∙ ap (λ o. cond (is_some o) (len (tabulate xs (passing test)) - 1)
+        (len (tabulate xs (passing test)))) new
         ∙ omega arith
 
-pub part_is_counted : (settings : List Setting) (names : List Name) → map (λ (x : Setting). x.name) settings ≡ names → AreOnce names
-    → (test : Name → Bool) → length (servers_where settings test) ≡ count_by test names
+pub part_is_counted : (settings : List Setting) (names : List Name)
+    → map (λ (x : Setting). x.name) settings ≡ names → AreOnce names → (test : Name → Bool)
+    → length (servers_where settings test) ≡ count_by test names
 part_is_counted settings names named once test =
     ap (λ folds. length (keys (tabulate folds (passing test)))) named
     ∙ length-map (entries (tabulate names (passing test))) (λ (e : List ℕ × Unit {0}). e.0)
@@ -266,19 +315,25 @@ names_set : (sites : List Site) (names : List Name) → map named_at sites ≡ m
 names_set [] [] named = refl
 names_set [] (name ∷ names) named = absurd (cc named)
 names_set (site ∷ sites) [] named = absurd (cc named)
-names_set (site ∷ sites) (name ∷ names) named = by site.server (ap first_of named) (names_set sites names (ap rest_of named))
+names_set (site ∷ sites) (name ∷ names) named =
+    by site.server (ap first_of named) (names_set sites names (ap rest_of named))
   where
     by : (o : Option View) → option_map (λ (view : View). view.routes.name) o ≡ Some name
         → map (λ (x : Setting). x.name) (filter_map setting_at sites) ≡ names
-        → map (λ (x : Setting). x.name) (cons_option (option_map setting_now o) (filter_map setting_at sites)) ≡ name ∷ names
+        → map (λ (x : Setting). x.name)
+        (cons_option (option_map setting_now o) (filter_map setting_at sites)) ≡ name ∷ names
     by None none later = absurd (cc none)
     by (Some view) is later =
-        ap (λ first. first ∷ map (λ (x : Setting). x.name) (filter_map setting_at sites)) (same_some view.routes.name name is)
+        ap (λ first. first ∷ map (λ (x : Setting). x.name) (filter_map setting_at sites))
+        (same_some view.routes.name name is)
         ∙ ap (λ rest. name ∷ rest) later
 
-pub settings_named : (net : Network) → IsSetUp net → map (λ (x : Setting). x.name) (settings_of net) ≡ net.names
+pub settings_named : (net : Network) → IsSetUp net
+    → map (λ (x : Setting). x.name) (settings_of net) ≡ net.names
 settings_named net set_up = names_set net.sites net.names set_up.named
 
 -- A part has as many servers as names are joined to one of them.
-pub part_counted : (net : Network) → IsSetUp net → (links : List Link) (t : Name) → part_size (settings_of net) links t ≡ count_by (joined links t) net.names
-part_counted net set_up links t = part_is_counted (settings_of net) net.names (settings_named net set_up) set_up.once (joined links t)
+pub part_counted : (net : Network) → IsSetUp net → (links : List Link) (t : Name)
+    → part_size (settings_of net) links t ≡ count_by (joined links t) net.names
+part_counted net set_up links t = part_is_counted (settings_of net) net.names
+    (settings_named net set_up) set_up.once (joined links t)

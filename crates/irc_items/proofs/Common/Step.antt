@@ -1,6 +1,7 @@
--- An item that is given, whatever it is: what is known of the network before it and after it, where its lines bring the servers, and that the network is sound
--- by then.
-use Rattle.std.proofs.Common.{◌≡◌, ◌⊎◌, ℕ, ◌+◌, ◌≤◌, true, None, is_some, List, [], ◌∷◌, ◌++◌, length, sym, ap, subst, ◌∙◌, arith}
+-- An item that is given, whatever it is: what is known of the network before it and after it, where
+-- its lines bring the servers, and that the network is sound by then.
+use Rattle.std.proofs.Common.{◌≡◌, ◌⊎◌, ℕ, ◌+◌, ◌≤◌, true, None, is_some, List, [], ◌∷◌, ◌++◌}
+use Rattle.std.proofs.Common.{length, sym, ap, subst, ◌∙◌, arith}
 use Rattle.std.specs.FinMap.{get}
 use Rattle.std.specs.List.{AllByRecursion}
 use Rattle.std.specs.Option.{option_and_then}
@@ -28,12 +29,16 @@ use Rattle.irc_items.specs.Laws.{RefusalsAreTheWorlds}
 use Rattle.irc_items.specs.OneRoom.{IsOneRoom}
 use Rattle.irc_items.specs.Relayed.{fixed_of, relayed, way_at, way_between}
 use Rattle.irc_items.specs.SetUp.{settings_of, IsSetUp}
-use Rattle.irc_items.specs.Sound.{most_now, most_of_last, owed_now, world_now, AreCalled, HasCalled, IsPlaceOf, IsSound, IsSoundFrom, IsUnderWay}
-use Rattle.irc_items.proofs.Common.ItemsMore.{each_more, most_more, owed_more, taken_more, world_more}
+use Rattle.irc_items.specs.Sound.{most_now, most_of_last, owed_now, world_now, AreCalled, HasCalled}
+use Rattle.irc_items.specs.Sound.{IsPlaceOf, IsSound, IsSoundFrom, IsUnderWay}
+use Rattle.irc_items.proofs.Common.ItemsMore.{each_more, most_more, owed_more, taken_more}
+use Rattle.irc_items.proofs.Common.ItemsMore.{world_more}
 use Rattle.irc_items.specs.Lemmas.SetUpFacts.{servers_named}
 
--- The network has taken an item: no line of it is delivered yet. Else only its servers, its ways and what clients have received may be different.
-pub record HasTaken (net new : Network) (item : Item) (at_homes : List Name) (along : List Link) : Type 0 where
+-- The network has taken an item: no line of it is delivered yet. Else only its servers, its ways
+-- and what clients have received may be different.
+pub record HasTaken (net new : Network) (item : Item) (at_homes : List Name)
+    (along : List Link) : Type 0 where
   pub names : new.names ≡ net.names
   pub homes : new.homes ≡ at_homes
   pub links : new.links ≡ along
@@ -44,7 +49,8 @@ pub record HasTaken (net new : Network) (item : Item) (at_homes : List Name) (al
   pub set_up : IsSetUp new
 
 -- What is known of an item that is given at rest, whatever it is. It does `after` to the world.
-pub record IsStep (net new : Network) (item : Item) (homes : List Name) (after : Stepped) : Type 0 where
+pub record IsStep (net new : Network) (item : Item) (homes : List Name)
+    (after : Stepped) : Type 0 where
   pub sound : IsSound net
   pub rest : is_at_rest net ≡ true
   pub one : IsOneRoom net
@@ -62,21 +68,26 @@ pub record AreStepLaws : Type 0 where
   pub step_keeps : StepKeepsWorld
   pub refusals : RefusalsAreTheWorlds
 
-module _ (laws : AreStepLaws) (net : Network) (sound : IsSound net) (rest : is_at_rest net ≡ true) (one : IsOneRoom net)
-    (holds : IsWorld (settings_of net) (world_now net)) (item : Item) (taken : fault_at_rest net item ≡ None) (within : IsItemWithin item) where
+module _ (laws : AreStepLaws) (net : Network) (sound : IsSound net) (rest : is_at_rest net ≡ true)
+    (one : IsOneRoom net)
+    (holds : IsWorld (settings_of net) (world_now net)) (item : Item)
+    (taken : fault_at_rest net item ≡ None) (within : IsItemWithin item) where
   not_refused : refused (settings_of net) (world_now net) item ≡ None
   not_refused = sym (laws.refusals net item sound rest) ∙ taken
 
-  pub is_step : (new : Network) (homes : List Name) (after : Stepped) → step (settings_of net) (world_now net) item ≡ after
+  pub is_step : (new : Network) (homes : List Name) (after : Stepped)
+      → step (settings_of net) (world_now net) item ≡ after
       → HasTaken net new item homes after.world.links → homes ≡ after.world.homes
-      → ((client : ℕ) → home_in homes client ≡ None → home_in net.homes client ≡ None) → IsStep net new item homes after
+      → ((client : ℕ) → home_in homes client ≡ None → home_in net.homes client ≡ None)
+      → IsStep net new item homes after
   is_step new homes after stepped has_taken homes_after homes_before = record {
     sound = sound;
     rest = rest;
     one = one;
     holds = holds;
     holds_after = subst (λ (st : Stepped). IsWorld (settings_of net) st.world) stepped
-        (laws.step_keeps (settings_of net) (world_now net) item (servers_named net sound.set_up) holds within not_refused);
+        (laws.step_keeps (settings_of net) (world_now net) item
+        (servers_named net sound.set_up) holds within not_refused);
     not_refused = not_refused;
     within = within;
     stepped = stepped;
@@ -87,25 +98,37 @@ module _ (laws : AreStepLaws) (net : Network) (sound : IsSound net) (rest : is_a
 
 -- what stays while the item's lines are delivered, which come along these links from these sources
 abbrev pub step_fixed : Network → List Name → List Link → (Name → Name) → Fixed
-step_fixed net homes links source = record { settings = settings_of net; names = net.names; homes = homes; streams = streams_from links source }
+step_fixed net homes links source = record {
+  settings = settings_of net;
+  names = net.names;
+  homes = homes;
+  streams = streams_from links source;
+}
 
 -- Where the item's lines bring the network: that is what there is to prove of an item.
-pub record ComesTo (net new : Network) (item : Item) (homes : List Name) (after : Stepped) (source : Name → Name) (routes : Name → Known) (asks : Answering)
+pub record ComesTo (net new : Network) (item : Item) (homes : List Name) (after : Stepped)
+    (source : Name → Name) (routes : Name → Known) (asks : Answering)
     : Type 0 where
   pub covers : Covers after.world.links source
   pub right : AreRight (step_fixed net homes after.world.links source) after.world.links routes
   pub called : (x y : Name) → AreLinked after.world.links x y
-      → HasCalled (step_fixed net homes after.world.links source) new x y ⊎ HasCalled (step_fixed net homes after.world.links source) new y x
-  pub under_way : (client : ℕ)
-      → IsUnderWay (step_fixed net homes after.world.links source) asks after.world routes new client (owed_now net client ++ after.lines client)
+      → HasCalled (step_fixed net homes after.world.links source) new x y
+      ⊎ HasCalled (step_fixed net homes after.world.links source) new y x
+  pub under_way : (client : ℕ) → IsUnderWay (step_fixed net homes after.world.links source) asks
+      after.world routes new client (owed_now net client ++ after.lines client)
   pub few : (client : ℕ)
-      → lines_pending (machine (step_fixed net homes after.world.links source) client) (streams_from after.world.links source)
-      (relayed (step_fixed net homes after.world.links source) new client) net.names asks.answered asks.one asks.other
+      → lines_pending (machine (step_fixed net homes after.world.links source) client)
+      (streams_from after.world.links source)
+      (relayed (step_fixed net homes after.world.links source) new client) net.names asks.answered
+      asks.one asks.other
       ≤ most (settings_of net) (world_now net) item
-  pub ways : (x y : Name) → is_some (way_at new x (index_in net.names y)) ≡ linked after.world.links x y
-  pub to_servers : (x : Name) (place : ℕ) → is_some (way_at new x place) ≡ true → IsPlaceOf net place
+  pub ways : (x y : Name)
+      → is_some (way_at new x (index_in net.names y)) ≡ linked after.world.links x y
+  pub to_servers : (x : Name) (place : ℕ) → is_some (way_at new x place) ≡ true
+      → IsPlaceOf net place
 
-module _ {net new : Network} {item : Item} {homes : List Name} {after : Stepped} {source : Name → Name} {routes : Name → Known} {asks : Answering}
+module _ {net new : Network} {item : Item} {homes : List Name} {after : Stepped}
+    {source : Name → Name} {routes : Name → Known} {asks : Answering}
     (only_connected : OnlyConnectedReceive) (given : IsStep net new item homes after)
     (comes : ComesTo net new item homes after source routes asks) where
   abbrev s : Fixed
@@ -121,7 +144,8 @@ module _ {net new : Network} {item : Item} {homes : List Name} {after : Stepped}
 
   world_is : world_now new ≡ after.world
   world_is =
-      ap (λ settings. world_of settings new.items) given.taken.settings ∙ ap (λ items. world_of (settings_of net) items) given.taken.items
+      ap (λ settings. world_of settings new.items) given.taken.settings
+      ∙ ap (λ items. world_of (settings_of net) items) given.taken.items
       ∙ world_more (settings_of net) net.items item ∙ ap (λ (st : Stepped). st.world) given.stepped
 
   owed_is : (client : ℕ) → owed_now new client ≡ owed_now net client ++ after.lines client
@@ -137,12 +161,13 @@ module _ {net new : Network} {item : Item} {homes : List Name} {after : Stepped}
       ∙ ap (λ items. most_of_last (settings_of net) new_world items) given.taken.items
       ∙ most_more (settings_of net) net.items item
 
-  few_now : (client : ℕ)
-      → new.taken + lines_pending (machine s client) s.streams (relayed s new client) new.names asks.answered asks.one asks.other ≤ most_now new
+  few_now : (client : ℕ) → new.taken + lines_pending (machine s client) s.streams
+      (relayed s new client) new.names asks.answered asks.one asks.other ≤ most_now new
   few_now client =
       let here = comes.few client in
       let none = given.taken.taken in
-      let names = ap (λ names. lines_pending (machine s client) s.streams (relayed s new client) names asks.answered asks.one asks.other) given.taken.names in
+      let names = ap (λ names. lines_pending (machine s client) s.streams
+      (relayed s new client) names asks.answered asks.one asks.other) given.taken.names in
       let most = most_is in
       omega arith
 
@@ -154,8 +179,10 @@ module _ {net new : Network} {item : Item} {homes : List Name} {after : Stepped}
     covers = subst (λ links. Covers links source) (sym given.taken.links) comes.covers;
     right = subst (λ links. AreRight s links routes) (sym given.taken.links) comes.right;
     called = called;
-    under_way = λ client. subst (λ w. IsUnderWay s asks w routes new client (owed_now new client)) (sym world_is)
-        (subst (IsUnderWay s asks after.world routes new client) (sym (owed_is client)) (comes.under_way client));
+    under_way = λ client. subst (λ w. IsUnderWay s asks w routes new client (owed_now new client))
+        (sym world_is)
+        (subst (IsUnderWay s asks after.world routes new client) (sym (owed_is client))
+        (comes.under_way client));
     few = few_now;
   }
 
@@ -175,14 +202,17 @@ module _ {net new : Network} {item : Item} {homes : List Name} {after : Stepped}
   nobody_now : (client : ℕ) → home_in new.homes client ≡ None → owed_now new client ≡ []
   nobody_now client none =
       owed_is client
-      ∙ ap (λ more. owed_now net client ++ more) (sym (ap (λ (st : Stepped). st.lines client) given.stepped) ∙ lines_none)
+      ∙ ap (λ more. owed_now net client ++ more)
+      (sym (ap (λ (st : Stepped). st.lines client) given.stepped) ∙ lines_none)
       ∙ ap (λ before. before ++ []) (given.sound.nobody client no_home)
     where
       no_home : home_in net.homes client ≡ None
-      no_home = given.homes_before client (sym (ap (λ homes. home_in homes client) given.taken.homes) ∙ none)
+      no_home = given.homes_before client
+          (sym (ap (λ homes. home_in homes client) given.taken.homes) ∙ none)
 
       lines_none : (step (settings_of net) (world_now net) item).lines client ≡ []
-      lines_none = only_connected (settings_of net) (world_now net) item client given.holds.sound given.not_refused
+      lines_none = only_connected (settings_of net)
+          (world_now net) item client given.holds.sound given.not_refused
           (ap (option_and_then (λ home. get ((world_now net).hall home).clients client))
           (ap (λ homes. home_in homes client) (sym given.sound.homes) ∙ no_home))
 
@@ -193,7 +223,8 @@ module _ {net new : Network} {item : Item} {homes : List Name} {after : Stepped}
     taken = subst (λ settings. AreTaken settings new_world new.items) (sym given.taken.settings)
         (subst (AreTaken (settings_of net) new_world) (sym given.taken.items)
         (taken_more (settings_of net) net.items item given.sound.taken given.not_refused));
-    within = subst (AllByRecursion IsItemWithin) (sym given.taken.items) (each_more IsItemWithin net.items item given.sound.within given.within);
+    within = subst (AllByRecursion IsItemWithin) (sym given.taken.items)
+        (each_more IsItemWithin net.items item given.sound.within given.within);
     links = given.taken.links ∙ sym (ap (λ (w : World). w.links) world_is);
     homes = given.taken.homes ∙ given.homes_after ∙ sym (ap (λ (w : World). w.homes) world_is);
     inboxes = given.taken.inboxes;

@@ -7,7 +7,8 @@ use Rattle.irc_world.specs.Stepping.{leaving_lines, parted, remaining}
 use Rattle.irc_world.specs.World.{Setting, World}
 use Rattle.irc_items.proofs.Common.Ends.{both_ends, chosen_aside, chosen_at}
 
-module _ (settings : List Setting) (world : World) (left : List Link) (l : Link) (apart : AreJoined left l.near l.far → ⊥) where
+module _ (settings : List Setting) (world : World) (left : List Link) (l : Link)
+    (apart : AreJoined left l.near l.far → ⊥) where
   abbrev now : World
   now = (parted settings world left l.near l.far).world
 
@@ -22,13 +23,17 @@ module _ (settings : List Setting) (world : World) (left : List Link) (l : Link)
   back_ends e o (inl (n, f)) = inr (f, n)
   back_ends e o (inr (n, f)) = inl (f, n)
 
-  pub hall_at : (t e o : Name) → HasEnds l e o → AreJoined left t e → now.hall t ≡ remaining settings world left e o
+  pub hall_at : (t e o : Name) → HasEnds l e o → AreJoined left t e
+      → now.hall t ≡ remaining settings world left e o
   hall_at t e o ends on =
-      chosen_at turned left (λ on. apart (sym on)) (λ a b. remaining settings world left a b) (world.hall t) t e o (turned_ends e o ends) on
+      chosen_at turned left (λ on. apart (sym on)) (λ a b. remaining settings world left a b)
+      (world.hall t) t e o (turned_ends e o ends) on
 
-  pub hall_aside : (t : Name) → ((e o : Name) → HasEnds l e o → AreJoined left t e → ⊥) → now.hall t ≡ world.hall t
+  pub hall_aside : (t : Name) → ((e o : Name) → HasEnds l e o → AreJoined left t e → ⊥)
+      → now.hall t ≡ world.hall t
   hall_aside t none =
-      chosen_aside turned left t (λ a b. remaining settings world left a b) (world.hall t) (λ e o ends on. none e o (back_ends e o ends) on)
+      chosen_aside turned left t (λ a b. remaining settings world left a b) (world.hall t)
+      (λ e o ends on. none e o (back_ends e o ends) on)
 
   -- ---- the lines of a client, by what becomes of it on each side
 
@@ -42,6 +47,8 @@ module _ (settings : List Setting) (world : World) (left : List Link) (l : Link)
       → (parted settings world left l.near l.far).lines client ≡ lines_of e o (in_hall client e o)
   lines_at client = both_ends l (λ e o. in_hall client o e ≡ None
       → (parted settings world left l.near l.far).lines client ≡ lines_of e o (in_hall client e o))
-      (λ none. ap (λ c. lines_of l.near l.far (in_hall client l.near l.far) ++ lines_of l.far l.near c) none
+      (λ none. ap (λ c. lines_of l.near l.far (in_hall client l.near l.far)
+      ++ lines_of l.far l.near c) none
       ∙ append-nil (lines_of l.near l.far (in_hall client l.near l.far)))
-      (λ none. ap (λ c. lines_of l.near l.far c ++ lines_of l.far l.near (in_hall client l.far l.near)) none)
+      (λ none. ap (λ c. lines_of l.near l.far c
+      ++ lines_of l.far l.near (in_hall client l.far l.near)) none)

@@ -1,5 +1,8 @@
--- A link is lost: what the server at one end does. It loses all that were behind the link, tells its other neighbours of each, and shows its clients who quits.
-use Rattle.std.proofs.Common.{◌≡◌, ◌≢◌, ℕ, Bool, true, false, cond, Option, Some, None, List, [], ◌∷◌, map, filter, nat_eq, is_some, refl, sym, ◌∙◌, ap, subst, if◌then◌else◌}
+-- A link is lost: what the server at one end does. It loses all that were behind the link, tells
+-- its other neighbours of each, and shows its clients who quits.
+use Rattle.std.proofs.Common.{◌≡◌, ◌≢◌, ℕ, Bool, true, false, cond, Option, Some, None, List, []}
+use Rattle.std.proofs.Common.{◌∷◌, map, filter, nat_eq, is_some, refl, sym, ◌∙◌, ap, subst}
+use Rattle.std.proofs.Common.{if◌then◌else◌}
 use Rattle.std.proofs.lemmas.Bool.{eqb-true}
 use Rattle.std.specs.FinMap.{get, remove}
 use Rattle.std.specs.List.{AllByRecursion}
@@ -12,7 +15,8 @@ use Rattle.irc_merge.specs.Split.{are_distinct, split}
 use Rattle.irc_merge.specs.Lemmas.SplitInTurn.{squits_split}
 use Rattle.irc_relay.specs.Distances.{EndsAreAmong, IsAmong}
 use Rattle.irc_relay.specs.Following.{all_done}
-use Rattle.irc_relay.specs.Links.{Name, Link, joined, links_without, AreJoined, AreLinked, IsForest, IsLeft}
+use Rattle.irc_relay.specs.Links.{Name, Link, joined, links_without, AreJoined, AreLinked, IsForest}
+use Rattle.irc_relay.specs.Links.{IsLeft}
 use Rattle.irc_relay.specs.Lemmas.TellingNames.{Telling, alike, unlike, tell}
 use Rattle.irc_relay.specs.Lemmas.NextHops.{linked_back, linked_joined, linked_other}
 use Rattle.irc_relay.specs.Lemmas.LinkTakenOut.{taken_out, tests_tell}
@@ -53,7 +57,8 @@ use Rattle.irc_items.proofs.Cut.Names.{keys_distinct}
 
 -- ---- a link between a and b that is lost in a world at rest
 
-pub record IsCutAt (s : Fixed) (world : World) (routes : Name → Known) (left : List Link) (a b : Name) : Type 0 where
+pub record IsCutAt (s : Fixed) (world : World) (routes : Name → Known) (left : List Link)
+    (a b : Name) : Type 0 where
   pub fixed : IsFixed s
   pub holds : IsWorld s.settings world
   pub right : AreRight s world.links routes
@@ -61,19 +66,23 @@ pub record IsCutAt (s : Fixed) (world : World) (routes : Name → Known) (left :
   pub is_left : left ≡ links_without world.links a b
 
 -- what a server of a side knows once that has lost these
-pub routes_lost : (s : Fixed) (client : ℕ) (a b : Name) (names : List Name) (w : Part) (t : Name) → w.tree.here t ≡ true
-    → (all_done (play s client) w (losses a b names)).tree.routes t ≡ all_forgotten names (w.tree.routes t)
+pub routes_lost : (s : Fixed) (client : ℕ) (a b : Name) (names : List Name) (w : Part) (t : Name)
+    → w.tree.here t ≡ true → (all_done (play s client) w (losses a b names)).tree.routes t
+    ≡ all_forgotten names (w.tree.routes t)
 unfolding done
 routes_lost s client a b [] w t here = refl
 routes_lost s client a b (name ∷ names) w t here =
     routes_lost s client a b names (done s w (loses a name (split_text a b))) t here
-    ∙ ap (λ c. all_forgotten names (if c then without_server name (w.tree.routes t) else w.tree.routes t)) here
+    ∙ ap (λ c. all_forgotten names (if c then without_server name (w.tree.routes t)
+    else w.tree.routes t)) here
 
-pub all_so : (P Q : Name → Type 0) → ((x : Name) → P x → Q x) → (names : List Name) → AllByRecursion P names → AllByRecursion Q names
+pub all_so : (P Q : Name → Type 0) → ((x : Name) → P x → Q x) → (names : List Name)
+    → AllByRecursion P names → AllByRecursion Q names
 all_so P Q so [] all = tt
 all_so P Q so (name ∷ names) all = (so name all.0, all_so P Q so names all.1)
 
-module _ {s : Fixed} {world : World} {routes : Name → Known} {left : List Link} {a b : Name} (cut : IsCutAt s world routes left a b) where
+module _ {s : Fixed} {world : World} {routes : Name → Known} {left : List Link} {a b : Name}
+    (cut : IsCutAt s world routes left a b) where
   pub forest : IsForest world.links
   forest = cut.holds.sound.forest
 
@@ -87,7 +96,8 @@ module _ {s : Fixed} {world : World} {routes : Name → Known} {left : List Link
   b_among = all_among b a (linked_back world.links a b cut.linked_ends)
 
   pub rest : IsLeft left world.links a b
-  rest = subst (λ ls. IsLeft ls world.links a b) (sym cut.is_left) (taken_out world.links a b forest cut.linked_ends)
+  rest = subst (λ ls. IsLeft ls world.links a b) (sym cut.is_left)
+      (taken_out world.links a b forest cut.linked_ends)
 
   -- ---- who is linked without that link
 
@@ -97,7 +107,8 @@ module _ {s : Fixed} {world : World} {routes : Name → Known} {left : List Link
   pub linked_before : (t u : Name) → AreLinked left t u → AreLinked world.links t u
   linked_before = cut_off.before
 
-  pub linked_still : (t u : Name) → (t ≡ a → u ≡ b → ⊥) → (t ≡ b → u ≡ a → ⊥) → AreLinked world.links t u → AreLinked left t u
+  pub linked_still : (t u : Name) → (t ≡ a → u ≡ b → ⊥) → (t ≡ b → u ≡ a → ⊥)
+      → AreLinked world.links t u → AreLinked left t u
   linked_still t u forth back near = elim (cut_off.after t u near) [
     | stays there ↦ there
     | goes from to ↦ absurd (forth from to)
@@ -111,7 +122,8 @@ module _ {s : Fixed} {world : World} {routes : Name → Known} {left : List Link
 
   pub lost_are : lost ≡ servers_on_side s.settings left b
   lost_are =
-      behind_is_that_side s world.links routes a b cut.fixed forest all_among cut.right cut.linked_ends
+      behind_is_that_side s world.links routes a b cut.fixed forest all_among cut.right
+      cut.linked_ends
       ∙ ap (λ ls. servers_on_side s.settings ls b) (sym cut.is_left)
 
   pub lost_once : are_distinct lost ≡ true
@@ -120,12 +132,14 @@ module _ {s : Fixed} {world : World} {routes : Name → Known} {left : List Link
   pub lost_beyond : AllByRecursion (λ x. AreJoined left x b) lost
   lost_beyond =
       subst (AllByRecursion (λ x. AreJoined left x b)) (sym lost_are)
-      (all_so (λ x. joined left b x ≡ true) (λ x. AreJoined left x b) (λ x is. sym ((tests_tell left b x x).1.0 is)) (servers_on_side s.settings left b)
+      (all_so (λ x. joined left b x ≡ true) (λ x. AreJoined left x b)
+      (λ x is. sym ((tests_tell left b x x).1.0 is)) (servers_on_side s.settings left b)
       (all_pass (map (λ (own : Setting). own.name) s.settings) (joined left b)))
 
   pub lost_are_others : AllByRecursion (λ x. x ≢ a) lost
   lost_are_others =
-      all_so (λ x. AreJoined left x b) (λ x. x ≢ a) (λ x on is. rest.parted (subst (λ v. AreJoined left v b) is on)) lost lost_beyond
+      all_so (λ x. AreJoined left x b) (λ x. x ≢ a)
+      (λ x on is. rest.parted (subst (λ v. AreJoined left v b) is on)) lost lost_beyond
 
   -- while the link is there they are joined to a
   pub lost_joined : (x : Name) → AreJoined left x b → AreJoined world.links x a
@@ -135,21 +149,25 @@ module _ {s : Fixed} {world : World} {routes : Name → Known} {left : List Link
   named_a = cut.right.named a a_among
 
 -- what it is then, and what it puts out
-pub record IsParted (s : Fixed) (world : World) (routes : Name → Known) (left : List Link) (a b : Name) (view : View) (now : Served) : Type 0 where
+pub record IsParted (s : Fixed) (world : World) (routes : Name → Known) (left : List Link)
+    (a b : Name) (view : View) (now : Served) : Type 0 where
   pub peers : now.view.peers ≡ view.peers
   pub knows : now.view.routes ≡ (cut_after s world routes left a b).tree.routes a
   pub end_gone : get now.view.ends (number s b) ≡ None
   pub ends_stay : (k : ℕ) → k ≢ number s b → get now.view.ends k ≡ get view.ends k
   pub clients : now.view.clients ≡ view.clients
-  pub room : now.view.room ≡ of_home a (split (split_text a b) (servers_on_side s.settings left b) (world.hall a).room)
-  pub told : (u : Name) → AreLinked left a u
-      → lines_on (number s u) now.out ≡ map (λ x. line_text (squit_parts a x (split_text a b))) (names_behind (routes a) (number s b))
+  pub room : now.view.room ≡ of_home a
+      (split (split_text a b) (servers_on_side s.settings left b) (world.hall a).room)
+  pub told : (u : Name) → AreLinked left a u → lines_on (number s u) now.out ≡ map
+      (λ x. line_text (squit_parts a x (split_text a b))) (names_behind (routes a) (number s b))
   pub untold : (u : Name) → (AreLinked left a u → ⊥) → lines_on (number s u) now.out ≡ []
   pub shown : (client : ℕ) → lines_to client now.out
-      ≡ (if is_home_of s.homes a client then leaving_lines s.settings left a b (world.hall a).room (get (world.hall a).clients client) else [])
+      ≡ (if is_home_of s.homes a client then leaving_lines s.settings left a b (world.hall a).room
+      (get (world.hall a).clients client) else [])
   pub closes_none : closings now.out ≡ []
 
-module _ {s : Fixed} {world : World} {routes : Name → Known} {left : List Link} {a b : Name} (cut : IsCutAt s world routes left a b) (view : View)
+module _ {s : Fixed} {world : World} {routes : Name → Known} {left : List Link} {a b : Name}
+    (cut : IsCutAt s world routes left a b) (view : View)
     (fits : Fits s a (part_of s world routes a) view) where
   abbrev k : ℕ
   k = number s b
@@ -168,8 +186,10 @@ module _ {s : Fixed} {world : World} {routes : Name → Known} {left : List Link
   met : (u : Name) → AreLinked world.links a u → HasEnd view (number s u) u
   met u near = met_end view (number s u) u
       (fits.ends u (all_among cut u a (linked_back world.links a u near))
-      ∙ ap (λ c. if c then Some (if joined world.links u a then Some u else None) else None) ((tests_tell world.links a u u).2.1 near)
-      ∙ ap (λ c. Some (if c then Some u else None)) ((tests_tell world.links u a u).1.1 (sym (linked_joined world.links a u near))))
+      ∙ ap (λ c. if c then Some (if joined world.links u a then Some u else None) else None)
+      ((tests_tell world.links a u u).2.1 near)
+      ∙ ap (λ c. Some (if c then Some u else None))
+      ((tests_tell world.links u a u).1.1 (sym (linked_joined world.links a u near))))
 
   own : view.routes.name ≡ a
   own = ap (λ (known : Known). known.name) fits.routes ∙ named_a cut
@@ -178,14 +198,16 @@ module _ {s : Fixed} {world : World} {routes : Name → Known} {left : List Link
   loses_them =
       let its_end = met b cut.linked_ends in
       ap (lost_behind view k) its_end.there
-      ∙ ap (λ o. option_map_or (λ far. losses view.routes.name far (names_behind view.routes k)) o []) its_end.named
+      ∙ ap (λ o. option_map_or
+      (λ far. losses view.routes.name far (names_behind view.routes k)) o []) its_end.named
       ∙ (λ i. losses (own i) b (names_behind (fits.routes i) k))
 
   abbrev first : Served
   first = serving view a b k (routes a) room []
 
   at_first : in_silence view ≡ first
-  at_first = λ i. record { view = record view { routes = fits.routes i; room = fits.room i }; out = [] }
+  at_first =
+      λ i. record { view = record view { routes = fits.routes i; room = fits.room i }; out = [] }
 
   abbrev so : Served
   so = deeds_told (Some k) (losses a b gone) first
@@ -204,14 +226,17 @@ module _ {s : Fixed} {world : World} {routes : Name → Known} {left : List Link
 
   -- ---- its room and its routes
 
-  room_left : after_deeds room (losses a b gone) ≡ split (split_text a b) (servers_on_side s.settings left b) room
-  room_left = ap (λ names. after_deeds room (losses a b names)) (lost_are cut) ∙ room_lost squits_split s.settings left a b room well
+  room_left : after_deeds room (losses a b gone) ≡ split (split_text a b)
+      (servers_on_side s.settings left b) room
+  room_left = ap (λ names. after_deeds room (losses a b names)) (lost_are cut)
+      ∙ room_lost squits_split s.settings left a b room well
 
   numbered : IsNumbered (routes a)
   numbered = cut.right.numbered a (a_among cut)
 
   forgets_them : (closed so).view.routes ≡ all_forgotten gone (routes a)
-  forgets_them = ap (λ (v : View). without_link k v.routes) has.view_is ∙ nobody_behind (routes a) k numbered
+  forgets_them =
+      ap (λ (v : View). without_link k v.routes) has.view_is ∙ nobody_behind (routes a) k numbered
 
   -- ---- what it puts out on its links
 
@@ -220,11 +245,14 @@ module _ {s : Fixed} {world : World} {routes : Name → Known} {left : List Link
     where
       by : (c : Bool) → nat_eq k (number s u) ≡ c → c ≡ false
       by false is = refl
-      by true is = absurd (two (sym (one_place s.names b u (b_among cut) (eqb-true k (number s u) is))))
+      by true is =
+          absurd (two (sym (one_place s.names b u (b_among cut) (eqb-true k (number s u) is))))
 
-  on_met : (u : Name) → u ≢ b → filter (λ n. nat_eq n (number s u)) (but (Some k) (met_links view.ends))
+  on_met : (u : Name) → u ≢ b
+      → filter (λ n. nat_eq n (number s u)) (but (Some k) (met_links view.ends))
       ≡ (if option_map_or is_met (get view.ends (number s u)) false then number s u ∷ [] else [])
-  on_met u two = but_another (number s u) k (not_back u two) (met_links view.ends) ∙ among_met (number s u) view.ends
+  on_met u two = but_another (number s u) k (not_back u two) (met_links view.ends)
+      ∙ among_met (number s u) view.ends
 
   told_it : (u : Name) → AreLinked left a u
       → lines_on (number s u) so.out ≡ map (λ x. line_text (squit_parts a x (split_text a b))) gone
@@ -242,30 +270,43 @@ module _ {s : Fixed} {world : World} {routes : Name → Known} {left : List Link
   told_nobody_else : (u : Name) → (AreLinked left a u → ⊥) → lines_on (number s u) so.out ≡ []
   told_nobody_else u apart = has.lines (number s u) false (by (tell u b))
     where
-      no_end : u ≢ b → (o : Option End) → get view.ends (number s u) ≡ o → option_map_or is_met o false ≡ false
+      no_end : u ≢ b → (o : Option End) → get view.ends (number s u) ≡ o
+          → option_map_or is_met o false ≡ false
       no_end two None there = refl
       no_end two (Some end) there =
-          absurd (apart (linked_still cut a u (λ e f. two f) (λ e f. linked_other world.links a b (forest cut) cut.linked_ends e)
-          (end_linked s world.links a (part_of s world routes a) view fits (linked_as_itself world.links a) u end there)))
+          absurd (apart (linked_still cut a u (λ e f. two f)
+          (λ e f. linked_other world.links a b (forest cut) cut.linked_ends e)
+          (end_linked s world.links a (part_of s world routes a) view fits
+          (linked_as_itself world.links a) u end there)))
 
-      by : Telling u b → filter (λ n. nat_eq n (number s u)) (but (Some k) (met_links view.ends)) ≡ []
-      by (alike _ e) = ap (λ v. filter (λ n. nat_eq n (number s v)) (but (Some k) (met_links view.ends))) e ∙ but_itself k (met_links view.ends)
+      by : Telling u b
+          → filter (λ n. nat_eq n (number s u)) (but (Some k) (met_links view.ends)) ≡ []
+      by (alike _ e) =
+          ap (λ v. filter (λ n. nat_eq n (number s v)) (but (Some k) (met_links view.ends))) e
+          ∙ but_itself k (met_links view.ends)
       by (unlike _ two) =
-          on_met u two ∙ ap (λ c. if c then number s u ∷ [] else []) (no_end two (get view.ends (number s u)) refl)
+          on_met u two ∙ ap (λ c. if c then number s u ∷ [] else [])
+          (no_end two (get view.ends (number s u)) refl)
 
   -- ---- what it shows
 
   shown_there : (client : ℕ) → staying_sees (losses a b gone) room (get view.clients client)
-      ≡ (if is_home_of s.homes a client then leaving_lines s.settings left a b room (get (world.hall a).clients client) else [])
+      ≡ (if is_home_of s.homes a client
+      then leaving_lines s.settings left a b room (get (world.hall a).clients client) else [])
   shown_there client =
-      ap (staying_sees (losses a b gone) room) (ap (λ clients. get clients client) fits.clients ∙ get-kept (world.hall a).clients (is_home_of s.homes a) client)
+      ap (staying_sees (losses a b gone) room) (ap (λ clients. get clients client) fits.clients
+      ∙ get-kept (world.hall a).clients (is_home_of s.homes a) client)
       ∙ by (is_home_of s.homes a client)
     where
-      by : (c : Bool) → staying_sees (losses a b gone) room (cond c (get (world.hall a).clients client) None)
-          ≡ (if c then leaving_lines s.settings left a b room (get (world.hall a).clients client) else [])
+      by : (c : Bool)
+          → staying_sees (losses a b gone) room (cond c (get (world.hall a).clients client) None)
+          ≡ (if c then leaving_lines s.settings left a b room (get (world.hall a).clients client)
+          else [])
       by true =
-          ap (λ names. staying_sees (losses a b names) room (get (world.hall a).clients client)) (lost_are cut)
-          ∙ leaving_seen squits_split s.settings left a b room well (get (world.hall a).clients client)
+          ap (λ names. staying_sees (losses a b names) room (get (world.hall a).clients client))
+          (lost_are cut)
+          ∙ leaving_seen squits_split s.settings left a b room well
+          (get (world.hall a).clients client)
       by false = refl
 
   -- ----
@@ -276,7 +317,8 @@ module _ {s : Fixed} {world : World} {routes : Name → Known} {left : List Link
   closed_is : IsParted s world routes left a b view (closed so)
   closed_is = record {
     peers = ap (λ (v : View). v.peers) has.view_is;
-    knows = forgets_them ∙ sym (routes_lost s 0 a b gone (cut_side world routes left a) a ((tests_tell left a a a).1.1 refl));
+    knows = forgets_them ∙ sym (routes_lost s 0 a b gone (cut_side world routes left a) a
+        ((tests_tell left a a a).1.1 refl));
     end_gone = ends_now k ∙ ap (λ c. cond c None (get view.ends k)) (same_number-refl k);
     ends_stay = λ q two. ends_now q ∙ by q two (same_number q k) refl;
     clients = ap (λ (v : View). v.clients) has.view_is;
@@ -287,7 +329,8 @@ module _ {s : Fixed} {world : World} {routes : Name → Known} {left : List Link
     closes_none = has.closes;
   }
     where
-      by : (q : ℕ) → q ≢ k → (c : Bool) → same_number q k ≡ c → cond c None (get view.ends q) ≡ get view.ends q
+      by : (q : ℕ) → q ≢ k → (c : Bool) → same_number q k ≡ c
+          → cond c None (get view.ends q) ≡ get view.ends q
       by q two true one = absurd (two (one_number q k one))
       by q two false other = refl
 

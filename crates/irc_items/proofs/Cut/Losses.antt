@@ -1,6 +1,7 @@
--- What a side comes to by servers that it loses: it knows them no more, and their users have quit. Each client of its own servers stays, and has seen just
--- those quits.
-use Rattle.std.proofs.Common.{◌≡◌, ℕ, Bool, true, false, cond, not, ◌&&◌, ◌||◌, Option, Some, None, List, [], ◌∷◌, ◌++◌, append-nil, refl, sym, ◌∙◌, ap, if◌then◌else◌}
+-- What a side comes to by servers that it loses: it knows them no more, and their users have quit.
+-- Each client of its own servers stays, and has seen just those quits.
+use Rattle.std.proofs.Common.{◌≡◌, ℕ, Bool, true, false, cond, not, ◌&&◌, ◌||◌, Option, Some, None}
+use Rattle.std.proofs.Common.{List, [], ◌∷◌, ◌++◌, append-nil, refl, sym, ◌∙◌, ap, if◌then◌else◌}
 use Rattle.std.specs.Cmp.Lexicographic.{bytes_decides}
 use Rattle.std.specs.FinMap.{get}
 use Rattle.std.specs.List.{list_any}
@@ -33,42 +34,52 @@ pub record IsConfigured (old new : Known) : Type 0 where
   pub info : new.info ≡ old.info
   pub created : new.created ≡ old.created
 
-lost_configured : (tree : Tree) (name : List ℕ) (t : Name) → IsConfigured (tree.routes t) (lost_at tree name t)
+lost_configured : (tree : Tree) (name : List ℕ) (t : Name)
+    → IsConfigured (tree.routes t) (lost_at tree name t)
 lost_configured tree name t = by (tree.here t)
   where
-    by : (b : Bool) → IsConfigured (tree.routes t) (if b then without_server name (tree.routes t) else tree.routes t)
+    by : (b : Bool) → IsConfigured (tree.routes t) (if b then without_server name (tree.routes t)
+        else tree.routes t)
     by true = record { info = refl; created = refl }
     by false = record { info = refl; created = refl }
 
 -- a client of one server is none of another
-another_home : (homes : List Name) (name t : Name) (q : ℕ) → same t name ≡ false → is_home_of homes t q ≡ true → is_home_of homes name q ≡ false
+another_home : (homes : List Name) (name t : Name) (q : ℕ) → same t name ≡ false
+    → is_home_of homes t q ≡ true → is_home_of homes name q ≡ false
 another_home homes name t q two = by (home_in homes q)
   where
-    by : (o : Option Name) → option_map_or (same t) o false ≡ true → option_map_or (same name) o false ≡ false
+    by : (o : Option Name) → option_map_or (same t) o false ≡ true
+        → option_map_or (same name) o false ≡ false
     by None here = refl
-    by (Some home) here = same_unless name home (λ e. cc (sym two ∙ same_when t name ((bytes_decides t home).0 here ∙ sym e)))
+    by (Some home) here = same_unless name home
+        (λ e. cc (sym two ∙ same_when t name ((bytes_decides t home).0 here ∙ sym e)))
 
 -- so it stays when that is lost
-client_stays : (homes : List Name) (name t : Name) (clients : Clients) (q : ℕ) → same t name ≡ false → is_home_of homes t q ≡ true
-    → get (clients_elsewhere homes name clients) q ≡ get clients q
+client_stays : (homes : List Name) (name t : Name) (clients : Clients) (q : ℕ) → same t name ≡ false
+    → is_home_of homes t q ≡ true → get (clients_elsewhere homes name clients) q ≡ get clients q
 client_stays homes name t clients q two home =
     get-kept clients (λ client. not (is_home_of homes name client)) q
     ∙ ap (λ b. cond (not b) (get clients q) None) (another_home homes name t q two home)
 
 -- ---- one after another
 
-pub losses_are : (own far : Name) (names : List Name) → losses own far names ≡ squits own (split_text own far) names
+pub losses_are : (own far : Name) (names : List Name)
+    → losses own far names ≡ squits own (split_text own far) names
 losses_are own far [] = refl
-losses_are own far (name ∷ names) = ap (λ deeds. loses own name (split_text own far) ∷ deeds) (losses_are own far names)
+losses_are own far (name ∷ names) =
+    ap (λ deeds. loses own name (split_text own far) ∷ deeds) (losses_are own far names)
 
 -- a side before it loses these servers, and afterwards
-pub record HasLost (s : Fixed) (own far : Name) (names : List Name) (before after : Part) : Type 0 where
+pub record HasLost (s : Fixed) (own far : Name) (names : List Name)
+    (before after : Part) : Type 0 where
   pub forest : after.tree.forest ≡ before.tree.forest
   pub here : after.tree.here ≡ before.tree.here
-  pub knows : (x : Name) → after.tree.knows x ≡ (before.tree.knows x && not (list_any (same x) names))
+  pub knows : (x : Name)
+      → after.tree.knows x ≡ (before.tree.knows x && not (list_any (same x) names))
   pub configured : (t : Name) → IsConfigured (before.tree.routes t) (after.tree.routes t)
   pub room : after.hall.room ≡ after_deeds before.hall.room (losses own far names)
-  pub clients : (t : Name) (q : ℕ) → list_any (same t) names ≡ false → is_home_of s.homes t q ≡ true → get after.hall.clients q ≡ get before.hall.clients q
+  pub clients : (t : Name) (q : ℕ) → list_any (same t) names ≡ false → is_home_of s.homes t q ≡ true
+      → get after.hall.clients q ≡ get before.hall.clients q
 
 and_all : (b : Bool) → b ≡ (b && true)
 and_all true = refl
@@ -91,7 +102,8 @@ nothing_yet room (Some (Registering pending)) = refl
 nothing_yet room (Some (Registered nick)) = refl
 
 -- all servers beyond a link are lost: what is left of a room, and what its clients see
-module _ (squits : SquitsSplit) (settings : List Setting) (left : List Link) (a b : Name) (room : Room) (well : IsWellFormed room) where
+module _ (squits : SquitsSplit) (settings : List Setting) (left : List Link) (a b : Name)
+    (room : Room) (well : IsWellFormed room) where
   abbrev gone : List Name
   gone = servers_on_side settings left b
 
@@ -101,21 +113,26 @@ module _ (squits : SquitsSplit) (settings : List Setting) (left : List Link) (a 
   pub room_lost : after_deeds room (losses a b gone) ≡ split (split_text a b) gone room
   room_lost = ap (after_deeds room) (losses_are a b gone) ∙ split_so.room_left
 
-  pub leaving_seen : (o : Option Client) → staying_sees (losses a b gone) room o ≡ leaving_lines settings left a b room o
+  pub leaving_seen : (o : Option Client)
+      → staying_sees (losses a b gone) room o ≡ leaving_lines settings left a b room o
   leaving_seen None = refl
   leaving_seen (Some (Registering pending)) = refl
-  leaving_seen (Some (Registered nick)) = ap (shown_by_all nick room) (losses_are a b gone) ∙ split_so.shown nick
+  leaving_seen (Some (Registered nick)) = ap (shown_by_all nick room) (losses_are a b gone)
+      ∙ split_so.shown nick
 
 sees_first : (server name text : List ℕ) (deeds : List Deed) (room : Room) (o : Option Client)
-    → client_sees (loses server name text) room o ++ staying_sees deeds (after_deed room (loses server name text)) o
+    → client_sees (loses server name text) room o
+    ++ staying_sees deeds (after_deed room (loses server name text)) o
     ≡ staying_sees (loses server name text ∷ deeds) room o
 sees_first server name text deeds room None = refl
 sees_first server name text deeds room (Some (Registering pending)) = refl
 sees_first server name text deeds room (Some (Registered nick)) =
-    ap (λ lines. lines ++ shown_by_all nick (after_deed room (loses server name text)) deeds) (append-nil (shown_by nick room (loses server name text)))
+    ap (λ lines. lines ++ shown_by_all nick (after_deed room (loses server name text)) deeds)
+    (append-nil (shown_by nick room (loses server name text)))
 
 module _ (s : Fixed) (client : ℕ) (own far : Name) where
-  pub all_lost : (names : List Name) (w : Part) → HasLost s own far names w (all_done (play s client) w (losses own far names))
+  pub all_lost : (names : List Name) (w : Part)
+      → HasLost s own far names w (all_done (play s client) w (losses own far names))
   unfolding done
   all_lost [] w = record {
     forest = refl;
@@ -130,19 +147,25 @@ module _ (s : Fixed) (client : ℕ) (own far : Name) where
       record {
         forest = rest.forest;
         here = rest.here;
-        knows = λ x. rest.knows x ∙ and_in_turn (w.tree.knows x) (same x name) (list_any (same x) names);
+        knows = λ x. rest.knows x
+            ∙ and_in_turn (w.tree.knows x) (same x name) (list_any (same x) names);
         configured = λ t.
             let first = lost_configured w.tree name t in
-            record { info = (rest.configured t).info ∙ first.info; created = (rest.configured t).created ∙ first.created };
+            record {
+              info = (rest.configured t).info ∙ first.info;
+              created = (rest.configured t).created ∙ first.created;
+            };
         room = rest.room;
         clients = λ t q two home.
             let parts = neither (same t name) (list_any (same t) names) two in
-            rest.clients t q parts.1 home ∙ client_stays s.homes name t w.hall.clients q parts.0 home;
+            rest.clients t q parts.1 home
+            ∙ client_stays s.homes name t w.hall.clients q parts.0 home;
       }
 
   -- a client whose home is not lost sees just the deeds
-  pub seen_lost : (t : Name) → is_home_of s.homes t client ≡ true → (names : List Name) → list_any (same t) names ≡ false → (w : Part)
-      → all_seen (play s client) t w (losses own far names) ≡ staying_sees (losses own far names) w.hall.room (get w.hall.clients client)
+  pub seen_lost : (t : Name) → is_home_of s.homes t client ≡ true → (names : List Name) → list_any
+      (same t) names ≡ false → (w : Part) → all_seen (play s client) t w (losses own far names)
+      ≡ staying_sees (losses own far names) w.hall.room (get w.hall.clients client)
   unfolding done
   seen_lost t home [] two w = nothing_yet w.hall.room (get w.hall.clients client)
   seen_lost t home (name ∷ names) two w =
@@ -152,5 +175,6 @@ module _ (s : Fixed) (client : ℕ) (own far : Name) where
       let first : List (List ℕ) = client_sees deed w.hall.room (get w.hall.clients client) in
       ap (λ b. (if b then first else []) ++ all_seen (play s client) t (done s w deed) later) home
       ∙ ap (λ lines. first ++ lines) (seen_lost t home names parts.1 (done s w deed))
-      ∙ ap (λ o. first ++ staying_sees later (after_deed w.hall.room deed) o) (client_stays s.homes name t w.hall.clients client parts.0 home)
+      ∙ ap (λ o. first ++ staying_sees later (after_deed w.hall.room deed) o)
+      (client_stays s.homes name t w.hall.clients client parts.0 home)
       ∙ sees_first own name (split_text own far) later w.hall.room (get w.hall.clients client)

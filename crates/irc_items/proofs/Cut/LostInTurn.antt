@@ -1,5 +1,8 @@
--- A server loses others all at once, one after another: what it is afterwards, and what it puts out.
-use Rattle.std.proofs.Common.{◌≡◌, ◌≢◌, ℕ, Bool, true, false, Option, Some, None, List, [], ◌∷◌, ◌++◌, append_assoc, filter, map, nat_eq, refl, sym, ◌∙◌, ap, subst, if◌then◌else◌}
+-- A server loses others all at once, one after another: what it is afterwards, and what it puts
+-- out.
+use Rattle.std.proofs.Common.{◌≡◌, ◌≢◌, ℕ, Bool, true, false, Option, Some, None, List, [], ◌∷◌}
+use Rattle.std.proofs.Common.{◌++◌, append_assoc, filter, map, nat_eq, refl, sym, ◌∙◌, ap, subst}
+use Rattle.std.proofs.Common.{if◌then◌else◌}
 use Rattle.std.proofs.lemmas.List.Elements.{filter_map-append}
 use Rattle.std.specs.FinMap.{get}
 use Rattle.std.specs.List.{AllByRecursion}
@@ -10,7 +13,8 @@ use Rattle.irc_room.specs.InTurn.{after_all, EachInTurn}
 use Rattle.irc_room.specs.Invitations.{of_home}
 use Rattle.irc_room.specs.OtherInvitations.{AreAlike}
 use Rattle.irc_room.specs.Room.{Room, IsWellFormed}
-use Rattle.irc_room.specs.Lemmas.AlikeLaw.{alike_have_alike, alike_stay_alike, alike_take_alike, home_is_alike}
+use Rattle.irc_room.specs.Lemmas.AlikeLaw.{alike_have_alike, alike_stay_alike, alike_take_alike}
+use Rattle.irc_room.specs.Lemmas.AlikeLaw.{home_is_alike}
 use Rattle.irc_room.specs.Lemmas.HomeLaw.{home_follows}
 use Rattle.irc_room.specs.Lemmas.HomeRooms.{home_is_well_formed}
 use Rattle.irc_merge.specs.Deeds.{Deed, loses, after_deed, after_deeds, shown_by}
@@ -41,9 +45,11 @@ use Rattle.irc_items.proofs.Cut.Losses.{nothing_yet, staying_sees}
 
 -- ---- no link is closed by it
 
-closed_before : (one other : List Sent) → closings other ≡ [] → closings (one ++ other) ≡ closings one
+closed_before : (one other : List Sent) → closings other ≡ []
+    → closings (one ++ other) ≡ closings one
 closed_before one other none =
-    filter_map-append reason_of one other ∙ ap (λ l. closings one ++ l) none ∙ append_nil (closings one)
+    filter_map-append reason_of one other ∙ ap (λ l. closings one ++ l) none
+    ∙ append_nil (closings one)
 
 -- ---- what a client sees of some deeds
 
@@ -53,7 +59,8 @@ seen_first room deed (Some (Registering pending)) = []
 seen_first room deed (Some (Registered nick)) = shown_by nick room deed
 
 seen_in_turn : (room : Room) (deed : Deed) (deeds : List Deed) (client : Option Client)
-    → seen_first room deed client ++ staying_sees deeds (after_deed room deed) client ≡ staying_sees (deed ∷ deeds) room client
+    → seen_first room deed client ++ staying_sees deeds (after_deed room deed) client
+    ≡ staying_sees (deed ∷ deeds) room client
 seen_in_turn room deed deeds None = refl
 seen_in_turn room deed deeds (Some (Registering pending)) = refl
 seen_in_turn room deed deeds (Some (Registered nick)) = refl
@@ -80,7 +87,8 @@ module _ (view : View) (t far : Name) (k : ℕ) where
 
   -- ---- one server is lost
 
-  module _ (known : Known) (room : Room) (out : List Sent) (name : Name) (own : known.name ≡ t) (two : name ≢ t) (well : IsWellFormed room) where
+  module _ (known : Known) (room : Room) (out : List Sent) (name : Name) (own : known.name ≡ t)
+      (two : name ≢ t) (well : IsWellFormed room) where
     abbrev deed : Deed
     deed = loses t name text
 
@@ -94,23 +102,29 @@ module _ (view : View) (t far : Name) (k : ℕ) where
     rooms = home_is_alike t room
 
     same_quits : own_quits ≡ quits
-    same_quits = ap (λ users. quits_of text (users_at name (record (of_home t room) { users = users }))) rooms.users
+    same_quits = ap (λ users. quits_of text
+        (users_at name (record (of_home t room) { users = users }))) rooms.users
 
     counted : EachInTurn (IsCounted (moment known room)) room quits
     counted =
-        lost_counted (moment known room) t name own two room text (users_at name room) (lost_are_of name room well) (quits_do room name text well)
+        lost_counted (moment known room) t name own two room text (users_at name room)
+        (lost_are_of name room well) (quits_do room name text well)
 
     room_afterwards : after_all (of_home t room) quits ≡ of_home t (after_deed room deed)
     unfolding after_deed
     room_afterwards =
-        sym (home_follows_deed home_follows t room deed well tt ∙ ap (after_all (of_home t room)) same_quits)
+        sym (home_follows_deed home_follows t room deed well tt
+        ∙ ap (after_all (of_home t room)) same_quits)
 
-    loss_view : (deed_told (Some k) deed (serving known room out)).view ≡ moment (without_server name known) (after_deed room deed)
+    loss_view : (deed_told (Some k) deed (serving known room out)).view
+        ≡ moment (without_server name known) (after_deed room deed)
     unfolding deed_told
     loss_view =
-        ap (λ effects. without_row name (all_changed effects (serving known room out)).view) same_quits
+        ap (λ effects. without_row name (all_changed effects (serving known room out)).view)
+        same_quits
         ∙ ap (without_row name)
-        (all_view (moment known room) quits (of_home t room) room out rooms (quits_calm text (users_at name room)) counted)
+        (all_view (moment known room) quits (of_home t room) room out rooms
+        (quits_calm text (users_at name room)) counted)
         ∙ ap (λ r. record view { routes = without_server name known; room = r }) room_afterwards
 
     loss_lines : (j : ℕ) → lines_on j (deed_told (Some k) deed (serving known room out)).out
@@ -118,36 +132,44 @@ module _ (view : View) (t far : Name) (k : ℕ) where
     unfolding deed_told
     loss_lines j =
         let before = all_changed own_quits (serving known room out) in
-        lines_behind j before.out (on_links (but (Some k) (met_links before.view.ends)) (squit_parts t name text))
+        lines_behind j before.out
+        (on_links (but (Some k) (met_links before.view.ends)) (squit_parts t name text))
         ∙ (λ i. none_by_all j own_quits (serving known room out) i
-        ++ lines_on j (on_links (but (Some k) (met_links (ends_by_all own_quits (serving known room out) i))) (squit_parts t name text)))
+        ++ lines_on j (on_links (but (Some k) (met_links
+        (ends_by_all own_quits (serving known room out) i))) (squit_parts t name text)))
         ∙ ap (λ l. lines_on j out ++ l) (on_these j other_links (squit_parts t name text))
 
-    along_seen : (who : ℕ) (client : Option Client) → client_along who (of_home t room) own_quits client ≡ seen_first room deed client
+    along_seen : (who : ℕ) (client : Option Client)
+        → client_along who (of_home t room) own_quits client ≡ seen_first room deed client
     unfolding shown_by
     along_seen who None = refl
     along_seen who (Some (Registering pending)) = refl
     along_seen who (Some (Registered nick)) =
-        (alike_do_alike alike_stay_alike alike_take_alike alike_have_alike (of_home t room) room deed rooms).shown nick
+        (alike_do_alike alike_stay_alike alike_take_alike alike_have_alike
+        (of_home t room) room deed rooms).shown nick
 
     loss_shown : (who : ℕ) → lines_to who (deed_told (Some k) deed (serving known room out)).out
         ≡ lines_to who out ++ seen_first room deed (get view.clients who)
     unfolding deed_told
     loss_shown who =
         let before = all_changed own_quits (serving known room out) in
-        but_links who before.out (but (Some k) (met_links before.view.ends)) (squit_parts t name text)
+        but_links who before.out (but (Some k) (met_links before.view.ends))
+        (squit_parts t name text)
         ∙ ap (λ effects. lines_to who (all_changed effects (serving known room out)).out) same_quits
-        ∙ all_lines who (moment known room) quits (of_home t room) room out rooms (quits_calm text (users_at name room)) counted
+        ∙ all_lines who (moment known room) quits (of_home t room) room out rooms
+        (quits_calm text (users_at name room)) counted
         (home_is_well_formed t room well)
         ∙ ap (λ l. lines_to who out ++ l)
-        (ap (λ effects. client_along who (of_home t room) effects (get view.clients who)) (sym same_quits)
+        (ap (λ effects. client_along who (of_home t room) effects (get view.clients who))
+        (sym same_quits)
         ∙ along_seen who (get view.clients who))
 
     loss_closes : closings (deed_told (Some k) deed (serving known room out)).out ≡ closings out
     unfolding deed_told
     loss_closes =
         let before = all_changed own_quits (serving known room out) in
-        closed_before before.out (on_links (but (Some k) (met_links before.view.ends)) (squit_parts t name text))
+        closed_before before.out
+        (on_links (but (Some k) (met_links before.view.ends)) (squit_parts t name text))
         (none_closed_on_links (but (Some k) (met_links before.view.ends)) (squit_parts t name text))
         ∙ none_closed_by_all own_quits (serving known room out)
 
@@ -157,59 +179,78 @@ module _ (view : View) (t far : Name) (k : ℕ) where
 
   -- ---- all of them
 
-  pub record HasLost (known : Known) (room : Room) (out : List Sent) (names : List Name) (so : Served) : Type 0 where
-    pub view_is : so.view ≡ moment (all_forgotten names known) (after_deeds room (losses t far names))
-    pub lines : (j : ℕ) (b : Bool) → filter (λ n. nat_eq n j) other_links ≡ (if b then j ∷ [] else [])
-        → lines_on j so.out ≡ lines_on j out ++ (if b then map told_line names else [])
-    pub shown : (who : ℕ) → lines_to who so.out ≡ lines_to who out ++ staying_sees (losses t far names) room (get view.clients who)
+  pub record HasLost (known : Known) (room : Room) (out : List Sent) (names : List Name)
+      (so : Served) : Type 0 where
+    pub view_is : so.view ≡ moment (all_forgotten names known)
+        (after_deeds room (losses t far names))
+    pub lines : (j : ℕ) (b : Bool) → filter (λ n. nat_eq n j) other_links ≡ (if b then j ∷ []
+        else []) → lines_on j so.out ≡ lines_on j out ++ (if b then map told_line names else [])
+    pub shown : (who : ℕ) → lines_to who so.out ≡ lines_to who out
+        ++ staying_sees (losses t far names) room (get view.clients who)
     pub closes : closings so.out ≡ closings out
 
-  lost_none : (known : Known) (room : Room) (out : List Sent) → HasLost known room out [] (serving known room out)
+  lost_none : (known : Known) (room : Room) (out : List Sent)
+      → HasLost known room out [] (serving known room out)
   lost_none known room out = record {
     view_is = refl;
     lines = λ j b is. by j b;
-    shown = λ who. sym (ap (λ l. lines_to who out ++ l) (sym (nothing_yet room (get view.clients who))) ∙ append_nil (lines_to who out));
+    shown = λ who. sym (ap (λ l. lines_to who out ++ l)
+        (sym (nothing_yet room (get view.clients who))) ∙ append_nil (lines_to who out));
     closes = refl;
   }
     where
-      by : (j : ℕ) (b : Bool) → lines_on j out ≡ lines_on j out ++ (if b then map told_line [] else [])
+      by : (j : ℕ) (b : Bool) → lines_on j out ≡ lines_on j out
+          ++ (if b then map told_line [] else [])
       by j true = sym (append_nil (lines_on j out))
       by j false = sym (append_nil (lines_on j out))
 
-  one_more : (known : Known) (room : Room) (out : List Sent) (name : Name) (names : List Name) (so : Served) (own : known.name ≡ t) (two : name ≢ t)
+  one_more : (known : Known) (room : Room) (out : List Sent) (name : Name) (names : List Name)
+      (so : Served) (own : known.name ≡ t) (two : name ≢ t)
       (well : IsWellFormed room)
-      → HasLost (without_server name known) (after_deed room (loses t name text)) (deed_told (Some k) (loses t name text) (serving known room out)).out names so
+      → HasLost (without_server name known) (after_deed room (loses t name text))
+      (deed_told (Some k) (loses t name text) (serving known room out)).out names so
       → HasLost known room out (name ∷ names) so
   one_more known room out name names so own two well rest = record {
     view_is = rest.view_is;
     lines = λ j b is.
         rest.lines j b is
-        ∙ ap (λ l. l ++ (if b then map told_line names else [])) (loss_lines known room out name own two well j)
-        ∙ append_assoc (lines_on j out) (map (λ _. told_line name) (filter (λ n. nat_eq n j) other_links)) (if b then map told_line names else [])
-        ∙ ap (λ l. lines_on j out ++ l) (ap (λ links. map (λ _. told_line name) links ++ (if b then map told_line names else [])) is ∙ by j b);
+        ∙ ap (λ l. l ++ (if b then map told_line names else []))
+        (loss_lines known room out name own two well j)
+        ∙ append_assoc (lines_on j out) (map (λ _. told_line name)
+        (filter (λ n. nat_eq n j) other_links)) (if b then map told_line names else [])
+        ∙ ap (λ l. lines_on j out ++ l) (ap (λ links. map (λ _. told_line name) links
+        ++ (if b then map told_line names else [])) is ∙ by j b);
     shown = λ who.
         rest.shown who
-        ∙ ap (λ l. l ++ staying_sees (losses t far names) (after_deed room (loses t name text)) (get view.clients who))
+        ∙ ap (λ l. l ++ staying_sees (losses t far names) (after_deed room (loses t name text))
+        (get view.clients who))
         (loss_shown known room out name own two well who)
-        ∙ append_assoc (lines_to who out) (seen_first room (loses t name text) (get view.clients who))
-        (staying_sees (losses t far names) (after_deed room (loses t name text)) (get view.clients who))
-        ∙ ap (λ l. lines_to who out ++ l) (seen_in_turn room (loses t name text) (losses t far names) (get view.clients who));
+        ∙ append_assoc (lines_to who out)
+        (seen_first room (loses t name text) (get view.clients who))
+        (staying_sees (losses t far names) (after_deed room (loses t name text))
+        (get view.clients who))
+        ∙ ap (λ l. lines_to who out ++ l)
+        (seen_in_turn room (loses t name text) (losses t far names) (get view.clients who));
     closes = rest.closes ∙ loss_closes known room out name own two well;
   }
     where
-      by : (j : ℕ) (b : Bool) → map (λ _. told_line name) (if b then j ∷ [] else []) ++ (if b then map told_line names else [])
+      by : (j : ℕ) (b : Bool) → map (λ _. told_line name) (if b then j ∷ [] else [])
+          ++ (if b then map told_line names else [])
           ≡ (if b then told_line name ∷ map told_line names else [])
       by j true = refl
       by j false = refl
 
-  pub has_lost : (names : List Name) (known : Known) (room : Room) (out : List Sent) → known.name ≡ t → AllByRecursion (λ x. x ≢ t) names → IsWellFormed room
-      → HasLost known room out names (deeds_told (Some k) (losses t far names) (serving known room out))
+  pub has_lost : (names : List Name) (known : Known) (room : Room) (out : List Sent) → known.name
+      ≡ t → AllByRecursion (λ x. x ≢ t) names → IsWellFormed room → HasLost known room out names
+      (deeds_told (Some k) (losses t far names) (serving known room out))
   has_lost [] known room out own others well = lost_none known room out
   has_lost (name ∷ names) known room out own others well =
       let first = deed_told (Some k) (loses t name text) (serving known room out) in
       one_more known room out name names _ own others.0 well
-      (subst (λ (v : View). HasLost (without_server name known) (after_deed room (loses t name text)) first.out names
+      (subst (λ (v : View). HasLost (without_server name known)
+      (after_deed room (loses t name text)) first.out names
       (deeds_told (Some k) (losses t far names) (record { view = v; out = first.out })))
       (sym (loss_view known room out name own others.0 well))
-      (has_lost names (without_server name known) (after_deed room (loses t name text)) first.out own others.1
+      (has_lost names (without_server name known)
+      (after_deed room (loses t name text)) first.out own others.1
       (well_afterwards known room out name own others.0 well)))

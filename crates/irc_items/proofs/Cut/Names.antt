@@ -1,5 +1,6 @@
 -- The servers of a side, listed: each stands there once, and just those of the side do.
-use Rattle.std.proofs.Common.{◌≡◌, ℕ, Bool, true, false, cond, not, ◌||◌, T, is_some, Some, None, List, [], ◌∷◌, map, refl, ◌∙◌, ap}
+use Rattle.std.proofs.Common.{◌≡◌, ℕ, Bool, true, false, cond, not, ◌||◌, T, is_some, Some, None}
+use Rattle.std.proofs.Common.{List, [], ◌∷◌, map, refl, ◌∙◌, ap}
 use Rattle.std.proofs.lemmas.Bool.{and_from, and_parts}
 use Rattle.std.specs.Cmp.Lexicographic.{texts_ties}
 use Rattle.std.specs.declared.cmp.Ordering.{Ordering}
@@ -33,25 +34,30 @@ abbrev folds_of : {X : Type 0} → List (List ℕ × X) → List (List ℕ)
 folds_of es = map (λ e. e.0) es
 
 -- one below all others is none of them
-below_is_none : {X : Type 0} (fold : List ℕ) (es : List (List ℕ × X)) → below_all fold_cmp fold es ≡ true
-    → list_any (exactly_same fold) (folds_of es) ≡ false
+below_is_none : {X : Type 0} (fold : List ℕ) (es : List (List ℕ × X))
+    → below_all fold_cmp fold es ≡ true → list_any (exactly_same fold) (folds_of es) ≡ false
 below_is_none fold [] below = refl
 below_is_none fold (e ∷ es) below =
     let parts = and_parts (is_lt (fold_cmp fold e.0)) (below_all fold_cmp fold es) below in
-    ap (λ b. b || list_any (exactly_same fold) (folds_of es)) (texts_ties fold e.0 ∙ less_is_other (fold_cmp fold e.0) parts.0)
+    ap (λ b. b || list_any (exactly_same fold) (folds_of es))
+    (texts_ties fold e.0 ∙ less_is_other (fold_cmp fold e.0) parts.0)
     ∙ below_is_none fold es parts.1
 
-sorted_distinct : {X : Type 0} (es : List (List ℕ × X)) → is_sorted fold_cmp es ≡ true → are_distinct (folds_of es) ≡ true
+sorted_distinct : {X : Type 0} (es : List (List ℕ × X)) → is_sorted fold_cmp es ≡ true
+    → are_distinct (folds_of es) ≡ true
 sorted_distinct [] rise = refl
 sorted_distinct (e ∷ es) rise =
     let parts = and_parts (below_all fold_cmp e.0 es) (is_sorted fold_cmp es) rise in
     and_from _ _ (ap not (below_is_none e.0 es parts.0)) (sorted_distinct es parts.1)
 
 pub keys_distinct : {X : Type 0} (table : Table X) → are_distinct (keys table) ≡ true
-keys_distinct table = sorted_distinct (entries table) (told (is_sorted fold_cmp (entries table)) (entries_sorted table))
+keys_distinct table = sorted_distinct (entries table)
+    (told (is_sorted fold_cmp (entries table)) (entries_sorted table))
 
-pub servers_distinct : (settings : List Setting) (test : Name → Bool) → are_distinct (servers_where settings test) ≡ true
-servers_distinct settings test = keys_distinct (tabulate (names_of settings) (λ server. cond (test server) (Some (tt {0})) None))
+pub servers_distinct : (settings : List Setting) (test : Name → Bool)
+    → are_distinct (servers_where settings test) ≡ true
+servers_distinct settings test =
+    keys_distinct (tabulate (names_of settings) (λ server. cond (test server) (Some (tt {0})) None))
 
 -- ---- just those that pass
 
@@ -63,10 +69,14 @@ is_there : (b : Bool) → is_some (cond b (Some (tt {0})) None) ≡ b
 is_there true = refl
 is_there false = refl
 
-pub listed_where : (s : Fixed) (test : Name → Bool) (x : Name) → IsFixed s → IsAmong s.names x → list_any (same x) (servers_where s.settings test) ≡ test x
+pub listed_where : (s : Fixed) (test : Name → Bool) (x : Name) → IsFixed s → IsAmong s.names x
+    → list_any (same x) (servers_where s.settings test) ≡ test x
 listed_where s test x fixed among =
     by_bytes x (servers_where s.settings test)
-    ∙ row-keys (tabulate (names_of s.settings) (λ server. cond (test server) (Some (tt {0})) None)) x
-    ∙ ap is_some (row-tabulate (names_of s.settings) (λ server. cond (test server) (Some (tt {0})) None) x)
-    ∙ ap (λ b. is_some (cond b (cond (test x) (Some (tt {0})) None) None)) (listed s.settings x ∙ fixed.listed x ∙ among)
+    ∙ row-keys
+    (tabulate (names_of s.settings) (λ server. cond (test server) (Some (tt {0})) None)) x
+    ∙ ap is_some
+    (row-tabulate (names_of s.settings) (λ server. cond (test server) (Some (tt {0})) None) x)
+    ∙ ap (λ b. is_some (cond b (cond (test x) (Some (tt {0})) None) None))
+    (listed s.settings x ∙ fixed.listed x ∙ among)
     ∙ is_there (test x)

@@ -1,10 +1,13 @@
--- The sides of a link that is lost: each is sound, its servers fit it, and lines come to it from its end.
+-- The sides of a link that is lost: each is sound, its servers fit it, and lines come to it from
+-- its end.
 use Rattle.std.proofs.Common.{◌≡◌, ◌≢◌, ◌<◌, true, List, map, refl, sym, ◌∙◌, ap, subst, arith}
 use Rattle.irc_line.specs.Messages.{line_text}
-use Rattle.irc_relay.specs.Links.{Name, Link, joined, toward, distance, AreJoined, AreLinked, IsForest, IsLeft, IsNextHop}
+use Rattle.irc_relay.specs.Links.{Name, Link, joined, toward, distance, AreJoined, AreLinked}
+use Rattle.irc_relay.specs.Links.{IsForest, IsLeft, IsNextHop}
 use Rattle.irc_relay.specs.Relay.{from_near_end, streams_from, Streams, TakesFrom}
 use Rattle.irc_relay.specs.Lemmas.StreamsFlow.{sources_are}
-use Rattle.irc_relay.specs.Lemmas.NextHops.{distance_self, linked_back, linked_joined, linked_other, next_hop, toward_linked}
+use Rattle.irc_relay.specs.Lemmas.NextHops.{distance_self, linked_back, linked_joined, linked_other}
+use Rattle.irc_relay.specs.Lemmas.NextHops.{next_hop, toward_linked}
 use Rattle.irc_relay.specs.Lemmas.LinkTakenOut.{tests_tell}
 use Rattle.irc_routes.specs.Known.{Known, names_behind}
 use Rattle.irc_burst_lines.specs.DeedLines.{squit_parts}
@@ -28,11 +31,14 @@ use Rattle.irc_items.proofs.Cut.Sides.{cut_side, deeds_of_cut}
 use Rattle.irc_items.proofs.Cut.Told.{said_to, IsLossOfCut, IsToldByEnd, SaysInTurn}
 
 -- lines come to the side of the end e from that end, and the other end o is behind it
-pub record IsEnd (world : World) (routes : Name → Known) (left : List Link) (source : Name → Name) (e o : Name) : Type 0 where
-  pub told : (x : Name) → AreJoined left x o → IsToldOf left source (cut_side world routes left e).tree x
+pub record IsEnd (world : World) (routes : Name → Known) (left : List Link) (source : Name → Name)
+    (e o : Name) : Type 0 where
+  pub told : (x : Name) → AreJoined left x o
+      → IsToldOf left source (cut_side world routes left e).tree x
   pub source_is : (t : Name) → AreJoined left t e → source t ≡ e
 
-module _ {s : Fixed} {world : World} {routes : Name → Known} {left : List Link} {a b : Name} (cut : IsCutAt s world routes left a b) where
+module _ {s : Fixed} {world : World} {routes : Name → Known} {left : List Link} {a b : Name}
+    (cut : IsCutAt s world routes left a b) where
   side_at : (e : Name) → IsSide left e (cut_side world routes left e).tree
   side_at e = λ t. (tests_tell left t e t).1
 
@@ -41,21 +47,26 @@ module _ {s : Fixed} {world : World} {routes : Name → Known} {left : List Link
 
   pub near_is_end : IsEnd world routes left (from_near_end left a b) a b
   near_is_end = record {
-    told = λ x on. subst (λ ls. IsToldOf ls (from_near_end ls a b) (cut_side world routes left a).tree x) (sym cut.is_left)
+    told = λ x on. subst (λ ls. IsToldOf ls (from_near_end ls a b)
+        (cut_side world routes left a).tree x) (sym cut.is_left)
         (one_side_is_left (cut_side world routes left a).tree a b x (forest cut) cut.linked_ends
-        (subst (λ ls. IsSide ls a (cut_side world routes left a).tree) cut.is_left (side_at a)) (subst (λ ls. AreJoined ls x b) cut.is_left on));
+        (subst (λ ls. IsSide ls a (cut_side world routes left a).tree) cut.is_left (side_at a))
+        (subst (λ ls. AreJoined ls x b) cut.is_left on));
     source_is = λ t on. ((sources_are left a b t parted_ends).0 on).2;
   }
 
   pub far_is_end : IsEnd world routes left (from_near_end left a b) b a
   far_is_end = record {
-    told = λ x on. subst (λ ls. IsToldOf ls (from_near_end ls a b) (cut_side world routes left b).tree x) (sym cut.is_left)
+    told = λ x on. subst (λ ls. IsToldOf ls (from_near_end ls a b)
+        (cut_side world routes left b).tree x) (sym cut.is_left)
         (other_side_is_left (cut_side world routes left b).tree a b x (forest cut) cut.linked_ends
-        (subst (λ ls. IsSide ls b (cut_side world routes left b).tree) cut.is_left (side_at b)) (subst (λ ls. AreJoined ls x a) cut.is_left on));
+        (subst (λ ls. IsSide ls b (cut_side world routes left b).tree) cut.is_left (side_at b))
+        (subst (λ ls. AreJoined ls x a) cut.is_left on));
     source_is = λ t on. ((sources_are left a b t parted_ends).1 on).1;
   }
 
-module _ {s : Fixed} {world : World} {routes : Name → Known} {left : List Link} {e o : Name} (cut : IsCutAt s world routes left e o) {source : Name → Name}
+module _ {s : Fixed} {world : World} {routes : Name → Known} {left : List Link} {e o : Name}
+    (cut : IsCutAt s world routes left e o) {source : Name → Name}
     (is_end : IsEnd world routes left source e o) where
   abbrev side : Part
   side = cut_side world routes left e
@@ -78,14 +89,16 @@ module _ {s : Fixed} {world : World} {routes : Name → Known} {left : List Link
       kept = flows.kept;
       covers = flows.covers;
       inside = λ x p here takes far.
-          joined_alike left p t e on ∙ flows.inside x p (sym (joined_alike left x t e on) ∙ here) takes far;
+          joined_alike left p t e on
+          ∙ flows.inside x p (sym (joined_alike left x t e on) ∙ here) takes far;
     }
 
     joined_before : (x : Name) → joined left x t ≡ true → joined world.links x t ≡ true
     joined_before x is = joined_test world.links x t (kept.kept x t (joined_so left x t is)).joined
 
     -- the same side, as long as the link is known
-    smaller_sound : (base : Fixed) → IsSoundPart base (part_of base world routes t) → IsSoundPart base (cut_side world routes left t)
+    smaller_sound : (base : Fixed) → IsSoundPart base (part_of base world routes t)
+        → IsSoundPart base (cut_side world routes left t)
     smaller_sound base sound = record {
       tree = record {
         forest = sound.tree.forest;
@@ -108,12 +121,15 @@ module _ {s : Fixed} {world : World} {routes : Name → Known} {left : List Link
 
     pub cut_side_sound : (base : Fixed) → IsSoundPart base (part_of base world routes t)
         → IsSoundPart (taking_from left source base) (cut_side world routes left t)
-    cut_side_sound base sound = other_sources base (cut_side world routes left t) left source (smaller_sound base sound) flows_there
+    cut_side_sound base sound = other_sources base (cut_side world routes left t) left source
+        (smaller_sound base sound) flows_there
 
-    pub cut_side_fits : (base : Fixed) (view : View) → Fits base t (part_of base world routes t) view
+    pub cut_side_fits : (base : Fixed) (view : View)
+        → Fits base t (part_of base world routes t) view
         → Fits (taking_from left source base) t (cut_side world routes left t) view
     cut_side_fits base view fits =
-        refits base.streams fits (joined_test left t t refl) (cut_side_sound base fits.sound) refl (λ x among. refl) refl refl
+        refits base.streams fits (joined_test left t t refl) (cut_side_sound base fits.sound) refl
+        (λ x among. refl) refl refl
 
   -- ---- where its lines come from
 
@@ -123,7 +139,8 @@ module _ {s : Fixed} {world : World} {routes : Name → Known} {left : List Link
 
     -- who takes lines is linked to whom it takes them from
     pub takes_left : (t p : Name) → TakesFrom s.streams t p → AreLinked left t p
-    takes_left t p takes = parent_is_linked left source t p kept.forest flows.covers (taking t p takes)
+    takes_left t p takes =
+        parent_is_linked left source t p kept.forest flows.covers (taking t p takes)
 
     pub takes_linked : (t p : Name) → TakesFrom s.streams t p → AreLinked world.links t p
     takes_linked t p takes = linked_before cut t p (takes_left t p takes)
@@ -136,11 +153,14 @@ module _ {s : Fixed} {world : World} {routes : Name → Known} {left : List Link
         never
 
     parent_is : (t p : Name) → AreJoined left t e → TakesFrom s.streams t p → toward left t e ≡ p
-    parent_is t p on takes = ap (toward left t) (sym (is_end.source_is t on)) ∙ (taking t p takes).parent
+    parent_is t p on takes =
+        ap (toward left t) (sym (is_end.source_is t on)) ∙ (taking t p takes).parent
 
-    far_over : (t p x : Name) → AreJoined left t e → TakesFrom s.streams t p → AreJoined left x o → toward world.links t x ≡ p
+    far_over : (t p x : Name) → AreJoined left t e → TakesFrom s.streams t p → AreJoined left x o
+        → toward world.links t x ≡ p
     far_over t p x on takes beyond =
-        behind_source_is_far s side left source x world_forest flows (is_end.told x beyond).behind t p (joined_test left t e on) (taking t p takes)
+        behind_source_is_far s side left source x world_forest flows
+        (is_end.told x beyond).behind t p (joined_test left t e on) (taking t p takes)
 
     pub ways_of_end : IsToldByEnd s world left e o
     ways_of_end = record {
@@ -148,7 +168,8 @@ module _ {s : Fixed} {world : World} {routes : Name → Known} {left : List Link
       end_far = λ t p on takes. sym (kept.kept t e on).toward_same ∙ parent_is t p on takes;
       not_linked = λ t p x on takes beyond near.
           kept.parted (sym (subst (λ v. AreJoined left v e)
-          (parent_is t p on takes ∙ sym (far_over t p x on takes beyond) ∙ toward_linked world.links t x world_forest near)
+          (parent_is t p on takes ∙ sym (far_over t p x on takes beyond)
+          ∙ toward_linked world.links t x world_forest near)
           (next_hop left t e kept.forest on (taker_is_another t p on takes)).joined)
           ∙ beyond);
     }
@@ -157,7 +178,8 @@ module _ {s : Fixed} {world : World} {routes : Name → Known} {left : List Link
     pub next_takes : (u : Name) → AreLinked left e u → TakesFrom s.streams u e
     next_takes u near = subst (λ (st : Streams). TakesFrom st u e) (sym streams) (record {
       parent = ap (toward left u) source_here ∙ toward_linked left u e kept.forest back;
-      below = subst (λ n. 0 < n) (sym (ap (distance left u) source_here ∙ hop.nearer)) (omega arith);
+      below =
+          subst (λ n. 0 < n) (sym (ap (distance left u) source_here ∙ hop.nearer)) (omega arith);
     })
       where
         back : AreLinked left u e
@@ -167,12 +189,15 @@ module _ {s : Fixed} {world : World} {routes : Name → Known} {left : List Link
         source_here = is_end.source_is u (linked_joined left u e back)
 
         hop : IsNextHop left u e (toward left u e)
-        hop = next_hop left u e kept.forest (linked_joined left u e back) (linked_other left u e kept.forest back)
+        hop = next_hop left u e kept.forest (linked_joined left u e back)
+            (linked_other left u e kept.forest back)
 
     -- and is told of all that are lost
-    pub said_next : IsKnownOfLines → (u : Name) (other : View) → AreLinked left e u → Fits s u (cut_side world routes left u) other
-        → SaysInTurn s e u (IsLossOfCut world.links left e) (cut_side world routes left u) other (deeds_of_cut s routes e o)
-        (map (λ x. line_text (squit_parts e x (split_text e o))) (names_behind (routes e) (number s o)))
+    pub said_next : IsKnownOfLines → (u : Name) (other : View) → AreLinked left e u → Fits s u
+        (cut_side world routes left u) other → SaysInTurn s e u (IsLossOfCut world.links left e)
+        (cut_side world routes left u) other (deeds_of_cut s routes e o)
+        (map (λ x. line_text (squit_parts e x (split_text e o)))
+        (names_behind (routes e) (number s o)))
     said_next known u other near reader =
         said_to known cut ways_of_end u (next_takes u near) (cut_side world routes left u) other
         (record { forest = refl; here = λ x. joined_alike left x u e on })

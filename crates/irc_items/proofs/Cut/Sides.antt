@@ -13,19 +13,27 @@ use Rattle.irc_follow.specs.Says.{play}
 abbrev pub deeds_of_cut : Fixed → (Name → Known) → Name → Name → List Deed
 deeds_of_cut s routes a b = losses a b (names_behind (routes a) (number s b))
 
--- the side of t, of which nobody knows that the link is lost; its servers are those that are joined to t by the links that are left
+-- the side of t, of which nobody knows that the link is lost; its servers are those that are joined
+-- to t by the links that are left
 abbrev pub cut_side : World → (Name → Known) → List Link → Name → Part
 cut_side world routes left t = record {
-  tree = record { forest = world.links; here = λ x. joined left x t; knows = λ x. joined world.links x t; routes = routes };
+  tree = record {
+    forest = world.links;
+    here = λ x. joined left x t;
+    knows = λ x. joined world.links x t;
+    routes = routes;
+  };
   hall = world.hall t;
 }
 
 -- that side, once it has lost the other's servers
 abbrev pub cut_after : Fixed → World → (Name → Known) → List Link → Name → Name → Part
-cut_after s world routes left a b = all_done (play s 0) (cut_side world routes left a) (deeds_of_cut s routes a b)
+cut_after s world routes left a b =
+    all_done (play s 0) (cut_side world routes left a) (deeds_of_cut s routes a b)
 
 -- what each server knows by then
-abbrev pub routes_after_cut : Fixed → World → (Name → Known) → List Link → Name → Name → Name → Known
+abbrev pub routes_after_cut : Fixed → World → (Name → Known) → List Link → Name → Name
+    → Name → Known
 routes_after_cut s world routes left a b t =
     if joined left t a then (cut_after s world routes left a b).tree.routes t
     else (if joined left t b then (cut_after s world routes left b a).tree.routes t else routes t)

@@ -1,5 +1,7 @@
 -- A network stays sound by each line that is delivered.
-use Rattle.std.proofs.Common.{◌≡◌, ◌≢◌, ◌⊎◌, ℕ, zero, suc, ◌+◌, ◌<◌, ◌≤◌, min, Bool, true, false, Option, Some, None, is_some, List, [], ◌∷◌, ◌++◌, length, refl, sym, ap, subst, ◌∙◌, arith, inl, inr, unwrap_or, if◌then◌else◌}
+use Rattle.std.proofs.Common.{◌≡◌, ◌≢◌, ◌⊎◌, ℕ, zero, suc, ◌+◌, ◌<◌, ◌≤◌, min, Bool, true, false}
+use Rattle.std.proofs.Common.{Option, Some, None, is_some, List, [], ◌∷◌, ◌++◌, length, refl, sym}
+use Rattle.std.proofs.Common.{ap, subst, ◌∙◌, arith, inl, inr, unwrap_or, if◌then◌else◌}
 use Rattle.std.specs.Prelude.{codes}
 use Rattle.std.specs.List.{slice_get, AllByRecursion}
 use Rattle.std.specs.Option.{option_map, option_map_or}
@@ -8,9 +10,11 @@ use Rattle.irc_line.specs.Messages.{line_text, nobody}
 use Rattle.irc_line.specs.Reading.{read_of}
 use Rattle.irc_relay.specs.Distances.{EndsAreAmong, IsAmong}
 use Rattle.irc_relay.specs.Following.{AllAlong}
-use Rattle.irc_relay.specs.Lemmas.TellingNames.{Telling, alike, unlike, tell, same_when, same_unless}
+use Rattle.irc_relay.specs.Lemmas.TellingNames.{Telling, alike, unlike, tell, same_when}
+use Rattle.irc_relay.specs.Lemmas.TellingNames.{same_unless}
 use Rattle.irc_relay.specs.Links.{Name, distance, linked, same, AreLinked, IsForest}
-use Rattle.irc_relay.specs.Relay.{streams_from, final, lines_pending, under_way, Covers, Delivers, IsCounted, Relays, SameOutcome}
+use Rattle.irc_relay.specs.Relay.{streams_from, final, lines_pending, under_way, Covers, Delivers}
+use Rattle.irc_relay.specs.Relay.{IsCounted, Relays, SameOutcome}
 use Rattle.irc_relay.specs.Lemmas.LinesCounted.{delivery_pending}
 use Rattle.irc_relay.specs.Lemmas.StreamsFlow.{covers_flows, IsFlow}
 use Rattle.irc_relay.specs.Lemmas.NextHops.{distance_self, linked_other, next_hop}
@@ -37,12 +41,14 @@ use Rattle.irc_follow.specs.Says.{neighbour_served as asked_line, lines_on, mach
 use Rattle.irc_follow.specs.Tree.{index_in}
 use Rattle.irc_follow.specs.Lemmas.PlacesOfNames.{one_place}
 use Rattle.irc_follow.specs.Lemmas.SaidEffectShown.{append_nil}
-use Rattle.irc_network.specs.Network.{Course, Network, Reply, site_asked, delivered, received_by, reply}
+use Rattle.irc_network.specs.Network.{Course, Network, Reply, site_asked, delivered, received_by}
+use Rattle.irc_network.specs.Network.{reply}
 use Rattle.irc_items.specs.GoodLines.{closings, IsGoodLine, IsGoodReply, IsUnheard}
 use Rattle.irc_items.specs.Laws.{DeliveryStaysSound}
 use Rattle.irc_items.specs.Relayed.{fixed_of, is_met_with, owed_to, relayed, way_at, way_between}
 use Rattle.irc_items.specs.SetUp.{settings_of, view_at, IsConfigured}
-use Rattle.irc_items.specs.Sound.{most_now, most_of_last, owed_now, world_now, is_met, is_calling, AreCalled, HasCalled, IsPlaceOf, IsSound, IsSoundFrom, IsUnderWay}
+use Rattle.irc_items.specs.Sound.{most_now, most_of_last, owed_now, world_now, is_met, is_calling}
+use Rattle.irc_items.specs.Sound.{AreCalled, HasCalled, IsPlaceOf, IsSound, IsSoundFrom, IsUnderWay}
 use Rattle.irc_items.proofs.Sites.Asked.{asked_there, reply_alike, IsAskedAt}
 use Rattle.irc_items.proofs.Common.AtRest.{ends_now, flowing, forest_now, holds_now}
 use Rattle.irc_items.proofs.Common.Reading.{home_is}
@@ -60,7 +66,8 @@ pub record AreDeliveryLaws : Type 0 where
 -- how many lines are coming to servers, as no client sees them
 abbrev pub pending_of : (net : Network) → IsSound net → ℕ
 pending_of net sound =
-    lines_pending (machine (flowing net sound) 0) (flowing net sound).streams (relayed (flowing net sound) net 0) net.names sound.asks.answered sound.asks.one
+    lines_pending (machine (flowing net sound) 0) (flowing net sound).streams
+    (relayed (flowing net sound) net 0) net.names sound.asks.answered sound.asks.one
     sound.asks.other
 
 -- a line fewer is coming
@@ -77,7 +84,8 @@ append_both : (a b c : List (List ℕ)) → (a ++ b) ++ c ≡ a ++ (b ++ c)
 append_both [] b c = refl
 append_both (x ∷ a) b c = ap (λ lines. x ∷ lines) (append_both a b c)
 
-module _ (laws : AreDeliveryLaws) (old new : Course) (sound : IsSound old.net) (p t : Name) (line : List ℕ) (d : IsDeliveredTo p t line old new) where
+module _ (laws : AreDeliveryLaws) (old new : Course) (sound : IsSound old.net) (p t : Name)
+    (line : List ℕ) (d : IsDeliveredTo p t line old new) where
   abbrev s : Fixed
   s = flowing old.net sound
 
@@ -119,20 +127,27 @@ module _ (laws : AreDeliveryLaws) (old new : Course) (sound : IsSound old.net) (
 
   -- ---- what it makes
 
-  reply_is : reply view (link_says (index_in old.net.names p) (read_of line)) ≡ record { view = after.view; out = after.out }
-  reply_is = ap (λ b. if b then record { view = after.view; out = after.out } else record { view = view; out = [] }) (ap is_some well.is_end)
+  reply_is : reply view (link_says (index_in old.net.names p) (read_of line))
+      ≡ record { view = after.view; out = after.out }
+  reply_is = ap (λ b. if b then record { view = after.view; out = after.out }
+      else record { view = view; out = [] }) (ap is_some well.is_end)
 
   answered : IsAskedAt t (record { view = after.view; out = after.out }) d.mid new
   answered =
-      subst (IsAskedAt t (record { view = after.view; out = after.out }) d.mid) (sym d.asked_is ∙ refl)
+      subst (IsAskedAt t (record { view = after.view; out = after.out }) d.mid)
+      (sym d.asked_is ∙ refl)
       (subst (λ place. IsAskedAt t (record { view = after.view; out = after.out }) d.mid
       (site_asked place (link_says (index_in old.net.names p) (read_of line)) d.mid))
       (ap (λ names. index_in names t) d.names)
-      (subst (λ r. IsAskedAt t r d.mid (site_asked (index_in d.mid.net.names t) (link_says (index_in old.net.names p) (read_of line)) d.mid))
-      (ap (λ v. reply v (link_says (index_in old.net.names p) (read_of line))) (d.views t) ∙ reply_is)
+      (subst (λ r. IsAskedAt t r d.mid (site_asked (index_in d.mid.net.names t)
+      (link_says (index_in old.net.names p) (read_of line)) d.mid))
+      (ap (λ v. reply v (link_says (index_in old.net.names p) (read_of line))) (d.views t)
+      ∙ reply_is)
       (asked_there laws.kept d.mid d.set_up
-      (ap (λ (boxes : List (List (List ℕ))). length boxes) d.received ∙ sound.inboxes ∙ ap (λ (homes : List Name). length homes) (sym d.homes)) t
-      (subst (λ names. IsAmong names t) (sym d.names) d.t_among) (link_says (index_in old.net.names p) (read_of line)))))
+      (ap (λ (boxes : List (List (List ℕ))). length boxes) d.received ∙ sound.inboxes
+      ∙ ap (λ (homes : List Name). length homes) (sym d.homes)) t
+      (subst (λ names. IsAmong names t) (sym d.names) d.t_among)
+      (link_says (index_in old.net.names p) (read_of line)))))
 
   names_same : new.net.names ≡ old.net.names
   names_same = answered.names ∙ d.names
@@ -144,32 +159,43 @@ module _ (laws : AreDeliveryLaws) (old new : Course) (sound : IsSound old.net) (
   view_other u n = answered.other_views u n ∙ d.views u
 
   -- ways from t have what is put out behind the others
-  way_taker : (place : ℕ) → way_at new.net t place ≡ option_map (λ lines. lines ++ lines_on place after.out) (way_at old.net t place)
-  way_taker place = answered.way place ∙ ap (option_map (λ lines. lines ++ lines_on place after.out)) (d.other_ways t place (λ e _. two (sym e)))
+  way_taker : (place : ℕ) → way_at new.net t place ≡ option_map
+      (λ lines. lines ++ lines_on place after.out) (way_at old.net t place)
+  way_taker place =
+      answered.way place ∙ ap (option_map (λ lines. lines ++ lines_on place after.out))
+      (d.other_ways t place (λ e _. two (sym e)))
 
-  way_other : (x : Name) (place : ℕ) → x ≢ t → (x ≡ p → place ≡ index_in old.net.names t → ⊥) → way_at new.net x place ≡ way_at old.net x place
+  way_other : (x : Name) (place : ℕ) → x ≢ t → (x ≡ p → place ≡ index_in old.net.names t → ⊥)
+      → way_at new.net x place ≡ way_at old.net x place
   way_other x place n none = answered.other_ways x place n ∙ d.other_ways x place none
 
   place_same : (u : Name) → index_in new.net.names u ≡ number s u
   place_same u = ap (λ names. index_in names u) names_same
 
-  queue_taker : (u : Name) → unwrap_or (way_between new.net t u) [] ≡ unwrap_or (way_between old.net t u) [] ++ lines_on (number s u) after.out
+  queue_taker : (u : Name) → unwrap_or (way_between new.net t u) []
+      ≡ unwrap_or (way_between old.net t u) [] ++ lines_on (number s u) after.out
   queue_taker u =
-      ap (λ place. unwrap_or (way_at new.net t place) []) (place_same u) ∙ ap (λ o. unwrap_or o []) (way_taker (number s u))
+      ap (λ place. unwrap_or (way_at new.net t place) []) (place_same u)
+      ∙ ap (λ o. unwrap_or o []) (way_taker (number s u))
       ∙ put_more (way_at old.net t (number s u)) (lines_on (number s u) after.out) none
     where
       none : is_some (way_at old.net t (number s u)) ≡ false → lines_on (number s u) after.out ≡ []
       none apart = by (lines_on (number s u) after.out) refl
         where
-          by : (lines : List (List ℕ)) → lines_on (number s u) after.out ≡ lines → lines_on (number s u) after.out ≡ []
+          by : (lines : List (List ℕ)) → lines_on (number s u) after.out ≡ lines
+              → lines_on (number s u) after.out ≡ []
           by [] e = e
-          by (first ∷ more) e = absurd (let l = subst (λ links. AreLinked links t u) same_links (good.to_linked u first more e) in
-              let no = sym ((tests_tell old.net.links t u u).2.1 l) ∙ sym (sound.ways t u) ∙ apart in cc no)
+          by (first ∷ more) e = absurd (let l = subst (λ links. AreLinked links t u) same_links
+              (good.to_linked u first more e) in
+              let no = sym ((tests_tell old.net.links t u u).2.1 l) ∙ sym (sound.ways t u)
+              ∙ apart in cc no)
 
-  queue_other : (x y : Name) → x ≢ t → (x ≡ p → y ≡ t → ⊥) → unwrap_or (way_between new.net x y) [] ≡ unwrap_or (way_between old.net x y) []
+  queue_other : (x y : Name) → x ≢ t → (x ≡ p → y ≡ t → ⊥)
+      → unwrap_or (way_between new.net x y) [] ≡ unwrap_or (way_between old.net x y) []
   queue_other x y n none =
       ap (λ place. unwrap_or (way_at new.net x place) []) (place_same y)
-      ∙ ap (λ o. unwrap_or o []) (way_other x (number s y) n (λ e f. none e (sym (one_place old.net.names t y d.t_among (sym f)))))
+      ∙ ap (λ o. unwrap_or o []) (way_other x (number s y) n
+      (λ e f. none e (sym (one_place old.net.names t y d.t_among (sym f)))))
 
   queue_left : unwrap_or (way_between new.net p t) [] ≡ d.rest
   queue_left =
@@ -180,63 +206,84 @@ module _ (laws : AreDeliveryLaws) (old new : Course) (sound : IsSound old.net) (
     received_home : (home : Name) → is_home_of old.net.homes home client ≡ true
         → received_by new.net client ≡ received_by old.net client ++ lines_to client after.out
     received_home home is =
-        answered.received client home (ap (λ homes. home_in homes client) d.homes ∙ home_is old.net.homes client home is)
+        answered.received client home (ap (λ homes. home_in homes client) d.homes
+        ∙ home_is old.net.homes client home is)
         ∙ ap (λ before. before ++ lines_to client after.out) (same_received client)
       where
         same_received : (client : ℕ) → received_by d.mid.net client ≡ received_by old.net client
         same_received zero = refl
         same_received (suc n) = ap (λ boxes. unwrap_or (slice_get boxes n) []) d.received
 
-    shown_taker : (b : Bool) → is_home_of s.homes t client ≡ b
-        → (relayed s new.net client).shown t ≡ (relayed s old.net client).shown t ++ (machine s client).shows t p view line
+    shown_taker : (b : Bool) → is_home_of s.homes t client ≡ b → (relayed s new.net client).shown t
+        ≡ (relayed s old.net client).shown t ++ (machine s client).shows t p view line
     shown_taker true e =
         ap (λ b. if b then received_by new.net client else []) e ∙ received_home t e
-        ∙ sym (ap (λ b. (if b then received_by old.net client else []) ++ (if b then lines_to client after.out else [])) e)
+        ∙ sym (ap (λ b. (if b then received_by old.net client else [])
+        ++ (if b then lines_to client after.out else [])) e)
     shown_taker false e =
         ap (λ b. if b then received_by new.net client else []) e
-        ∙ sym (ap (λ b. (if b then received_by old.net client else []) ++ (if b then lines_to client after.out else [])) e)
+        ∙ sym (ap (λ b. (if b then received_by old.net client else [])
+        ++ (if b then lines_to client after.out else [])) e)
 
-    shown_other : (u : Name) → u ≢ t → (b : Bool) → is_home_of s.homes u client ≡ b → (relayed s new.net client).shown u ≡ (relayed s old.net client).shown u
-    shown_other u n false e = ap (λ b. if b then received_by new.net client else []) e ∙ sym (ap (λ b. if b then received_by old.net client else []) e)
+    shown_other : (u : Name) → u ≢ t → (b : Bool) → is_home_of s.homes u client ≡ b
+        → (relayed s new.net client).shown u ≡ (relayed s old.net client).shown u
+    shown_other u n false e = ap (λ b. if b then received_by new.net client else []) e
+        ∙ sym (ap (λ b. if b then received_by old.net client else []) e)
     shown_other u n true e =
         ap (λ b. if b then received_by new.net client else []) e ∙ received_home u e
-        ∙ ap (λ lines. received_by old.net client ++ lines) (none (lines_to client after.out) refl) ∙ append_nil (received_by old.net client)
+        ∙ ap (λ lines. received_by old.net client ++ lines) (none (lines_to client after.out) refl)
+        ∙ append_nil (received_by old.net client)
         ∙ sym (ap (λ b. if b then received_by old.net client else []) e)
       where
-        none : (lines : List (List ℕ)) → lines_to client after.out ≡ lines → lines_to client after.out ≡ []
+        none : (lines : List (List ℕ)) → lines_to client after.out ≡ lines
+            → lines_to client after.out ≡ []
         none [] e = e
         none (first ∷ more) f = absurd
-            (let one = sym (home_is old.net.homes client u e) ∙ home_is old.net.homes client t (good.to_own client first more f) in n (cc one))
+            (let one = sym (home_is old.net.homes client u e)
+            ∙ home_is old.net.homes client t (good.to_own client first more f) in n (cc one))
 
-    sent_on : (u : Name) → u ≢ p → under_way (relayed s new.net client) t u ≡ under_way (relayed s old.net client) t u ++
+    sent_on : (u : Name) → u ≢ p
+        → under_way (relayed s new.net client) t u ≡ under_way (relayed s old.net client) t u ++
         (machine s client).sends t p view line u
     sent_on u n =
         ap (λ lines. lines ++ owed_to s (view_at new.net t) u) (queue_taker u)
-        ∙ ap (λ v. (unwrap_or (way_between old.net t u) [] ++ lines_on (number s u) after.out) ++ owed_to s v u) view_taker
-        ∙ ap (λ owed. (unwrap_or (way_between old.net t u) [] ++ lines_on (number s u) after.out) ++ owed) (good.others u n).owes_as_before
+        ∙ ap (λ v. (unwrap_or (way_between old.net t u) [] ++ lines_on (number s u) after.out)
+        ++ owed_to s v u) view_taker
+        ∙ ap (λ owed. (unwrap_or (way_between old.net t u) [] ++ lines_on (number s u) after.out)
+        ++ owed) (good.others u n).owes_as_before
         ∙ by (good.others u n).in_turn
         ∙ ap (λ lines. (unwrap_or (way_between old.net t u) [] ++ owed_to s view u) ++ lines)
         (sym (ap (λ b. if b then [] else lines_on (number s u) after.out) (same_unless u p n)))
       where
         by : (lines_on (number s u) after.out ≡ []) ⊎ (owed_to s view u ≡ [])
-            → (unwrap_or (way_between old.net t u) [] ++ lines_on (number s u) after.out) ++ owed_to s view u
-            ≡ (unwrap_or (way_between old.net t u) [] ++ owed_to s view u) ++ lines_on (number s u) after.out
+            → (unwrap_or (way_between old.net t u) [] ++ lines_on (number s u) after.out)
+            ++ owed_to s view u
+            ≡ (unwrap_or (way_between old.net t u) [] ++ owed_to s view u)
+            ++ lines_on (number s u) after.out
         by (inl e) =
             ap (λ lines. (unwrap_or (way_between old.net t u) [] ++ lines) ++ owed_to s view u) e
-            ∙ ap (λ lines. lines ++ owed_to s view u) (append_nil (unwrap_or (way_between old.net t u) []))
+            ∙ ap (λ lines. lines ++ owed_to s view u)
+            (append_nil (unwrap_or (way_between old.net t u) []))
             ∙ sym (append_nil (unwrap_or (way_between old.net t u) [] ++ owed_to s view u))
-            ∙ ap (λ lines. (unwrap_or (way_between old.net t u) [] ++ owed_to s view u) ++ lines) (sym e)
+            ∙ ap (λ lines. (unwrap_or (way_between old.net t u) [] ++ owed_to s view u) ++ lines)
+            (sym e)
         by (inr e) =
-            ap (λ owed. (unwrap_or (way_between old.net t u) [] ++ lines_on (number s u) after.out) ++ owed) e
+            ap (λ owed. (unwrap_or (way_between old.net t u) [] ++ lines_on (number s u) after.out)
+            ++ owed) e
             ∙ append_nil (unwrap_or (way_between old.net t u) [] ++ lines_on (number s u) after.out)
-            ∙ ap (λ lines. lines ++ lines_on (number s u) after.out) (sym (append_nil (unwrap_or (way_between old.net t u) [])))
-            ∙ ap (λ owed. (unwrap_or (way_between old.net t u) [] ++ owed) ++ lines_on (number s u) after.out) (sym e)
+            ∙ ap (λ lines. lines ++ lines_on (number s u) after.out)
+            (sym (append_nil (unwrap_or (way_between old.net t u) [])))
+            ∙ ap (λ owed. (unwrap_or (way_between old.net t u) [] ++ owed)
+            ++ lines_on (number s u) after.out) (sym e)
 
-    returned : under_way (relayed s new.net client) t p ≡ under_way (relayed s old.net client) t p ++ back
+    returned : under_way (relayed s new.net client) t p ≡ under_way
+        (relayed s old.net client) t p ++ back
     returned =
         ap (λ lines. lines ++ owed_to s (view_at new.net t) p) (queue_taker p)
-        ∙ ap (λ v. (unwrap_or (way_between old.net t p) [] ++ lines_on (number s p) after.out) ++ owed_to s v p) view_taker
-        ∙ append_both (unwrap_or (way_between old.net t p) []) (lines_on (number s p) after.out) (owed_to s after.view p)
+        ∙ ap (λ v. (unwrap_or (way_between old.net t p) [] ++ lines_on (number s p) after.out)
+        ++ owed_to s v p) view_taker
+        ∙ append_both (unwrap_or (way_between old.net t p) []) (lines_on (number s p) after.out)
+        (owed_to s after.view p)
         ∙ ap (λ lines. unwrap_or (way_between old.net t p) [] ++ lines) good.pays
         ∙ sym (append_both (unwrap_or (way_between old.net t p) []) (owed_to s view p) back)
 
@@ -247,17 +294,23 @@ module _ (laws : AreDeliveryLaws) (old new : Course) (sound : IsSound old.net) (
     unheard : AllByRecursion (IsUnheard s t at_end) back
     unheard = well.answer.unheard at_end ((sound.coming.under_way client).fits p d.p_among)
 
-    returns_well : AllAlong (machine s client) (IsGoodLine s sound.asks (world_now old.net) sound.routes) (s.streams.parent p) p at_end back
+    returns_well : AllAlong (machine s client) (IsGoodLine s sound.asks
+        (world_now old.net) sound.routes) (s.streams.parent p) p at_end back
     returns_well = by back refl
       where
         by : (lines : List (List ℕ)) → back ≡ lines
-            → AllAlong (machine s client) (IsGoodLine s sound.asks (world_now old.net) sound.routes) (s.streams.parent p) p at_end back
-        by [] none = subst (AllAlong (machine s client) (IsGoodLine s sound.asks (world_now old.net) sound.routes) (s.streams.parent p) p at_end) (sym none) tt
+            → AllAlong (machine s client) (IsGoodLine s sound.asks (world_now old.net) sound.routes)
+            (s.streams.parent p) p at_end back
+        by [] none = subst (AllAlong (machine s client) (IsGoodLine s sound.asks
+            (world_now old.net) sound.routes) (s.streams.parent p) p at_end) (sym none) tt
         by (next ∷ lines) is =
-            subst (λ q. AllAlong (machine s client) (IsGoodLine s sound.asks (world_now old.net) sound.routes) q p at_end back)
-            (sym (well.answer.to_end next lines is).0) (all_go_well s t p at_end client sound.asks (world_now old.net) sound.routes back unheard)
+            subst (λ q. AllAlong (machine s client)
+            (IsGoodLine s sound.asks (world_now old.net) sound.routes) q p at_end back)
+            (sym (well.answer.to_end next lines is).0) (all_go_well s t p at_end client sound.asks
+            (world_now old.net) sound.routes back unheard)
 
-    delivers : Delivers (machine s client) p t line back (relayed s old.net client) (relayed s new.net client)
+    delivers : Delivers (machine s client) p t line back (relayed s old.net client)
+        (relayed s new.net client)
     delivers = record {
       took = ap (λ o. unwrap_or o []) d.waited ∙ ap (λ lines. line ∷ lines) (sym queue_left);
       moved = view_taker;
@@ -270,7 +323,8 @@ module _ (laws : AreDeliveryLaws) (old new : Course) (sound : IsSound old.net) (
       other_shown = λ u n. shown_other u n (is_home_of s.homes u client) refl;
     }
 
-    relays : Relays (machine s client) old.net.links s.streams p t line back (relayed s old.net client)
+    relays : Relays (machine s client) old.net.links s.streams p t line back
+        (relayed s old.net client)
     relays = record {
       no_echo = ap (λ b. if b then [] else lines_on (number s p) after.out) (same_when p p refl);
       to_linked = λ u next lines is. by u next lines (tell u p) is;
@@ -278,11 +332,14 @@ module _ (laws : AreDeliveryLaws) (old new : Course) (sound : IsSound old.net) (
       back_harmless = all_harmless s t p at_end client back unheard;
     }
       where
-        by : (u : Name) (next : List ℕ) (lines : List (List ℕ)) → Telling u p → (if same u p then [] else lines_on (number s u) after.out) ≡ next ∷ lines
+        by : (u : Name) (next : List ℕ) (lines : List (List ℕ)) → Telling u p
+            → (if same u p then [] else lines_on (number s u) after.out) ≡ next ∷ lines
             → AreLinked old.net.links t u
-        by u next lines (alike so _) is = absurd (let no = sym (ap (λ b. if b then [] else lines_on (number s u) after.out) so) ∙ is in cc no)
+        by u next lines (alike so _) is = absurd (let no = sym
+            (ap (λ b. if b then [] else lines_on (number s u) after.out) so) ∙ is in cc no)
         by u next lines (unlike so _) is = subst (λ links. AreLinked links t u) same_links
-            (good.to_linked u next lines (sym (ap (λ b. if b then [] else lines_on (number s u) after.out) so) ∙ is))
+            (good.to_linked u next lines
+            (sym (ap (λ b. if b then [] else lines_on (number s u) after.out) so) ∙ is))
 
   -- ---- the network afterwards
 
@@ -299,10 +356,17 @@ module _ (laws : AreDeliveryLaws) (old new : Course) (sound : IsSound old.net) (
   items_same = answered.items ∙ d.items
 
   fixed_same : fixed_of new.net (streams_from new.net.links sound.source) ≡ s
-  fixed_same i = record { settings = same_settings i; names = names_same i; homes = homes_same i; streams = streams_from (links_same i) sound.source }
+  fixed_same i = record {
+    settings = same_settings i;
+    names = names_same i;
+    homes = homes_same i;
+    streams = streams_from (links_same i) sound.source;
+  }
 
-  by_items : {A : Type 0} (f : List Setting → List Item → A) → f (settings_of new.net) new.net.items ≡ f (settings_of old.net) old.net.items
-  by_items f = ap (λ settings. f settings new.net.items) same_settings ∙ ap (f (settings_of old.net)) items_same
+  by_items : {A : Type 0} (f : List Setting → List Item → A)
+      → f (settings_of new.net) new.net.items ≡ f (settings_of old.net) old.net.items
+  by_items f = ap (λ settings. f settings new.net.items) same_settings
+      ∙ ap (f (settings_of old.net)) items_same
 
   world_is : world_now new.net ≡ world_now old.net
   world_is = by_items world_of
@@ -310,37 +374,50 @@ module _ (laws : AreDeliveryLaws) (old new : Course) (sound : IsSound old.net) (
   counted_once : IsCounted s.streams old.net.names
   counted_once u below = sound.set_up.once u (ends u (s.streams.parent u) (takes_linked u below))
     where
-      takes_linked : (u : Name) → 0 < s.streams.depth u → AreLinked old.net.links u (s.streams.parent u)
-      takes_linked u below = (next_hop old.net.links u (sound.source u) forest (sound.coming.covers.joined u)
+      takes_linked : (u : Name) → 0 < s.streams.depth u
+          → AreLinked old.net.links u (s.streams.parent u)
+      takes_linked u below =
+          (next_hop old.net.links u (sound.source u) forest (sound.coming.covers.joined u)
           (λ e. let z = ap (λ v. distance old.net.links v (sound.source u)) e
           ∙ distance_self old.net.links (sound.source u) in omega arith)).linked
 
   module _ (client : ℕ) where
-    under : IsUnderWay s sound.asks (world_now old.net) sound.routes old.net client (owed_now old.net client)
+    under : IsUnderWay s sound.asks (world_now old.net) sound.routes old.net client
+        (owed_now old.net client)
     under = sound.coming.under_way client
 
-    outcome : SameOutcome (machine s client) s.streams (relayed s old.net client) (relayed s new.net client)
-    outcome = delivery_outcome (machine s client) old.net.links s.streams p t line back (relayed s old.net client) (relayed s new.net client) flow under.away
+    outcome : SameOutcome (machine s client) s.streams (relayed s old.net client)
+        (relayed s new.net client)
+    outcome = delivery_outcome (machine s client) old.net.links s.streams p t line back
+        (relayed s old.net client) (relayed s new.net client) flow under.away
         (delivers client) (relays client)
 
-    under_way_now : IsUnderWay s sound.asks (world_now old.net) sound.routes new.net client (owed_now old.net client)
+    under_way_now : IsUnderWay s sound.asks (world_now old.net) sound.routes new.net client
+        (owed_now old.net client)
     under_way_now = record {
-      away = delivery_away (machine s client) old.net.links s.streams p t line back (relayed s old.net client) (relayed s new.net client) flow under.away
+      away = delivery_away (machine s client) old.net.links s.streams p t line back
+          (relayed s old.net client) (relayed s new.net client) flow under.away
           (delivers client) (relays client);
-      fits = λ u among. subst (Fits s u (part_of s (world_now old.net) sound.routes u)) (sym (outcome.same_final u)) (under.fits u among);
+      fits = λ u among. subst (Fits s u (part_of s (world_now old.net) sound.routes u))
+          (sym (outcome.same_final u)) (under.fits u among);
       told = λ home is. outcome.same_told home ∙ under.told home is;
-      well = delivery_goes_well (machine s client) old.net.links sound.source p t line back (relayed s old.net client) (relayed s new.net client)
-          (IsGoodLine s sound.asks (world_now old.net) sound.routes) forest sound.coming.covers under.away (delivers client) (relays client) under.well
+      well = delivery_goes_well (machine s client) old.net.links sound.source p t line back
+          (relayed s old.net client) (relayed s new.net client)
+          (IsGoodLine s sound.asks (world_now old.net) sound.routes) forest sound.coming.covers
+          under.away (delivers client) (relays client) under.well
           (returns_well client);
     }
 
     abbrev pending : Network → List Name → ℕ
-    pending net names = lines_pending (machine s client) s.streams (relayed s net client) names sound.asks.answered sound.asks.one sound.asks.other
+    pending net names = lines_pending (machine s client) s.streams
+        (relayed s net client) names sound.asks.answered sound.asks.one sound.asks.other
 
     pending_falls : pending new.net old.net.names < pending old.net old.net.names
     pending_falls =
-        delivery_pending (machine s client) old.net.links s.streams sound.asks.answered sound.asks.one sound.asks.other p t line back (relayed s old.net client)
-        (relayed s new.net client) old.net.names flow under.away counted_once (delivers client) (relays client) well.answer.once
+        delivery_pending (machine s client) old.net.links s.streams sound.asks.answered
+        sound.asks.one sound.asks.other p t line back (relayed s old.net client)
+        (relayed s new.net client) old.net.names flow under.away counted_once (delivers client)
+        (relays client) well.answer.once
 
     few_now : new.net.taken + pending new.net new.net.names ≤ most_now new.net
     few_now =
@@ -349,29 +426,36 @@ module _ (laws : AreDeliveryLaws) (old new : Course) (sound : IsSound old.net) (
         let most = by_items (λ settings items. most_of_last settings new_world items) in
         let few = sound.coming.few client in
         let taken = answered.taken ∙ d.counted_is in
-        bound old.net.taken new.net.taken (pending old.net old.net.names) (pending new.net old.net.names) (pending new.net new.net.names) (most_now old.net)
+        bound old.net.taken new.net.taken (pending old.net old.net.names)
+        (pending new.net old.net.names) (pending new.net new.net.names) (most_now old.net)
         (most_now new.net) counts names most few
-        (subst (λ n. n ≤ old.net.taken + 1) (sym taken) (min_less (old.net.taken + 1) 18446744073709551615))
+        (subst (λ n. n ≤ old.net.taken + 1) (sym taken)
+        (min_less (old.net.taken + 1) 18446744073709551615))
       where
         min_less : (a b : ℕ) → min a b ≤ a
         min_less a b = omega arith
 
-        bound : (taken taken_now before now at_names most most_same : ℕ) → now < before → at_names ≡ now → most_same ≡ most → taken + before ≤ most
-            → taken_now ≤ taken + 1 → taken_now + at_names ≤ most_same
-        bound taken taken_now before now at_names most most_same one names same few less = omega arith
+        bound : (taken taken_now before now at_names most most_same : ℕ) → now < before
+            → at_names ≡ now → most_same ≡ most → taken + before ≤ most → taken_now ≤ taken + 1
+            → taken_now + at_names ≤ most_same
+        bound taken taken_now before now at_names most most_same one names same few less =
+            omega arith
 
   -- ---- who has called whom
 
-  greeting_same : (x : Name) → greeting (view_at new.net x).routes ≡ greeting (view_at old.net x).routes
+  greeting_same : (x : Name)
+      → greeting (view_at new.net x).routes ≡ greeting (view_at old.net x).routes
   greeting_same x = by (tell x t)
     where
       alike_after : IsSetAlike view after.view
-      alike_after = subst (λ (r : Reply). IsSetAlike view r.view) reply_is (reply_alike laws.kept view (link_says (index_in old.net.names p) (read_of line)))
+      alike_after = subst (λ (r : Reply). IsSetAlike view r.view) reply_is
+          (reply_alike laws.kept view (link_says (index_in old.net.names p) (read_of line)))
 
       by : Telling x t → greeting (view_at new.net x).routes ≡ greeting (view_at old.net x).routes
       by (unlike _ n) = ap (λ (v : View). greeting v.routes) (view_other x n)
       by (alike _ e) =
-          ap (λ v. greeting (view_at new.net v).routes) e ∙ ap (λ (v : View). greeting v.routes) view_taker
+          ap (λ v. greeting (view_at new.net v).routes) e
+          ∙ ap (λ (v : View). greeting v.routes) view_taker
           ∙ (λ i. record {
             sender = nobody;
             command = codes "SERVER";
@@ -381,16 +465,19 @@ module _ (laws : AreDeliveryLaws) (old new : Course) (sound : IsSound old.net) (
           })
           ∙ sym (ap (λ v. greeting (view_at old.net v).routes) e)
 
-  still_met : (y x : Name) → is_met_with s (view_at old.net y) x ≡ true → is_met_with s (view_at new.net y) x ≡ true
+  still_met : (y x : Name) → is_met_with s (view_at old.net y) x ≡ true
+      → is_met_with s (view_at new.net y) x ≡ true
   still_met y x is = by (tell y t)
     where
       by : Telling y t → is_met_with s (view_at new.net y) x ≡ true
       by (unlike _ n) = ap (λ v. is_met_with s v x) (view_other y n) ∙ is
-      by (alike _ e) = ap (λ v. is_met_with s (view_at new.net v) x) e ∙ ap (λ v. is_met_with s v x) view_taker
+      by (alike _ e) =
+          ap (λ v. is_met_with s (view_at new.net v) x) e ∙ ap (λ v. is_met_with s v x) view_taker
           ∙ good.met_stay x (sym (ap (λ v. is_met_with s (view_at old.net v) x) e) ∙ is)
 
   -- the line by which p names itself, at t
-  greeted : line ≡ line_text (greeting (view_at old.net p).routes) → is_met_with s after.view p ≡ true
+  greeted : line ≡ line_text (greeting (view_at old.net p).routes)
+      → is_met_with s after.view p ≡ true
   greeted is = by (has_far well.end) refl
     where
       met_before : has_far well.end ≡ true → is_met_with s view p ≡ true
@@ -399,10 +486,13 @@ module _ (laws : AreDeliveryLaws) (old new : Course) (sound : IsSound old.net) (
       configured : IsConfigured (view_at old.net p)
       configured = sound.set_up.configured p d.p_among
 
-      greeted_line : (l : List ℕ) → l ≡ line_text (greeting (view_at old.net p).routes) → has_far well.end ≡ false
-          → closings (asked_line s p view l).out ≡ [] → is_met_with s (asked_line s p view l).view p ≡ true
-      greeted_line l e not_met open_still = subst (λ l. is_met_with s (asked_line s p view l).view p ≡ true) (sym e)
-          (laws.greeting_met view (number s p) well.end (view_at old.net p).routes well.is_end not_met configured.name configured.info
+      greeted_line : (l : List ℕ) → l ≡ line_text (greeting (view_at old.net p).routes)
+          → has_far well.end ≡ false → closings (asked_line s p view l).out ≡ []
+          → is_met_with s (asked_line s p view l).view p ≡ true
+      greeted_line l e not_met open_still =
+          subst (λ l. is_met_with s (asked_line s p view l).view p ≡ true) (sym e)
+          (laws.greeting_met view (number s p) well.end
+          (view_at old.net p).routes well.is_end not_met configured.name configured.info
           (subst (λ l. closings (asked_line s p view l).out ≡ []) e open_still))
 
       by : (b : Bool) → has_far well.end ≡ b → is_met_with s after.view p ≡ true
@@ -418,43 +508,55 @@ module _ (laws : AreDeliveryLaws) (old new : Course) (sound : IsSound old.net) (
   rest_of : (a b : List ℕ) (xs ys : List (List ℕ)) → a ∷ xs ≡ b ∷ ys → xs ≡ ys
   rest_of a b xs ys e = cc e
 
-  calling_now : (x y : Name) (before behind : List (List ℕ))
-      → way_between old.net x y ≡ Some (before ++ line_text (greeting (view_at old.net x).routes) ∷ behind)
-      → HasCalled s new.net x y
+  calling_now : (x y : Name) (before behind : List (List ℕ)) → way_between old.net x y ≡ Some
+      (before ++ line_text (greeting (view_at old.net x).routes) ∷ behind) → HasCalled s new.net x y
   calling_now x y before behind is = by (tell x p) (tell y t) (tell x t)
     where
-      keeps : way_between new.net x y ≡ Some (before ++ line_text (greeting (view_at old.net x).routes) ∷ behind) → HasCalled s new.net x y
-      keeps e = is_calling before behind (e ∙ ap (λ g. Some (before ++ line_text g ∷ behind)) (sym (greeting_same x)))
+      keeps : way_between new.net x y ≡ Some (before
+          ++ line_text (greeting (view_at old.net x).routes) ∷ behind) → HasCalled s new.net x y
+      keeps e = is_calling before behind
+          (e ∙ ap (λ g. Some (before ++ line_text g ∷ behind)) (sym (greeting_same x)))
 
       same_way : x ≢ t → (x ≡ p → y ≡ t → ⊥) → HasCalled s new.net x y
-      same_way n none = keeps (ap (λ place. way_at new.net x place) (place_same y) ∙ way_other x (number s y) n
+      same_way n none =
+          keeps (ap (λ place. way_at new.net x place) (place_same y) ∙ way_other x (number s y) n
           (λ e f. none e (sym (one_place old.net.names t y d.t_among (sym f)))) ∙ is)
 
       from_taker : x ≡ t → HasCalled s new.net x y
       from_taker e = is_calling before (behind ++ lines_on (number s y) after.out)
-          (ap (λ v. way_between new.net v y) e ∙ ap (λ place. way_at new.net t place) (place_same y) ∙ way_taker (number s y)
-          ∙ ap (option_map (λ lines. lines ++ lines_on (number s y) after.out)) (ap (λ v. way_between old.net v y) (sym e) ∙ is)
-          ∙ ap Some (append_both before (line_text (greeting (view_at old.net x).routes) ∷ behind) (lines_on (number s y) after.out))
-          ∙ ap (λ g. Some (before ++ line_text g ∷ (behind ++ lines_on (number s y) after.out))) (sym (greeting_same x)))
+          (ap (λ v. way_between new.net v y) e ∙ ap (λ place. way_at new.net t place) (place_same y)
+          ∙ way_taker (number s y)
+          ∙ ap (option_map (λ lines. lines ++ lines_on (number s y) after.out))
+          (ap (λ v. way_between old.net v y) (sym e) ∙ is)
+          ∙ ap Some (append_both before (line_text (greeting (view_at old.net x).routes) ∷ behind)
+          (lines_on (number s y) after.out))
+          ∙ ap (λ g. Some (before ++ line_text g ∷ (behind ++ lines_on (number s y) after.out)))
+          (sym (greeting_same x)))
 
       -- the way on which the line was
-      on_way : (before : List (List ℕ)) → x ≡ p → y ≡ t → line ∷ d.rest ≡ before ++ line_text (greeting (view_at old.net x).routes) ∷ behind
-          → HasCalled s new.net x y
-      on_way [] e f parts = is_met (ap (λ v. is_met_with s (view_at new.net v) x) f ∙ ap (λ v. is_met_with s v x) view_taker
+      on_way : (before : List (List ℕ)) → x ≡ p → y ≡ t → line ∷ d.rest ≡ before
+          ++ line_text (greeting (view_at old.net x).routes) ∷ behind → HasCalled s new.net x y
+      on_way [] e f parts = is_met (ap (λ v. is_met_with s (view_at new.net v) x) f
+          ∙ ap (λ v. is_met_with s v x) view_taker
           ∙ ap (λ v. is_met_with s after.view v) e
-          ∙ greeted (first_of line (line_text (greeting (view_at old.net x).routes)) d.rest behind parts
+          ∙ greeted
+          (first_of line (line_text (greeting (view_at old.net x).routes)) d.rest behind parts
           ∙ ap (λ v. line_text (greeting (view_at old.net v).routes)) e))
       on_way (first ∷ more) e f parts = is_calling more behind
-          (ap (λ v. way_between new.net v y) e ∙ ap (λ v. way_between new.net p v) f ∙ ap (λ place. way_at new.net p place) (place_same t)
+          (ap (λ v. way_between new.net v y) e ∙ ap (λ v. way_between new.net p v) f
+          ∙ ap (λ place. way_at new.net p place) (place_same t)
           ∙ answered.other_ways p (number s t) two ∙ d.left_is
-          ∙ ap Some (rest_of line first d.rest (more ++ line_text (greeting (view_at old.net x).routes) ∷ behind) parts)
+          ∙ ap Some (rest_of line first d.rest
+          (more ++ line_text (greeting (view_at old.net x).routes) ∷ behind) parts)
           ∙ ap (λ g. Some (more ++ line_text g ∷ behind)) (sym (greeting_same x)))
 
       by : Telling x p → Telling y t → Telling x t → HasCalled s new.net x y
       by _ _ (alike _ e) = from_taker e
       by (alike _ e) (alike _ f) (unlike _ n) = on_way before e f
-          (same_some (line ∷ d.rest) (before ++ line_text (greeting (view_at old.net x).routes) ∷ behind)
-          (sym d.waited ∙ ap (λ v. way_between old.net v t) (sym e) ∙ ap (λ v. way_between old.net x v) (sym f) ∙ is))
+          (same_some (line ∷ d.rest)
+          (before ++ line_text (greeting (view_at old.net x).routes) ∷ behind)
+          (sym d.waited ∙ ap (λ v. way_between old.net v t) (sym e)
+          ∙ ap (λ v. way_between old.net x v) (sym f) ∙ is))
       by (alike _ e) (unlike _ m) (unlike _ n) = same_way n (λ _ f. m f)
       by (unlike _ m) _ (unlike _ n) = same_way n (λ e _. m e)
 
@@ -465,7 +567,8 @@ module _ (laws : AreDeliveryLaws) (old new : Course) (sound : IsSound old.net) (
   called : AreCalled s new.net
   called x y l = by (sound.coming.called x y (subst (λ links. AreLinked links x y) links_same l))
     where
-      by : HasCalled s old.net x y ⊎ HasCalled s old.net y x → HasCalled s new.net x y ⊎ HasCalled s new.net y x
+      by : HasCalled s old.net x y ⊎ HasCalled s old.net y x
+          → HasCalled s new.net x y ⊎ HasCalled s new.net y x
       by (inl c) = inl (called_now x y c)
       by (inr c) = inr (called_now y x c)
 
@@ -474,24 +577,30 @@ module _ (laws : AreDeliveryLaws) (old new : Course) (sound : IsSound old.net) (
     covers = subst (λ links. Covers links sound.source) (sym links_same) sound.coming.covers;
     right = subst (λ links. AreRight s links sound.routes) (sym links_same) sound.coming.right;
     called = called;
-    under_way = λ client. subst (λ w. IsUnderWay s sound.asks w sound.routes new.net client (owed_now new.net client)) (sym world_is)
+    under_way = λ client. subst (λ w. IsUnderWay s sound.asks w sound.routes new.net client
+        (owed_now new.net client)) (sym world_is)
         (subst (IsUnderWay s sound.asks (world_now old.net) sound.routes new.net client)
-        (sym (by_items (λ settings items. owed_by_network settings items client))) (under_way_now client));
+        (sym (by_items (λ settings items. owed_by_network settings items client)))
+        (under_way_now client));
     few = few_now;
   }
 
-  some_way : (x : Name) (place : ℕ) → is_some (way_at new.net x place) ≡ is_some (way_at old.net x place)
+  some_way : (x : Name) (place : ℕ)
+      → is_some (way_at new.net x place) ≡ is_some (way_at old.net x place)
   some_way x place = by (tell x t) (tell x p) (same_number place (index_in old.net.names t)) refl
     where
       by : Telling x t → Telling x p → (b : Bool) → same_number place (index_in old.net.names t) ≡ b
           → is_some (way_at new.net x place) ≡ is_some (way_at old.net x place)
-      by (alike _ e) _ _ _ = ap (λ v. is_some (way_at new.net v place)) e ∙ ap is_some (way_taker place)
-          ∙ stays_some (λ lines. lines ++ lines_on place after.out) (way_at old.net t place) ∙ sym (ap (λ v. is_some (way_at old.net v place)) e)
+      by (alike _ e) _ _ _ =
+          ap (λ v. is_some (way_at new.net v place)) e ∙ ap is_some (way_taker place)
+          ∙ stays_some (λ lines. lines ++ lines_on place after.out) (way_at old.net t place)
+          ∙ sym (ap (λ v. is_some (way_at old.net v place)) e)
       by (unlike _ n) (alike _ e) true k =
           let at = one_number place (index_in old.net.names t) k in
           ap (λ v. is_some (way_at new.net v place)) e ∙ ap (λ k. is_some (way_at new.net p k)) at
           ∙ ap is_some (answered.other_ways p (index_in old.net.names t) two ∙ d.left_is)
-          ∙ sym (ap is_some (ap (λ v. way_at old.net v place) e ∙ ap (λ k. way_at old.net p k) at ∙ d.waited))
+          ∙ sym (ap is_some (ap (λ v. way_at old.net v place) e ∙ ap (λ k. way_at old.net p k) at
+          ∙ d.waited))
       by (unlike _ n) (alike _ e) false k = ap is_some (way_other x place n
           (λ _ f. let no = sym (same_number-is place (index_in old.net.names t) f) ∙ k in cc no))
       by (unlike _ n) (unlike _ m) _ _ = ap is_some (way_other x place n (λ e _. m e))
@@ -504,17 +613,21 @@ module _ (laws : AreDeliveryLaws) (old new : Course) (sound : IsSound old.net) (
     within = subst (AllByRecursion IsItemWithin) (sym items_same) sound.within;
     links = links_same ∙ sound.links ∙ sym (ap (λ (w : World). w.links) world_is);
     homes = homes_same ∙ sound.homes ∙ sym (ap (λ (w : World). w.homes) world_is);
-    inboxes = answered.inboxes ∙ ap (λ (boxes : List (List (List ℕ))). length boxes) d.received ∙ sound.inboxes
+    inboxes = answered.inboxes ∙ ap (λ (boxes : List (List (List ℕ))). length boxes) d.received
+        ∙ sound.inboxes
         ∙ ap (λ (homes : List Name). length homes) (sym homes_same);
-    ways = λ x y. ap (λ place. is_some (way_at new.net x place)) (place_same y) ∙ some_way x (number s y) ∙ sound.ways x y
+    ways = λ x y. ap (λ place. is_some (way_at new.net x place)) (place_same y)
+        ∙ some_way x (number s y) ∙ sound.ways x y
         ∙ ap (λ links. linked links x y) (sym links_same);
-    to_servers = λ x place is. placed place (sound.to_servers x place (sym (some_way x place) ∙ is));
+    to_servers =
+        λ x place is. placed place (sound.to_servers x place (sym (some_way x place) ∙ is));
     nobody = λ client none. by_items (λ settings items. owed_by_network settings items client)
         ∙ sound.nobody client (ap (λ homes. home_in homes client) (sym homes_same) ∙ none);
     source = sound.source;
     routes = sound.routes;
     asks = sound.asks;
-    coming = subst (IsSoundFrom sound.source sound.routes sound.asks new.net) (sym fixed_same) coming_now;
+    coming = subst (IsSoundFrom sound.source sound.routes sound.asks new.net)
+        (sym fixed_same) coming_now;
   }
     where
       placed : (place : ℕ) → IsPlaceOf old.net place → IsPlaceOf new.net place
@@ -528,17 +641,21 @@ module _ (laws : AreDeliveryLaws) (old new : Course) (sound : IsSound old.net) (
   unfolding delivered_sound
   fewer_now =
       subst (λ (f : Fixed). lines_pending (machine f 0) f.streams
-      (relayed f new.net 0) new.net.names sound.asks.answered sound.asks.one sound.asks.other < pending_of old.net sound)
-      (sym fixed_same) (subst (λ names. pending 0 new.net names < pending 0 old.net old.net.names) (sym names_same) (pending_falls 0))
+      (relayed f new.net 0) new.net.names sound.asks.answered sound.asks.one sound.asks.other
+      < pending_of old.net sound)
+      (sym fixed_same) (subst (λ names. pending 0 new.net names < pending 0 old.net old.net.names)
+      (sym names_same) (pending_falls 0))
 
   pub one_fewer : IsOneFewer old new sound
   one_fewer = record { sound_now = delivered_sound; fewer = fewer_now }
 
-pub leaves_one_fewer : AreDeliveryLaws → (from to : ℕ) (old new : Course) (sound : IsSound old.net) → delivered from to old ≡ Some new
-    → IsOneFewer old new sound
+pub leaves_one_fewer : AreDeliveryLaws → (from to : ℕ) (old new : Course) (sound : IsSound old.net)
+    → delivered from to old ≡ Some new → IsOneFewer old new sound
 leaves_one_fewer laws from to old new sound is =
-    let d = delivered_between old sound from to new is in one_fewer laws old new sound d.giver d.taker d.line d.delivered_to
+    let d = delivered_between old sound from to new is in
+    one_fewer laws old new sound d.giver d.taker d.line d.delivered_to
 
 pub delivery_stays_sound : AreDeliveryLaws → DeliveryStaysSound
 delivery_stays_sound laws from to old new sound is =
-    let d = delivered_between old sound from to new is in delivered_sound laws old new sound d.giver d.taker d.line d.delivered_to
+    let d = delivered_between old sound from to new is in
+    delivered_sound laws old new sound d.giver d.taker d.line d.delivered_to

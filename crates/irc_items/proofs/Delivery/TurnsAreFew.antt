@@ -1,7 +1,8 @@
 -- Lines that are taken in turn come to an end: each leaves fewer that are coming.
 use Rattle.std.proofs.Common.{◌≡◌, ℕ, zero, suc, ◌+◌, ◌<◌, ◌≤◌, Option, Some, None, refl, ap, arith}
 use Rattle.std.specs.Option.{option_and_then, option_map_or}
-use Rattle.irc_network.specs.Network.{Course, Direction, Network, TakesInTurn, delivered, first_direction, lines_left, next_in_turn, none_yet, then_one}
+use Rattle.irc_network.specs.Network.{Course, Direction, Network, TakesInTurn, delivered}
+use Rattle.irc_network.specs.Network.{first_direction, lines_left, next_in_turn, none_yet, then_one}
 use Rattle.irc_items.specs.Kept.{TurnLeavesFewer, TurnsAreFew}
 use Rattle.irc_items.specs.Sound.{most_now, IsSound}
 use Rattle.irc_items.proofs.Delivery.Delivering.{leaves_one_fewer, pending_of, AreDeliveryLaws}
@@ -18,8 +19,10 @@ record AreTurns (count : ℕ) (old new : Course) (sound : IsSound old.net) : Typ
   sound_now : IsSound new.net
   fewer : pending_of new.net sound_now + count ≤ pending_of old.net sound
 
-turns : AreDeliveryLaws → (count : ℕ) (old new : Course) (sound : IsSound old.net) → TakesInTurn count old new → AreTurns count old new sound
-turns laws zero old new sound none_yet = record { sound_now = sound; fewer = none (pending_of old.net sound) }
+turns : AreDeliveryLaws → (count : ℕ) (old new : Course) (sound : IsSound old.net)
+    → TakesInTurn count old new → AreTurns count old new sound
+turns laws zero old new sound none_yet =
+    record { sound_now = sound; fewer = none (pending_of old.net sound) }
   where
     none : (n : ℕ) → n + 0 ≤ n
     none n = omega arith
@@ -28,7 +31,8 @@ turns laws (suc count) old new sound (then_one {between = mid} {direction = way}
     let last = leaves_one_fewer laws way.from way.to mid new first.sound_now is in
     record {
       sound_now = last.sound_now;
-      fewer = added (pending_of old.net sound) (pending_of mid.net first.sound_now) (pending_of new.net last.sound_now) count first.fewer last.fewer;
+      fewer = added (pending_of old.net sound) (pending_of mid.net first.sound_now)
+          (pending_of new.net last.sound_now) count first.fewer last.fewer;
     }
   where
     added : (a b c count : ℕ) → b + count ≤ a → c < b → c + suc count ≤ a
@@ -37,7 +41,8 @@ turns laws (suc count) old new sound (then_one {between = mid} {direction = way}
 pub turns_are_few : AreDeliveryLaws → TurnsAreFew
 turns_are_few laws count old new sound takes =
     let all = turns laws count old new sound takes in
-    within (pending_of new.net all.sound_now) count (pending_of old.net sound) (most_now old.net) all.fewer (pending_few old.net sound)
+    within (pending_of new.net all.sound_now) count (pending_of old.net sound)
+    (most_now old.net) all.fewer (pending_few old.net sound)
   where
     within : (a count b most : ℕ) → a + count ≤ b → b ≤ most → count ≤ most
     within a count b most few less = omega arith
@@ -45,10 +50,12 @@ turns_are_few laws count old new sound takes =
 -- ---- so many can be taken in turn
 
 -- what is taken first, and then the others
-turn_first : {count : ℕ} {first between last : Course} → next_in_turn first ≡ Some between → TakesInTurn count between last → TakesInTurn (suc count) first last
+turn_first : {count : ℕ} {first between last : Course} → next_in_turn first ≡ Some between
+    → TakesInTurn count between last → TakesInTurn (suc count) first last
 turn_first {first = first} {between = between} is none_yet = by (first_direction first.net) refl is
   where
-    by : (o : Option Direction) → first_direction first.net ≡ o → option_and_then (λ (d : Direction). delivered d.from d.to first) o ≡ Some between
+    by : (o : Option Direction) → first_direction first.net ≡ o
+        → option_and_then (λ (d : Direction). delivered d.from d.to first) o ≡ Some between
         → TakesInTurn 1 first between
     by None none e = absurd (cc e)
     by (Some d) way e = then_one none_yet way e
@@ -62,13 +69,16 @@ left_are_taken : (most : ℕ) (course : Course) → CanBeTaken (lines_left most 
 left_are_taken zero course = record { last = course; takes = none_yet }
 left_are_taken (suc most) course = by (left_are_taken most) (next_in_turn course) refl
   where
-    by : ((next : Course) → CanBeTaken (lines_left most next) next) → (o : Option Course) → next_in_turn course ≡ o
+    by : ((next : Course) → CanBeTaken (lines_left most next) next)
+        → (o : Option Course) → next_in_turn course ≡ o
         → CanBeTaken (option_map_or (λ next. suc (lines_left most next)) o 0) course
     by later None none = record { last = course; takes = none_yet }
-    by later (Some next) is = let more = later next in record { last = more.last; takes = turn_first is more.takes }
+    by later (Some next) is =
+        let more = later next in record { last = more.last; takes = turn_first is more.takes }
 
 -- a number that is not reached tells how many are left
-same_left : (most : ℕ) (course : Course) → lines_left (suc most) course ≤ most → lines_left (suc most) course ≡ lines_left most course
+same_left : (most : ℕ) (course : Course) → lines_left (suc most) course ≤ most
+    → lines_left (suc most) course ≡ lines_left most course
 same_left zero course few = none (lines_left 1 course) few
   where
     none : (n : ℕ) → n ≤ 0 → n ≡ 0
@@ -78,9 +88,11 @@ same_left (suc most) course few = by (same_left most) (next_in_turn course) few
     below : (n : ℕ) → suc n ≤ suc most → n ≤ most
     below n few = omega arith
 
-    by : ((next : Course) → lines_left (suc most) next ≤ most → lines_left (suc most) next ≡ lines_left most next)
-        → (o : Option Course) → option_map_or (λ next. suc (lines_left (suc most) next)) o 0 ≤ suc most
-        → option_map_or (λ next. suc (lines_left (suc most) next)) o 0 ≡ option_map_or (λ next. suc (lines_left most next)) o 0
+    by : ((next : Course) → lines_left (suc most) next ≤ most
+        → lines_left (suc most) next ≡ lines_left most next) → (o : Option Course)
+        → option_map_or (λ next. suc (lines_left (suc most) next)) o 0 ≤ suc most
+        → option_map_or (λ next. suc (lines_left (suc most) next)) o 0
+        ≡ option_map_or (λ next. suc (lines_left most next)) o 0
     by later None few = refl
     by later (Some next) few = ap suc (later next (below (lines_left (suc most) next) few))
 
@@ -93,7 +105,8 @@ turn_leaves_fewer few_turns most old new sound few is = by most few
     bound : (n : ℕ) → most_now old.net ≤ n → suc (lines_left n new) ≤ n
     bound n few =
         let can = left_are_taken (suc n) old in
-        within (lines_left (suc n) old) (most_now old.net) n (suc (lines_left n new)) (few_turns (lines_left (suc n) old) old can.last sound can.takes) few
+        within (lines_left (suc n) old) (most_now old.net) n (suc (lines_left n new))
+        (few_turns (lines_left (suc n) old) old can.last sound can.takes) few
         (left n)
       where
         within : (count most n more : ℕ) → count ≤ most → most ≤ n → count ≡ more → more ≤ n

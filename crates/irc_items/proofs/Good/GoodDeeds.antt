@@ -1,5 +1,7 @@
--- A line that says a deed of a server goes well at its turn, where clients are shown effects in turn and one line goes on: NJOIN, MODE, TOPIC and SQUIT.
-use Rattle.std.proofs.Common.{◌≡◌, ◌≢◌, ℕ, Bool, true, false, Some, None, List, [], ◌∷◌, ◌++◌, append-nil, map, option_map, refl, sym, ◌∙◌, ap, if◌then◌else◌}
+-- A line that says a deed of a server goes well at its turn, where clients are shown effects in
+-- turn and one line goes on: NJOIN, MODE, TOPIC and SQUIT.
+use Rattle.std.proofs.Common.{◌≡◌, ◌≢◌, ℕ, Bool, true, false, Some, None, List, [], ◌∷◌, ◌++◌}
+use Rattle.std.proofs.Common.{append-nil, map, option_map, refl, sym, ◌∙◌, ap, if◌then◌else◌}
 use Rattle.std.specs.FinMap.{get}
 use Rattle.std.specs.Bool.{⊤}
 use Rattle.irc_batch.specs.Batches.{Sent}
@@ -15,7 +17,8 @@ use Rattle.irc_links.specs.Ways.{but, met_links}
 use Rattle.irc_merge.specs.Deeds.{Deed, does, gains, loses, kills, brings, sets, tops, effects_of}
 use Rattle.irc_relay.specs.Links.{Name, Link, AreLinked}
 use Rattle.irc_relay.specs.Relay.{TakesFrom}
-use Rattle.irc_stage.specs.EffectTold.{Served, all_changed, changed, changed_if, counts, in_silence, on_links, shown_at}
+use Rattle.irc_stage.specs.EffectTold.{Served, all_changed, changed, changed_if, counts, in_silence}
+use Rattle.irc_stage.specs.EffectTold.{on_links, shown_at}
 use Rattle.irc_stage.specs.Handle.{clients_after, renamed_in}
 use Rattle.irc_stage.specs.Linked.{told_on_all}
 use Rattle.irc_stage.specs.RoomMachine.{Clients}
@@ -39,43 +42,52 @@ use Rattle.irc_items.proofs.Good.Replies.{lines_put_out, reply_so, teller_is_met
 -- ---- and show nothing to who is no client
 
 module _ (client : ℕ) where
-  still_none : (effect : Effect) (clients : Clients) → get clients client ≡ None → get (clients_after effect clients) client ≡ None
-  still_none (Rename nick new) clients none = get-each (renamed_in nick new) clients client ∙ ap (option_map (renamed_in nick new)) none
+  still_none : (effect : Effect) (clients : Clients) → get clients client ≡ None
+      → get (clients_after effect clients) client ≡ None
+  still_none (Rename nick new) clients none = get-each (renamed_in nick new) clients client
+      ∙ ap (option_map (renamed_in nick new)) none
   still_none effect clients none = none
 
-  none_by_one : (effect : Effect) (s : Served) → get s.view.clients client ≡ None → lines_to client (changed_if effect s).out ≡ lines_to client s.out
+  none_by_one : (effect : Effect) (s : Served) → get s.view.clients client ≡ None
+      → lines_to client (changed_if effect s).out ≡ lines_to client s.out
   none_by_one effect s none = by (counts s.view effect)
     where
-      by : (b : Bool) → lines_to client (if b then changed effect s else s).out ≡ lines_to client s.out
+      by : (b : Bool) → lines_to client (if b then changed effect s else s).out
+          ≡ lines_to client s.out
       by true =
           lines_to_behind client s.out (shown_at s.view effect)
           ∙ ap (λ l. lines_to client s.out ++ l) (none_shown client s.view effect none)
           ∙ append-nil (lines_to client s.out)
       by false = refl
 
-  none_behind_one : (effect : Effect) (s : Served) → get s.view.clients client ≡ None → get (changed_if effect s).view.clients client ≡ None
+  none_behind_one : (effect : Effect) (s : Served) → get s.view.clients client ≡ None
+      → get (changed_if effect s).view.clients client ≡ None
   none_behind_one effect s none = by (counts s.view effect)
     where
       by : (b : Bool) → get (if b then changed effect s else s).view.clients client ≡ None
       by true = still_none effect s.view.clients none
       by false = none
 
-  none_in_turn : (effects : List Effect) (s : Served) → get s.view.clients client ≡ None → lines_to client (all_changed effects s).out ≡ lines_to client s.out
+  none_in_turn : (effects : List Effect) (s : Served) → get s.view.clients client ≡ None
+      → lines_to client (all_changed effects s).out ≡ lines_to client s.out
   none_in_turn [] s none = refl
-  none_in_turn (effect ∷ effects) s none = none_in_turn effects (changed_if effect s) (none_behind_one effect s none) ∙ none_by_one effect s none
+  none_in_turn (effect ∷ effects) s none = none_in_turn effects (changed_if effect s)
+      (none_behind_one effect s none) ∙ none_by_one effect s none
 
 -- ---- of what is put out so
 
--- What is put out is what clients are shown of effects in turn, done in a room, and then a line on all
--- links but that of arrival. The ends of links stay.
+-- What is put out is what clients are shown of effects in turn, done in a room, and then a line on
+-- all links but that of arrival. The ends of links stay.
 pub record IsToldOnce (s : Fixed) (p : Name) (view : View) (after : Served) : Type 0 where
   pub room : Room
   pub effects : List Effect
   pub parts : Written
   pub ends : after.view.ends ≡ view.ends
-  pub out : after.out ≡ (all_changed effects (in_silence (record view { room = room }))).out ++ on_links (but (Some (number s p)) (met_links view.ends)) parts
+  pub out : after.out ≡ (all_changed effects (in_silence (record view { room = room }))).out
+      ++ on_links (but (Some (number s p)) (met_links view.ends)) parts
 
-module _ (s : Fixed) (links : List Link) (p t : Name) (w : of_side.Part) (view : View) (takes : TakesFrom s.streams t p) (fits : Fits s t w view)
+module _ (s : Fixed) (links : List Link) (p t : Name) (w : of_side.Part) (view : View)
+    (takes : TakesFrom s.streams t p) (fits : Fits s t w view)
     (forest : AreLinkedAlike links w.tree.forest t) where
   abbrev others : List ℕ
   others = but (Some (number s p)) (met_links view.ends)
@@ -96,11 +108,14 @@ module _ (s : Fixed) (links : List Link) (p t : Name) (w : of_side.Part) (view :
       closes_none = none_closed_by_all told.effects before;
       on_no_other = λ u other. none_by_all (number s u) told.effects before;
       to_clients = λ client none. none_in_turn client told.effects before none;
-      on_linked = λ u other line lines is. met_linked s links t w view fits forest u line lines (line_text told.parts)
-          (sym (ap (map (λ _. line_text told.parts)) (but_another (number s u) (number s p) other (met_links view.ends))) ∙ is);
+      on_linked = λ u other line lines is. met_linked s links t w view fits forest u line lines
+          (line_text told.parts)
+          (sym (ap (map (λ _. line_text told.parts))
+          (but_another (number s u) (number s p) other (met_links view.ends))) ∙ is);
     }
 
-    told_reply : w.tree.knows p ≡ true → ((u : Name) → AreLinked links t u → u ≢ p → w.tree.knows u ≡ true) → IsGoodReply s links p t view after []
+    told_reply : w.tree.knows p ≡ true → ((u : Name) → AreLinked links t u → u ≢ p
+        → w.tree.knows u ≡ true) → IsGoodReply s links p t view after []
     unfolding put_out
     told_reply =
         reply_so s links p t w view takes fits forest after put_out []
@@ -133,10 +148,11 @@ module _ (s : Fixed) (links : List Link) (p t : Name) (w : of_side.Part) (view :
         met_known s links t w view fits forest p says.end says.is_end
         (teller_is_met view (number s p) says.end (read_of line) (a_deed deed) [] means)
 
-    deed_goes_well : (room : Room)
-        → told_of.view.ends ≡ (all_changed effects (in_silence (record view { room = room }))).view.ends
-        → told_of.out ≡ (told_on_all (Some (number s p)) parts (all_changed effects (in_silence (record view { room = room })))).out
-        → OthersAreKnown → IsGoodReply s links p t view (neighbour_served s p view line) []
+    deed_goes_well : (room : Room) → told_of.view.ends
+        ≡ (all_changed effects (in_silence (record view { room = room }))).view.ends
+        → told_of.out ≡ (told_on_all (Some (number s p)) parts
+        (all_changed effects (in_silence (record view { room = room })))).out → OthersAreKnown
+        → IsGoodReply s links p t view (neighbour_served s p view line) []
     deed_goes_well room same_ends same_out known =
         let before = in_silence (record view { room = room }) in
         told_reply (neighbour_served s p view line)
@@ -144,9 +160,11 @@ module _ (s : Fixed) (links : List Link) (p t : Name) (w : of_side.Part) (view :
           room = room;
           effects = effects;
           parts = parts;
-          ends = ap (λ (so : Served). so.view.ends) served_is ∙ same_ends ∙ ends_by_all effects before;
+          ends =
+              ap (λ (so : Served). so.view.ends) served_is ∙ same_ends ∙ ends_by_all effects before;
           out = ap (λ (so : Served). so.out) served_is ∙ same_out
-              ∙ ap (λ ends. (all_changed effects before).out ++ on_links (but (Some (number s p)) (met_links ends)) parts)
+              ∙ ap (λ ends. (all_changed effects before).out
+              ++ on_links (but (Some (number s p)) (met_links ends)) parts)
               (ends_by_all effects before);
         })
         knows_p known
@@ -159,11 +177,13 @@ module _ (s : Fixed) (links : List Link) (p t : Name) (w : of_side.Part) (view :
   IsToldWhole deed = ⊤
 
   -- By a loss one server less is known then, but none that it is linked to.
-  pub whole_goes_well : (deed : Deed) → IsToldWhole deed → (line : List ℕ) → Says s p t w view deed line → OthersAreKnown
+  pub whole_goes_well : (deed : Deed) → IsToldWhole deed
+      → (line : List ℕ) → Says s p t w view deed line → OthersAreKnown
       → IsGoodReply s links p t view (neighbour_served s p view line) []
   unfolding told_by deed_told
   whole_goes_well (brings server channel members) whole line says known =
-      deed_goes_well (brings server channel members) line says says.means (titled_by channel view.room) refl refl known
+      deed_goes_well (brings server channel members) line says says.means
+      (titled_by channel view.room) refl refl known
   whole_goes_well (sets server channel changes) whole line says known =
       deed_goes_well (sets server channel changes) line says says.means view.room refl refl known
   whole_goes_well (tops server channel topic) whole line says known =

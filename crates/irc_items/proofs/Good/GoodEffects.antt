@@ -1,4 +1,5 @@
--- A line that says an effect goes well at its turn: what is put out goes to the server's own clients and on its links, and never back.
+-- A line that says an effect goes well at its turn: what is put out goes to the server's own
+-- clients and on its links, and never back.
 use Rattle.std.proofs.Common.{◌≡◌, ◌≢◌, ℕ, true, Some, List, [], ◌++◌, map, sym, ◌∙◌, ap}
 use Rattle.irc_line.specs.Messages.{Written, line_text}
 use Rattle.irc_line.specs.Reading.{read_of}
@@ -22,8 +23,10 @@ use Rattle.irc_items.proofs.Good.MetEnds.{met_known, ways_linked, AreLinkedAlike
 use Rattle.irc_items.proofs.Good.PutOut.{but_itself, none_closed_by_effect, none_shown}
 use Rattle.irc_items.proofs.Good.Replies.{lines_put_out, reply_so, teller_is_met, IsPutOutSo}
 
-module _ (s : Fixed) (links : List Link) (p t : Name) (w : of_side.Part) (view : View) (takes : TakesFrom s.streams t p) (fits : Fits s t w view)
-    (forest : AreLinkedAlike links w.tree.forest t) (effect : Effect) (line : List ℕ) (says : Says s p t w view (does effect) line) where
+module _ (s : Fixed) (links : List Link) (p t : Name) (w : of_side.Part) (view : View)
+    (takes : TakesFrom s.streams t p) (fits : Fits s t w view)
+    (forest : AreLinkedAlike links w.tree.forest t) (effect : Effect) (line : List ℕ)
+    (says : Says s p t w view (does effect) line) where
   abbrev after : Served
   after = neighbour_served s p view line
 
@@ -42,19 +45,24 @@ module _ (s : Fixed) (links : List Link) (p t : Name) (w : of_side.Part) (view :
     closes_none = none_closed_by_effect view effect;
     on_no_other = λ u other. none_by_effect (number s u) view effect;
     to_clients = λ client none. none_shown client view effect none;
-    on_linked = λ u other first lines is. ways_linked s links t w view fits forest u (told_homes view.room effect) first lines (line_text parts)
-        (sym (ap (map (λ _. line_text parts)) (but_another (number s u) (number s p) other ways)) ∙ is);
+    on_linked = λ u other first lines is. ways_linked s links t w view fits forest u
+        (told_homes view.room effect) first lines (line_text parts)
+        (sym (ap (map (λ _. line_text parts)) (but_another (number s u) (number s p) other ways))
+        ∙ is);
   }
 
   none_goes_back : lines_on (number s p) after.out ≡ []
   unfolding put_out
   none_goes_back =
       lines_put_out s links p t w view takes fits forest after put_out (number s p)
-      ∙ (λ i. none_by_effect (number s p) view effect i ++ map (λ _. line_text parts) (but_itself (number s p) ways i))
+      ∙ (λ i. none_by_effect (number s p) view effect i
+      ++ map (λ _. line_text parts) (but_itself (number s p) ways i))
 
-  pub effect_goes_well : ((u : Name) → AreLinked links t u → u ≢ p → w.tree.knows u ≡ true) → IsGoodReply s links p t view after []
+  pub effect_goes_well : ((u : Name) → AreLinked links t u → u ≢ p → w.tree.knows u ≡ true)
+      → IsGoodReply s links p t view after []
   effect_goes_well =
       reply_so s links p t w view takes fits forest after put_out [] none_goes_back
       (ap (λ (so : Served). so.view.ends) (effect_served s p t w view takes fits effect line says))
       (met_known s links t w view fits forest p says.end says.is_end
-      (teller_is_met view (number s p) says.end (read_of line) (a_deed (does effect)) [] says.means))
+      (teller_is_met view (number s p) says.end (read_of line)
+      (a_deed (does effect)) [] says.means))

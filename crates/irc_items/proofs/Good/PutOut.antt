@@ -1,5 +1,6 @@
 -- What is put out: which of it closes a link, and which of it goes on one link.
-use Rattle.std.proofs.Common.{◌≡◌, ℕ, true, false, cond, Bool, Some, None, List, [], ◌∷◌, ◌++◌, map, filter, nat_eq, not, refl, sym, ◌∙◌, ap, if◌then◌else◌}
+use Rattle.std.proofs.Common.{◌≡◌, ℕ, true, false, cond, Bool, Some, None, List, [], ◌∷◌, ◌++◌, map}
+use Rattle.std.proofs.Common.{filter, nat_eq, not, refl, sym, ◌∙◌, ap, if◌then◌else◌}
 use Rattle.std.proofs.lemmas.Bool.{eqb-true, eq-eqb}
 use Rattle.std.proofs.lemmas.List.Elements.{filter_map-append}
 use Rattle.std.specs.FinMap.{get}
@@ -24,8 +25,10 @@ use Rattle.irc_items.specs.GoodLines.{closings, reason_of}
 
 -- ---- no link is closed
 
-pub closed_behind : (one other : List Sent) → closings one ≡ [] → closings other ≡ [] → closings (one ++ other) ≡ []
-closed_behind one other first second = filter_map-append reason_of one other ∙ ap (λ l. l ++ closings other) first ∙ second
+pub closed_behind : (one other : List Sent) → closings one ≡ [] → closings other ≡ []
+    → closings (one ++ other) ≡ []
+closed_behind one other first second =
+    filter_map-append reason_of one other ∙ ap (λ l. l ++ closings other) first ∙ second
 
 pub none_closed_on_links : (links : List ℕ) (parts : Written) → closings (on_links links parts) ≡ []
 none_closed_on_links [] parts = refl
@@ -39,7 +42,8 @@ pub none_closed_by_effect : (view : View) (effect : Effect) → closings (shown_
 none_closed_by_effect = told_to.none_by_effect reason_of (λ conn line. refl)
 
 -- nor by effects in turn
-pub none_closed_by_all : (effects : List Effect) (s : Served) → closings (all_changed effects s).out ≡ closings s.out
+pub none_closed_by_all : (effects : List Effect) (s : Served)
+    → closings (all_changed effects s).out ≡ closings s.out
 none_closed_by_all = told_to.none_by_all reason_of (λ conn line. refl)
 
 -- ---- on one link
@@ -56,7 +60,8 @@ but_itself k (link ∷ links) = by (nat_eq k link) refl (but_itself k links)
         → filter (is_on k) (cond (not b) (link ∷ but (Some k) links) (but (Some k) links)) ≡ []
     by true back rest = rest
     by false other rest =
-        ap (λ b. cond b (link ∷ filter (is_on k) (but (Some k) links)) (filter (is_on k) (but (Some k) links))) (turned (nat_eq link k) refl) ∙ rest
+        ap (λ b. cond b (link ∷ filter (is_on k) (but (Some k) links))
+        (filter (is_on k) (but (Some k) links))) (turned (nat_eq link k) refl) ∙ rest
       where
         turned : (b : Bool) → nat_eq link k ≡ b → b ≡ false
         turned false is = refl
@@ -65,7 +70,8 @@ but_itself k (link ∷ links) = by (nat_eq k link) refl (but_itself k links)
 pub all_on_it : (k : ℕ) (lines : List Written) → lines_on k (on_link k lines) ≡ map line_text lines
 all_on_it k [] = refl
 all_on_it k (parts ∷ lines) =
-    ap (λ b. cons_option (if b then Some (body (text parts)) else None) (lines_on k (on_link k lines))) (eq-eqb k k refl)
+    ap (λ b. cons_option (if b then Some (body (text parts)) else None)
+    (lines_on k (on_link k lines))) (eq-eqb k k refl)
     ∙ ap (λ l. l ∷ lines_on k (on_link k lines)) (bare parts)
     ∙ ap (λ l. line_text parts ∷ l) (all_on_it k lines)
 
@@ -77,16 +83,20 @@ none_to_clients who link (parts ∷ lines) = none_to_clients who link lines
 
 -- who is no client is shown nothing
 module _ (client : ℕ) where
-  none_to_viewers : (clients : Clients) → get clients client ≡ None → (showings : List Showing) → lines_to client (flat_map (to_viewer clients) showings) ≡ []
+  none_to_viewers : (clients : Clients) → get clients client ≡ None → (showings : List Showing)
+      → lines_to client (flat_map (to_viewer clients) showings) ≡ []
   none_to_viewers clients none [] = refl
   none_to_viewers clients none (showing ∷ showings) =
       lines_to_behind client (to_viewer clients showing) (flat_map (to_viewer clients) showings)
-      ∙ ap (λ l. l ++ lines_to client (flat_map (to_viewer clients) showings)) (to_one client clients showing ∙ ap (told_line client showing) none)
+      ∙ ap (λ l. l ++ lines_to client (flat_map (to_viewer clients) showings))
+      (to_one client clients showing ∙ ap (told_line client showing) none)
       ∙ none_to_viewers clients none showings
 
-  pub none_shown : (view : View) (effect : Effect) → get view.clients client ≡ None → lines_to client (shown_at view effect) ≡ []
+  pub none_shown : (view : View) (effect : Effect) → get view.clients client ≡ None
+      → lines_to client (shown_at view effect) ≡ []
   none_shown view effect none = by (is_elsewhere view effect)
     where
-      by : (b : Bool) → lines_to client (if b then [] else flat_map (to_viewer view.clients) (seen view.room effect)) ≡ []
+      by : (b : Bool) → lines_to client
+          (if b then [] else flat_map (to_viewer view.clients) (seen view.room effect)) ≡ []
       by true = refl
       by false = none_to_viewers view.clients none (seen view.room effect)

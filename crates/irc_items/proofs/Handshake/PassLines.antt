@@ -2,7 +2,9 @@
 use Rattle.std.proofs.lemmas.Bool.{and_from}
 use Rattle.irc_line.specs.Carried.{IsCarried, is_carried_byte}
 use Rattle.irc_line.specs.Lines.{IsLine}
-use Rattle.std.proofs.Common.{◌≡◌, ◌≢◌, ℕ, Bool, true, false, cond, not, ◌&&◌, ◌||◌, Option, Some, None, Ok, Err, List, [], ◌∷◌, is_some, lit≤, refl, sym, ◌∙◌, ap, unwrap_or, if◌then◌else◌, nat_eq}
+use Rattle.std.proofs.Common.{◌≡◌, ◌≢◌, ℕ, Bool, true, false, cond, not, ◌&&◌, ◌||◌, Option, Some}
+use Rattle.std.proofs.Common.{None, Ok, Err, List, [], ◌∷◌, is_some, lit≤, refl, sym, ◌∙◌, ap}
+use Rattle.std.proofs.Common.{unwrap_or, if◌then◌else◌, nat_eq}
 use Rattle.std.specs.Char.{is_ascii_graphic}
 use Rattle.std.specs.Cmp.{first_so, second_so}
 use Rattle.std.specs.FinMap.{get, insert}
@@ -28,16 +30,19 @@ use Rattle.irc_items.proofs.Handshake.Greetings.{IsKnownOfHandshakes}
 
 -- ---- a password is a word of a line
 
-no_space : (bytes : List ℕ) → list_all is_ascii_graphic bytes ≡ true → list_all (λ b. not (is_space b)) bytes ≡ true
+no_space : (bytes : List ℕ) → list_all is_ascii_graphic bytes ≡ true
+    → list_all (λ b. not (is_space b)) bytes ≡ true
 no_space [] all = refl
 no_space (byte ∷ bytes) all =
-    ap (λ b. not b && list_all (λ b. not (is_space b)) bytes) (other_byte is_ascii_graphic 0x20 byte refl (first_so (is_ascii_graphic byte) _ all))
+    ap (λ b. not b && list_all (λ b. not (is_space b)) bytes)
+    (other_byte is_ascii_graphic 0x20 byte refl (first_so (is_ascii_graphic byte) _ all))
     ∙ no_space bytes (second_so (is_ascii_graphic byte) _ all)
 
 no_nul : (bytes : List ℕ) → list_all is_ascii_graphic bytes ≡ true → has_nul bytes ≡ false
 no_nul [] all = refl
 no_nul (byte ∷ bytes) all =
-    ap (λ b. b || has_nul bytes) (other_byte is_ascii_graphic 0x00 byte refl (first_so (is_ascii_graphic byte) _ all))
+    ap (λ b. b || has_nul bytes)
+    (other_byte is_ascii_graphic 0x00 byte refl (first_so (is_ascii_graphic byte) _ all))
     ∙ no_nul bytes (second_so (is_ascii_graphic byte) _ all)
 
 no_colon : (bytes : List ℕ) → starts_without_colon bytes ≡ true → begins is_colon bytes ≡ false
@@ -57,20 +62,27 @@ password_plain word is =
     let both = first_so (starts_without_colon word && list_all is_ascii_graphic word) _ is in
     let starts = first_so (starts_without_colon word) _ both in
     let graphic = second_so (starts_without_colon word) _ both in
-    record { is_some = some_bytes word starts; no_space = no_space word graphic; no_colon = no_colon word starts; no_nul = no_nul word graphic }
+    record {
+      is_some = some_bytes word starts;
+      no_space = no_space word graphic;
+      no_colon = no_colon word starts;
+      no_nul = no_nul word graphic;
+    }
 
 graphic_carried : (bytes : List ℕ) → list_all is_ascii_graphic bytes ≡ true → IsCarried bytes
 graphic_carried [] all = refl
 graphic_carried (byte ∷ bytes) all =
     and_from (is_carried_byte byte) _
-    (by (nat_eq byte 0) (nat_eq byte 13) (nat_eq byte 10) (other_byte is_ascii_graphic 0x00 byte refl graphic) (other_byte is_ascii_graphic 0x0D byte refl graphic)
+    (by (nat_eq byte 0) (nat_eq byte 13) (nat_eq byte 10) (other_byte is_ascii_graphic 0x00 byte
+    refl graphic) (other_byte is_ascii_graphic 0x0D byte refl graphic)
     (other_byte is_ascii_graphic 0x0A byte refl graphic))
     (graphic_carried bytes (second_so (is_ascii_graphic byte) _ all))
   where
     graphic : is_ascii_graphic byte ≡ true
     graphic = first_so (is_ascii_graphic byte) _ all
 
-    by : (nul return feed : Bool) → nul ≡ false → return ≡ false → feed ≡ false → not (nul || (return || feed)) ≡ true
+    by : (nul return feed : Bool) → nul ≡ false → return ≡ false → feed ≡ false
+        → not (nul || (return || feed)) ≡ true
     by true return feed a b c = cc a
     by false true feed a b c = cc b
     by false false true a b c = cc c
@@ -78,7 +90,8 @@ graphic_carried (byte ∷ bytes) all =
 
 password_carried : (word : List ℕ) → is_password word ≡ true → IsCarried word
 password_carried word is =
-    graphic_carried word (second_so (starts_without_colon word) _ (first_so (starts_without_colon word && list_all is_ascii_graphic word) _ is))
+    graphic_carried word (second_so (starts_without_colon word) _
+    (first_so (starts_without_colon word && list_all is_ascii_graphic word) _ is))
 
 -- ---- PASS
 
@@ -88,7 +101,10 @@ module _ (laws : IsKnownOfHandshakes) (word : List ℕ) (is : is_password word �
     prefix_no_space = refl;
     prefix_no_nul = refl;
     command = command_plain _ _ refl refl refl;
-    middle = (password_plain word is, (command_plain _ _ refl refl refl, (command_plain _ _ refl refl refl, tt)));
+    middle = (
+      password_plain word is,
+      (command_plain _ _ refl refl refl, (command_plain _ _ refl refl refl, tt)),
+    );
     last_no_nul = refl;
     count = lit≤ tt;
   }
@@ -103,36 +119,49 @@ module _ (laws : IsKnownOfHandshakes) (word : List ℕ) (is : is_password word �
   })
 
   pub pass_is_read : read_of (line_text (pass_parts word)) ≡ Ok (message_of (pass_parts word))
-  pass_is_read = sym (laws.lines.alone (line_text (pass_parts word)) (Ok (message_of (pass_parts word)))
+  pass_is_read =
+      sym (laws.lines.alone (line_text (pass_parts word)) (Ok (message_of (pass_parts word)))
       (laws.lines.written (pass_parts word) pass_plain (laws.passwords word is)))
 
-  pub pass_opening : (has_password : Bool) → opening_of has_password (message_of (pass_parts word)) ≡ Some (pass_opens has_password (Some word))
+  pub pass_opening : (has_password : Bool) → opening_of has_password (message_of (pass_parts word))
+      ≡ Some (pass_opens has_password (Some word))
   unfolding opening_of
-  pass_opening has_password = ap (λ b. Some (pass_opens has_password (if b then Some word else None))) is
+  pass_opening has_password =
+      ap (λ b. Some (pass_opens has_password (if b then Some word else None))) is
 
   -- where nobody has named itself, and no password has come
-  module _ (view : View) (k : ℕ) (end : End) (not_met : end.far ≡ None) (first : end.password ≡ None) where
+  module _ (view : View) (k : ℕ) (end : End) (not_met : end.far ≡ None)
+      (first : end.password ≡ None) where
     pub pass_heard : heard view k end (read_of (line_text (pass_parts word))) ≡ password word
     unfolding heard handshake_meant
     pass_heard =
         ap (heard view k end) pass_is_read
-        ∙ ap (λ (o : Option (List ℕ)). if is_some o then of_met (deeds_meant view.room view.routes k (message_of (pass_parts word)))
-        else opened view end (handshake_meant (is_some end.password) view.room view.routes k (message_of (pass_parts word)))) not_met
-        ∙ ap (λ (o : Option (List ℕ)). opened view end (handshake_meant (is_some o) view.room view.routes k (message_of (pass_parts word)))) first
-        ∙ ap (λ o. opened view end (unwrap_or o (Err (out_of_place (deeds_meant view.room view.routes k (message_of (pass_parts word)))))))
+        ∙ ap (λ (o : Option (List ℕ)). if is_some o
+        then of_met (deeds_meant view.room view.routes k (message_of (pass_parts word)))
+        else opened view end (handshake_meant (is_some end.password) view.room view.routes k
+        (message_of (pass_parts word)))) not_met
+        ∙ ap (λ (o : Option (List ℕ)). opened view end (handshake_meant
+        (is_some o) view.room view.routes k (message_of (pass_parts word)))) first
+        ∙ ap (λ o. opened view end (unwrap_or o (Err (out_of_place
+        (deeds_meant view.room view.routes k (message_of (pass_parts word)))))))
         (pass_opening false)
 
     abbrev pub with_word : View
     with_word = record view { ends = insert view.ends k (record end { password = Some word }) }
 
-    pub pass_served : get view.ends k ≡ Some end → (served view (link_says k (read_of (line_text (pass_parts word))))).view ≡ with_word
+    pub pass_served : get view.ends k ≡ Some end
+        → (served view (link_says k (read_of (line_text (pass_parts word))))).view ≡ with_word
     unfolding served
     pass_served is_end =
         ap (λ o. (line_served view k (read_of (line_text (pass_parts word))) o).view) is_end
         ∙ ap (λ what. (after_heard view k what).view) pass_heard
-        ∙ ap (λ o. option_map_or (λ (e : End). record view { ends = insert view.ends k (record e { password = Some word }) }) o view) is_end
+        ∙ ap (λ o. option_map_or (λ (e : End). record view {
+          ends = insert view.ends k
+              (record e { password = Some word });
+        }) o view) is_end
 
     pub word_kept : get with_word.ends k ≡ Some (record end { password = Some word })
     word_kept =
         get-with view.ends k (record end { password = Some word }) k
-        ∙ ap (λ b. cond b (Some (record end { password = Some word })) (get view.ends k)) (same_number-refl k)
+        ∙ ap (λ b. cond b (Some (record end { password = Some word })) (get view.ends k))
+        (same_number-refl k)

@@ -1,5 +1,7 @@
 -- A line by which a linked server tells of another is read as it is written.
-use Rattle.std.proofs.Common.{◌≡◌, ℕ, ◌+◌, ◌≤◌, true, ◌&&◌, Some, None, Ok, List, [], ◌∷◌, codes, decimal, is_none, is_some, lit≤, nat_eq, nat_lt, refl, sym, ◌∙◌, ap, subst, if◌then◌else◌}
+use Rattle.std.proofs.Common.{◌≡◌, ℕ, ◌+◌, ◌≤◌, true, ◌&&◌, Some, None, Ok, List, [], ◌∷◌, codes}
+use Rattle.std.proofs.Common.{decimal, is_none, is_some, lit≤, nat_eq, nat_lt, refl, sym, ◌∙◌, ap}
+use Rattle.std.proofs.Common.{subst, if◌then◌else◌}
 use Rattle.std.specs.Cmp.{first_so}
 use Rattle.std.specs.List.{list_all}
 use Rattle.std.specs.Option.{option_map_or}
@@ -38,13 +40,15 @@ pub record IsWritten (writer : Known) (uplink name words : List ℕ) (links ours
 
 -- a reader to whom it is new, and who knows the server that it is linked to behind that link
 pub record IsNewTo (view : View) (k : ℕ) (uplink name : List ℕ) (links ours : ℕ) : Type 0 where
-  pub further : option_map_or (λ far. nat_eq links (far + 1)) (distance_of view.routes uplink) true ≡ true
+  pub further : option_map_or (λ far. nat_eq links (far + 1))
+      (distance_of view.routes uplink) true ≡ true
   pub not_last : nat_lt links max_number ≡ true
   pub free : token_in view.routes k ours ≡ None
   pub behind : is_behind_link view.routes k uplink ≡ true
   pub taken : not_taken view.routes name ≡ None
 
-module _ (known : IsKnownOfLines) (writer : Known) (uplink name words : List ℕ) (links ours : ℕ) (is : IsWritten writer uplink name words links ours)
+module _ (known : IsKnownOfLines) (writer : Known) (uplink name words : List ℕ) (links ours : ℕ)
+    (is : IsWritten writer uplink name words links ours)
     (view : View) (k : ℕ) (new : IsNewTo view k uplink name links ours) where
   abbrev parts : Written
   parts = server_parts writer uplink name words
@@ -71,7 +75,8 @@ module _ (known : IsKnownOfLines) (writer : Known) (uplink name words : List ℕ
   number_back = number_read (written_token writer name) number_most ∙ is.number
 
   plain : IsPlain parts
-  plain = from_plain uplink (codes "SERVER") (name ∷ decimal (next_distance writer name) ∷ decimal (written_token writer name) ∷ []) (Some words)
+  plain = from_plain uplink (codes "SERVER") (name ∷ decimal (next_distance writer name) ∷ decimal
+      (written_token writer name) ∷ []) (Some words)
       (known.names.server uplink is.uplink_named).plain (command_plain _ _ refl refl refl) (
         (known.names.server name is.named).plain,
         (
@@ -82,40 +87,58 @@ module _ (known : IsKnownOfLines) (writer : Known) (uplink name words : List ℕ
       (text_no_nul words (first_so (list_all is_text_byte words) _ is.described)) (lit≤ tt)
 
   is_read : read_of (line_text parts) ≡ Ok (message_of parts)
-  is_read = sym (known.alone (line_text parts) (Ok (message_of parts)) (known.written parts plain (server_fits writer uplink name words
-      (record { uplink_named = is.uplink_named; named = is.named; described = is.described; distance = distance_most; number = number_most }))))
+  is_read = sym (known.alone (line_text parts) (Ok (message_of parts))
+      (known.written parts plain (server_fits writer uplink name words
+      (record {
+        uplink_named = is.uplink_named;
+        named = is.named;
+        described = is.described;
+        distance = distance_most;
+        number = number_most;
+      }))))
 
   comes : may_come reader uplink ≡ true
   comes =
       ap (λ b. if b then is_behind_link view.routes k uplink
-      else (if is_nick uplink then option_map_or (is_behind_link view.routes k) (reader.home uplink) true else true)) is.uplink_named
+      else (if is_nick uplink then option_map_or (is_behind_link view.routes k)
+      (reader.home uplink) true else true)) is.uplink_named
       ∙ new.behind
 
   next_so : is_next_distance reader uplink links ≡ true
-  next_so = both (option_map_or (λ far. nat_eq links (far + 1)) (distance_of view.routes uplink) true) (nat_lt links max_number) new.further new.not_last
+  next_so =
+      both (option_map_or (λ far. nat_eq links (far + 1)) (distance_of view.routes uplink) true)
+      (nat_lt links max_number) new.further new.not_last
 
-  meant : deeds_meant view.room view.routes k (message_of parts) ≡ Ok (a_server uplink name links ours words ∷ [])
+  meant : deeds_meant view.room view.routes k (message_of parts)
+      ≡ Ok (a_server uplink name links ours words ∷ [])
   unfolding deeds_meant
   meant =
       server_so
-      (is_number (decimal (next_distance writer name)) && is_number (decimal (written_token writer name)) && is_info words
+      (is_number (decimal (next_distance writer name))
+      && is_number (decimal (written_token writer name)) && is_info words
       && is_next_distance reader uplink (number_of (decimal (next_distance writer name))))
-      (is_none (token_in view.routes k (number_of (decimal (written_token writer name))))) (may_come reader uplink) (is_server uplink && is_server name)
+      (is_none (token_in view.routes k (number_of (decimal (written_token writer name)))))
+      (may_come reader uplink) (is_server uplink && is_server name)
       (not_taken view.routes name)
-      (a_server uplink name (number_of (decimal (next_distance writer name))) (number_of (decimal (written_token writer name))) words ∷ [])
-      (four_so (is_number (decimal (next_distance writer name))) (is_number (decimal (written_token writer name))) (is_info words) _
-      (number_taken (next_distance writer name) distance_least distance_most) (number_taken (written_token writer name) number_least number_most) is.described
+      (a_server uplink name (number_of (decimal (next_distance writer name)))
+      (number_of (decimal (written_token writer name))) words ∷ [])
+      (four_so (is_number (decimal (next_distance writer name)))
+      (is_number (decimal (written_token writer name))) (is_info words) _
+      (number_taken (next_distance writer name) distance_least distance_most)
+      (number_taken (written_token writer name) number_least number_most) is.described
       (ap (is_next_distance reader uplink) distance_read ∙ next_so))
       (ap (λ n. is_none (token_in view.routes k n)) number_back ∙ ap is_none new.free) comes
       (both (is_server uplink) (is_server name) is.uplink_named is.named) new.taken
-      ∙ ap (λ n. Ok (a_server uplink name n (number_of (decimal (written_token writer name))) words ∷ [])) distance_read
+      ∙ ap (λ n. Ok (a_server uplink name n (number_of (decimal (written_token writer name))) words
+      ∷ [])) distance_read
       ∙ ap (λ n. Ok (a_server uplink name links n words ∷ [])) number_back
 
-  pub server_heard : (end : End) → is_some end.far ≡ true
-      → heard view k end (read_of (line_text parts)) ≡ tells (a_server uplink name links ours words ∷ [])
+  pub server_heard : (end : End) → is_some end.far ≡ true → heard view k end
+      (read_of (line_text parts)) ≡ tells (a_server uplink name links ours words ∷ [])
   unfolding heard
   server_heard end met =
       ap (heard view k end) is_read
       ∙ ap (λ b. if b then of_met (deeds_meant view.room view.routes k (message_of parts))
-      else opened view end (handshake_meant (is_some end.password) view.room view.routes k (message_of parts))) met
+      else opened view end
+      (handshake_meant (is_some end.password) view.room view.routes k (message_of parts))) met
       ∙ ap of_met meant

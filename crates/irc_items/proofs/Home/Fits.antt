@@ -1,5 +1,7 @@
--- What a client does, its own server does as the room machine of the server's part: it is then what it has to be, and shows its clients what that shows them.
-use Rattle.std.proofs.Common.{◌≡◌, ℕ, Bool, true, false, cond, not, ◌&&◌, Some, None, List, [], ◌∷◌, refl, sym, ◌∙◌, ap, subst, is_some, option_map, if◌then◌else◌}
+-- What a client does, its own server does as the room machine of the server's part: it is then what
+-- it has to be, and shows its clients what that shows them.
+use Rattle.std.proofs.Common.{◌≡◌, ℕ, Bool, true, false, cond, not, ◌&&◌, Some, None, List, [], ◌∷◌}
+use Rattle.std.proofs.Common.{refl, sym, ◌∙◌, ap, subst, is_some, option_map, if◌then◌else◌}
 use Rattle.std.specs.Cmp.Lexicographic.{bytes_decides}
 use Rattle.std.specs.FinMap.{get}
 use Rattle.std.specs.Option.{option_and_then, option_map_or}
@@ -33,12 +35,14 @@ use Rattle.irc_items.proofs.Home.Clients.{staying}
 use Rattle.irc_items.proofs.Home.Effects.{AreOneAt, KnowsWays, view_in}
 use Rattle.irc_items.proofs.Home.Events.{AreDecisionLaws, IsHomeOf, handled_so}
 
-pub record DoesAsMachine (s : Fixed) (world : World) (routes : Name → Known) (h : Name) (view : View) (happening : Happening) : Type 0 where
-  pub fits : Fits s h (part_of s (by_machine s.settings world h happening).world routes h) (client_told view happening).view
-  pub lines : (client : ℕ) → is_home_of s.homes h client ≡ true
-      → lines_to client (client_told view happening).out ≡ (by_machine s.settings world h happening).lines client
-  pub own : (client : ℕ) (line : List ℕ) (lines : List (List ℕ)) → lines_to client (client_told view happening).out ≡ line ∷ lines
-      → is_home_of s.homes h client ≡ true
+pub record DoesAsMachine (s : Fixed) (world : World) (routes : Name → Known) (h : Name)
+    (view : View) (happening : Happening) : Type 0 where
+  pub fits : Fits s h (part_of s (by_machine s.settings world h happening).world routes h)
+      (client_told view happening).view
+  pub lines : (client : ℕ) → is_home_of s.homes h client ≡ true → lines_to client
+      (client_told view happening).out ≡ (by_machine s.settings world h happening).lines client
+  pub own : (client : ℕ) (line : List ℕ) (lines : List (List ℕ)) → lines_to client
+      (client_told view happening).out ≡ line ∷ lines → is_home_of s.homes h client ≡ true
   pub ends : (client_told view happening).view.ends ≡ view.ends
   pub closes_none : closings (client_told view happening).out ≡ []
 
@@ -46,15 +50,18 @@ pub record AreHomeLaws : Type 0 where
   pub decisions : AreDecisionLaws
   pub sound : PartAtRestIsSound
 
-pub due_mine : (s : Fixed) (world : World) (h : Name) (happening : Happening) → IsDueAtHome s world h happening
-    → is_home_of s.homes h (client_in happening) ≡ true
-due_mine s world h happening due = ap (λ o. option_map_or (same h) o false) (at_home happening due) ∙ (bytes_decides h h).1 refl
+pub due_mine : (s : Fixed) (world : World) (h : Name) (happening : Happening)
+    → IsDueAtHome s world h happening → is_home_of s.homes h (client_in happening) ≡ true
+due_mine s world h happening due = ap (λ o. option_map_or (same h) o false) (at_home happening due)
+    ∙ (bytes_decides h h).1 refl
   where
-    at_home : (happening : Happening) → IsDueAtHome s world h happening → home_in s.homes (client_in happening) ≡ Some h
+    at_home : (happening : Happening) → IsDueAtHome s world h happening
+        → home_in s.homes (client_in happening) ≡ Some h
     at_home (connects conn host) due = due.0
     at_home happening due = due.0
 
-module _ (s : Fixed) (world : World) (routes : Name → Known) (h : Name) (view : View) (fits : Fits s h (part_of s world routes h) view) where
+module _ (s : Fixed) (world : World) (routes : Name → Known) (h : Name) (view : View)
+    (fits : Fits s h (part_of s world routes h) view) where
   -- each other server of its part is behind one of its links
   pub ways_known : KnowsWays h (is_home_of s.homes h) view (λ x. joined world.links x h)
   ways_known home known =
@@ -62,26 +69,32 @@ module _ (s : Fixed) (world : World) (routes : Name → Known) (h : Name) (view 
       ∙ is_some_map (λ (r : ServerRow). r.link) (row_of (routes h) home)
       ∙ sym (is_some_map shape (row_of (routes h) home))
       ∙ ap is_some (fits.sound.tree.rows h home fits.here)
-      ∙ ap (λ b. is_some (if b && not (same home h) then Some (shape_in s.names (info_in s.settings) world.links h home) else None)) known
+      ∙ ap (λ b. is_some (if b && not (same home h)
+      then Some (shape_in s.names (info_in s.settings) world.links h home) else None)) known
       ∙ by (same home h)
     where
-      by : (b : Bool) → is_some (if not b then Some (shape_in s.names (info_in s.settings) world.links h home) else None) ≡ not b
+      by : (b : Bool) → is_some (if not b
+          then Some (shape_in s.names (info_in s.settings) world.links h home) else None) ≡ not b
       by true = refl
       by false = refl
 
   -- its registered clients are its users
-  own_users : (q : ℕ) (nick : List ℕ) → is_home_of s.homes h q ≡ true → get (world.hall h).clients q ≡ Some (Registered nick)
-      → (user : User) → row (world.hall h).room.users (key nick) ≡ Some user → is_home h user ≡ true
+  own_users : (q : ℕ) (nick : List ℕ) → is_home_of s.homes h q ≡ true
+      → get (world.hall h).clients q ≡ Some (Registered nick) → (user : User)
+      → row (world.hall h).room.users (key nick) ≡ Some user → is_home h user ≡ true
   own_users q nick mine there user is =
       let both = fits.sound.registered q (key nick) (ap (option_and_then fold_of) there) in
-      let its_home = (bytes_decides h both.home).0 (sym (ap (λ o. option_map_or (same h) o false) both.of_client) ∙ mine) in
-      (bytes_decides user.home h).1 (same_some user.home both.home (sym (ap (option_map (λ (u : User). u.home)) is) ∙ both.of_user) ∙ sym its_home)
+      let its_home = (bytes_decides h both.home).0
+      (sym (ap (λ o. option_map_or (same h) o false) both.of_client) ∙ mine) in
+      (bytes_decides user.home h).1 (same_some user.home both.home
+      (sym (ap (option_map (λ (u : User). u.home)) is) ∙ both.of_user) ∙ sym its_home)
 
   own_name : (routes h).name ≡ h
-  own_name = fits.sound.tree.named h (fits.sound.tree.known_among h (fits.sound.tree.here_known h fits.here))
+  own_name = fits.sound.tree.named h
+      (fits.sound.tree.known_among h (fits.sound.tree.here_known h fits.here))
 
-  pub home_so : place_of (routes h) ≡ place_at s.settings world.links h
-      → IsHomeOf h (is_home_of s.homes h) (λ x. joined world.links x h) view (machine_at s.settings world h)
+  pub home_so : place_of (routes h) ≡ place_at s.settings world.links h → IsHomeOf h
+      (is_home_of s.homes h) (λ x. joined world.links x h) view (machine_at s.settings world h)
   home_so place = record {
     same = λ i. record view { clients = fits.clients i; room = fits.room i };
     place = ap place_of fits.routes ∙ place;
@@ -91,19 +104,26 @@ module _ (s : Fixed) (world : World) (routes : Name → Known) (h : Name) (view 
     room = record { well = fits.sound.well; at_known = fits.sound.at_known; own = own_users };
   }
 
-  module _ (laws : AreHomeLaws) (happening : Happening) (fixed : IsFixed s) (among : IsAmong s.names h) (of_world : IsOfWorld s world)
-      (right : AreRight s world.links routes) (after : IsWorld s.settings (by_machine s.settings world h happening).world)
-      (one : AreOneAt h (is_home_of s.homes h) view (handled (machine_at s.settings world h) happening) (client_told view happening)) where
+  module _ (laws : AreHomeLaws) (happening : Happening) (fixed : IsFixed s)
+      (among : IsAmong s.names h) (of_world : IsOfWorld s world)
+      (right : AreRight s world.links routes)
+      (after : IsWorld s.settings (by_machine s.settings world h happening).world)
+      (one : AreOneAt h (is_home_of s.homes h) view
+      (handled (machine_at s.settings world h) happening) (client_told view happening)) where
     abbrev now : RoomMachine
     now = (handled (machine_at s.settings world h) happening).machine
 
-    hall_now : (by_machine s.settings world h happening).world.hall h ≡ record { clients = now.clients; room = now.room }
-    hall_now = ap (λ b. if b then record { clients = now.clients; room = now.room } else world.hall h) fits.here
+    hall_now : (by_machine s.settings world h happening).world.hall h
+        ≡ record { clients = now.clients; room = now.room }
+    hall_now = ap (λ b. if b then record { clients = now.clients; room = now.room }
+        else world.hall h) fits.here
 
-    fits_now : Fits s h (part_of s (by_machine s.settings world h happening).world routes h) (view_in h (is_home_of s.homes h) view now)
+    fits_now : Fits s h (part_of s (by_machine s.settings world h happening).world routes h)
+        (view_in h (is_home_of s.homes h) view now)
     fits_now = record {
       here = fits.here;
-      sound = laws.sound s (by_machine s.settings world h happening).world routes h fixed (record { homes = of_world.homes; parents = of_world.parents })
+      sound = laws.sound s (by_machine s.settings world h happening).world routes h fixed
+          (record { homes = of_world.homes; parents = of_world.parents })
           after right among;
       peers = fits.peers;
       routes = fits.routes;
@@ -113,28 +133,37 @@ module _ (s : Fixed) (world : World) (routes : Name → Known) (h : Name) (view 
       room = ap (λ (hall : Hall). of_home h hall.room) (sym hall_now);
     }
 
-    nobody_else : (client : ℕ) (line : List ℕ) (lines : List (List ℕ)) → lines_to client (client_told view happening).out ≡ line ∷ lines
-        → (b : Bool) → is_home_of s.homes h client ≡ b → b ≡ true
+    nobody_else : (client : ℕ) (line : List ℕ) (lines : List (List ℕ))
+        → lines_to client (client_told view happening).out ≡ line ∷ lines → (b : Bool)
+        → is_home_of s.homes h client ≡ b → b ≡ true
     nobody_else client line lines some true mine = refl
     nobody_else client line lines some false away =
-        let none = one.told client ∙ ap (λ b. cond b (lines_to client (handled (machine_at s.settings world h) happening).out) []) away in
+        let none = one.told client ∙ ap (λ b. cond b
+        (lines_to client (handled (machine_at s.settings world h) happening).out) []) away in
         absurd (cc (sym none ∙ some))
 
     does_so : DoesAsMachine s world routes h view happening
     does_so = record {
-      fits = subst (Fits s h (part_of s (by_machine s.settings world h happening).world routes h)) (sym one.view) fits_now;
+      fits = subst (Fits s h (part_of s (by_machine s.settings world h happening).world routes h))
+          (sym one.view) fits_now;
       lines = λ client mine.
-          one.told client ∙ ap (λ b. cond b (lines_to client (handled (machine_at s.settings world h) happening).out) []) mine;
-      own = λ client line lines some. nobody_else client line lines some (is_home_of s.homes h client) refl;
+          one.told client ∙ ap (λ b. cond b
+          (lines_to client (handled (machine_at s.settings world h) happening).out) []) mine;
+      own = λ client line lines some. nobody_else client line lines some
+          (is_home_of s.homes h client) refl;
       ends = ap (λ (v : View). v.ends) one.view;
       closes_none = one.closes_none;
     }
 
-pub does_as_machine : AreHomeLaws → (s : Fixed) (world : World) (routes : Name → Known) (h : Name) (view : View) (happening : Happening) → IsFixed s
-    → IsAmong s.names h → IsWorld s.settings world → IsOfWorld s world → AreRight s world.links routes → Fits s h (part_of s world routes h) view
-    → IsWorld s.settings (by_machine s.settings world h happening).world → place_of (routes h) ≡ place_at s.settings world.links h
-    → IsDueAtHome s world h happening → DoesAsMachine s world routes h view happening
-does_as_machine laws s world routes h view happening fixed among is_world of_world right fits after place due =
+pub does_as_machine : AreHomeLaws → (s : Fixed) (world : World) (routes : Name → Known) (h : Name)
+    (view : View) (happening : Happening) → IsFixed s → IsAmong s.names h → IsWorld s.settings world
+    → IsOfWorld s world → AreRight s world.links routes → Fits s h (part_of s world routes h) view
+    → IsWorld s.settings (by_machine s.settings world h happening).world
+    → place_of (routes h) ≡ place_at s.settings world.links h → IsDueAtHome s world h happening
+    → DoesAsMachine s world routes h view happening
+does_as_machine laws s world routes h view happening fixed among is_world of_world right fits after
+    place due =
     does_so s world routes h view fits laws happening fixed among of_world right after
-    (handled_so laws.decisions h (is_home_of s.homes h) (λ x. joined world.links x h) view (machine_at s.settings world h)
+    (handled_so laws.decisions h (is_home_of s.homes h) (λ x. joined world.links x h) view
+    (machine_at s.settings world h)
     (home_so s world routes h view fits place) happening (due_mine s world h happening due))

@@ -1,11 +1,14 @@
--- What a side comes to by servers that it gains: it knows them too, each of its servers keeps what it had, and nobody sees anything of it; and what it comes
--- to by the lines of a burst: its room is another, and whoever is killed has no client there.
-use Rattle.std.proofs.Common.{◌≡◌, ℕ, Bool, true, false, cond, not, ◌&&◌, ◌||◌, Option, Some, None, is_some, List, [], ◌∷◌, ◌++◌, map, refl, sym, ◌∙◌, ap, if◌then◌else◌}
+-- What a side comes to by servers that it gains: it knows them too, each of its servers keeps what
+-- it had, and nobody sees anything of it; and what it comes to by the lines of a burst: its room is
+-- another, and whoever is killed has no client there.
+use Rattle.std.proofs.Common.{◌≡◌, ℕ, Bool, true, false, cond, not, ◌&&◌, ◌||◌, Option, Some, None}
+use Rattle.std.proofs.Common.{is_some, List, [], ◌∷◌, ◌++◌, map, refl, sym, ◌∙◌, ap, if◌then◌else◌}
 use Rattle.std.specs.FinMap.{get, retain_keys}
 use Rattle.std.specs.List.{list_any, AllByRecursion}
 use Rattle.std.specs.Option.{option_map}
 use Rattle.irc_names.specs.TableLaws.{same_fold, one_fold, row-alter}
-use Rattle.irc_merge.specs.Deeds.{Deed, does, gains, kills, brings, sets, tops, after_deed, after_deeds, shown_by}
+use Rattle.irc_merge.specs.Deeds.{Deed, does, gains, kills, brings, sets, tops, after_deed}
+use Rattle.irc_merge.specs.Deeds.{after_deeds, shown_by}
 use Rattle.irc_relay.specs.Following.{all_done, all_seen}
 use Rattle.irc_relay.specs.Links.{Name, same, toward, distance}
 use Rattle.irc_room.specs.effect.Effect.TheVariants.{AddUser}
@@ -28,12 +31,14 @@ use Rattle.irc_items.proofs.Link.Sides.{IsReadDeed}
 pub record KeepsKnown (old new : Known) : Type 0 where
   pub info : new.info ≡ old.info
   pub created : new.created ≡ old.created
-  pub tokens : (x : Name) (number : ℕ) → token_out old x ≡ Some number → token_out new x ≡ Some number
+  pub tokens : (x : Name) (number : ℕ) → token_out old x ≡ Some number
+      → token_out new x ≡ Some number
 
 keeps_itself : (known : Known) → KeepsKnown known known
 keeps_itself known = record { info = refl; created = refl; tokens = λ x number is. is }
 
-keeps_on : (one two three : Known) → KeepsKnown one two → KeepsKnown two three → KeepsKnown one three
+keeps_on : (one two three : Known) → KeepsKnown one two → KeepsKnown two three
+    → KeepsKnown one three
 keeps_on one two three first second = record {
   info = second.info ∙ first.info;
   created = second.created ∙ first.created;
@@ -41,10 +46,12 @@ keeps_on one two three first second = record {
 }
 
 -- a server that a number stands for is known
-numbered_known : (known : Known) (x : Name) (number : ℕ) → token_out known x ≡ Some number → is_known known x ≡ true
+numbered_known : (known : Known) (x : Name) (number : ℕ) → token_out known x ≡ Some number
+    → is_known known x ≡ true
 numbered_known known x number is = by (is_itself known x) (row_of known x) is
   where
-    by : (b : Bool) (o : Option ServerRow) → (if b then Some 1 else option_map (λ (r : ServerRow). r.ours) o) ≡ Some number → (b || is_some o) ≡ true
+    by : (b : Bool) (o : Option ServerRow) → (if b then Some 1
+        else option_map (λ (r : ServerRow). r.ours) o) ≡ Some number → (b || is_some o) ≡ true
     by true o is = refl
     by false (Some r) is = refl
     by false None is = absurd (cc is)
@@ -61,30 +68,35 @@ module _ (names : List Name) (tree : Tree) (uplink name info : List ℕ) (t : Na
     info = info;
   }
 
-  told_tokens : is_known (tree.routes t) name ≡ false → (x : Name) (number : ℕ) → token_out (tree.routes t) x ≡ Some number
+  told_tokens : is_known (tree.routes t) name ≡ false
+      → (x : Name) (number : ℕ) → token_out (tree.routes t) x ≡ Some number
       → token_out (known_told names tree uplink name info t) x ≡ Some number
   told_tokens unknown x number is =
-      ap (λ o. cond (is_itself (tree.routes t) x) (Some 1) (option_map (λ (r : ServerRow). r.ours) o))
+      ap (λ o. cond (is_itself (tree.routes t) x) (Some 1)
+      (option_map (λ (r : ServerRow). r.ours) o))
       (row-alter name (λ _. Some new_row) (tree.routes t).rows x ∙ by (same_fold x name) refl)
       ∙ is
     where
-      by : (b : Bool) → same_fold x name ≡ b → cond b (Some new_row) (row_of (tree.routes t) x) ≡ row_of (tree.routes t) x
+      by : (b : Bool) → same_fold x name ≡ b
+          → cond b (Some new_row) (row_of (tree.routes t) x) ≡ row_of (tree.routes t) x
       by false two = refl
       by true one =
-          absurd (cc (sym (numbered_known (tree.routes t) x number is) ∙ ap (is_known (tree.routes t)) (one_fold x name one) ∙ unknown))
+          absurd (cc (sym (numbered_known (tree.routes t) x number is)
+          ∙ ap (is_known (tree.routes t)) (one_fold x name one) ∙ unknown))
 
   gained_keeps : KeepsKnown (tree.routes t) (gained_at names tree uplink name info t)
   gained_keeps = by (tree.here t) (is_known (tree.routes t) name) refl
     where
-      by : (b c : Bool) → is_known (tree.routes t) name ≡ c
-          → KeepsKnown (tree.routes t) (if b && not c then known_told names tree uplink name info t else tree.routes t)
+      by : (b c : Bool) → is_known (tree.routes t) name ≡ c → KeepsKnown (tree.routes t)
+          (if b && not c then known_told names tree uplink name info t else tree.routes t)
       by true false unknown = record { info = refl; created = refl; tokens = told_tokens unknown }
       by true true known = keeps_itself (tree.routes t)
       by false c is = keeps_itself (tree.routes t)
 
   gained_elsewhere : tree.here t ≡ false → gained_at names tree uplink name info t ≡ tree.routes t
   gained_elsewhere away =
-      ap (λ b. if b && not (is_known (tree.routes t) name) then known_told names tree uplink name info t else tree.routes t) away
+      ap (λ b. if b && not (is_known (tree.routes t) name)
+      then known_told names tree uplink name info t else tree.routes t) away
 
 -- ---- what becomes of the side
 
@@ -96,9 +108,11 @@ pub record HasGained (rows : List ServerRow) (before after : Part) : Type 0 wher
   pub forest : after.tree.forest ≡ before.tree.forest
   pub here : after.tree.here ≡ before.tree.here
   pub hall : after.hall ≡ before.hall
-  pub knows : (x : Name) → after.tree.knows x ≡ (before.tree.knows x || list_any (λ (r : ServerRow). same x r.name) rows)
+  pub knows : (x : Name) → after.tree.knows x
+      ≡ (before.tree.knows x || list_any (λ (r : ServerRow). same x r.name) rows)
   pub keeps : (t : Name) → KeepsKnown (before.tree.routes t) (after.tree.routes t)
-  pub elsewhere : (t : Name) → before.tree.here t ≡ false → after.tree.routes t ≡ before.tree.routes t
+  pub elsewhere : (t : Name) → before.tree.here t ≡ false
+      → after.tree.routes t ≡ before.tree.routes t
 
 pub or_none : (b : Bool) → b ≡ (b || false)
 or_none true = refl
@@ -109,7 +123,8 @@ or_in_turn true b c = refl
 or_in_turn false b c = refl
 
 module _ (s : Fixed) (client : ℕ) where
-  pub all_gained : (rows : List ServerRow) (w : Part) → HasGained rows w (all_done (play s client) w (map gain_of rows))
+  pub all_gained : (rows : List ServerRow) (w : Part)
+      → HasGained rows w (all_done (play s client) w (map gain_of rows))
   unfolding done
   all_gained [] w = record {
     forest = refl;
@@ -126,30 +141,38 @@ module _ (s : Fixed) (client : ℕ) where
         forest = rest.forest;
         here = rest.here;
         hall = rest.hall;
-        knows = λ x. rest.knows x ∙ or_in_turn (w.tree.knows x) (same x r.name) (list_any (λ (other : ServerRow). same x other.name) rows);
-        keeps = λ t. keeps_on (w.tree.routes t) (next.routes t) _ (gained_keeps s.names w.tree r.uplink r.name r.info t) (rest.keeps t);
-        elsewhere = λ t away. rest.elsewhere t away ∙ gained_elsewhere s.names w.tree r.uplink r.name r.info t away;
+        knows = λ x. rest.knows x ∙ or_in_turn (w.tree.knows x) (same x r.name)
+            (list_any (λ (other : ServerRow). same x other.name) rows);
+        keeps = λ t. keeps_on (w.tree.routes t) (next.routes t) _
+            (gained_keeps s.names w.tree r.uplink r.name r.info t) (rest.keeps t);
+        elsewhere = λ t away. rest.elsewhere t away
+            ∙ gained_elsewhere s.names w.tree r.uplink r.name r.info t away;
       }
 
   -- ---- what a client sees of it
 
-  sees_gain : (uplink name info : List ℕ) (room : Room) (o : Option Client) → client_sees (gains uplink name info) room o ≡ []
+  sees_gain : (uplink name info : List ℕ) (room : Room) (o : Option Client)
+      → client_sees (gains uplink name info) room o ≡ []
   unfolding shown_by
   sees_gain uplink name info room None = refl
   sees_gain uplink name info room (Some (Registering pending)) = refl
   sees_gain uplink name info room (Some (Registered nick)) = refl
 
-  shown_gain : (t : Name) (w : Part) (uplink name info : List ℕ) → shown_at s client t w (gains uplink name info) ≡ []
+  shown_gain : (t : Name) (w : Part) (uplink name info : List ℕ)
+      → shown_at s client t w (gains uplink name info) ≡ []
   shown_gain t w uplink name info = by (is_home_of s.homes t client)
     where
-      by : (b : Bool) → (if b then client_sees (gains uplink name info) w.hall.room (get w.hall.clients client) else []) ≡ []
+      by : (b : Bool) → (if b then client_sees (gains uplink name info) w.hall.room
+          (get w.hall.clients client) else []) ≡ []
       by true = sees_gain uplink name info w.hall.room (get w.hall.clients client)
       by false = refl
 
-  pub nothing_seen : (t : Name) (rows : List ServerRow) (w : Part) → all_seen (play s client) t w (map gain_of rows) ≡ []
+  pub nothing_seen : (t : Name) (rows : List ServerRow) (w : Part)
+      → all_seen (play s client) t w (map gain_of rows) ≡ []
   nothing_seen t [] w = refl
   nothing_seen t (r ∷ rows) w =
-      ap (λ lines. lines ++ all_seen (play s client) t (done s w (gain_of r)) (map gain_of rows)) (shown_gain t w r.uplink r.name r.info)
+      ap (λ lines. lines ++ all_seen (play s client) t (done s w (gain_of r)) (map gain_of rows))
+      (shown_gain t w r.uplink r.name r.info)
       ∙ nothing_seen t rows (done s w (gain_of r))
 
 -- ---- the lines of a burst
@@ -165,13 +188,15 @@ clients_left (deed ∷ deeds) clients = clients_left deeds (clients_spared deed 
 
 -- a hall once these deeds are done there
 abbrev pub hall_left : List Deed → Hall → Hall
-hall_left deeds hall = record { clients = clients_left deeds hall.clients; room = after_deeds hall.room deeds }
+hall_left deeds hall =
+    record { clients = clients_left deeds hall.clients; room = after_deeds hall.room deeds }
 
 -- a side with another hall
 abbrev pub in_hall : Hall → Part → Part
 in_hall hall w = record w { hall = hall }
 
-pub read_deed_done : (s : Fixed) (own : Name) (deed : Deed) (w : Part) → IsReadDeed own deed → done s w deed ≡ in_hall (hall_left (deed ∷ []) w.hall) w
+pub read_deed_done : (s : Fixed) (own : Name) (deed : Deed) (w : Part) → IsReadDeed own deed
+    → done s w deed ≡ in_hall (hall_left (deed ∷ []) w.hall) w
 unfolding done after_deed
 read_deed_done s own (does (AddUser user)) w read = refl
 read_deed_done s own (brings server channel members) w read = refl
@@ -180,7 +205,8 @@ read_deed_done s own (tops server channel topic) w read = refl
 read_deed_done s own (kills server nick) w read = refl
 read_deed_done s own other w read = absurd read
 
-pub burst_done : (s : Fixed) (client : ℕ) (own : Name) (deeds : List Deed) (w : Part) → AllByRecursion (IsReadDeed own) deeds
+pub burst_done : (s : Fixed) (client : ℕ) (own : Name) (deeds : List Deed) (w : Part)
+    → AllByRecursion (IsReadDeed own) deeds
     → all_done (play s client) w deeds ≡ in_hall (hall_left deeds w.hall) w
 burst_done s client own [] w read = refl
 burst_done s client own (deed ∷ deeds) w read =

@@ -28,7 +28,8 @@ use Rattle.irc_items.proofs.Link.Count.{told_counted}
 use Rattle.irc_items.proofs.Link.Given.{link_is_given, meeting, IsLinked, IsMeeting}
 use Rattle.irc_items.proofs.Link.RoomTold.{AreRoomLaws}
 use Rattle.irc_items.proofs.Link.Rooms.{rooms_meet, AreRooms}
-use Rattle.irc_items.proofs.Link.Step.{apart, covers, fixed_here, forest, link_fixed, old_ends, right_here, IsLinkStep, end_among, from_other}
+use Rattle.irc_items.proofs.Link.Step.{apart, covers, fixed_here, forest, link_fixed, old_ends}
+use Rattle.irc_items.proofs.Link.Step.{right_here, IsLinkStep, end_among, from_other}
 use Rattle.irc_items.proofs.Link.Sides.{deeds_of_link, routes_after, side_of}
 use Rattle.irc_items.proofs.Link.Sound.{link_sound, AreLinkLaws, ComesToOne}
 use Rattle.irc_items.proofs.Link.Told.{few_answered, few_lines, told_by_link}
@@ -40,8 +41,10 @@ pub record AreLinkItemLaws : Type 0 where
   pub kept : ServedKeepsItsSetting
   pub steps : AreStepLaws
 
-module _ (laws : AreLinkItemLaws) (net : Network) (sound : IsSound net) (rest : is_at_rest net ≡ true) (one : IsOneRoom net)
-    (holds : IsWorld (settings_of net) (world_now net)) (near far : Name) (taken : fault_at_rest net (link near far) ≡ None) where
+module _ (laws : AreLinkItemLaws) (net : Network) (sound : IsSound net)
+    (rest : is_at_rest net ≡ true) (one : IsOneRoom net)
+    (holds : IsWorld (settings_of net) (world_now net)) (near far : Name)
+    (taken : fault_at_rest net (link near far) ≡ None) where
   abbrev new : Network
   new = (given (link near far) net).net
 
@@ -66,32 +69,42 @@ module _ (laws : AreLinkItemLaws) (net : Network) (sound : IsSound net) (rest : 
 
   given_so : IsLinkStep net new near far
   given_so = record {
-    step = is_step laws.steps net sound rest one holds (link near far) taken tt new net.homes (link_made world near far) stepped
-        (subst (λ links. HasTaken net new (link near far) net.homes (l ∷ links)) sound.links linked_so.taken) sound.homes (λ client none. none);
+    step = is_step laws.steps net sound rest one holds (link near far) taken tt new net.homes
+        (link_made world near far) stepped
+        (subst (λ links. HasTaken net new (link near far) net.homes (l ∷ links)) sound.links
+        linked_so.taken) sound.homes (λ client none. none);
     meeting = are_meeting;
     linked = linked_so;
   }
 
   rooms : (t b : Name) → HasEnds l t b → AreRooms world t b
-  rooms t b ends = rooms_meet laws.rooms.doable (settings_of net) world holds t b (λ on. not_both l world.links (apart given_so) t t b ends refl on)
+  rooms t b ends = rooms_meet laws.rooms.doable (settings_of net) world holds t b
+      (λ on. not_both l world.links (apart given_so) t t b ends refl on)
 
   tells : IsToldByLink laws.link.after_link laws.link.quiet given_so
   tells = told_by_link laws.rooms laws.link.after_link laws.link.quiet given_so
 
   -- each end follows its side
-  end_sound : (t b : Name) → HasEnds l t b → IsSoundPart s (all_done (play s 0) (side_of s l world (routes_in net) t) (deeds_of_link s world (routes_in net) t b))
+  end_sound : (t b : Name) → HasEnds l t b → IsSoundPart s (all_done (play s 0)
+      (side_of s l world (routes_in net) t) (deeds_of_link s world (routes_in net) t b))
   end_sound t b ends =
       subst (λ acts. IsSoundPart s (all_done (play s 0) (side_of s l world (routes_in net) t) acts))
-      (deeds_at laws.link.after_link laws.link.quiet given_so tells 0 t t b ends refl) following.fits.sound
+      (deeds_at laws.link.after_link laws.link.quiet given_so tells 0 t t b ends refl)
+      following.fits.sound
     where
-      following : IsFollowing (machine s 0) (play s 0) (terms_of_link net near far) s.streams (relayed s new 0) (side_of s l world (routes_in net) t)
+      following : IsFollowing (machine s 0) (play s 0) (terms_of_link net near far) s.streams
+          (relayed s new 0) (side_of s l world (routes_in net) t)
           (deeds laws.link.after_link laws.link.quiet given_so tells 0 t) t
       following =
-          followed View (List ℕ) (List ℕ) Part Deed (machine s 0) (play s 0) (terms_of_link net near far) (l ∷ world.links)
+          followed View (List ℕ) (List ℕ) Part Deed (machine s 0) (play s 0)
+          (terms_of_link net near far) (l ∷ world.links)
           (from_other_end world.links near far) (forest given_so) (covers given_so)
-          (well_follow laws.link.line s 0 (fixed_here given_so) (answers_of l) (link_made world near far).world (routes_after s l world (routes_in net)))
-          (relayed s new 0) (side_of s l world (routes_in net)) (deeds laws.link.after_link laws.link.quiet given_so tells 0)
-          (starts laws.link.after_link laws.link.quiet given_so tells 0) t (let depth = (from_other given_so t b ends).1 in omega arith)
+          (well_follow laws.link.line s 0 (fixed_here given_so) (answers_of l)
+          (link_made world near far).world (routes_after s l world (routes_in net)))
+          (relayed s new 0) (side_of s l world (routes_in net))
+          (deeds laws.link.after_link laws.link.quiet given_so tells 0)
+          (starts laws.link.after_link laws.link.quiet given_so tells 0) t
+          (let depth = (from_other given_so t b ends).1 in omega arith)
 
   linked_world : IsLinkedWorld s l world (routes_in net)
   linked_world = record {
@@ -112,7 +125,8 @@ module _ (laws : AreLinkItemLaws) (net : Network) (sound : IsSound net) (rest : 
     few_lines = few_lines laws.rooms laws.link.after_link laws.link.quiet given_so;
     few_answered = few_answered laws.rooms laws.link.after_link laws.link.quiet given_so;
     few_read = λ t b ends. (rooms t b ends).few;
-    counted = λ t b ends. told_counted net sound.set_up s refl world.links (routes_in net) t _ (right_here given_so) holds.sound.forest
+    counted = λ t b ends. told_counted net sound.set_up s refl world.links (routes_in net) t _
+        (right_here given_so) holds.sound.forest
         (old_ends given_so) (end_among given_so t b ends);
   }
 

@@ -14,15 +14,19 @@ use Rattle.irc_follow.specs.Part.{Fixed, Part, info_in, number}
 use Rattle.irc_follow.specs.Relinked.{relinked}
 use Rattle.irc_follow.specs.Says.{play}
 
--- the deeds by which the side of t comes to know the servers of b's side, which it is being linked to
+-- the deeds by which the side of t comes to know the servers of b's side, which it is being linked
+-- to
 abbrev pub server_deeds : Fixed → (Name → Known) → Name → Name → List Deed
-server_deeds s routes t b = gains t b (info_in s.settings b) ∷ map (λ (r : ServerRow). gains r.uplink r.name r.info) (servers_told (routes b) (number s t))
+server_deeds s routes t b = gains t b (info_in s.settings b) ∷ map
+    (λ (r : ServerRow). gains r.uplink r.name r.info) (servers_told (routes b) (number s t))
 
 -- and those by which its room comes to have what the other's has
 abbrev pub room_deeds : World → Name → Name → List Deed
-room_deeds world t b = read_all t (λ home. joined world.links home b) (world.hall t).room (burst b (world.hall b).room)
+room_deeds world t b =
+    read_all t (λ home. joined world.links home b) (world.hall t).room (burst b (world.hall b).room)
 
--- what a line of a burst is read as: as what it says, or as the KILL of whoever has the nickname here
+-- what a line of a burst is read as: as what it says, or as the KILL of whoever has the nickname
+-- here
 abbrev pub IsReadDeed : Name → Deed → Type 0
 IsReadDeed own (does (AddUser user)) = ⊤
 IsReadDeed own (brings server channel members) = ⊤
@@ -40,10 +44,12 @@ side_of s l world routes t = relinked (l ∷ world.links) (part_of s world route
 
 -- that side, once it knows the other's servers
 abbrev pub side_after : Fixed → Link → World → (Name → Known) → Name → Name → Part
-side_after s l world routes t b = all_done (play s 0) (side_of s l world routes t) (server_deeds s routes t b)
+side_after s l world routes t b =
+    all_done (play s 0) (side_of s l world routes t) (server_deeds s routes t b)
 
 -- what each server knows by then
 abbrev pub routes_after : Fixed → Link → World → (Name → Known) → Name → Known
 routes_after s l world routes t =
     if joined world.links t l.near then (side_after s l world routes l.near l.far).tree.routes t
-    else (if joined world.links t l.far then (side_after s l world routes l.far l.near).tree.routes t else routes t)
+    else (if joined world.links t l.far
+    then (side_after s l world routes l.far l.near).tree.routes t else routes t)

@@ -1,5 +1,7 @@
 -- What a link that is made comes to: what clients receive by it, and how many lines.
-use Rattle.std.proofs.Common.{◌≡◌, ◌≢◌, ◌⊎◌, ℕ, suc, ◌+◌, ◌*◌, ◌-◌, ◌<◌, ◌≤◌, Bool, true, false, ◌||◌, Some, is_some, List, [], ◌∷◌, ◌++◌, length, count_by, refl, sym, ap, subst, ◌∙◌, arith, inl, inr, unwrap_or}
+use Rattle.std.proofs.Common.{◌≡◌, ◌≢◌, ◌⊎◌, ℕ, suc, ◌+◌, ◌*◌, ◌-◌, ◌<◌, ◌≤◌, Bool, true, false}
+use Rattle.std.proofs.Common.{◌||◌, Some, is_some, List, [], ◌∷◌, ◌++◌, length, count_by, refl, sym}
+use Rattle.std.proofs.Common.{ap, subst, ◌∙◌, arith, inl, inr, unwrap_or}
 use Rattle.irc_handshake.specs.GreetingLines.{greeting, pass_parts}
 use Rattle.irc_line.specs.Messages.{line_text}
 use Rattle.std.proofs.lemmas.List.{length-append, length-map}
@@ -7,8 +9,10 @@ use Rattle.std.proofs.Math.Nat.{mul-le-mul_right}
 use Rattle.irc_merge.specs.Deeds.{Deed, gains}
 use Rattle.irc_relay.specs.Distances.{IsAmong}
 use Rattle.irc_relay.specs.Following.{all_done, all_seen}
-use Rattle.irc_relay.specs.Links.{Name, Link, part, has_ends, joined, linked, same, AreJoined, AreLinked, HasEnds}
-use Rattle.irc_relay.specs.Relay.{streams_from, from_other_end, coming, lines_coming, lines_pending, under_way}
+use Rattle.irc_relay.specs.Links.{Name, Link, part, has_ends, joined, linked, same, AreJoined}
+use Rattle.irc_relay.specs.Links.{AreLinked, HasEnds}
+use Rattle.irc_relay.specs.Relay.{streams_from, from_other_end, coming, lines_coming, lines_pending}
+use Rattle.irc_relay.specs.Relay.{under_way}
 use Rattle.irc_relay.specs.Lemmas.NextHops.{linked_back}
 use Rattle.irc_routes.specs.Known.{Known, servers_told}
 use Rattle.irc_stage.specs.Lemmas.Numbers.{one_number, same_number, same_number-is}
@@ -31,18 +35,22 @@ use Rattle.irc_network.specs.Laws.{RestStays}
 use Rattle.irc_network.specs.Network.{Network, received_by}
 use Rattle.irc_items.specs.Relayed.{relayed, way_at, way_between}
 use Rattle.irc_items.specs.SetUp.{routes_in, settings_of, view_at}
-use Rattle.irc_items.specs.Sound.{owed_now, world_now, is_met, is_calling, HasCalled, IsPlaceOf, IsSound}
+use Rattle.irc_items.specs.Sound.{owed_now, world_now, is_met, is_calling, HasCalled, IsPlaceOf}
+use Rattle.irc_items.specs.Sound.{IsSound}
 use Rattle.irc_items.proofs.Burst.Collisions.{answers_of, introduces}
 use Rattle.irc_items.proofs.Common.Begun.{begins, IsGoingOn}
 use Rattle.irc_items.proofs.Common.Counting.{part_counted}
 use Rattle.irc_items.proofs.Common.Ends.{both_ends, is_either, one_end}
 use Rattle.irc_items.proofs.Common.FewLines.{next_is_under_way}
-use Rattle.irc_items.proofs.Common.Sources.{Stands, at_end, behind, aside, few_from_two, source_of, AreFew}
+use Rattle.irc_items.proofs.Common.Sources.{Stands, at_end, behind, aside, few_from_two, source_of}
+use Rattle.irc_items.proofs.Common.Sources.{AreFew}
 use Rattle.irc_items.proofs.Common.Step.{item_sound, ComesTo}
 use Rattle.irc_items.proofs.Good.GoodLines.{well_follow}
 use Rattle.irc_items.proofs.Link.Begins.{away, deeds, deeds_at, starts, IsToldByLink}
 use Rattle.irc_items.proofs.Link.Coming.{ComesToLinked}
-use Rattle.irc_items.proofs.Link.Step.{apart, as_before, covers, fixed_here, forest, from_other, has_ends_so, link_fixed, met_before, not_ends, stands, IsLinkStep}
+use Rattle.irc_items.proofs.Link.Step.{apart, as_before, covers, fixed_here, forest, from_other}
+use Rattle.irc_items.proofs.Link.Step.{has_ends_so, link_fixed, met_before, not_ends, stands}
+use Rattle.irc_items.proofs.Link.Step.{IsLinkStep}
 use Rattle.irc_items.proofs.Link.Sides.{room_deeds, routes_after, server_deeds, side_of}
 use Rattle.irc_items.proofs.Link.Ways.{link_lines, to_end}
 
@@ -54,21 +62,28 @@ pub record AreLinkLaws : Type 0 where
 
 -- how many lines an end has for the other, but for those of the handshake
 abbrev told_by : Network → Name → ℕ → ℕ
-told_by net t way = length (servers_told (routes_in net t) way) + length (burst t ((world_now net).hall t).room)
+told_by net t way =
+    length (servers_told (routes_in net t) way) + length (burst t ((world_now net).hall t).room)
 
 -- where the sides come to, and how many lines that takes
-pub record ComesToOne {net new : Network} {near far : Name} (laws : AreLinkLaws) (given : IsLinkStep net new near far) : Type 0 where
-  pub comes : ComesToLinked (link_fixed net near far) (record { near = near; far = far }) (world_now net) (routes_in net)
+pub record ComesToOne {net new : Network} {near far : Name} (laws : AreLinkLaws)
+    (given : IsLinkStep net new near far) : Type 0 where
+  pub comes : ComesToLinked (link_fixed net near far) (record { near = near; far = far })
+      (world_now net) (routes_in net)
   pub few_lines : (t b : Name) → HasEnds (record { near = near; far = far }) t b
-      → length (link_lines laws.after_link laws.quiet given b t) ≤ 2 + told_by net b (number (link_fixed net near far) t)
+      → length (link_lines laws.after_link laws.quiet given b t) ≤ 2 + told_by net b
+      (number (link_fixed net near far) t)
   pub few_answered : (t b : Name) → HasEnds (record { near = near; far = far }) t b
-      → count_by introduces (link_lines laws.after_link laws.quiet given b t) ≤ 1 + told_by net b (number (link_fixed net near far) t)
+      → count_by introduces (link_lines laws.after_link laws.quiet given b t) ≤ 1 + told_by net b
+      (number (link_fixed net near far) t)
   pub few_read : (t b : Name) → HasEnds (record { near = near; far = far }) t b
       → length (room_deeds (world_now net) t b) ≤ length (burst b ((world_now net).hall b).room)
   pub counted : (t b : Name) → HasEnds (record { near = near; far = far }) t b
-      → length (servers_told (routes_in net t) (number (link_fixed net near far) b)) < part_size (settings_of net) (world_now net).links t
+      → length (servers_told (routes_in net t) (number (link_fixed net near far) b)) < part_size
+      (settings_of net) (world_now net).links t
 
--- one side, of p servers, is told by an end that has k lines besides its own, of which there are at most m; those that may be answered count twice
+-- one side, of p servers, is told by an end that has k lines besides its own, of which there are at
+-- most m; those that may be answered count twice
 side_few : (k p m : ℕ) → k ≤ m → ((2 + k) + p * (1 + k)) + (1 + k) ≤ 1 + (1 + m) * (suc p + 1)
 side_few k p m few =
     let grows : (1 + k) * p ≤ (1 + m) * p = mul-le-mul_right p (omega arith) in
@@ -79,22 +94,29 @@ less_one : (p : ℕ) → 0 < p → p ≡ suc (p - 1)
 less_one p some = omega arith
 
 allowed : (sum answered_near answered_far k j count_near count_far near far m n : ℕ)
-    → sum ≤ ((2 + k) + (count_near - 1) * (1 + k)) + ((2 + j) + (count_far - 1) * (1 + j)) → answered_near ≤ 1 + k → answered_far ≤ 1 + j
-    → near ≡ count_near → far ≡ count_far → 0 < near → 0 < far → j ≤ m → k ≤ n
+    → sum ≤ ((2 + k) + (count_near - 1) * (1 + k)) + ((2 + j) + (count_far - 1) * (1 + j))
+    → answered_near ≤ 1 + k → answered_far ≤ 1 + j → near ≡ count_near
+    → far ≡ count_far → 0 < near → 0 < far → j ≤ m → k ≤ n
     → sum + answered_near + answered_far ≤ 2 + ((1 + m) * (far + 1) + (1 + n) * (near + 1))
-allowed sum answered_near answered_far k j count_near count_far near far m n most to_near to_far e f some_near some_far few_far few_near =
-    by (count_near - 1) (count_far - 1) (e ∙ less_one count_near (subst (λ p. 0 < p) e some_near)) (f ∙ less_one count_far (subst (λ p. 0 < p) f some_far)) most
+allowed sum answered_near answered_far k j count_near count_far near far m n most to_near to_far e f
+    some_near some_far few_far few_near =
+    by (count_near - 1) (count_far - 1) (e ∙ less_one count_near (subst (λ p. 0 < p) e some_near))
+    (f ∙ less_one count_far (subst (λ p. 0 < p) f some_far)) most
   where
-    added : (a b c d m n : ℕ) → sum ≤ a + b → a + c ≤ 1 + m → b + d ≤ 1 + n → answered_near ≤ c → answered_far ≤ d
-        → sum + answered_near + answered_far ≤ 2 + (n + m)
+    added : (a b c d m n : ℕ) → sum ≤ a + b → a + c ≤ 1 + m → b + d ≤ 1 + n → answered_near ≤ c
+        → answered_far ≤ d → sum + answered_near + answered_far ≤ 2 + (n + m)
     added a b c d m n all one two three four = omega arith
 
-    by : (p q : ℕ) → near ≡ suc p → far ≡ suc q → sum ≤ ((2 + k) + p * (1 + k)) + ((2 + j) + q * (1 + j))
+    by : (p q : ℕ) → near ≡ suc p → far ≡ suc q
+        → sum ≤ ((2 + k) + p * (1 + k)) + ((2 + j) + q * (1 + j))
         → sum + answered_near + answered_far ≤ 2 + ((1 + m) * (far + 1) + (1 + n) * (near + 1))
     by p q e f most =
-        added ((2 + k) + p * (1 + k)) ((2 + j) + q * (1 + j)) (1 + k) (1 + j) ((1 + n) * (near + 1)) ((1 + m) * (far + 1)) most
-        (subst (λ r. ((2 + k) + p * (1 + k)) + (1 + k) ≤ 1 + (1 + n) * (r + 1)) (sym e) (side_few k p n few_near))
-        (subst (λ r. ((2 + j) + q * (1 + j)) + (1 + j) ≤ 1 + (1 + m) * (r + 1)) (sym f) (side_few j q m few_far)) to_near to_far
+        added ((2 + k) + p * (1 + k)) ((2 + j) + q * (1 + j)) (1 + k) (1 + j) ((1 + n) * (near + 1))
+        ((1 + m) * (far + 1)) most
+        (subst (λ r. ((2 + k) + p * (1 + k)) + (1 + k) ≤ 1 + (1 + n) * (r + 1)) (sym e)
+        (side_few k p n few_near))
+        (subst (λ r. ((2 + j) + q * (1 + j)) + (1 + j) ≤ 1 + (1 + m) * (r + 1)) (sym f)
+        (side_few j q m few_far)) to_near to_far
 
 some_more : {n p : ℕ} → n < p → 0 < p
 some_more less = omega (less, arith)
@@ -103,7 +125,8 @@ some_more less = omega (less, arith)
 told_at_most : (servers room size : ℕ) → servers < size → servers + room ≤ (size - 1) + room
 told_at_most servers room size less = omega arith
 
-module _ {net new : Network} {near far : Name} (laws : AreLinkLaws) (given : IsLinkStep net new near far)
+module _ {net new : Network} {near far : Name} (laws : AreLinkLaws)
+    (given : IsLinkStep net new near far)
     (tells : IsToldByLink laws.after_link laws.quiet given) (one : ComesToOne laws given) where
   abbrev s : Fixed
   s = link_fixed net near far
@@ -137,29 +160,38 @@ module _ {net new : Network} {near far : Name} (laws : AreLinkLaws) (given : IsL
     owed = owed_now net client ++ made.lines client
 
     -- whoever takes no lines is of another part
-    source_aside : (t : Name) → s.streams.depth t ≡ 0 → (e o : Name) → HasEnds l e o → AreJoined world.links t e → ⊥
+    source_aside : (t : Name) → s.streams.depth t ≡ 0 → (e o : Name) → HasEnds l e o
+        → AreJoined world.links t e → ⊥
     source_aside t none = by (stands given t)
       where
-        by : Stands (HasEnds l) world.links s.streams 1 t → (e o : Name) → HasEnds l e o → AreJoined world.links t e → ⊥
+        by : Stands (HasEnds l) world.links s.streams 1 t → (e o : Name) → HasEnds l e o
+            → AreJoined world.links t e → ⊥
         by (at_end o ends one_off) = absurd (let no : ⊥ = omega arith in no)
         by (behind e o ends on two above deep) = absurd (let no : ⊥ = omega arith in no)
         by (aside away _) = away
 
-    told_source : (t : Name) → is_home_of s.homes t client ≡ true → s.streams.depth t ≡ 0 → received_by new client ≡ owed
+    told_source : (t : Name) → is_home_of s.homes t client ≡ true → s.streams.depth t ≡ 0
+        → received_by new client ≡ owed
     told_source t home none =
-        received_same ∙ sym (ap (λ more. owed_now net client ++ more) (one.comes.aside_seen client t home (source_aside t none)) ∙ append_nil (owed_now net client))
+        received_same ∙ sym (ap (λ more. owed_now net client ++ more) (one.comes.aside_seen client t
+        home (source_aside t none)) ∙ append_nil (owed_now net client))
 
-    at_source : (t : Name) → IsAmong net.names t → s.streams.depth t ≡ 0 → Fits s t (part_of s made.world routes t) (view_at new t)
-    at_source t among none = one.comes.others (streams_from net.links (λ server. server)) t (view_at new t) among away
-        (subst (Fits (record s { streams = streams_from net.links (λ server. server) }) t (part_of s world (routes_in net) t))
-        (sym (given.linked.other_views t (λ e. away near far (inl (refl, refl)) (ap (part world.links) e))
+    at_source : (t : Name) → IsAmong net.names t → s.streams.depth t ≡ 0
+        → Fits s t (part_of s made.world routes t) (view_at new t)
+    at_source t among none =
+        one.comes.others (streams_from net.links (λ server. server)) t (view_at new t) among away
+        (subst (Fits (record s { streams = streams_from net.links (λ server. server) }) t
+        (part_of s world (routes_in net) t))
+        (sym (given.linked.other_views t
+        (λ e. away near far (inl (refl, refl)) (ap (part world.links) e))
         (λ e. away far near (inr (refl, refl)) (ap (part world.links) e))))
         (given.step.one.servers t among))
       where
         away : (e o : Name) → HasEnds l e o → AreJoined world.links t e → ⊥
         away = source_aside t none
 
-    comes_to : (t : Name) (view : View) → IsAmong net.names t → 0 < s.streams.depth t → Fits s t (all_done (play s client) (sides t) (acts t)) view
+    comes_to : (t : Name) (view : View) → IsAmong net.names t → 0 < s.streams.depth t
+        → Fits s t (all_done (play s client) (sides t) (acts t)) view
         → Fits s t (part_of s made.world routes t) view
     comes_to t view among below fits =
         let at = source_of (stands given t) below in
@@ -174,7 +206,8 @@ module _ {net new : Network} {near far : Name} (laws : AreLinkLaws) (given : IsL
         ap (λ shown. shown ++ all_seen (play s client) t (sides t) (acts t)) received_same
         ∙ ap (λ deeds. owed_now net client ++ all_seen (play s client) t (sides t) deeds)
         (deeds_at laws.after_link laws.quiet given tells client t at.e at.o at.ends at.on)
-        ∙ ap (λ more. owed_now net client ++ more) (one.comes.seen at.e at.o at.ends client t at.on home)
+        ∙ ap (λ more. owed_now net client ++ more)
+        (one.comes.seen at.e at.o at.ends client t at.on home)
 
     goes_on : IsGoingOn s (answers_of l) made.world source routes new client owed sides acts
     goes_on = record {
@@ -194,22 +227,27 @@ module _ {net new : Network} {near far : Name} (laws : AreLinkLaws) (given : IsL
 
     -- ---- few lines
 
-    lines_come : (t b : Name) → HasEnds l t b → coming (machine s client) s.streams (relayed s new client) t ≡ link_lines laws.after_link laws.quiet given b t
+    lines_come : (t b : Name) → HasEnds l t b → coming (machine s client) s.streams
+        (relayed s new client) t ≡ link_lines laws.after_link laws.quiet given b t
     lines_come t b ends =
         next_is_under_way goes_on t (from_other given t b ends).1
         ∙ ap (λ p. under_way (relayed s new client) p t) (from_other given t b ends).0
         ∙ to_end laws.after_link laws.quiet given client t b ends
 
-    acts_few : (t a b : Name) → HasEnds l a b → AreJoined world.links t a → length (acts t) ≤ 1 + told_by net b (number s a)
+    acts_few : (t a b : Name) → HasEnds l a b → AreJoined world.links t a
+        → length (acts t) ≤ 1 + told_by net b (number s a)
     acts_few t a b ends on =
-        let all = ap (λ (deeds : List Deed). length deeds) (deeds_at laws.after_link laws.quiet given tells client t a b ends on)
+        let all = ap (λ (deeds : List Deed). length deeds)
+        (deeds_at laws.after_link laws.quiet given tells client t a b ends on)
         ∙ length-append (server_deeds s (routes_in net) a b) (room_deeds world a b) in
-        let servers = length-map (servers_told (routes_in net b) (number s a)) (λ r. gains r.uplink r.name r.info) in
+        let servers = length-map (servers_told (routes_in net b) (number s a))
+        (λ r. gains r.uplink r.name r.info) in
         let room = one.few_read a b ends in
         omega arith
 
     -- next to their source are the ends alone
-    none_next : (t a b : Name) → HasEnds l a b → AreJoined world.links t a → t ≢ a → s.streams.depth t ≡ 1 → ⊥
+    none_next : (t a b : Name) → HasEnds l a b → AreJoined world.links t a → t ≢ a
+        → s.streams.depth t ≡ 1 → ⊥
     none_next t a b ends on two depth = by (stands given t)
       where
         by : Stands (HasEnds l) world.links s.streams 1 t → ⊥
@@ -217,36 +255,48 @@ module _ {net new : Network} {near far : Name} (laws : AreLinkLaws) (given : IsL
         by (behind e o its _ _ _ deep) = let no : ⊥ = omega arith in no
         by (aside away _) = away a b ends on
 
-    few : AreFew (HasEnds l) world.links s new client acts (λ t b. 2 + told_by net b (number s t)) (λ t b. 1 + told_by net b (number s t))
+    few : AreFew (HasEnds l) world.links s new client acts (λ t b. 2 + told_by net b (number s t))
+        (λ t b. 1 + told_by net b (number s t))
     few = record {
-      at_end = λ t b ends. subst (λ lines. length lines ≤ 2 + told_by net b (number s t)) (sym (lines_come t b ends)) (one.few_lines t b ends);
+      at_end = λ t b ends. subst (λ lines. length lines ≤ 2 + told_by net b (number s t))
+          (sym (lines_come t b ends)) (one.few_lines t b ends);
       next = λ t a b ends on two depth. absurd (none_next t a b ends on two depth);
       told = acts_few;
     }
 
-    answered_few : (t b : Name) → HasEnds l t b
-        → count_by introduces (coming (machine s client) s.streams (relayed s new client) t) ≤ 1 + told_by net b (number s t)
+    answered_few : (t b : Name) → HasEnds l t b → count_by introduces (coming
+        (machine s client) s.streams (relayed s new client) t) ≤ 1 + told_by net b (number s t)
     answered_few t b ends =
-        subst (λ lines. count_by introduces lines ≤ 1 + told_by net b (number s t)) (sym (lines_come t b ends)) (one.few_answered t b ends)
+        subst (λ lines. count_by introduces lines ≤ 1 + told_by net b (number s t))
+        (sym (lines_come t b ends)) (one.few_answered t b ends)
 
-    pending : lines_pending (machine s client) s.streams (relayed s new client) net.names introduces near far ≤ most (settings_of net) world (link near far)
+    pending : lines_pending (machine s client) s.streams (relayed s new client) net.names introduces
+        near far ≤ most (settings_of net) world (link near far)
     unfolding most
     pending =
         allowed (lines_coming (machine s client) s.streams (relayed s new client) net.names)
         (count_by introduces (coming (machine s client) s.streams (relayed s new client) near))
-        (count_by introduces (coming (machine s client) s.streams (relayed s new client) far)) (told_by net far (number s near)) (told_by net near (number s far))
+        (count_by introduces (coming (machine s client) s.streams (relayed s new client) far))
+        (told_by net far (number s near)) (told_by net near (number s far))
         (count_by (joined world.links near) net.names) (count_by (joined world.links far) net.names)
         (part_size (settings_of net) world.links near) (part_size (settings_of net) world.links far)
-        (part_size (settings_of net) world.links near - 1 + length (burst near (world.hall near).room))
+        (part_size (settings_of net) world.links near - 1 + length
+        (burst near (world.hall near).room))
         (part_size (settings_of net) world.links far - 1 + length (burst far (world.hall far).room))
-        (few_from_two goes_on (stands given) few net.names near far (inl (refl, refl)) (inr (refl, refl)) (is_either l)
-        (given.step.sound.set_up.once near given.meeting.near_among) (given.step.sound.set_up.once far given.meeting.far_among))
+        (few_from_two goes_on (stands given) few net.names near far (inl (refl, refl))
+        (inr (refl, refl)) (is_either l)
+        (given.step.sound.set_up.once near given.meeting.near_among)
+        (given.step.sound.set_up.once far given.meeting.far_among))
         (answered_few near far (inl (refl, refl))) (answered_few far near (inr (refl, refl)))
-        (part_counted net given.step.sound.set_up world.links near) (part_counted net given.step.sound.set_up world.links far)
-        (some_more (one.counted near far (inl (refl, refl)))) (some_more (one.counted far near (inr (refl, refl))))
-        (told_at_most (length (servers_told (routes_in net near) (number s far))) (length (burst near (world.hall near).room))
+        (part_counted net given.step.sound.set_up world.links near)
+        (part_counted net given.step.sound.set_up world.links far)
+        (some_more (one.counted near far (inl (refl, refl))))
+        (some_more (one.counted far near (inr (refl, refl))))
+        (told_at_most (length (servers_told (routes_in net near) (number s far)))
+        (length (burst near (world.hall near).room))
         (part_size (settings_of net) world.links near) (one.counted near far (inl (refl, refl))))
-        (told_at_most (length (servers_told (routes_in net far) (number s near))) (length (burst far (world.hall far).room))
+        (told_at_most (length (servers_told (routes_in net far) (number s near)))
+        (length (burst far (world.hall far).room))
         (part_size (settings_of net) world.links far) (one.counted far near (inr (refl, refl))))
 
   -- ---- who has called
@@ -262,9 +312,12 @@ module _ {net new : Network} {near far : Name} (laws : AreLinkLaws) (given : IsL
       ∙ ap (λ k. Some (pass_line ∷ line_text (greeting k) ∷ []))
       (sym (as_before given (λ v. v.routes) (λ k starts view. refl) near)))
 
-  called : (x y : Name) → HasEnds l x y ⊎ AreLinked world.links x y → HasCalled s new x y ⊎ HasCalled s new y x
-  called x y (inl ends) = both_ends l (λ x y. HasCalled s new x y ⊎ HasCalled s new y x) (inl calling) (inr calling) x y ends
-  called x y (inr linked_so) = inl (is_met (met_before given laws.after_link y x (linked_back world.links x y linked_so)))
+  called : (x y : Name) → HasEnds l x y ⊎ AreLinked world.links x y
+      → HasCalled s new x y ⊎ HasCalled s new y x
+  called x y (inl ends) = both_ends l (λ x y. HasCalled s new x y ⊎ HasCalled s new y x)
+      (inl calling) (inr calling) x y ends
+  called x y (inr linked_so) =
+      inl (is_met (met_before given laws.after_link y x (linked_back world.links x y linked_so)))
 
   -- ---- ways
 
@@ -272,37 +325,49 @@ module _ {net new : Network} {near far : Name} (laws : AreLinkLaws) (given : IsL
   ways_now x y = by (has_ends l x y) refl
     where
       named : (x y : Name) → is_some (way_at new x (number s y)) ≡ is_some (way_between new x y)
-      named x y = ap (λ names. is_some (way_at new x (index_in names y))) (sym given.step.taken.names)
+      named x y =
+          ap (λ names. is_some (way_at new x (index_in names y))) (sym given.step.taken.names)
 
       at_ends : (x y : Name) → HasEnds l x y → is_some (way_at new x (number s y)) ≡ true
-      at_ends = both_ends l (λ x y. is_some (way_at new x (number s y)) ≡ true) (named near far ∙ ap is_some given.linked.calls)
+      at_ends = both_ends l (λ x y. is_some (way_at new x (number s y)) ≡ true)
+          (named near far ∙ ap is_some given.linked.calls)
           (named far near ∙ ap is_some given.linked.waits)
 
-      by : (b : Bool) → has_ends l x y ≡ b → is_some (way_at new x (number s y)) ≡ (has_ends l x y || linked world.links x y)
-      by true e = at_ends x y (has_ends_so given x y e) ∙ sym (ap (λ b. b || linked world.links x y) e)
+      by : (b : Bool) → has_ends l x y ≡ b
+          → is_some (way_at new x (number s y)) ≡ (has_ends l x y || linked world.links x y)
+      by true e =
+          at_ends x y (has_ends_so given x y e) ∙ sym (ap (λ b. b || linked world.links x y) e)
       by false e =
           ap is_some (given.linked.other_ways x (number s y)
-          (λ n same. none (inl (sym n, one_place net.names far y given.meeting.far_among (sym same))))
-          (λ n same. none (inr (one_place net.names near y given.meeting.near_among (sym same), sym n))))
-          ∙ given.step.sound.ways x y ∙ ap (λ links. linked links x y) given.step.sound.links ∙ sym (ap (λ b. b || linked world.links x y) e)
+          (λ n same.
+          none (inl (sym n, one_place net.names far y given.meeting.far_among (sym same))))
+          (λ n same.
+          none (inr (one_place net.names near y given.meeting.near_among (sym same), sym n))))
+          ∙ given.step.sound.ways x y ∙ ap (λ links. linked links x y) given.step.sound.links
+          ∙ sym (ap (λ b. b || linked world.links x y) e)
         where
           none : HasEnds l x y → ⊥
           none = not_ends given x y e
 
   to_servers : (x : Name) (place : ℕ) → is_some (way_at new x place) ≡ true → IsPlaceOf net place
-  to_servers x place is = by (same_number place (number s far)) refl (same_number place (number s near)) refl
+  to_servers x place is =
+      by (same_number place (number s far)) refl (same_number place (number s near)) refl
     where
-      there : (b : Name) → IsAmong net.names b → same_number place (number s b) ≡ true → IsPlaceOf net place
-      there b among e = record { server = b; among = among; is = sym (one_number place (number s b) e) }
+      there : (b : Name) → IsAmong net.names b → same_number place (number s b) ≡ true
+          → IsPlaceOf net place
+      there b among e =
+          record { server = b; among = among; is = sym (one_number place (number s b) e) }
 
       other : (b : Name) → same_number place (number s b) ≡ false → place ≡ number s b → ⊥
       other b e same = let no = sym (same_number-is place (number s b) same) ∙ e in cc no
 
-      by : (a : Bool) → same_number place (number s far) ≡ a → (b : Bool) → same_number place (number s near) ≡ b → IsPlaceOf net place
+      by : (a : Bool) → same_number place (number s far) ≡ a → (b : Bool)
+          → same_number place (number s near) ≡ b → IsPlaceOf net place
       by true e b f = there far given.meeting.far_among e
       by false e true f = there near given.meeting.near_among f
       by false e false f = given.step.sound.to_servers x place
-          (sym (ap is_some (given.linked.other_ways x place (λ n same. other far e same) (λ n same. other near f same))) ∙ is)
+          (sym (ap is_some (given.linked.other_ways x place (λ n same. other far e same)
+          (λ n same. other near f same))) ∙ is)
 
   -- ---- where that brings the network
 

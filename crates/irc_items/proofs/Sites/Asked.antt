@@ -1,5 +1,7 @@
 -- What becomes of a network when one of its servers is asked for something that happens.
-use Rattle.std.proofs.Common.{◌≡◌, ◌≢◌, ℕ, zero, suc, Bool, true, false, Option, Some, None, List, [], ◌++◌, length, refl, sym, ap, subst, ◌∙◌, arith, unwrap_or, if◌then◌else◌}
+use Rattle.std.proofs.Common.{◌≡◌, ◌≢◌, ℕ, zero, suc, Bool, true, false, Option, Some, None, List}
+use Rattle.std.proofs.Common.{[], ◌++◌, length, refl, sym, ap, subst, ◌∙◌, arith, unwrap_or}
+use Rattle.std.proofs.Common.{if◌then◌else◌}
 use Rattle.std.specs.FinMap.{get}
 use Rattle.std.specs.List.{slice_get, AllByRecursion}
 use Rattle.std.specs.Option.{option_and_then, option_map, option_map_or}
@@ -14,13 +16,17 @@ use Rattle.irc_world.specs.Stepping.{Item}
 use Rattle.irc_world.specs.World.{home_in}
 use Rattle.irc_follow.specs.Says.{lines_on}
 use Rattle.irc_follow.specs.Tree.{index_in}
-use Rattle.irc_network.specs.Network.{Course, Network, Reply, Site, all_sent_out, site_asked, asked_at, serves_occurrence, received_by, reply, with_reply, with_site}
+use Rattle.irc_network.specs.Network.{Course, Network, Reply, Site, all_sent_out, site_asked}
+use Rattle.irc_network.specs.Network.{asked_at, serves_occurrence, received_by, reply, with_reply}
+use Rattle.irc_network.specs.Network.{with_site}
 use Rattle.irc_items.specs.Relayed.{way_at}
-use Rattle.irc_items.specs.SetUp.{setting_now, settings_of, view_at, HasPassword, IsConfigured, IsSetUp}
+use Rattle.irc_items.specs.SetUp.{setting_now, settings_of, view_at, HasPassword, IsConfigured}
+use Rattle.irc_items.specs.SetUp.{IsSetUp}
 use Rattle.irc_items.proofs.Common.AtRest.{beyond, nothing_received}
 use Rattle.irc_items.proofs.Sites.SentOut.{all_sent, IsSentOut}
 use Rattle.irc_items.specs.Lemmas.SetUpFacts.{there}
-use Rattle.irc_items.proofs.Sites.SiteChanged.{changed_twice, set_up_after, site_set, site_there, IsAlikeSite, IsSetUpAfter, IsSiteChanged}
+use Rattle.irc_items.proofs.Sites.SiteChanged.{changed_twice, set_up_after, site_set, site_there}
+use Rattle.irc_items.proofs.Sites.SiteChanged.{IsAlikeSite, IsSetUpAfter, IsSiteChanged}
 
 -- t answered: what it put out waits behind the others on its ways, and is received behind all else
 pub record IsAskedAt (t : Name) (answer : Reply) (old new : Course) : Type 0 where
@@ -34,28 +40,49 @@ pub record IsAskedAt (t : Name) (answer : Reply) (old new : Course) : Type 0 whe
   pub set_up : IsSetUp new.net
   pub view : view_at new.net t ≡ answer.view
   pub other_views : (u : Name) → u ≢ t → view_at new.net u ≡ view_at old.net u
-  pub way : (place : ℕ) → way_at new.net t place ≡ option_map (λ lines. lines ++ lines_on place answer.out) (way_at old.net t place)
+  pub way : (place : ℕ) → way_at new.net t place ≡ option_map
+      (λ lines. lines ++ lines_on place answer.out) (way_at old.net t place)
   pub other_ways : (u : Name) (place : ℕ) → u ≢ t → way_at new.net u place ≡ way_at old.net u place
   pub received : (client : ℕ) (home : Name) → home_in old.net.homes client ≡ Some home
       → received_by new.net client ≡ received_by old.net client ++ lines_to client answer.out
   pub nobody : (client : ℕ) → home_in old.net.homes client ≡ None → received_by new.net client ≡ []
 
 -- what a server answers keeps what it is configured to be
-pub reply_alike : ServedKeepsItsSetting → (view : View) (occurrence : Occurrence) → IsSetAlike view (reply view occurrence).view
+pub reply_alike : ServedKeepsItsSetting → (view : View) (occurrence : Occurrence)
+    → IsSetAlike view (reply view occurrence).view
 reply_alike kept view occurrence = by (serves_occurrence view occurrence) refl
   where
-    by : (b : Bool) → serves_occurrence view occurrence ≡ b → IsSetAlike view (reply view occurrence).view
+    by : (b : Bool) → serves_occurrence view occurrence ≡ b
+        → IsSetAlike view (reply view occurrence).view
     by true e = subst (λ (r : Reply). IsSetAlike view r.view)
-        (sym (ap (λ b. if b then record { view = (served view occurrence).view; out = (served view occurrence).out }
+        (sym (ap (λ b. if b then record {
+          view = (served view occurrence).view;
+          out = (served view occurrence).out;
+        }
         else record { view = view; out = [] }) e)) (kept view occurrence)
     by false e = subst (λ (r : Reply). IsSetAlike view r.view)
-        (sym (ap (λ b. if b then record { view = (served view occurrence).view; out = (served view occurrence).out }
-        else record { view = view; out = [] }) e)) (record { peers = refl; name = refl; info = refl; created = refl })
+        (sym (ap (λ b. if b then record {
+          view = (served view occurrence).view;
+          out = (served view occurrence).out;
+        }
+        else record { view = view; out = [] }) e)) (record {
+          peers =
+              refl;
+          name = refl;
+          info = refl;
+          created = refl;
+        })
 
 pub setting_alike : (old new : View) → IsSetAlike old new → setting_now new ≡ setting_now old
-setting_alike old new alike i = record { name = alike.name i; info = alike.info i; created = alike.created i; peers = alike.peers i }
+setting_alike old new alike i = record {
+  name = alike.name i;
+  info = alike.info i;
+  created = alike.created i;
+  peers = alike.peers i;
+}
 
-module _ (kept : ServedKeepsItsSetting) (old : Course) (set_up : IsSetUp old.net) (t : Name) (among : IsAmong old.net.names t) (occurrence : Occurrence) where
+module _ (kept : ServedKeepsItsSetting) (old : Course) (set_up : IsSetUp old.net) (t : Name)
+    (among : IsAmong old.net.names t) (occurrence : Occurrence) where
   abbrev place : ℕ
   place = index_in old.net.names t
 
@@ -76,13 +103,15 @@ module _ (kept : ServedKeepsItsSetting) (old : Course) (set_up : IsSetUp old.net
 
   alike_site : IsAlikeSite site replied
   alike_site = record {
-    named = ap Some (reply_alike kept view occurrence).name ∙ sym (ap (option_map (λ (v : View). v.routes.name)) (there old.net set_up t among).is_view);
+    named = ap Some (reply_alike kept view occurrence).name ∙ sym
+        (ap (option_map (λ (v : View). v.routes.name)) (there old.net set_up t among).is_view);
     setting = ap Some (setting_alike view answer.view (reply_alike kept view occurrence))
         ∙ sym (ap (option_map setting_now) (there old.net set_up t among).is_view);
   }
 
   first_changed : IsSiteChanged place replied old.net mid.net
-  first_changed = site_set place site replied old.net mid.net (there old.net set_up t among).is_site alike_site refl
+  first_changed = site_set place site replied old.net mid.net
+      (there old.net set_up t among).is_site alike_site refl
 
   sent : IsSentOut place answer.out replied mid (all_sent_out place answer.out mid)
   sent = all_sent place answer.out replied mid first_changed.is_after
@@ -90,11 +119,14 @@ module _ (kept : ServedKeepsItsSetting) (old : Course) (set_up : IsSetUp old.net
   asked_is : site_asked place occurrence old ≡ all_sent_out place answer.out mid
   unfolding site_asked
   asked_is =
-      ap (λ o. option_map_or (asked_at place occurrence old) o old) (there old.net set_up t among).is_site
-      ∙ ap (λ o. option_map_or (λ (v : View). with_reply place old site (reply v occurrence)) o old) (there old.net set_up t among).is_view
+      ap (λ o. option_map_or (asked_at place occurrence old) o old)
+      (there old.net set_up t among).is_site
+      ∙ ap (λ o. option_map_or (λ (v : View). with_reply place old site (reply v occurrence)) o old)
+      (there old.net set_up t among).is_view
 
   changed : IsSiteChanged place sent.after old.net (all_sent_out place answer.out mid).net
-  changed = changed_twice place replied sent.after old.net mid.net (all_sent_out place answer.out mid).net first_changed sent.changed
+  changed = changed_twice place replied sent.after old.net mid.net
+      (all_sent_out place answer.out mid).net first_changed sent.changed
 
   configured : IsConfigured answer.view
   configured =
@@ -102,26 +134,37 @@ module _ (kept : ServedKeepsItsSetting) (old : Course) (set_up : IsSetUp old.net
       let same = reply_alike kept view occurrence in record {
         name = subst IsServer (sym same.name) was.name;
         info = subst IsInfo (sym same.info) was.info;
-        created = let e = ap (λ (c : List ℕ). length c) same.created in let few = was.created in omega arith;
+        created = let e = ap (λ (c : List ℕ). length c) same.created in let few = was.created in
+            omega arith;
         passwords = subst (AllByRecursion HasPassword) (sym same.peers) was.passwords;
       }
 
-  then_set_up : IsSetUpAfter t answer.view sent.after old.net (all_sent_out place answer.out mid).net
-  then_set_up = set_up_after old.net (all_sent_out place answer.out mid).net set_up t among sent.after answer.view changed sent.server configured
+  then_set_up : IsSetUpAfter t answer.view sent.after old.net
+      (all_sent_out place answer.out mid).net
+  then_set_up = set_up_after old.net (all_sent_out place answer.out mid).net set_up t among
+      sent.after answer.view changed sent.server configured
 
-  received_so : (inboxes : length old.net.received ≡ length old.net.homes) (client : ℕ) (home : Name) → home_in old.net.homes client ≡ Some home
-      → received_by (all_sent_out place answer.out mid).net client ≡ received_by old.net client ++ lines_to client answer.out
+  received_so : (inboxes : length old.net.received ≡ length old.net.homes)
+      (client : ℕ) (home : Name) → home_in old.net.homes client ≡ Some home
+      → received_by (all_sent_out place answer.out mid).net client ≡ received_by old.net client
+      ++ lines_to client answer.out
   received_so inboxes zero home is = cc is
-  received_so inboxes (suc earlier) home is = ap (λ o. unwrap_or o []) (sent.received earlier) ∙ by (slice_get old.net.received earlier) refl
+  received_so inboxes (suc earlier) home is = ap (λ o. unwrap_or o []) (sent.received earlier)
+      ∙ by (slice_get old.net.received earlier) refl
     where
       by : (o : Option (List (List ℕ))) → slice_get old.net.received earlier ≡ o
-          → unwrap_or (option_map (λ lines. lines ++ lines_to (suc earlier) answer.out) (slice_get old.net.received earlier)) []
+          → unwrap_or (option_map (λ lines. lines ++ lines_to (suc earlier) answer.out)
+          (slice_get old.net.received earlier)) []
           ≡ unwrap_or (slice_get old.net.received earlier) [] ++ lines_to (suc earlier) answer.out
-      by (Some lines) e = ap (λ o. unwrap_or (option_map (λ lines. lines ++ lines_to (suc earlier) answer.out) o) []) e
+      by (Some lines) e = ap
+          (λ o. unwrap_or (option_map (λ lines. lines ++ lines_to (suc earlier) answer.out) o) []) e
           ∙ sym (ap (λ o. unwrap_or o [] ++ lines_to (suc earlier) answer.out) e)
-      by None e = absurd (let no = sym (beyond old.net.received old.net.homes earlier (sym inboxes) e) ∙ is in cc no)
+      by None e =
+          absurd (let no = sym (beyond old.net.received old.net.homes earlier (sym inboxes) e)
+          ∙ is in cc no)
 
-  pub asked_so : length old.net.received ≡ length old.net.homes → IsAskedAt t answer old (all_sent_out place answer.out mid)
+  pub asked_so : length old.net.received ≡ length old.net.homes
+      → IsAskedAt t answer old (all_sent_out place answer.out mid)
   asked_so inboxes = record {
     names = changed.names;
     links = changed.links;
@@ -134,30 +177,44 @@ module _ (kept : ServedKeepsItsSetting) (old : Course) (set_up : IsSetUp old.net
     view = then_set_up.view;
     other_views = then_set_up.other_views;
     way = λ to. ap (option_and_then (λ (s : Site). get s.queues to)) then_set_up.site ∙ sent.ways to
-        ∙ sym (ap (λ o. option_map (λ lines. lines ++ lines_on to answer.out) (option_and_then (λ (s : Site). get s.queues to) o))
+        ∙ sym (ap (λ o. option_map (λ lines. lines ++ lines_on to answer.out)
+        (option_and_then (λ (s : Site). get s.queues to) o))
         (site_there old.net set_up t among));
-    other_ways = λ u to two. ap (option_and_then (λ (s : Site). get s.queues to)) (then_set_up.other_sites u two);
+    other_ways = λ u to two. ap (option_and_then (λ (s : Site). get s.queues to))
+        (then_set_up.other_sites u two);
     received = received_so inboxes;
     nobody = λ client none. nothing_received (all_sent_out place answer.out mid).net client
         (sent.inboxes ∙ inboxes ∙ ap (λ (homes : List Name). length homes) (sym changed.homes))
         (ap (λ homes. home_in homes client) changed.homes ∙ none);
   }
 
-pub asked_there : ServedKeepsItsSetting → (old : Course) → IsSetUp old.net → length old.net.received ≡ length old.net.homes → (t : Name)
-    → IsAmong old.net.names t → (occurrence : Occurrence)
-    → IsAskedAt t (reply (view_at old.net t) occurrence) old (site_asked (index_in old.net.names t) occurrence old)
+pub asked_there : ServedKeepsItsSetting → (old : Course) → IsSetUp old.net
+    → length old.net.received ≡ length old.net.homes → (t : Name) → IsAmong old.net.names t
+    → (occurrence : Occurrence) → IsAskedAt t (reply (view_at old.net t) occurrence) old
+    (site_asked (index_in old.net.names t) occurrence old)
 asked_there kept old set_up inboxes t among occurrence =
-    subst (IsAskedAt t (reply (view_at old.net t) occurrence) old) (sym (asked_is kept old set_up t among occurrence))
+    subst (IsAskedAt t (reply (view_at old.net t) occurrence) old)
+    (sym (asked_is kept old set_up t among occurrence))
     (asked_so kept old set_up t among occurrence inboxes)
 
 -- servers are set up whatever else becomes of the network
-pub set_up_besides : (net : Network) (links : List Link) (homes : List Name) (received : List (List (List ℕ))) (items : List Item) (taken : ℕ) → IsSetUp net
-    → IsSetUp (record net { links = links; homes = homes; received = received; items = items; taken = taken })
+pub set_up_besides : (net : Network) (links : List Link) (homes : List Name)
+    (received : List (List (List ℕ))) (items : List Item) (taken : ℕ) → IsSetUp net → IsSetUp
+    (record net { links = links; homes = homes; received = received; items = items; taken = taken })
 set_up_besides net links homes received items taken set_up =
-    record { named = set_up.named; once = set_up.once; few = set_up.few; configured = set_up.configured }
+    record {
+      named = set_up.named;
+      once = set_up.once;
+      few = set_up.few;
+      configured = set_up.configured;
+    }
 
 -- what is not refused is served
-pub reply_taken : (view : View) (occurrence : Occurrence) → serves_occurrence view occurrence ≡ true
-    → reply view occurrence ≡ record { view = (served view occurrence).view; out = (served view occurrence).out }
+pub reply_taken : (view : View) (occurrence : Occurrence)
+    → serves_occurrence view occurrence ≡ true → reply view occurrence
+    ≡ record { view = (served view occurrence).view; out = (served view occurrence).out }
 reply_taken view occurrence taken =
-    ap (λ b. if b then record { view = (served view occurrence).view; out = (served view occurrence).out } else record { view = view; out = [] }) taken
+    ap (λ b. if b then record {
+      view = (served view occurrence).view;
+      out = (served view occurrence).out;
+    } else record { view = view; out = [] }) taken

@@ -1,5 +1,6 @@
 -- A line is delivered: whose it is, and what is left on its way.
-use Rattle.std.proofs.Common.{◌≡◌, ℕ, ◌+◌, min, Bool, true, false, cond, Option, Some, None, is_some, List, [], ◌∷◌, refl, sym, ap, ◌∙◌, unwrap_or}
+use Rattle.std.proofs.Common.{◌≡◌, ℕ, ◌+◌, min, Bool, true, false, cond, Option, Some, None}
+use Rattle.std.proofs.Common.{is_some, List, [], ◌∷◌, refl, sym, ap, ◌∙◌, unwrap_or}
 use Rattle.std.specs.FinMap.{get}
 use Rattle.std.specs.Option.{option_and_then}
 use Rattle.irc_line.specs.Reading.{read_of}
@@ -9,12 +10,14 @@ use Rattle.irc_relay.specs.Links.{Name}
 use Rattle.irc_stage.specs.Lemmas.Numbers.{get-with, one_number, same_number, same_number-refl}
 use Rattle.irc_server.specs.Served.{link_says}
 use Rattle.irc_follow.specs.Tree.{index_in}
-use Rattle.irc_network.specs.Network.{Course, Site, site_asked, line_counted, delivered, left, site_at, taken_of, waiting, with_site}
+use Rattle.irc_network.specs.Network.{Course, Site, site_asked, line_counted, delivered, left}
+use Rattle.irc_network.specs.Network.{site_at, taken_of, waiting, with_site}
 use Rattle.irc_items.specs.Relayed.{way_at, way_between}
 use Rattle.irc_items.specs.SetUp.{settings_of, view_at, IsSetUp}
 use Rattle.irc_items.specs.Sound.{IsPlaceOf, IsSound}
 use Rattle.irc_items.specs.Lemmas.SetUpFacts.{at_place, there}
-use Rattle.irc_items.proofs.Sites.SiteChanged.{same_server, set_up_after, site_set, site_there, IsSetUpAfter, IsSiteChanged}
+use Rattle.irc_items.proofs.Sites.SiteChanged.{same_server, set_up_after, site_set, site_there}
+use Rattle.irc_items.proofs.Sites.SiteChanged.{IsSetUpAfter, IsSiteChanged}
 
 -- t took the oldest line on its way from p; it was counted, and then t was asked for it
 pub record IsDeliveredTo (p t : Name) (line : List ℕ) (old new : Course) : Type 0 where
@@ -25,7 +28,8 @@ pub record IsDeliveredTo (p t : Name) (line : List ℕ) (old new : Course) : Typ
   pub mid : Course
   pub set_up : IsSetUp mid.net
   pub left_is : way_at mid.net p (index_in old.net.names t) ≡ Some rest
-  pub other_ways : (x : Name) (place : ℕ) → (x ≡ p → place ≡ index_in old.net.names t → ⊥) → way_at mid.net x place ≡ way_at old.net x place
+  pub other_ways : (x : Name) (place : ℕ) → (x ≡ p → place ≡ index_in old.net.names t → ⊥)
+      → way_at mid.net x place ≡ way_at old.net x place
   pub views : (x : Name) → view_at mid.net x ≡ view_at old.net x
   pub names : mid.net.names ≡ old.net.names
   pub links : mid.net.links ≡ old.net.links
@@ -34,7 +38,8 @@ pub record IsDeliveredTo (p t : Name) (line : List ℕ) (old new : Course) : Typ
   pub received : mid.net.received ≡ old.net.received
   pub settings : settings_of mid.net ≡ settings_of old.net
   pub counted_is : mid.net.taken ≡ min (old.net.taken + 1) 18446744073709551615
-  pub asked_is : new ≡ site_asked (index_in old.net.names t) (link_says (index_in old.net.names p) (read_of line)) mid
+  pub asked_is : new ≡ site_asked (index_in old.net.names t)
+      (link_says (index_in old.net.names p) (read_of line)) mid
 
 pub record IsDelivery (old new : Course) : Type 0 where
   pub giver : Name
@@ -42,10 +47,13 @@ pub record IsDelivery (old new : Course) : Type 0 where
   pub line : List ℕ
   pub delivered_to : IsDeliveredTo giver taker line old new
 
-module _ (old : Course) (set_up : IsSetUp old.net) (p t : Name) (p_among : IsAmong old.net.names p) (t_among : IsAmong old.net.names t)
-    (line : List ℕ) (rest : List (List ℕ)) (waited : waiting (there old.net set_up p p_among).site (index_in old.net.names t) ≡ line ∷ rest)
+module _ (old : Course) (set_up : IsSetUp old.net) (p t : Name) (p_among : IsAmong old.net.names p)
+    (t_among : IsAmong old.net.names t)
+    (line : List ℕ) (rest : List (List ℕ)) (waited : waiting (there old.net set_up p p_among).site
+    (index_in old.net.names t) ≡ line ∷ rest)
     (new : Course)
-    (new_is : new ≡ site_asked (index_in old.net.names t) (link_says (index_in old.net.names p) (read_of line))
+    (new_is : new ≡ site_asked (index_in old.net.names t)
+    (link_says (index_in old.net.names p) (read_of line))
     (record old {
       net = line_counted (with_site (index_in old.net.names p)
           (left (index_in old.net.names t) rest (there old.net set_up p p_among).site) old.net);
@@ -60,28 +68,37 @@ module _ (old : Course) (set_up : IsSetUp old.net) (p t : Name) (p_among : IsAmo
   mid = record old { net = line_counted (with_site (index_in old.net.names p) after old.net) }
 
   changed : IsSiteChanged (index_in old.net.names p) after old.net mid.net
-  changed = site_set (index_in old.net.names p) site after old.net mid.net (there old.net set_up p p_among).is_site (same_server site after refl) refl
+  changed = site_set (index_in old.net.names p) site after old.net mid.net
+      (there old.net set_up p p_among).is_site (same_server site after refl) refl
 
   now : IsSetUpAfter p (view_at old.net p) after old.net mid.net
-  now = set_up_after old.net mid.net set_up p p_among after (view_at old.net p) changed (there old.net set_up p p_among).is_view (set_up.configured p p_among)
+  now = set_up_after old.net mid.net set_up p p_among after (view_at old.net p) changed
+      (there old.net set_up p p_among).is_view (set_up.configured p p_among)
 
-  queued : (o : Option (List (List ℕ))) → get site.queues (index_in old.net.names t) ≡ o → unwrap_or o [] ≡ line ∷ rest → o ≡ Some (line ∷ rest)
+  queued : (o : Option (List (List ℕ))) → get site.queues (index_in old.net.names t) ≡ o
+      → unwrap_or o [] ≡ line ∷ rest → o ≡ Some (line ∷ rest)
   queued None is e = cc e
   queued (Some lines) is e = ap Some e
 
   queue_is : get site.queues (index_in old.net.names t) ≡ Some (line ∷ rest)
   queue_is = queued (get site.queues (index_in old.net.names t)) refl waited
 
-  other_way : (x : Name) (place : ℕ) → (x ≡ p → place ≡ index_in old.net.names t → ⊥) → Telling x p → way_at mid.net x place ≡ way_at old.net x place
-  other_way x place two (unlike _ n) = ap (option_and_then (λ (s : Site). get s.queues place)) (now.other_sites x n)
+  other_way : (x : Name) (place : ℕ) → (x ≡ p → place ≡ index_in old.net.names t → ⊥) → Telling x p
+      → way_at mid.net x place ≡ way_at old.net x place
+  other_way x place two (unlike _ n) =
+      ap (option_and_then (λ (s : Site). get s.queues place)) (now.other_sites x n)
   other_way x place two (alike _ e) =
-      ap (λ v. way_at mid.net v place) e ∙ ap (option_and_then (λ (s : Site). get s.queues place)) now.site
+      ap (λ v. way_at mid.net v place) e
+      ∙ ap (option_and_then (λ (s : Site). get s.queues place)) now.site
       ∙ get-with site.queues (index_in old.net.names t) rest place
-      ∙ ap (λ b. cond b (Some rest) (get site.queues place)) (not_it (same_number place (index_in old.net.names t)) refl)
-      ∙ sym (ap (option_and_then (λ (s : Site). get s.queues place)) (site_there old.net set_up p p_among))
+      ∙ ap (λ b. cond b (Some rest) (get site.queues place))
+      (not_it (same_number place (index_in old.net.names t)) refl)
+      ∙ sym (ap (option_and_then (λ (s : Site). get s.queues place))
+      (site_there old.net set_up p p_among))
       ∙ sym (ap (λ v. way_at old.net v place) e)
     where
-      not_it : (b : Bool) → same_number place (index_in old.net.names t) ≡ b → same_number place (index_in old.net.names t) ≡ false
+      not_it : (b : Bool) → same_number place (index_in old.net.names t) ≡ b
+          → same_number place (index_in old.net.names t) ≡ false
       not_it true is = absurd (two e (one_number place (index_in old.net.names t) is))
       not_it false is = is
 
@@ -94,12 +111,14 @@ module _ (old : Course) (set_up : IsSetUp old.net) (p t : Name) (p_among : IsAmo
     p_among = p_among;
     t_among = t_among;
     rest = rest;
-    waited = ap (option_and_then (λ (s : Site). get s.queues (index_in old.net.names t))) (site_there old.net set_up p p_among) ∙ queue_is;
+    waited = ap (option_and_then (λ (s : Site). get s.queues (index_in old.net.names t)))
+        (site_there old.net set_up p p_among) ∙ queue_is;
     mid = mid;
     set_up = now.set_up;
     left_is = ap (option_and_then (λ (s : Site). get s.queues (index_in old.net.names t))) now.site
         ∙ get-with site.queues (index_in old.net.names t) rest (index_in old.net.names t)
-        ∙ ap (λ b. cond b (Some rest) (get site.queues (index_in old.net.names t))) (same_number-refl (index_in old.net.names t));
+        ∙ ap (λ b. cond b (Some rest) (get site.queues (index_in old.net.names t)))
+        (same_number-refl (index_in old.net.names t));
     other_ways = λ x place two. other_way x place two (tell x p);
     views = λ x. view_same x (tell x p);
     names = refl;
@@ -113,53 +132,70 @@ module _ (old : Course) (set_up : IsSetUp old.net) (p t : Name) (p_among : IsAmo
   }
 
 -- a delivery is one from a server to a server
-pub delivered_between : (old : Course) → IsSound old.net → (from to : ℕ) (new : Course) → delivered from to old ≡ Some new → IsDelivery old new
+pub delivered_between : (old : Course) → IsSound old.net → (from to : ℕ) (new : Course)
+    → delivered from to old ≡ Some new → IsDelivery old new
 unfolding delivered
 delivered_between old sound from to new is = by (site_at old.net from) refl
   where
     same_some : {A : Type 0} (a b : A) → Some a ≡ Some b → a ≡ b
     same_some a b e = cc e
 
-    taken : (site : Site) (p : IsPlaceOf old.net from) (t : IsPlaceOf old.net to) → site_at old.net from ≡ Some site → (line : List ℕ) (rest : List (List ℕ))
-        → waiting site to ≡ line ∷ rest → taken_of from to old site (line ∷ rest) ≡ Some new → IsDelivery old new
+    taken : (site : Site) (p : IsPlaceOf old.net from) (t : IsPlaceOf old.net to)
+        → site_at old.net from ≡ Some site → (line : List ℕ) (rest : List (List ℕ))
+        → waiting site to ≡ line ∷ rest → taken_of from to old site (line ∷ rest) ≡ Some new
+        → IsDelivery old new
     taken site p t is_site line rest waited e = record {
       giver = p.server;
       taker = t.server;
       line = line;
       delivered_to = delivered_so old sound.set_up p.server t.server p.among t.among line rest
-          (ap (λ place. waiting (there old.net sound.set_up p.server p.among).site place) t.is ∙ ap (λ (s : Site). waiting s to) (sym one_site) ∙ waited) new
+          (ap (λ place. waiting (there old.net sound.set_up p.server p.among).site place) t.is
+          ∙ ap (λ (s : Site). waiting s to) (sym one_site) ∙ waited) new
           (sym (same_some _ new e) ∙ ap (λ (s : Site). site_asked to (link_says from (read_of line))
           (record old { net = line_counted (with_site from (left to rest s) old.net) })) one_site
           ∙ ap (λ n. site_asked to (link_says n (read_of line))
-          (record old { net = line_counted (with_site n (left to rest (there old.net sound.set_up p.server p.among).site) old.net) })) (sym p.is)
+          (record old {
+            net = line_counted (with_site n (left to rest
+                (there old.net sound.set_up p.server p.among).site) old.net);
+          })) (sym p.is)
           ∙ ap (λ n. site_asked n (link_says (index_in old.net.names p.server) (read_of line))
-          (record old { net = line_counted (with_site (index_in old.net.names p.server) (left n rest (there old.net sound.set_up p.server p.among).site) old.net) }))
+          (record old {
+            net = line_counted (with_site (index_in old.net.names p.server)
+                (left n rest (there old.net sound.set_up p.server p.among).site) old.net);
+          }))
           (sym t.is));
     }
       where
         one_site : site ≡ (there old.net sound.set_up p.server p.among).site
         one_site = same_some site (there old.net sound.set_up p.server p.among).site
-            (sym is_site ∙ ap (site_at old.net) (sym p.is) ∙ (there old.net sound.set_up p.server p.among).is_site)
+            (sym is_site ∙ ap (site_at old.net) (sym p.is)
+            ∙ (there old.net sound.set_up p.server p.among).is_site)
 
-    there_is : (site : Site) (p : IsPlaceOf old.net from) → site_at old.net from ≡ Some site → (line : List ℕ) (rest : List (List ℕ))
-        → waiting site to ≡ line ∷ rest
+    there_is : (site : Site) (p : IsPlaceOf old.net from) → site_at old.net from ≡ Some site
+        → (line : List ℕ) (rest : List (List ℕ)) → waiting site to ≡ line ∷ rest
         → is_some (way_at old.net p.server to) ≡ true
     there_is site p is_site line rest waited =
         ap (λ o. is_some (option_and_then (λ (s : Site). get s.queues to) o))
-        (site_there old.net sound.set_up p.server p.among ∙ sym (there old.net sound.set_up p.server p.among).is_site ∙ ap (site_at old.net) p.is ∙ is_site)
+        (site_there old.net sound.set_up p.server p.among
+        ∙ sym (there old.net sound.set_up p.server p.among).is_site
+        ∙ ap (site_at old.net) p.is ∙ is_site)
         ∙ queue_there (get site.queues to) waited
       where
         queue_there : (o : Option (List (List ℕ))) → unwrap_or o [] ≡ line ∷ rest → is_some o ≡ true
         queue_there None e = cc e
         queue_there (Some lines) e = refl
 
-    lines : (site : Site) → site_at old.net from ≡ Some site → (all : List (List ℕ)) → waiting site to ≡ all → taken_of from to old site all ≡ Some new
-        → IsDelivery old new
+    lines : (site : Site) → site_at old.net from ≡ Some site → (all : List (List ℕ))
+        → waiting site to ≡ all → taken_of from to old site all ≡ Some new → IsDelivery old new
     lines site is_site [] waited e = absurd (cc e)
     lines site is_site (line ∷ rest) waited e =
         let p = at_place old.net sound.set_up from site is_site in
-        taken site p (sound.to_servers p.server to (there_is site p is_site line rest waited)) is_site line rest waited e
+        taken site p (sound.to_servers p.server to (there_is site p is_site line rest waited))
+        is_site line rest waited e
 
     by : (o : Option Site) → site_at old.net from ≡ o → IsDelivery old new
-    by None e = absurd (let no = sym (ap (option_and_then (λ (site : Site). taken_of from to old site (waiting site to))) e) ∙ is in cc no)
-    by (Some site) e = lines site e (waiting site to) refl (sym (ap (option_and_then (λ (site : Site). taken_of from to old site (waiting site to))) e) ∙ is)
+    by None e = absurd (let no = sym (ap (option_and_then
+        (λ (site : Site). taken_of from to old site (waiting site to))) e) ∙ is in cc no)
+    by (Some site) e = lines site e (waiting site to) refl
+        (sym (ap (option_and_then (λ (site : Site). taken_of from to old site (waiting site to))) e)
+        ∙ is)

@@ -1,5 +1,8 @@
--- What becomes of a network by what one of its servers puts out: lines wait behind the others on its ways, and are received behind all else.
-use Rattle.std.proofs.Common.{◌≡◌, ℕ, zero, suc, Bool, true, false, cond, nat_eq, Option, Some, None, List, [], ◌∷◌, ◌++◌, append-nil, append_assoc, arith, length, refl, sym, ◌∙◌, ap, subst, if◌then◌else◌, option_map}
+-- What becomes of a network by what one of its servers puts out: lines wait behind the others on
+-- its ways, and are received behind all else.
+use Rattle.std.proofs.Common.{◌≡◌, ℕ, zero, suc, Bool, true, false, cond, nat_eq, Option, Some}
+use Rattle.std.proofs.Common.{None, List, [], ◌∷◌, ◌++◌, append-nil, append_assoc, arith, length}
+use Rattle.std.proofs.Common.{refl, sym, ◌∙◌, ap, subst, if◌then◌else◌, option_map}
 use Rattle.std.proofs.lemmas.Bool.{eq-eqb, eqb-true}
 use Rattle.std.specs.FinMap.{get, insert}
 use Rattle.std.specs.List.{filter_map, cons_option, slice_get, slice_set}
@@ -8,18 +11,23 @@ use Rattle.irc_batch.specs.Batches.{Sent, line_to, end_of, line_on, end_of_link}
 use Rattle.irc_stage.specs.Lemmas.Numbers.{get-with, one_number, same_number, same_number-is}
 use Rattle.irc_server.specs.Owed.{line_to_conn as line_to_for, lines_to}
 use Rattle.irc_follow.specs.Says.{line_on_link, lines_on}
-use Rattle.irc_network.specs.Network.{Course, Site, all_sent_out, line_body, has_received, has_received_at, line_queued, sent_out, site_at, with_site}
-use Rattle.irc_items.proofs.Sites.SiteChanged.{IsSiteChanged, changed_twice, not_changed, only_received, same_server, set_length, set_other, set_there, site_set}
+use Rattle.irc_network.specs.Network.{Course, Site, all_sent_out, line_body, has_received}
+use Rattle.irc_network.specs.Network.{has_received_at, line_queued, sent_out, site_at, with_site}
+use Rattle.irc_items.proofs.Sites.SiteChanged.{IsSiteChanged, changed_twice, not_changed}
+use Rattle.irc_items.proofs.Sites.SiteChanged.{only_received, same_server, set_length, set_other}
+use Rattle.irc_items.proofs.Sites.SiteChanged.{set_there, site_set}
 
 pub record IsSentOut (place : ℕ) (out : List Sent) (site : Site) (old new : Course) : Type 0 where
   pub after : Site
   pub changed : IsSiteChanged place after old.net new.net
   pub server : after.server ≡ site.server
   pub taken : new.net.taken ≡ old.net.taken
-  pub ways : (to : ℕ) → get after.queues to ≡ option_map (λ lines. lines ++ lines_on to out) (get site.queues to)
+  pub ways : (to : ℕ) → get after.queues to ≡ option_map (λ lines. lines ++ lines_on to out)
+      (get site.queues to)
   pub inboxes : length new.net.received ≡ length old.net.received
   pub received : (earlier : ℕ) → slice_get new.net.received earlier
-      ≡ option_map (λ lines. lines ++ lines_to (suc earlier) out) (slice_get old.net.received earlier)
+      ≡ option_map (λ lines. lines ++ lines_to (suc earlier) out)
+      (slice_get old.net.received earlier)
 
 -- ---- numbers
 
@@ -31,29 +39,35 @@ unlike e = absurd (cc e)
 
 -- ---- lines behind others
 
-nothing_behind : (more : List (List ℕ)) → more ≡ [] → (o : Option (List (List ℕ))) → o ≡ option_map (λ lines. lines ++ more) o
+nothing_behind : (more : List (List ℕ)) → more ≡ [] → (o : Option (List (List ℕ)))
+    → o ≡ option_map (λ lines. lines ++ more) o
 nothing_behind more none None = refl
-nothing_behind more none (Some lines) = ap Some (sym (ap (λ ls. lines ++ ls) none ∙ append-nil lines))
+nothing_behind more none (Some lines) =
+    ap Some (sym (ap (λ ls. lines ++ ls) none ∙ append-nil lines))
 
-none_either : (more : List (List ℕ)) (o : Option (List (List ℕ))) → o ≡ None → o ≡ option_map (λ lines. lines ++ more) o
+none_either : (more : List (List ℕ)) (o : Option (List (List ℕ))) → o ≡ None
+    → o ≡ option_map (λ lines. lines ++ more) o
 none_either more o none = none ∙ sym (ap (option_map (λ lines. lines ++ more)) none)
 
 module _ (f : Sent → Option (List ℕ)) where
-  one_then : (o : Option (List ℕ)) (lines : List (List ℕ)) → cons_option o [] ++ lines ≡ cons_option o lines
+  one_then : (o : Option (List ℕ)) (lines : List (List ℕ))
+      → cons_option o [] ++ lines ≡ cons_option o lines
   one_then None lines = refl
   one_then (Some line) lines = refl
 
-  joined : (sent : Sent) (out : List Sent) (o : Option (List (List ℕ)))
-      → option_map (λ lines. lines ++ filter_map f out) (option_map (λ lines. lines ++ filter_map f (sent ∷ [])) o)
+  joined : (sent : Sent) (out : List Sent) (o : Option (List (List ℕ))) → option_map (λ lines. lines
+      ++ filter_map f out) (option_map (λ lines. lines ++ filter_map f (sent ∷ [])) o)
       ≡ option_map (λ lines. lines ++ filter_map f (sent ∷ out)) o
   joined sent out None = refl
   joined sent out (Some lines) =
-      ap Some (append_assoc lines (filter_map f (sent ∷ [])) (filter_map f out) ∙ ap (λ ls. lines ++ ls) (one_then (f sent) (filter_map f out)))
+      ap Some (append_assoc lines (filter_map f (sent ∷ [])) (filter_map f out)
+      ∙ ap (λ ls. lines ++ ls) (one_then (f sent) (filter_map f out)))
 
 -- ---- nothing is put out
 
-pub nothing_sent : (place : ℕ) (out : List Sent) (site : Site) (course : Course) → site_at course.net place ≡ Some site
-    → ((to : ℕ) → lines_on to out ≡ []) → ((earlier : ℕ) → lines_to (suc earlier) out ≡ []) → IsSentOut place out site course course
+pub nothing_sent : (place : ℕ) (out : List Sent) (site : Site) (course : Course)
+    → site_at course.net place ≡ Some site → ((to : ℕ) → lines_on to out ≡ [])
+    → ((earlier : ℕ) → lines_to (suc earlier) out ≡ []) → IsSentOut place out site course course
 nothing_sent place out site course is no_line none_received = record {
   after = site;
   changed = not_changed place site course.net is;
@@ -61,7 +75,8 @@ nothing_sent place out site course is no_line none_received = record {
   taken = refl;
   ways = λ to. nothing_behind (lines_on to out) (no_line to) (get site.queues to);
   inboxes = refl;
-  received = λ earlier. nothing_behind (lines_to (suc earlier) out) (none_received earlier) (slice_get course.net.received earlier);
+  received = λ earlier. nothing_behind (lines_to (suc earlier) out) (none_received earlier)
+      (slice_get course.net.received earlier);
 }
 
 -- ---- a line to a client, or on a way
@@ -70,68 +85,88 @@ nothing_sent place out site course is no_line none_received = record {
 abbrev if_there : Bool → List ℕ → List (List ℕ)
 if_there b text = cons_option (if b then Some text else None) []
 
-not_it : (received : List (List (List ℕ))) (earlier : ℕ) (text : List ℕ) → slice_get received earlier ≡ None → (other : ℕ)
-    → slice_get received other ≡ option_map (λ lines. lines ++ if_there (nat_eq (suc earlier) (suc other)) text) (slice_get received other)
+not_it : (received : List (List (List ℕ))) (earlier : ℕ) (text : List ℕ)
+    → slice_get received earlier ≡ None → (other : ℕ) → slice_get received other ≡ option_map
+    (λ lines. lines ++ if_there (nat_eq (suc earlier) (suc other)) text) (slice_get received other)
 not_it received earlier text none other = by (nat_eq (suc earlier) (suc other)) refl
   where
-    by : (b : Bool) → nat_eq (suc earlier) (suc other) ≡ b
-        → slice_get received other ≡ option_map (λ lines. lines ++ if_there b text) (slice_get received other)
+    by : (b : Bool) → nat_eq (suc earlier) (suc other) ≡ b → slice_get received other
+        ≡ option_map (λ lines. lines ++ if_there b text) (slice_get received other)
     by true one = none_either (text ∷ []) (slice_get received other)
-        (ap (slice_get received) (sym (one_less earlier other (eqb-true (suc earlier) (suc other) one))) ∙ none)
+        (ap (slice_get received)
+        (sym (one_less earlier other (eqb-true (suc earlier) (suc other) one))) ∙ none)
     by false two = nothing_behind [] refl (slice_get received other)
 
-it_is : (received : List (List (List ℕ))) (earlier : ℕ) (text : List ℕ) (lines : List (List ℕ)) → slice_get received earlier ≡ Some lines → (other : ℕ)
+it_is : (received : List (List (List ℕ))) (earlier : ℕ) (text : List ℕ) (lines : List (List ℕ))
+    → slice_get received earlier ≡ Some lines → (other : ℕ)
     → slice_get (slice_set received earlier (lines ++ text ∷ [])) other
-    ≡ option_map (λ before. before ++ if_there (nat_eq (suc earlier) (suc other)) text) (slice_get received other)
+    ≡ option_map (λ before. before ++ if_there (nat_eq (suc earlier) (suc other)) text)
+    (slice_get received other)
 it_is received earlier text lines is other = by (nat_eq (suc earlier) (suc other)) refl
   where
-    by : (b : Bool) → nat_eq (suc earlier) (suc other) ≡ b → slice_get (slice_set received earlier (lines ++ text ∷ [])) other
+    by : (b : Bool) → nat_eq (suc earlier) (suc other) ≡ b
+        → slice_get (slice_set received earlier (lines ++ text ∷ [])) other
         ≡ option_map (λ before. before ++ if_there b text) (slice_get received other)
     by true one =
         let e = one_less earlier other (eqb-true (suc earlier) (suc other) one) in
         ap (slice_get (slice_set received earlier (lines ++ text ∷ []))) (sym e)
         ∙ set_there received earlier lines (lines ++ text ∷ []) is
-        ∙ sym (ap (option_map (λ before. before ++ text ∷ [])) (ap (slice_get received) (sym e) ∙ is))
+        ∙ sym
+        (ap (option_map (λ before. before ++ text ∷ [])) (ap (slice_get received) (sym e) ∙ is))
     by false two =
-        set_other received earlier other (lines ++ text ∷ []) (λ e. unlike (sym (eq-eqb (suc earlier) (suc other) (ap suc (sym e))) ∙ two))
+        set_other received earlier other (lines ++ text ∷ [])
+        (λ e. unlike (sym (eq-eqb (suc earlier) (suc other) (ap suc (sym e))) ∙ two))
         ∙ nothing_behind [] refl (slice_get received other)
 
 abbrev on_way : ℕ → List ℕ → ℕ → List (List ℕ)
 on_way to text other = if_there (nat_eq to other) (line_body text)
 
 no_way : (to : ℕ) (text : List ℕ) (site : Site) → get site.queues to ≡ None → (other : ℕ)
-    → get site.queues other ≡ option_map (λ lines. lines ++ on_way to text other) (get site.queues other)
+    → get site.queues other ≡ option_map (λ lines. lines ++ on_way to text other)
+    (get site.queues other)
 no_way to text site none other = by (nat_eq to other) refl
   where
-    by : (b : Bool) → nat_eq to other ≡ b → get site.queues other ≡ option_map (λ lines. lines ++ if_there b (line_body text)) (get site.queues other)
-    by true one = none_either (line_body text ∷ []) (get site.queues other) (ap (get site.queues) (sym (eqb-true to other one)) ∙ none)
+    by : (b : Bool) → nat_eq to other ≡ b → get site.queues other
+        ≡ option_map (λ lines. lines ++ if_there b (line_body text)) (get site.queues other)
+    by true one = none_either (line_body text ∷ []) (get site.queues other)
+        (ap (get site.queues) (sym (eqb-true to other one)) ∙ none)
     by false two = nothing_behind [] refl (get site.queues other)
 
-a_way : (to : ℕ) (text : List ℕ) (site : Site) (lines : List (List ℕ)) → get site.queues to ≡ Some lines → (other : ℕ)
-    → get (insert site.queues to (lines ++ line_body text ∷ [])) other ≡ option_map (λ before. before ++ on_way to text other) (get site.queues other)
-a_way to text site lines is other = get-with site.queues to (lines ++ line_body text ∷ []) other ∙ by (nat_eq to other) refl (same_number other to) refl
+a_way : (to : ℕ) (text : List ℕ) (site : Site) (lines : List (List ℕ)) → get site.queues to
+    ≡ Some lines → (other : ℕ) → get (insert site.queues to (lines ++ line_body text ∷ [])) other
+    ≡ option_map (λ before. before ++ on_way to text other) (get site.queues other)
+a_way to text site lines is other = get-with site.queues to (lines ++ line_body text ∷ []) other
+    ∙ by (nat_eq to other) refl (same_number other to) refl
   where
     by : (b : Bool) → nat_eq to other ≡ b → (c : Bool) → same_number other to ≡ c
         → cond c (Some (lines ++ line_body text ∷ [])) (get site.queues other)
         ≡ option_map (λ before. before ++ if_there b (line_body text)) (get site.queues other)
-    by true one true also = sym (ap (option_map (λ before. before ++ line_body text ∷ [])) (ap (get site.queues) (sym (eqb-true to other one)) ∙ is))
-    by true one false not_one = absurd (unlike (sym (same_number-is other to (sym (eqb-true to other one))) ∙ not_one))
-    by false two true one = absurd (unlike (sym (eq-eqb to other (sym (one_number other to one))) ∙ two))
+    by true one true also = sym (ap (option_map (λ before. before ++ line_body text ∷ []))
+        (ap (get site.queues) (sym (eqb-true to other one)) ∙ is))
+    by true one false not_one =
+        absurd (unlike (sym (same_number-is other to (sym (eqb-true to other one))) ∙ not_one))
+    by false two true one =
+        absurd (unlike (sym (eq-eqb to other (sym (one_number other to one))) ∙ two))
     by false two false also = nothing_behind [] refl (get site.queues other)
 
 ways_queued : (to : ℕ) (text : List ℕ) (site : Site) (other : ℕ)
-    → get (line_queued to text site).queues other ≡ option_map (λ lines. lines ++ on_way to text other) (get site.queues other)
+    → get (line_queued to text site).queues other ≡ option_map
+    (λ lines. lines ++ on_way to text other) (get site.queues other)
 ways_queued to text site other = by (get site.queues to) refl
   where
     put : List (List ℕ) → Site
     put lines = record site { queues = insert site.queues to (lines ++ line_body text ∷ []) }
 
     by : (o : Option (List (List ℕ))) → get site.queues to ≡ o
-        → get (line_queued to text site).queues other ≡ option_map (λ lines. lines ++ on_way to text other) (get site.queues other)
-    by None none = ap (λ (s : Site). get s.queues other) (ap (λ o. option_map_or put o site) none) ∙ no_way to text site none other
-    by (Some lines) is = ap (λ (s : Site). get s.queues other) (ap (λ o. option_map_or put o site) is) ∙ a_way to text site lines is other
+        → get (line_queued to text site).queues other ≡ option_map
+        (λ lines. lines ++ on_way to text other) (get site.queues other)
+    by None none = ap (λ (s : Site). get s.queues other) (ap (λ o. option_map_or put o site) none)
+        ∙ no_way to text site none other
+    by (Some lines) is = ap (λ (s : Site). get s.queues other)
+        (ap (λ o. option_map_or put o site) is) ∙ a_way to text site lines is other
 
-server_queued : (to : ℕ) (text : List ℕ) (site : Site) → (line_queued to text site).server ≡ site.server
+server_queued : (to : ℕ) (text : List ℕ) (site : Site)
+    → (line_queued to text site).server ≡ site.server
 server_queued to text site = by (get site.queues to)
   where
     put : List (List ℕ) → Site
@@ -145,15 +180,18 @@ server_queued to text site = by (get site.queues to)
 nobodys : (text : List ℕ) (earlier : ℕ) → lines_to (suc earlier) (line_to zero text ∷ []) ≡ []
 nobodys text earlier = by (nat_eq zero (suc earlier)) refl
   where
-    by : (b : Bool) → nat_eq zero (suc earlier) ≡ b → lines_to (suc earlier) (line_to zero text ∷ []) ≡ []
+    by : (b : Bool) → nat_eq zero (suc earlier) ≡ b
+        → lines_to (suc earlier) (line_to zero text ∷ []) ≡ []
     by true e = absurd (let no = eqb-true zero (suc earlier) e in cc no)
     by false e = ap (λ b. if_there b text) e
 
 -- ---- one thing is put out
 
-module _ (place : ℕ) (site : Site) (course : Course) (is : site_at course.net place ≡ Some site) where
-  one_received : (earlier : ℕ) (text : List ℕ) (o : Option (List (List ℕ))) → slice_get course.net.received earlier ≡ o
-      → IsSentOut place (line_to (suc earlier) text ∷ []) site course (option_map_or (has_received_at earlier text course) o course)
+module _ (place : ℕ) (site : Site) (course : Course)
+    (is : site_at course.net place ≡ Some site) where
+  one_received : (earlier : ℕ) (text : List ℕ) (o : Option (List (List ℕ)))
+      → slice_get course.net.received earlier ≡ o → IsSentOut place (line_to (suc earlier) text
+      ∷ []) site course (option_map_or (has_received_at earlier text course) o course)
   one_received earlier text None none = record {
     after = site;
     changed = not_changed place site course.net is;
@@ -165,7 +203,8 @@ module _ (place : ℕ) (site : Site) (course : Course) (is : site_at course.net 
   }
   one_received earlier text (Some lines) there = record {
     after = site;
-    changed = only_received place site course.net (slice_set course.net.received earlier (lines ++ text ∷ [])) is;
+    changed = only_received place site course.net
+        (slice_set course.net.received earlier (lines ++ text ∷ [])) is;
     server = refl;
     taken = refl;
     ways = λ to. nothing_behind [] refl (get site.queues to);
@@ -173,15 +212,19 @@ module _ (place : ℕ) (site : Site) (course : Course) (is : site_at course.net 
     received = it_is course.net.received earlier text lines there;
   }
 
-  received_line : (client : ℕ) (text : List ℕ) → IsSentOut place (line_to client text ∷ []) site course (has_received client text course)
-  received_line zero text = nothing_sent place (line_to zero text ∷ []) site course is (λ to. refl) (nobodys text)
-  received_line (suc earlier) text = one_received earlier text (slice_get course.net.received earlier) refl
+  received_line : (client : ℕ) (text : List ℕ)
+      → IsSentOut place (line_to client text ∷ []) site course (has_received client text course)
+  received_line zero text =
+      nothing_sent place (line_to zero text ∷ []) site course is (λ to. refl) (nobodys text)
+  received_line (suc earlier) text =
+      one_received earlier text (slice_get course.net.received earlier) refl
 
-  queued_line : (to : ℕ) (text : List ℕ)
-      → IsSentOut place (line_on to text ∷ []) site course (record course { net = with_site place (line_queued to text site) course.net })
+  queued_line : (to : ℕ) (text : List ℕ) → IsSentOut place (line_on to text ∷ []) site course
+      (record course { net = with_site place (line_queued to text site) course.net })
   queued_line to text = record {
     after = line_queued to text site;
-    changed = site_set place site (line_queued to text site) course.net (with_site place (line_queued to text site) course.net) is
+    changed = site_set place site (line_queued to text site) course.net
+        (with_site place (line_queued to text site) course.net) is
         (same_server site (line_queued to text site) (server_queued to text site)) refl;
     server = server_queued to text site;
     taken = refl;
@@ -192,33 +235,43 @@ module _ (place : ℕ) (site : Site) (course : Course) (is : site_at course.net 
 
   one_sent : (sent : Sent) → IsSentOut place (sent ∷ []) site course (sent_out place sent course)
   one_sent (line_to client text) = received_line client text
-  one_sent (end_of client) = nothing_sent place (end_of client ∷ []) site course is (λ to. refl) (λ earlier. refl)
+  one_sent (end_of client) =
+      nothing_sent place (end_of client ∷ []) site course is (λ to. refl) (λ earlier. refl)
   one_sent (line_on to text) =
-      subst (λ net. IsSentOut place (line_on to text ∷ []) site course (record course { net = net }))
-      (sym (ap (λ o. option_map_or (λ (s : Site). with_site place (line_queued to text s) course.net) o course.net) is))
+      subst (λ net. IsSentOut place (line_on to text ∷ []) site course
+      (record course { net = net }))
+      (sym (ap (λ o. option_map_or (λ
+      (s : Site). with_site place (line_queued to text s) course.net) o course.net) is))
       (queued_line to text)
-  one_sent (end_of_link to reason) = nothing_sent place (end_of_link to reason ∷ []) site course is (λ link. refl) (λ earlier. refl)
+  one_sent (end_of_link to reason) = nothing_sent place (end_of_link to reason ∷ []) site course is
+      (λ link. refl) (λ earlier. refl)
 
 -- ---- all of it
 
-sent_then : (place : ℕ) (sent : Sent) (out : List Sent) (site : Site) (old mid new : Course) (first : IsSentOut place (sent ∷ []) site old mid)
-    → IsSentOut place out first.after mid new → IsSentOut place (sent ∷ out) site old new
+sent_then : (place : ℕ) (sent : Sent) (out : List Sent) (site : Site) (old mid new : Course)
+    (first : IsSentOut place (sent ∷ []) site old mid) → IsSentOut place out first.after mid new
+    → IsSentOut place (sent ∷ out) site old new
 sent_then place sent out site old mid new first rest = record {
   after = rest.after;
-  changed = changed_twice place first.after rest.after old.net mid.net new.net first.changed rest.changed;
+  changed =
+      changed_twice place first.after rest.after old.net mid.net new.net first.changed rest.changed;
   server = rest.server ∙ first.server;
   taken = rest.taken ∙ first.taken;
   ways = λ to. rest.ways to ∙ ap (option_map (λ lines. lines ++ lines_on to out)) (first.ways to)
       ∙ joined (line_on_link to) sent out (get site.queues to);
   inboxes = rest.inboxes ∙ first.inboxes;
-  received = λ earlier. rest.received earlier ∙ ap (option_map (λ lines. lines ++ lines_to (suc earlier) out)) (first.received earlier)
+  received = λ earlier. rest.received earlier
+      ∙ ap (option_map (λ lines. lines ++ lines_to (suc earlier) out)) (first.received earlier)
       ∙ joined (line_to_for (suc earlier)) sent out (slice_get old.net.received earlier);
 }
 
-pub all_sent : (place : ℕ) (out : List Sent) (site : Site) (course : Course) → site_at course.net place ≡ Some site
+pub all_sent : (place : ℕ) (out : List Sent) (site : Site) (course : Course)
+    → site_at course.net place ≡ Some site
     → IsSentOut place out site course (all_sent_out place out course)
-all_sent place [] site course is = nothing_sent place [] site course is (λ to. refl) (λ earlier. refl)
+all_sent place [] site course is =
+    nothing_sent place [] site course is (λ to. refl) (λ earlier. refl)
 all_sent place (sent ∷ out) site course is =
     let first = one_sent place site course is sent in
-    sent_then place sent out site course (sent_out place sent course) (all_sent_out place out (sent_out place sent course)) first
+    sent_then place sent out site course (sent_out place sent course)
+    (all_sent_out place out (sent_out place sent course)) first
     (all_sent place out first.after (sent_out place sent course) first.changed.is_after)

@@ -1,20 +1,25 @@
 -- A way from a server to another is opened or closed.
-use Rattle.std.proofs.Common.{◌≡◌, ◌≢◌, ℕ, Bool, true, false, cond, Some, [], refl, sym, ◌∙◌, ap, List, None, Option}
+use Rattle.std.proofs.Common.{◌≡◌, ◌≢◌, ℕ, Bool, true, false, cond, Some, [], refl, sym, ◌∙◌, ap}
+use Rattle.std.proofs.Common.{List, None, Option}
 use Rattle.std.specs.FinMap.{get}
 use Rattle.std.specs.Option.{option_and_then, option_map_or}
 use Rattle.irc_relay.specs.Distances.{IsAmong}
 use Rattle.irc_relay.specs.Lemmas.TellingNames.{Telling, alike, unlike, tell}
 use Rattle.irc_relay.specs.Links.{Name}
-use Rattle.irc_stage.specs.Lemmas.Numbers.{get-with, one_number, same_number, same_number-refl, get-without}
+use Rattle.irc_stage.specs.Lemmas.Numbers.{get-with, one_number, same_number, same_number-refl}
+use Rattle.irc_stage.specs.Lemmas.Numbers.{get-without}
 use Rattle.irc_follow.specs.Tree.{index_in}
-use Rattle.irc_network.specs.Network.{Network, Site, site_changed_at, with_site, with_way, without_way}
+use Rattle.irc_network.specs.Network.{Network, Site, site_changed_at, with_site, with_way}
+use Rattle.irc_network.specs.Network.{without_way}
 use Rattle.irc_items.specs.Relayed.{way_at}
 use Rattle.irc_items.specs.SetUp.{settings_of, view_at, IsSetUp}
 use Rattle.irc_items.specs.Lemmas.SetUpFacts.{there, IsThere}
-use Rattle.irc_items.proofs.Sites.SiteChanged.{same_server, set_up_after, site_set, site_there, IsSetUpAfter, IsSiteChanged}
+use Rattle.irc_items.proofs.Sites.SiteChanged.{same_server, set_up_after, site_set, site_there}
+use Rattle.irc_items.proofs.Sites.SiteChanged.{IsSetUpAfter, IsSiteChanged}
 
 -- what waits on one way of a server is other than it was, and nothing else is
-pub record IsWaySet (t : Name) (to : ℕ) (lines : Option (List (List ℕ))) (old new : Network) : Type 0 where
+pub record IsWaySet (t : Name) (to : ℕ) (lines : Option (List (List ℕ)))
+    (old new : Network) : Type 0 where
   pub set_up : IsSetUp new
   pub settings : settings_of new ≡ settings_of old
   pub views : (u : Name) → view_at new u ≡ view_at old u
@@ -26,18 +31,27 @@ pub record IsWaySet (t : Name) (to : ℕ) (lines : Option (List (List ℕ))) (ol
 abbrev pub way_changed : (ℕ → Site → Site) → Network → Name → ℕ → Site → Network
 way_changed change net t to site = with_site (index_in net.names t) (change to site) net
 
--- a change of one way of a site, which has these lines then: it is opened with nothing on it, or closed, and what was on it is gone
+-- a change of one way of a site, which has these lines then: it is opened with nothing on it, or
+-- closed, and what was on it is gone
 pub record ChangesWay (change : ℕ → Site → Site) (lines : Option (List (List ℕ))) : Type 0 where
   pub same_one : (to : ℕ) (site : Site) → (change to site).server ≡ site.server
-  pub queues : (to : ℕ) (site : Site) (place : ℕ) → get (change to site).queues place ≡ cond (same_number place to) lines (get site.queues place)
+  pub queues : (to : ℕ) (site : Site) (place : ℕ) → get (change to site).queues place
+      ≡ cond (same_number place to) lines (get site.queues place)
 
 pub opens : ChangesWay with_way (Some [])
-opens = record { same_one = λ to site. refl; queues = λ to site place. get-with site.queues to [] place }
+opens = record {
+  same_one = λ to site. refl;
+  queues = λ to site place. get-with site.queues to [] place;
+}
 
 pub closes : ChangesWay without_way None
-closes = record { same_one = λ to site. refl; queues = λ to site place. get-without site.queues to place }
+closes = record {
+  same_one = λ to site. refl;
+  queues = λ to site place. get-without site.queues to place;
+}
 
-module _ {change : ℕ → Site → Site} {lines : Option (List (List ℕ))} (by : ChangesWay change lines) (net : Network) (set_up : IsSetUp net) (t : Name)
+module _ {change : ℕ → Site → Site} {lines : Option (List (List ℕ))} (by : ChangesWay change lines)
+    (net : Network) (set_up : IsSetUp net) (t : Name)
     (among : IsAmong net.names t) (to : ℕ) where
   abbrev at : IsThere net t
   at = there net set_up t among
@@ -46,13 +60,17 @@ module _ {change : ℕ → Site → Site} {lines : Option (List (List ℕ))} (by
   new = way_changed change net t to at.site
 
   changed : IsSiteChanged (index_in net.names t) (change to at.site) net new
-  changed = site_set (index_in net.names t) at.site (change to at.site) net new at.is_site (same_server at.site (change to at.site) (by.same_one to at.site)) refl
+  changed = site_set (index_in net.names t) at.site (change to at.site) net new at.is_site
+      (same_server at.site (change to at.site) (by.same_one to at.site)) refl
 
   after : IsSetUpAfter t (view_at net t) (change to at.site) net new
-  after = set_up_after net new set_up t among (change to at.site) (view_at net t) changed (by.same_one to at.site ∙ at.is_view) (set_up.configured t among)
+  after = set_up_after net new set_up t among (change to at.site) (view_at net t) changed
+      (by.same_one to at.site ∙ at.is_view) (set_up.configured t among)
 
-  queued : (place : ℕ) → way_at new t place ≡ cond (same_number place to) lines (get at.site.queues place)
-  queued place = ap (option_and_then (λ (site : Site). get site.queues place)) after.site ∙ by.queues to at.site place
+  queued : (place : ℕ)
+      → way_at new t place ≡ cond (same_number place to) lines (get at.site.queues place)
+  queued place = ap (option_and_then (λ (site : Site). get site.queues place)) after.site
+      ∙ by.queues to at.site place
 
   pub way_set : IsWaySet t to lines net new
   way_set = record {
@@ -61,8 +79,10 @@ module _ {change : ℕ → Site → Site} {lines : Option (List (List ℕ))} (by
     views = λ u. by_name u (tell u t);
     way = queued to ∙ ap (λ b. cond b lines (get at.site.queues to)) (same_number-refl to);
     same_way = λ place two. queued place ∙ elsewhere place two (same_number place to) refl
-        ∙ sym (ap (option_and_then (λ (site : Site). get site.queues place)) (site_there net set_up t among));
-    other_ways = λ u place two. ap (option_and_then (λ (site : Site). get site.queues place)) (after.other_sites u two);
+        ∙ sym (ap (option_and_then (λ (site : Site). get site.queues place))
+        (site_there net set_up t among));
+    other_ways = λ u place two. ap (option_and_then (λ (site : Site). get site.queues place))
+        (after.other_sites u two);
   }
     where
       by_name : (u : Name) → Telling u t → view_at new u ≡ view_at net u
@@ -76,4 +96,5 @@ module _ {change : ℕ → Site → Site} {lines : Option (List (List ℕ))} (by
 
   -- the network changes it so
   pub is_set : site_changed_at (index_in net.names t) (change to) net ≡ new
-  is_set = ap (λ o. option_map_or (λ site. with_site (index_in net.names t) (change to site) net) o net) at.is_site
+  is_set = ap (λ o. option_map_or
+      (λ site. with_site (index_in net.names t) (change to site) net) o net) at.is_site

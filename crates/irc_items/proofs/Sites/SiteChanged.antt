@@ -1,5 +1,8 @@
--- What stays of a network when one of its sites is changed, and the server there is configured as before.
-use Rattle.std.proofs.Common.{◌≡◌, ◌≢◌, ◌≤◌, ℕ, count_by, zero, suc, Bool, true, false, Option, Some, List, [], ◌∷◌, length, map, refl, sym, ◌∙◌, ap, subst, unwrap_or}
+-- What stays of a network when one of its sites is changed, and the server there is configured as
+-- before.
+use Rattle.std.proofs.Common.{◌≡◌, ◌≢◌, ◌≤◌, ℕ, count_by, zero, suc, Bool, true, false, Option}
+use Rattle.std.proofs.Common.{Some, List, [], ◌∷◌, length, map, refl, sym, ◌∙◌, ap, subst}
+use Rattle.std.proofs.Common.{unwrap_or}
 use Rattle.std.specs.List.{filter_map, cons_option, list_any, slice_get, slice_set}
 use Rattle.std.specs.Option.{option_and_then}
 use Rattle.irc_forest.specs.Forests.{place_in as place_among}
@@ -11,18 +14,21 @@ use Rattle.irc_stage.specs.View.{View}
 use Rattle.irc_follow.specs.Tree.{index_in}
 use Rattle.irc_follow.specs.Lemmas.PlacesOfNames.{one_place}
 use Rattle.irc_network.specs.Network.{Network, Site, server_place, site_at, site_of}
-use Rattle.irc_items.specs.SetUp.{named_at, no_view, setting_at, settings_of, view_at, IsConfigured, IsSetUp}
+use Rattle.irc_items.specs.SetUp.{named_at, no_view, setting_at, settings_of, view_at, IsConfigured}
+use Rattle.irc_items.specs.SetUp.{IsSetUp}
 use Rattle.irc_items.specs.Lemmas.SetUpFacts.{nowhere, there}
 
 -- ---- a list in which one place is set
 
 module _ {X : Type 0} where
-  pub set_there : (xs : List X) (i : ℕ) (x y : X) → slice_get xs i ≡ Some x → slice_get (slice_set xs i y) i ≡ Some y
+  pub set_there : (xs : List X) (i : ℕ) (x y : X) → slice_get xs i ≡ Some x
+      → slice_get (slice_set xs i y) i ≡ Some y
   set_there [] i x y is = absurd (cc is)
   set_there (z ∷ xs) zero x y is = refl
   set_there (z ∷ xs) (suc i) x y is = set_there xs i x y is
 
-  pub set_other : (xs : List X) (i j : ℕ) (y : X) → j ≢ i → slice_get (slice_set xs i y) j ≡ slice_get xs j
+  pub set_other : (xs : List X) (i j : ℕ) (y : X) → j ≢ i
+      → slice_get (slice_set xs i y) j ≡ slice_get xs j
   set_other [] i j y two = refl
   set_other (z ∷ xs) zero zero y two = absurd (two refl)
   set_other (z ∷ xs) zero (suc j) y two = refl
@@ -37,16 +43,19 @@ module _ {X : Type 0} where
   one_read : {Y : Type 0} (f : X → Y) (x y z : X) → Some z ≡ Some x → f y ≡ f x → f y ≡ f z
   one_read f x y z is agrees = agrees ∙ ap (λ o. f (unwrap_or o z)) (sym is)
 
-  pub set_map : {Y : Type 0} (f : X → Y) (xs : List X) (i : ℕ) (x y : X) → slice_get xs i ≡ Some x → f y ≡ f x → map f (slice_set xs i y) ≡ map f xs
+  pub set_map : {Y : Type 0} (f : X → Y) (xs : List X) (i : ℕ) (x y : X) → slice_get xs i ≡ Some x
+      → f y ≡ f x → map f (slice_set xs i y) ≡ map f xs
   set_map f [] i x y is agrees = refl
   set_map f (z ∷ xs) zero x y is agrees = ap (λ w. w ∷ map f xs) (one_read f x y z is agrees)
   set_map f (z ∷ xs) (suc i) x y is agrees = ap (λ ws. f z ∷ ws) (set_map f xs i x y is agrees)
 
-  pub set_filter_map : {Y : Type 0} (f : X → Option Y) (xs : List X) (i : ℕ) (x y : X) → slice_get xs i ≡ Some x → f y ≡ f x
-      → filter_map f (slice_set xs i y) ≡ filter_map f xs
+  pub set_filter_map : {Y : Type 0} (f : X → Option Y) (xs : List X) (i : ℕ) (x y : X)
+      → slice_get xs i ≡ Some x → f y ≡ f x → filter_map f (slice_set xs i y) ≡ filter_map f xs
   set_filter_map f [] i x y is agrees = refl
-  set_filter_map f (z ∷ xs) zero x y is agrees = ap (λ w. cons_option w (filter_map f xs)) (one_read f x y z is agrees)
-  set_filter_map f (z ∷ xs) (suc i) x y is agrees = ap (cons_option (f z)) (set_filter_map f xs i x y is agrees)
+  set_filter_map f (z ∷ xs) zero x y is agrees =
+      ap (λ w. cons_option w (filter_map f xs)) (one_read f x y z is agrees)
+  set_filter_map f (z ∷ xs) (suc i) x y is agrees =
+      ap (cons_option (f z)) (set_filter_map f xs i x y is agrees)
 
 -- ---- one site is changed
 
@@ -60,7 +69,8 @@ pub record IsSiteChanged (place : ℕ) (after : Site) (old new : Network) : Type
   pub named : map named_at new.sites ≡ map named_at old.sites
   pub settings : settings_of new ≡ settings_of old
 
-pub not_changed : (place : ℕ) (site : Site) (net : Network) → site_at net place ≡ Some site → IsSiteChanged place site net net
+pub not_changed : (place : ℕ) (site : Site) (net : Network) → site_at net place ≡ Some site
+    → IsSiteChanged place site net net
 not_changed place site net is = record {
   names = refl;
   links = refl;
@@ -72,7 +82,8 @@ not_changed place site net is = record {
   settings = refl;
 }
 
-pub only_received : (place : ℕ) (site : Site) (net : Network) (received : List (List (List ℕ))) → site_at net place ≡ Some site
+pub only_received : (place : ℕ) (site : Site) (net : Network)
+    (received : List (List (List ℕ))) → site_at net place ≡ Some site
     → IsSiteChanged place site net (record net { received = received })
 only_received place site net received is = record {
   names = refl;
@@ -85,7 +96,8 @@ only_received place site net received is = record {
   settings = refl;
 }
 
-pub changed_twice : (place : ℕ) (mid after : Site) (old between new : Network) → IsSiteChanged place mid old between → IsSiteChanged place after between new
+pub changed_twice : (place : ℕ) (mid after : Site) (old between new : Network)
+    → IsSiteChanged place mid old between → IsSiteChanged place after between new
     → IsSiteChanged place after old new
 changed_twice place mid after old between new one two = record {
   names = two.names ∙ one.names;
@@ -109,34 +121,45 @@ same_server site after is = record {
   setting = ap (λ (s : Option View). setting_at (record site { server = s })) is;
 }
 
-pub site_set : (place : ℕ) (site after : Site) (old new : Network) → site_at old place ≡ Some site → IsAlikeSite site after
-    → new ≡ record old { sites = slice_set old.sites place after; received = new.received; taken = new.taken } → IsSiteChanged place after old new
+pub site_set : (place : ℕ) (site after : Site) (old new : Network) → site_at old place ≡ Some site
+    → IsAlikeSite site after → new ≡ record old {
+      sites = slice_set old.sites place after;
+      received = new.received;
+      taken = new.taken;
+    } → IsSiteChanged place after old new
 site_set place site after old new is agrees new_is =
-    let sites : new.sites ≡ slice_set old.sites place after = ap (λ (net : Network). net.sites) new_is in record {
+    let sites : new.sites ≡ slice_set old.sites place after =
+    ap (λ (net : Network). net.sites) new_is in record {
       names = ap (λ (net : Network). net.names) new_is;
       links = ap (λ (net : Network). net.links) new_is;
       homes = ap (λ (net : Network). net.homes) new_is;
       items = ap (λ (net : Network). net.items) new_is;
       is_after = ap (λ ss. slice_get ss place) sites ∙ set_there old.sites place site after is;
-      others = λ other two. ap (λ ss. slice_get ss other) sites ∙ set_other old.sites place other after two;
+      others = λ other two. ap (λ ss. slice_get ss other) sites
+          ∙ set_other old.sites place other after two;
       named = ap (map named_at) sites ∙ set_map named_at old.sites place site after is agrees.named;
-      settings = ap (filter_map setting_at) sites ∙ set_filter_map setting_at old.sites place site after is agrees.setting;
+      settings = ap (filter_map setting_at) sites
+          ∙ set_filter_map setting_at old.sites place site after is agrees.setting;
     }
 
 -- ---- what is where
 
-place_after : (old new : Network) (name : Name) → new.names ≡ old.names → server_place new name ≡ server_place old name
+place_after : (old new : Network) (name : Name) → new.names ≡ old.names
+    → server_place new name ≡ server_place old name
 place_after old new name names = ap (λ (all : List Name). place_among all name) names
 
-pub site_there : (net : Network) (set_up : IsSetUp net) (server : Name) (among : IsAmong net.names server)
+pub site_there : (net : Network) (set_up : IsSetUp net)
+    (server : Name) (among : IsAmong net.names server)
     → site_of net server ≡ Some (there net set_up server among).site
 site_there net set_up server among =
-    let at = there net set_up server among in ap (option_and_then (site_at net)) at.place ∙ at.is_site
+    let at = there net set_up server among in ap (option_and_then (site_at net)) at.place
+    ∙ at.is_site
 
-view_of_site : (net : Network) (server : Name) (site : Site) (view : View) → site_of net server ≡ Some site → site.server ≡ Some view
-    → view_at net server ≡ view
+view_of_site : (net : Network) (server : Name) (site : Site) (view : View)
+    → site_of net server ≡ Some site → site.server ≡ Some view → view_at net server ≡ view
 view_of_site net server site view is_site is_view =
-    ap (λ (o : Option Site). unwrap_or (option_and_then (λ (s : Site). s.server) o) no_view) is_site ∙ ap (λ o. unwrap_or o no_view) is_view
+    ap (λ (o : Option Site). unwrap_or (option_and_then (λ (s : Site). s.server) o) no_view) is_site
+    ∙ ap (λ o. unwrap_or o no_view) is_view
 
 pub record IsSetUpAfter (t : Name) (now : View) (after : Site) (old new : Network) : Type 0 where
   pub set_up : IsSetUp new
@@ -145,13 +168,15 @@ pub record IsSetUpAfter (t : Name) (now : View) (after : Site) (old new : Networ
   pub other_sites : (u : Name) → u ≢ t → site_of new u ≡ site_of old u
   pub other_views : (u : Name) → u ≢ t → view_at new u ≡ view_at old u
 
-module _ (old new : Network) (set_up : IsSetUp old) (t : Name) (among : IsAmong old.names t) (after : Site) (now : View)
+module _ (old new : Network) (set_up : IsSetUp old) (t : Name) (among : IsAmong old.names t)
+    (after : Site) (now : View)
     (changed : IsSiteChanged (index_in old.names t) after old new) where
   other_site : (u : Name) → u ≢ t → site_of new u ≡ site_of old u
   other_site u two = by (list_any (same u) old.names) refl
     where
       by : (b : Bool) → list_any (same u) old.names ≡ b → site_of new u ≡ site_of old u
-      by false none = nowhere new u (ap (list_any (same u)) changed.names ∙ none) ∙ sym (nowhere old u none)
+      by false none =
+          nowhere new u (ap (list_any (same u)) changed.names ∙ none) ∙ sym (nowhere old u none)
       by true one =
           let at = there old set_up u one in
           ap (option_and_then (site_at new)) (place_after old new u changed.names ∙ at.place)
@@ -159,16 +184,20 @@ module _ (old new : Network) (set_up : IsSetUp old) (t : Name) (among : IsAmong 
           ∙ at.is_site ∙ sym (site_there old set_up u one)
 
   other_view : (u : Name) → u ≢ t → view_at new u ≡ view_at old u
-  other_view u two = ap (λ (o : Option Site). unwrap_or (option_and_then (λ (s : Site). s.server) o) no_view) (other_site u two)
+  other_view u two =
+      ap (λ (o : Option Site). unwrap_or (option_and_then (λ (s : Site). s.server) o) no_view)
+      (other_site u two)
 
   site_now : site_of new t ≡ Some after
   site_now =
-      ap (option_and_then (site_at new)) (place_after old new t changed.names ∙ (there old set_up t among).place) ∙ changed.is_after
+      ap (option_and_then (site_at new)) (place_after old new t changed.names
+      ∙ (there old set_up t among).place) ∙ changed.is_after
 
   view_now : after.server ≡ Some now → view_at new t ≡ now
   view_now is_view = view_of_site new t after now site_now is_view
 
-  configured_now : after.server ≡ Some now → IsConfigured now → (u : Name) → IsAmong old.names u → IsConfigured (view_at new u)
+  configured_now : after.server ≡ Some now → IsConfigured now → (u : Name) → IsAmong old.names u
+      → IsConfigured (view_at new u)
   configured_now is_view configured u one = by (tell u t)
     where
       by : Telling u t → IsConfigured (view_at new u)
@@ -179,9 +208,11 @@ module _ (old new : Network) (set_up : IsSetUp old) (t : Name) (among : IsAmong 
   set_up_after is_view configured = record {
     set_up = record {
       named = changed.named ∙ set_up.named ∙ ap (map Some) (sym changed.names);
-      once = λ u one. ap (λ (all : List Name). count_by (same u) all) changed.names ∙ set_up.once u (subst (λ all. IsAmong all u) changed.names one);
+      once = λ u one. ap (λ (all : List Name). count_by (same u) all) changed.names
+          ∙ set_up.once u (subst (λ all. IsAmong all u) changed.names one);
       few = subst (λ all. length all ≤ max_servers) (sym changed.names) set_up.few;
-      configured = λ u one. configured_now is_view configured u (subst (λ all. IsAmong all u) changed.names one);
+      configured = λ u one. configured_now is_view configured u
+          (subst (λ all. IsAmong all u) changed.names one);
     };
     site = site_now;
     view = view_now is_view;

@@ -1,5 +1,7 @@
 -- What is so of a network whose servers are there under their names.
-use Rattle.std.proofs.Common.{◌≡◌, ◌≢◌, ℕ, zero, suc, ◌+◌, ◌<◌, Bool, true, false, cond, not, ◌||◌, Option, Some, None, is_some, unwrap_or, List, [], ◌∷◌, map, length, count_by, refl, sym, ◌∙◌, ap, subst, arith, ltb, ◌≤◌, if◌then◌else◌}
+use Rattle.std.proofs.Common.{◌≡◌, ◌≢◌, ℕ, zero, suc, ◌+◌, ◌<◌, Bool, true, false, cond, not, ◌||◌}
+use Rattle.std.proofs.Common.{Option, Some, None, is_some, unwrap_or, List, [], ◌∷◌, map, length}
+use Rattle.std.proofs.Common.{count_by, refl, sym, ◌∙◌, ap, subst, arith, ltb, ◌≤◌, if◌then◌else◌}
 use Rattle.std.proofs.lemmas.Bool.{le-ltb, lt-ltb, or_parts}
 use Rattle.std.proofs.lemmas.List.{length-map}
 use Rattle.std.proofs.lemmas.List.Sums.{sum_by-cons}
@@ -9,7 +11,8 @@ use Rattle.std.specs.Option.{option_and_then, option_map, option_map_or}
 use Rattle.irc_forest.specs.Forests.{place_in as place_found}
 use Rattle.irc_relay.specs.Distances.{IsAmong}
 use Rattle.irc_relay.specs.Links.{Name, same}
-use Rattle.irc_relay.specs.Lemmas.TellingNames.{Telling, alike, unlike, tell, same_unless, same_when}
+use Rattle.irc_relay.specs.Lemmas.TellingNames.{Telling, alike, unlike, tell, same_unless}
+use Rattle.irc_relay.specs.Lemmas.TellingNames.{same_when}
 use Rattle.irc_relay.specs.Relay.{Streams}
 use Rattle.irc_routes.specs.Info.{IsInfo}
 use Rattle.irc_stage.specs.View.{View}
@@ -20,12 +23,14 @@ use Rattle.irc_follow.specs.Part.{IsFixed}
 use Rattle.irc_follow.specs.Tree.{index_in}
 use Rattle.irc_network.specs.Network.{Network, Site, server_place, site_at, site_of, site_view}
 use Rattle.irc_items.specs.Relayed.{fixed_of}
-use Rattle.irc_items.specs.SetUp.{named_at, no_view, setting_at, setting_now, settings_of, view_at, IsSetUp}
+use Rattle.irc_items.specs.SetUp.{named_at, no_view, setting_at, setting_now, settings_of, view_at}
+use Rattle.irc_items.specs.SetUp.{IsSetUp}
 use Rattle.irc_items.specs.Sound.{IsPlaceOf}
 
 -- ---- places among names
 
-place_is : (first a : Name) (names : List Name) (b : Bool) → same first a ≡ b → index_in (first ∷ names) a ≡ (if b then 0 else suc (index_in names a))
+place_is : (first a : Name) (names : List Name) (b : Bool) → same first a ≡ b
+    → index_in (first ∷ names) a ≡ (if b then 0 else suc (index_in names a))
 place_is first a names b is = ap (λ c. if c then 0 else suc (index_in names a)) is
 
 -- a name that is there, at its place
@@ -47,58 +52,74 @@ placed (first ∷ names) a among = by (tell first a) (placed names a)
     by : Telling first a → (IsAmong names a → IsPlaced names a) → IsPlaced (first ∷ names) a
     by (alike t e) rest = record {
       is_there = ap (slice_get (first ∷ names)) (place_is first a names true t) ∙ ap Some e;
-      within = subst (λ k. k < suc (length names)) (sym (place_is first a names true t)) (omega arith);
+      within =
+          subst (λ k. k < suc (length names)) (sym (place_is first a names true t)) (omega arith);
     }
     by (unlike f two) rest =
         let old = rest (later two) in
         record {
           is_there = ap (slice_get (first ∷ names)) (place_is first a names false f) ∙ old.is_there;
-          within = let less = old.within in subst (λ k. k < suc (length names)) (sym (place_is first a names false f)) (omega (arith, less));
+          within = let less = old.within in subst (λ k. k < suc (length names))
+              (sym (place_is first a names false f)) (omega (arith, less));
         }
 
 -- a name that is none has the number of all
-no_place : (names : List Name) (a : Name) → list_any (same a) names ≡ false → index_in names a ≡ length names
+no_place : (names : List Name) (a : Name) → list_any (same a) names ≡ false
+    → index_in names a ≡ length names
 no_place [] a not_among = refl
-no_place (first ∷ names) a not_among = by (tell first a) (or_parts (same a first) (list_any (same a) names) not_among) (no_place names a)
+no_place (first ∷ names) a not_among = by (tell first a)
+    (or_parts (same a first) (list_any (same a) names) not_among) (no_place names a)
   where
-    by : Telling first a → (same a first ≡ false) × (list_any (same a) names ≡ false) → (list_any (same a) names ≡ false → index_in names a ≡ length names)
+    by : Telling first a → (same a first ≡ false) × (list_any (same a) names ≡ false)
+        → (list_any (same a) names ≡ false → index_in names a ≡ length names)
         → index_in (first ∷ names) a ≡ suc (length names)
     by (alike _ e) parts rest = cc (parts.0, same_when a first (sym e))
     by (unlike f _) parts rest = place_is first a names false f ∙ ap suc (rest parts.1)
 
 -- the search of a network finds that place
-as_searched : (names : List Name) (a : Name) → position_or_len (λ (known : Name). same known a) names ≡ index_in names a
+as_searched : (names : List Name) (a : Name)
+    → position_or_len (λ (known : Name). same known a) names ≡ index_in names a
 as_searched [] a = refl
 as_searched (first ∷ names) a = by (same first a) refl (as_searched names a)
   where
     one_more : (k : ℕ) → 1 + k ≡ suc k
     one_more k = omega arith
 
-    by : (b : Bool) → same first a ≡ b → position_or_len (λ (known : Name). same known a) names ≡ index_in names a
-        → position_or_len (λ (known : Name). same known a) (first ∷ names) ≡ index_in (first ∷ names) a
-    by true is rest = ap (λ b. cond (not b) (1 + position_or_len (λ (known : Name). same known a) names) 0) is ∙ sym (place_is first a names true is)
+    by : (b : Bool) → same first a ≡ b → position_or_len (λ (known : Name). same known a) names
+        ≡ index_in names a → position_or_len (λ (known : Name). same known a) (first ∷ names)
+        ≡ index_in (first ∷ names) a
+    by true is rest =
+        ap (λ b. cond (not b) (1 + position_or_len (λ (known : Name). same known a) names) 0) is
+        ∙ sym (place_is first a names true is)
     by false is rest =
         ap (λ b. cond (not b) (1 + position_or_len (λ (known : Name). same known a) names) 0) is
-        ∙ one_more (position_or_len (λ (known : Name). same known a) names) ∙ ap suc rest ∙ sym (place_is first a names false is)
+        ∙ one_more (position_or_len (λ (known : Name). same known a) names) ∙ ap suc rest
+        ∙ sym (place_is first a names false is)
 
-found : (names : List Name) (a : Name) → place_found names a ≡ cond (ltb (index_in names a) (length names)) (Some (index_in names a)) None
+found : (names : List Name) (a : Name) → place_found names a
+    ≡ cond (ltb (index_in names a) (length names)) (Some (index_in names a)) None
 found names a = ap (λ k. cond (ltb k (length names)) (Some k) None) (as_searched names a)
 
-found_there : (names : List Name) (a : Name) → IsAmong names a → place_found names a ≡ Some (index_in names a)
+found_there : (names : List Name) (a : Name) → IsAmong names a
+    → place_found names a ≡ Some (index_in names a)
 found_there names a among =
-    found names a ∙ ap (λ b. cond b (Some (index_in names a)) None) (lt-ltb (index_in names a) (length names) (placed names a among).within)
+    found names a ∙ ap (λ b. cond b (Some (index_in names a)) None)
+    (lt-ltb (index_in names a) (length names) (placed names a among).within)
 
-found_nowhere : (names : List Name) (a : Name) → list_any (same a) names ≡ false → place_found names a ≡ None
+found_nowhere : (names : List Name) (a : Name) → list_any (same a) names ≡ false
+    → place_found names a ≡ None
 found_nowhere names a not_among =
     found names a
     ∙ ap (λ b. cond b (Some (index_in names a)) None)
-    (le-ltb (index_in names a) (length names) (not_less (index_in names a) (length names) (no_place names a not_among)))
+    (le-ltb (index_in names a) (length names)
+    (not_less (index_in names a) (length names) (no_place names a not_among)))
   where
     not_less : (k n : ℕ) → k ≡ n → n ≤ k
     not_less k n e = omega (arith, e)
 
 -- a name has a place where it is there
-pub placed_if : (names : List Name) (a : Name) → is_some (place_found names a) ≡ list_any (same a) names
+pub placed_if : (names : List Name) (a : Name)
+    → is_some (place_found names a) ≡ list_any (same a) names
 placed_if names a = by (list_any (same a) names) refl
   where
     by : (b : Bool) → list_any (same a) names ≡ b → is_some (place_found names a) ≡ b
@@ -117,14 +138,18 @@ not_named : {A B : Type 0} {x : A} → None ≡ Some x → B
 not_named e = absurd (cc e)
 
 -- sites stand in the order of the names
-named_here : (net : Network) → IsSetUp net → (place : ℕ) → option_map named_at (site_at net place) ≡ option_map some_name (slice_get net.names place)
+named_here : (net : Network) → IsSetUp net → (place : ℕ)
+    → option_map named_at (site_at net place) ≡ option_map some_name (slice_get net.names place)
 named_here net set_up place =
-    sym (slice_get-map named_at net.sites place) ∙ ap (λ xs. slice_get xs place) set_up.named ∙ slice_get-map some_name net.names place
+    sym (slice_get-map named_at net.sites place) ∙ ap (λ xs. slice_get xs place) set_up.named
+    ∙ slice_get-map some_name net.names place
 
-seen_there : (net : Network) (server : Name) → IsAmong net.names server → (site : Site) → site_at net (index_in net.names server) ≡ Some site
-    → (view : View) → site.server ≡ Some view → view_at net server ≡ view
+seen_there : (net : Network) (server : Name) → IsAmong net.names server → (site : Site)
+    → site_at net (index_in net.names server) ≡ Some site → (view : View) → site.server ≡ Some view
+    → view_at net server ≡ view
 seen_there net server among site at view is =
-    ap (λ o. unwrap_or (option_and_then (λ (s : Site). s.server) (option_and_then (site_at net) o)) no_view) (found_there net.names server among)
+    ap (λ o. unwrap_or (option_and_then (λ (s : Site). s.server) (option_and_then (site_at net) o))
+    no_view) (found_there net.names server among)
     ∙ ap (λ o. unwrap_or (option_and_then (λ (s : Site). s.server) o) no_view) at
     ∙ ap (λ o. unwrap_or o no_view) is
 
@@ -137,13 +162,16 @@ pub record IsThere (net : Network) (server : Name) : Type 0 where
   pub is_view : site.server ≡ Some (view_at net server)
   pub named : (view_at net server).routes.name ≡ server
 
-pub there : (net : Network) → IsSetUp net → (server : Name) → IsAmong net.names server → IsThere net server
+pub there : (net : Network) → IsSetUp net → (server : Name) → IsAmong net.names server
+    → IsThere net server
 there net set_up server among = by_site (site_at net (index_in net.names server)) refl
   where
     given : option_map named_at (site_at net (index_in net.names server)) ≡ Some (Some server)
-    given = named_here net set_up (index_in net.names server) ∙ ap (option_map some_name) (placed net.names server among).is_there
+    given = named_here net set_up (index_in net.names server)
+        ∙ ap (option_map some_name) (placed net.names server among).is_there
 
-    of_view : (site : Site) → site_at net (index_in net.names server) ≡ Some site → (view : View) → site.server ≡ Some view → IsThere net server
+    of_view : (site : Site) → site_at net (index_in net.names server) ≡ Some site → (view : View)
+        → site.server ≡ Some view → IsThere net server
     of_view site at view is =
         let seen : view_at net server ≡ view = seen_there net server among site at view is in
         record {
@@ -153,20 +181,24 @@ there net set_up server among = by_site (site_at net (index_in net.names server)
           is_site = at;
           is_view = is ∙ ap Some (sym seen);
           named = ap (λ (v : View). v.routes.name) seen
-              ∙ one_name (one_name (sym (ap (option_map named_at) at ∙ ap (λ o. Some (option_map (λ (v : View). v.routes.name) o)) is) ∙ given));
+              ∙ one_name (one_name (sym (ap (option_map named_at) at
+              ∙ ap (λ o. Some (option_map (λ (v : View). v.routes.name) o)) is) ∙ given));
         }
 
-    by_view : (site : Site) → site_at net (index_in net.names server) ≡ Some site → (o : Option View) → site.server ≡ o → IsThere net server
+    by_view : (site : Site) → site_at net (index_in net.names server) ≡ Some site
+        → (o : Option View) → site.server ≡ o → IsThere net server
     by_view site at (Some view) is = of_view site at view is
     by_view site at None is =
-        not_named (one_name (sym (ap (option_map named_at) at ∙ ap (λ o. Some (option_map (λ (v : View). v.routes.name) o)) is) ∙ given))
+        not_named (one_name (sym (ap (option_map named_at) at
+        ∙ ap (λ o. Some (option_map (λ (v : View). v.routes.name) o)) is) ∙ given))
 
     by_site : (o : Option Site) → site_at net (index_in net.names server) ≡ o → IsThere net server
     by_site (Some site) at = by_view site at site.server refl
     by_site None at = not_named (sym (ap (option_map named_at) at) ∙ given)
 
 -- what is found under its name
-pub viewed : (net : Network) → IsSetUp net → (server : Name) → IsAmong net.names server → site_view net server ≡ Some (view_at net server)
+pub viewed : (net : Network) → IsSetUp net → (server : Name) → IsAmong net.names server
+    → site_view net server ≡ Some (view_at net server)
 viewed net set_up server among =
     let here = there net set_up server among in
     ap (λ o. option_and_then (λ (s : Site). s.server) (option_and_then (site_at net) o)) here.place
@@ -174,12 +206,16 @@ viewed net set_up server among =
     ∙ here.is_view
 
 -- a name that is none
-pub nowhere : (net : Network) (server : Name) → list_any (same server) net.names ≡ false → site_of net server ≡ None
-nowhere net server not_among = ap (option_and_then (site_at net)) (found_nowhere net.names server not_among)
+pub nowhere : (net : Network) (server : Name) → list_any (same server) net.names ≡ false
+    → site_of net server ≡ None
+nowhere net server not_among =
+    ap (option_and_then (site_at net)) (found_nowhere net.names server not_among)
 
-pub among_at : (names : List Name) (a : Name) (place : ℕ) → slice_get names place ≡ Some a → IsAmong names a
+pub among_at : (names : List Name) (a : Name) (place : ℕ) → slice_get names place ≡ Some a
+    → IsAmong names a
 among_at [] a place is = not_named is
-among_at (first ∷ names) a zero is = ap (λ b. b || list_any (same a) names) (same_when a first (sym (one_name is)))
+among_at (first ∷ names) a zero is =
+    ap (λ b. b || list_any (same a) names) (same_when a first (sym (one_name is)))
 among_at (first ∷ names) a (suc place) is =
     ap (λ b. same a first || b) (among_at names a place is) ∙ or_true (same a first)
   where
@@ -191,8 +227,10 @@ counted_once : (names : List Name) (a : Name) → IsAmong names a → 0 < count_
 counted_once [] a among = cc among
 counted_once (first ∷ names) a among = by (same a first) refl (counted_once names a)
   where
-    step : (b : Bool) → same a first ≡ b → count_by (same a) (first ∷ names) ≡ cond b 1 0 + count_by (same a) names
-    step b is = sum_by-cons (λ x. cond (same a x) 1 0) first names ∙ ap (λ c. cond c 1 0 + count_by (same a) names) is
+    step : (b : Bool) → same a first ≡ b
+        → count_by (same a) (first ∷ names) ≡ cond b 1 0 + count_by (same a) names
+    step b is = sum_by-cons (λ x. cond (same a x) 1 0) first names
+        ∙ ap (λ c. cond c 1 0 + count_by (same a) names) is
 
     one : (n k : ℕ) → n ≡ 1 + k → 0 < n
     one n k e = omega (arith, e)
@@ -200,20 +238,26 @@ counted_once (first ∷ names) a among = by (same a first) refl (counted_once na
     none : (n k : ℕ) → n ≡ 0 + k → 0 < k → 0 < n
     none n k e less = omega (arith, e, less)
 
-    by : (b : Bool) → same a first ≡ b → (IsAmong names a → 0 < count_by (same a) names) → 0 < count_by (same a) (first ∷ names)
-    by true is rest = one (count_by (same a) (first ∷ names)) (count_by (same a) names) (step true is)
+    by : (b : Bool) → same a first ≡ b → (IsAmong names a → 0 < count_by (same a) names)
+        → 0 < count_by (same a) (first ∷ names)
+    by true is rest =
+        one (count_by (same a) (first ∷ names)) (count_by (same a) names) (step true is)
     by false is rest =
         none (count_by (same a) (first ∷ names)) (count_by (same a) names) (step false is)
         (rest (sym (ap (λ c. c || list_any (same a) names) is) ∙ among))
 
 -- a name that is there once is at one place
-pub only_place : (names : List Name) (a : Name) (place : ℕ) → count_by (same a) names ≡ 1 → slice_get names place ≡ Some a → index_in names a ≡ place
+pub only_place : (names : List Name) (a : Name) (place : ℕ) → count_by (same a) names ≡ 1
+    → slice_get names place ≡ Some a → index_in names a ≡ place
 only_place [] a place once is = not_named is
-only_place (first ∷ names) a zero once is = place_is first a names true (same_when first a (one_name is))
+only_place (first ∷ names) a zero once is =
+    place_is first a names true (same_when first a (one_name is))
 only_place (first ∷ names) a (suc place) once is = by (tell first a) (only_place names a place)
   where
-    step : (b : Bool) → same a first ≡ b → count_by (same a) (first ∷ names) ≡ cond b 1 0 + count_by (same a) names
-    step b e = sum_by-cons (λ x. cond (same a x) 1 0) first names ∙ ap (λ c. cond c 1 0 + count_by (same a) names) e
+    step : (b : Bool) → same a first ≡ b
+        → count_by (same a) (first ∷ names) ≡ cond b 1 0 + count_by (same a) names
+    step b e = sum_by-cons (λ x. cond (same a x) 1 0) first names
+        ∙ ap (λ c. cond c 1 0 + count_by (same a) names) e
 
     twice : {A : Type 0} (n k : ℕ) → n ≡ 1 + k → n ≡ 1 → 0 < k → A
     twice n k e one more = absurd (omega (arith, e, one, more))
@@ -221,20 +265,25 @@ only_place (first ∷ names) a (suc place) once is = by (tell first a) (only_pla
     as_many : (n k : ℕ) → n ≡ 0 + k → n ≡ 1 → k ≡ 1
     as_many n k e one = omega (arith, e, one)
 
-    by : Telling first a → (count_by (same a) names ≡ 1 → slice_get names place ≡ Some a → index_in names a ≡ place)
-        → index_in (first ∷ names) a ≡ suc place
+    by : Telling first a → (count_by (same a) names ≡ 1 → slice_get names place ≡ Some a
+        → index_in names a ≡ place) → index_in (first ∷ names) a ≡ suc place
     by (alike t e) rest =
-        twice (count_by (same a) (first ∷ names)) (count_by (same a) names) (step true (same_when a first (sym e))) once
+        twice (count_by (same a) (first ∷ names)) (count_by (same a) names)
+        (step true (same_when a first (sym e))) once
         (counted_once names a (among_at names a place is))
     by (unlike f two) rest =
         place_is first a names false f
-        ∙ ap suc (rest (as_many (count_by (same a) (first ∷ names)) (count_by (same a) names) (step false (same_unless a first (λ e. two (sym e)))) once) is)
+        ∙ ap suc (rest (as_many (count_by (same a) (first ∷ names)) (count_by (same a) names)
+        (step false (same_unless a first (λ e. two (sym e)))) once) is)
 
-pub viewed_nowhere : (net : Network) (server : Name) → list_any (same server) net.names ≡ false → site_view net server ≡ None
-viewed_nowhere net server not_among = ap (option_and_then (λ (site : Site). site.server)) (nowhere net server not_among)
+pub viewed_nowhere : (net : Network) (server : Name) → list_any (same server) net.names ≡ false
+    → site_view net server ≡ None
+viewed_nowhere net server not_among =
+    ap (option_and_then (λ (site : Site). site.server)) (nowhere net server not_among)
 
 -- each site is at the place of a server
-pub at_place : (net : Network) → IsSetUp net → (place : ℕ) (site : Site) → site_at net place ≡ Some site → IsPlaceOf net place
+pub at_place : (net : Network) → IsSetUp net → (place : ℕ) (site : Site)
+    → site_at net place ≡ Some site → IsPlaceOf net place
 at_place net set_up place site is_site = by (slice_get net.names place) refl
   where
     given : Some (named_at site) ≡ option_map some_name (slice_get net.names place)
@@ -244,7 +293,8 @@ at_place net set_up place site is_site = by (slice_get net.names place) refl
     by (Some server) is = record {
       server = server;
       among = among_at net.names server place is;
-      is = only_place net.names server place (set_up.once server (among_at net.names server place is)) is;
+      is = only_place net.names server place
+          (set_up.once server (among_at net.names server place is)) is;
     }
     by None is = not_named (sym (given ∙ ap (option_map some_name) is))
 
@@ -255,29 +305,37 @@ one_tail : {X : Type 0} {x y : X} {xs ys : List X} → x ∷ xs ≡ y ∷ ys →
 one_tail e = cc e
 
 -- the settings stand in the order of the names, too
-setting_found : (sites : List Site) (names : List Name) (server : Name) → map named_at sites ≡ map some_name names
-    → setting_of (filter_map setting_at sites) server ≡ option_and_then setting_at (slice_get sites (index_in names server))
+setting_found : (sites : List Site) (names : List Name) (server : Name)
+    → map named_at sites ≡ map some_name names → setting_of (filter_map setting_at sites) server
+    ≡ option_and_then setting_at (slice_get sites (index_in names server))
 setting_found [] names server named = refl
 setting_found (site ∷ sites) [] server named = absurd (cc named)
-setting_found (site ∷ sites) (first ∷ names) server named = by site.server refl (setting_found sites names server (one_tail named))
+setting_found (site ∷ sites) (first ∷ names) server named =
+    by site.server refl (setting_found sites names server (one_tail named))
   where
     rest_is : Type 0
-    rest_is = setting_of (filter_map setting_at sites) server ≡ option_and_then setting_at (slice_get sites (index_in names server))
+    rest_is = setting_of (filter_map setting_at sites) server ≡ option_and_then setting_at
+        (slice_get sites (index_in names server))
 
     head : named_at site ≡ Some first
     head = one_head named
 
-    at_first : (view : View) → site.server ≡ Some view → (b : Bool) → same first server ≡ b → rest_is
+    at_first : (view : View) → site.server ≡ Some view
+        → (b : Bool) → same first server ≡ b → rest_is
         → cond b (Some (setting_now view)) (setting_of (filter_map setting_at sites) server)
-        ≡ option_and_then setting_at (slice_get (site ∷ sites) (if b then 0 else suc (index_in names server)))
+        ≡ option_and_then setting_at
+        (slice_get (site ∷ sites) (if b then 0 else suc (index_in names server)))
     at_first view is true e rest = sym (ap (option_map setting_now) is)
     at_first view is false e rest = rest
 
     by : (o : Option View) → site.server ≡ o → rest_is
-        → setting_of (filter_map setting_at (site ∷ sites)) server ≡ option_and_then setting_at (slice_get (site ∷ sites) (index_in (first ∷ names) server))
+        → setting_of (filter_map setting_at (site ∷ sites)) server ≡ option_and_then setting_at
+        (slice_get (site ∷ sites) (index_in (first ∷ names) server))
     by (Some view) is rest =
-        ap (λ o. setting_of (cons_option (option_map setting_now o) (filter_map setting_at sites)) server) is
-        ∙ ap (λ name. cond (same name server) (Some (setting_now view)) (setting_of (filter_map setting_at sites) server))
+        ap (λ o. setting_of
+        (cons_option (option_map setting_now o) (filter_map setting_at sites)) server) is
+        ∙ ap (λ name. cond (same name server) (Some (setting_now view))
+        (setting_of (filter_map setting_at sites) server))
         (one_name (sym (ap (option_map (λ (v : View). v.routes.name)) is) ∙ head))
         ∙ at_first view is (same first server) refl rest
     by None is rest = not_named (sym (ap (option_map (λ (v : View). v.routes.name)) is) ∙ head)
@@ -290,34 +348,40 @@ setting_there net set_up server among =
     ∙ ap (λ o. option_and_then setting_at o) here.is_site
     ∙ ap (option_map setting_now) here.is_view
 
-pub listed : (net : Network) → IsSetUp net → (server : Name) → is_server (settings_of net) server ≡ list_any (same server) net.names
+pub listed : (net : Network) → IsSetUp net → (server : Name)
+    → is_server (settings_of net) server ≡ list_any (same server) net.names
 listed net set_up server = by (list_any (same server) net.names) refl
   where
     past : (k n : ℕ) → k ≡ n → k ≤ n
     past k n e = omega (arith, e)
 
     as_many : length net.sites ≡ length net.names
-    as_many = sym (length-map net.sites named_at) ∙ ap length set_up.named ∙ length-map net.names some_name
+    as_many = sym (length-map net.sites named_at) ∙ ap length set_up.named
+        ∙ length-map net.names some_name
 
     by : (b : Bool) → list_any (same server) net.names ≡ b → is_server (settings_of net) server ≡ b
     by true among = ap is_some (setting_there net set_up server among)
     by false not_among =
         ap is_some
         (setting_found net.sites net.names server set_up.named
-        ∙ ap (λ place. option_and_then setting_at (slice_get net.sites place)) (no_place net.names server not_among)
-        ∙ ap (option_and_then setting_at) (slice_get_past net.sites (length net.names) (past (length net.sites) (length net.names) as_many)))
+        ∙ ap (λ place. option_and_then setting_at (slice_get net.sites place))
+        (no_place net.names server not_among)
+        ∙ ap (option_and_then setting_at) (slice_get_past net.sites (length net.names)
+        (past (length net.sites) (length net.names) as_many)))
 
 pub servers_named : (net : Network) → IsSetUp net → AreNamed (settings_of net)
 servers_named net set_up server is_one =
     let among : IsAmong net.names server = sym (listed net set_up server) ∙ is_one in
-    subst (λ name. IsServer name) (there net set_up server among).named (set_up.configured server among).name
+    subst (λ name. IsServer name) (there net set_up server among).named
+    (set_up.configured server among).name
 
 pub fixed : (net : Network) → IsSetUp net → (streams : Streams) → IsFixed (fixed_of net streams)
 fixed net set_up streams = record {
   servers = record {
     named = λ x among. servers_named net set_up x (listed net set_up x ∙ among);
     described = λ x among.
-        subst (λ info. IsInfo info) (sym (ap (λ o. option_map_or (λ (own : Setting). own.info) o []) (setting_there net set_up x among)))
+        subst (λ info. IsInfo info) (sym (ap (λ o. option_map_or (λ (own : Setting). own.info) o [])
+        (setting_there net set_up x among)))
         (set_up.configured x among).info;
   };
   few = set_up.few;

@@ -1,5 +1,6 @@
 -- What is the same as the mask of a ban is one.
-use Rattle.std.proofs.Common.{◌≡◌, ℕ, ◌≤◌, ◌<◌, Bool, true, false, cond, not, ◌&&◌, List, [], ◌∷◌, length, nat_eq, nat_le, inl, inr, refl, sym, ◌∙◌, ap, arith}
+use Rattle.std.proofs.Common.{◌≡◌, ℕ, ◌≤◌, ◌<◌, Bool, true, false, cond, not, ◌&&◌, List, [], ◌∷◌}
+use Rattle.std.proofs.Common.{length, nat_eq, nat_le, inl, inr, refl, sym, ◌∙◌, ap, arith}
 use Rattle.std.specs.List.{list_all}
 use Rattle.std.proofs.lemmas.Bool.{cases_lt}
 use Rattle.std.proofs.lemmas.Bool.Decides.{nat_tests}
@@ -45,7 +46,8 @@ alone code byte small some agrees = elim (cases_lt byte 256) [
       sym (as_test (nat_eq (fold byte) code))
       ∙ ap (λ n. nat_eq n 1) (agree_at (told_folded code) (told code) 256 byte agrees below)
       ∙ as_test (nat_eq byte code)
-  | inr past ↦ ap (λ n. nat_eq n code) (past_table byte past) ∙ some ∙ sym (other_past byte code small past)
+  | inr past ↦ ap (λ n. nat_eq n code) (past_table byte past) ∙ some
+      ∙ sym (other_past byte code small past)
 ]
 
 space_alone : (byte : ℕ) → nat_eq (fold byte) 0x20 ≡ nat_eq byte 0x20
@@ -54,10 +56,12 @@ space_alone byte = alone 0x20 byte (omega arith) refl space_agrees
 colon_alone : (byte : ℕ) → nat_eq (fold byte) 0x3A ≡ nat_eq byte 0x3A
 colon_alone byte = alone 0x3A byte (omega arith) refl colon_agrees
 
-bytes_folded : (bytes : List ℕ) → list_all is_ban_mask_byte (key bytes) ≡ list_all is_ban_mask_byte bytes
+bytes_folded : (bytes : List ℕ)
+    → list_all is_ban_mask_byte (key bytes) ≡ list_all is_ban_mask_byte bytes
 bytes_folded [] = refl
 bytes_folded (byte ∷ bytes) =
-    ap (λ b. not b && list_all is_ban_mask_byte (key bytes)) (space_alone byte) ∙ ap (λ b. not (nat_eq byte 0x20) && b) (bytes_folded bytes)
+    ap (λ b. not b && list_all is_ban_mask_byte (key bytes)) (space_alone byte)
+    ∙ ap (λ b. not (nat_eq byte 0x20) && b) (bytes_folded bytes)
 
 starts_folded : (bytes : List ℕ) → starts_without_colon (key bytes) ≡ starts_without_colon bytes
 starts_folded [] = refl
@@ -66,10 +70,15 @@ starts_folded (byte ∷ bytes) = ap not (colon_alone byte)
 mask_folded : (bytes : List ℕ) → is_ban_mask (key bytes) ≡ is_ban_mask bytes
 unfolding is_ban_mask
 mask_folded bytes =
-    ap (λ b. b && list_all is_ban_mask_byte (key bytes) && nat_le (length (key bytes)) max_ban_mask) (starts_folded bytes)
-    ∙ ap (λ b. starts_without_colon bytes && b && nat_le (length (key bytes)) max_ban_mask) (bytes_folded bytes)
-    ∙ ap (λ n. starts_without_colon bytes && list_all is_ban_mask_byte bytes && nat_le n max_ban_mask) (key-length bytes)
+    ap (λ b. b && list_all is_ban_mask_byte (key bytes) && nat_le (length (key bytes)) max_ban_mask)
+    (starts_folded bytes)
+    ∙ ap (λ b. starts_without_colon bytes && b && nat_le (length (key bytes)) max_ban_mask)
+    (bytes_folded bytes)
+    ∙ ap (λ n. starts_without_colon bytes && list_all is_ban_mask_byte bytes
+    && nat_le n max_ban_mask) (key-length bytes)
 
-pub same_is_mask : (mask other : List ℕ) → same mask other ≡ true → is_ban_mask mask ≡ true → is_ban_mask other ≡ true
+pub same_is_mask : (mask other : List ℕ) → same mask other ≡ true → is_ban_mask mask ≡ true
+    → is_ban_mask other ≡ true
 same_is_mask mask other alike is =
-    sym (mask_folded other) ∙ ap is_ban_mask (sym ((same-tells mask other).0 alike)) ∙ mask_folded mask ∙ is
+    sym (mask_folded other) ∙ ap is_ban_mask (sym ((same-tells mask other).0 alike))
+    ∙ mask_folded mask ∙ is

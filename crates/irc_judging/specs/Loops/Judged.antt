@@ -18,11 +18,13 @@ channel_behind kept start = all_changed kept.changes.items start
 
 -- what comes of a change in the channel as it is now
 abbrev pub judge_asked : Kept → Channel → AskedChange → Verdict
-judge_asked room now asked = judge room.room.users now asked.plus asked.letter (option_copied asked.word)
+judge_asked room now asked =
+    judge room.room.users now asked.plus asked.letter (option_copied asked.word)
 
 -- of one of a mode of the channel itself, by its modes as they are now
 abbrev pub setting_asked : List ℕ → Modes → AskedChange → Verdict
-setting_asked name modes asked = setting_judged name modes asked.plus asked.letter (option_copied asked.word)
+setting_asked name modes asked =
+    setting_judged name modes asked.plus asked.letter (option_copied asked.word)
 
 -- of one of the key, by the key that is set
 abbrev pub key_asked : List ℕ → Bool → Option (Bor (List ℕ)) → Option (Bor (List ℕ)) → Verdict
@@ -30,8 +32,10 @@ key_asked name plus word before = key_judged name plus (option_copied word) (opt
 
 -- of one of a ban, by those of the channel as it is now
 abbrev pub mask_asked : Channel → Channel → AskedChange → Verdict
-mask_asked start now asked = mask_judged start.name asked.plus (mask_in (option_copied asked.word)) now.modes.bans
+mask_asked start now asked =
+    mask_judged start.name asked.plus (mask_in (option_copied asked.word)) now.modes.bans
 
 -- of one of a member's flag
 abbrev pub word_asked : Kept → Channel → AskedChange → Verdict
-word_asked room now asked = word_judged room.room.users now asked.plus asked.letter (option_copied asked.word)
+word_asked room now asked =
+    word_judged room.room.users now asked.plus asked.letter (option_copied asked.word)

@@ -15,5 +15,7 @@ no_byte false end is = refl
 pub carried_no_nul : (bytes : List ℕ) → IsCarried bytes → has_nul bytes ≡ false
 carried_no_nul [] all = refl
 carried_no_nul (b ∷ bytes) all =
-    let first = no_byte (is_nul b) (is_line_end b) (first_so (is_carried_byte b) (is_carried bytes) all) in
-    ap (λ v. v || has_nul bytes) first ∙ carried_no_nul bytes (second_so (is_carried_byte b) (is_carried bytes) all)
+    let first =
+    no_byte (is_nul b) (is_line_end b) (first_so (is_carried_byte b) (is_carried bytes) all) in
+    ap (λ v. v || has_nul bytes) first
+    ∙ carried_no_nul bytes (second_so (is_carried_byte b) (is_carried bytes) all)

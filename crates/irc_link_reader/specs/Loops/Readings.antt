@@ -1,5 +1,6 @@
 -- What the code that reads a line of a link gives.
-use Rattle.std.specs.Prelude.{◌≡◌, ℕ, Bool, true, false, not, ◌&&◌, ⊤, Option, Some, None, Result, Ok, Err, List, [], ◌∷◌, codes, is_some, option_to_list, if◌then◌else◌}
+use Rattle.std.specs.Prelude.{◌≡◌, ℕ, Bool, true, false, not, ◌&&◌, ⊤, Option, Some, None, Result}
+use Rattle.std.specs.Prelude.{Ok, Err, List, [], ◌∷◌, codes, is_some, option_to_list, if◌then◌else◌}
 use Rattle.std.specs.Borrow.{Bor}
 use Rattle.std.specs.Global.{Vec}
 use Rattle.std.specs.List.{find, list_all}
@@ -18,9 +19,13 @@ use Rattle.irc_link_reader.specs.declared.reading_users.Newcomer.{Newcomer}
 use Rattle.irc_link_reader.specs.declared.commands.Command.{Command}
 use Rattle.irc_link_reader.specs.declared.commands.Command.TheVariants as command
 use Rattle.irc_link_words.specs.declared.fault.WireFault.{WireFault}
-use Rattle.irc_link_words.specs.declared.fault.WireFault.TheVariants.{BadName, BadToken, Memory, Parameters}
+use Rattle.irc_link_words.specs.declared.fault.WireFault.TheVariants.{BadName, BadToken, Memory}
+use Rattle.irc_link_words.specs.declared.fault.WireFault.TheVariants.{Parameters}
 use Rattle.irc_link_reader.specs.Reader.{Reader, reader_of}
-use Rattle.irc_link_reader.specs.Means.{Checked, Row, first_fault, line, if_there, home_of_token, introduction_line, nick_line, of_either, quit_line, join_line, part_line, kick_line, mode_line, topic_line, say_line, invite_line, user_mode_line}
+use Rattle.irc_link_reader.specs.Means.{Checked, Row, first_fault, line, if_there, home_of_token}
+use Rattle.irc_link_reader.specs.Means.{introduction_line, nick_line, of_either, quit_line}
+use Rattle.irc_link_reader.specs.Means.{join_line, part_line, kick_line, mode_line, topic_line}
+use Rattle.irc_link_reader.specs.Means.{say_line, invite_line, user_mode_line}
 use Rattle.irc_link_words.specs.Words.{are_members_named, is_come_mode, is_command, is_user_name}
 
 -- what is looked at where a line came
@@ -33,8 +38,8 @@ found (Ok effect) = Ok (option_to_list effect)
 found (Err fault) = Err fault
 
 -- what is found is the effect of a line of these words, or the first fault of it
-abbrev pub ReadsEffect : (Reader → Option (List ℕ) → List (List ℕ) → Checked) → Arrival → Option (List ℕ) → List (List ℕ) → Result (Option Effect) WireFault
-    → Type 0
+abbrev pub ReadsEffect : (Reader → Option (List ℕ) → List (List ℕ) → Checked) → Arrival
+    → Option (List ℕ) → List (List ℕ) → Result (Option Effect) WireFault → Type 0
 ReadsEffect line at name words result = found result ≡ first_fault (line (reader at) name words)
 
 -- whether the user of a nickname is there, and whether those of all these are
@@ -45,8 +50,10 @@ abbrev pub are_there : Arrival → List (List ℕ) → Bool
 are_there at nicks = list_all (has_home at) nicks
 
 -- the same of a MODE of a user
-abbrev pub IsUserMode : Arrival → List ℕ → List ℕ → List (List ℕ) → Result (Option Effect) WireFault → Type 0
-IsUserMode at nick target words result = found result ≡ first_fault (user_mode_line (reader at) nick target words)
+abbrev pub IsUserMode : Arrival → List ℕ → List ℕ → List (List ℕ) → Result (Option Effect) WireFault
+    → Type 0
+IsUserMode at nick target words result =
+    found result ≡ first_fault (user_mode_line (reader at) nick target words)
 
 -- what is looked at in a line of each command
 abbrev pub row : Command → Row
@@ -64,7 +71,8 @@ row command.Invite = line (codes "INVITE") invite_line
 -- the rows of the commands that change neither users nor channels, but for the topic
 abbrev pub telling_table : List Row
 telling_table =
-    line (codes "TOPIC") topic_line ∷ line (codes "PRIVMSG") (say_line false) ∷ line (codes "NOTICE") (say_line true)
+    line (codes "TOPIC") topic_line ∷ line (codes "PRIVMSG") (say_line false) ∷ line
+    (codes "NOTICE") (say_line true)
     ∷ line (codes "INVITE") invite_line ∷ []
 
 abbrev pub telling_row : List ℕ → Option Row
@@ -72,7 +80,8 @@ telling_row word = find (λ (r : Row). is_command r.command word) telling_table
 
 -- who changes a channel, or that no name is read
 abbrev pub doer_or_fault : List ℕ → Result By WireFault
-doer_or_fault name = if is_server name then Ok by.Home else (if is_nick name then Ok (by.User name) else Err BadName)
+doer_or_fault name =
+    if is_server name then Ok by.Home else (if is_nick name then Ok (by.User name) else Err BadName)
 
 -- an effect that a user or a server brings about
 abbrev pub IsChange : Effect → Type 0
@@ -92,7 +101,8 @@ is_left_alone reader effect = not (option_map_or reader.has_far (home_channel ef
 
 -- the effect, where it counts
 abbrev pub effects_counted : Reader → Effect → List Effect
-effects_counted reader effect = if option_map_or reader.has_far (home_channel effect) true then if_there reader effect else []
+effects_counted reader effect = if option_map_or reader.has_far (home_channel effect) true
+    then if_there reader effect else []
 
 -- whether the user of this nickname is behind the link
 abbrev pub is_far_user : Reader → List ℕ → Bool
@@ -101,11 +111,13 @@ is_far_user reader nick = option_map_or reader.is_far (reader.home nick) false
 -- the words of an introduction
 abbrev pub introduction_of : Reader → Newcomer → Checked
 introduction_of reader words =
-    introduction_line reader words.nick.now words.distance.now words.user.now words.host.now words.token.now words.mode.now words.real.now
+    introduction_line reader words.nick.now words.distance.now words.user.now words.host.now
+    words.token.now words.mode.now words.real.now
 
 -- whether the words of an introduction that are neither names nor numbers keep their rules
 abbrev pub are_right : Newcomer → Bool
-are_right words = is_user_name words.user.now && (is_come_mode words.mode.now && fits max_real_name words.real.now)
+are_right words = is_user_name words.user.now
+    && (is_come_mode words.mode.now && fits max_real_name words.real.now)
 
 abbrev pub home_or_bad : Option (List ℕ) → Result (List ℕ) WireFault
 home_or_bad (Some home) = Ok home
@@ -124,10 +136,13 @@ home_now (Err fault) = Err fault
 -- what is looked at in a line of changes of a channel, once these are read
 abbrev pub channel_change : Reader → List ℕ → List ℕ → List ModeChange → Checked
 channel_change reader name channel changes =
-    of_either reader name true (is_channel channel && are_members_named changes) channel (λ doer. ChangeModes doer channel changes)
+    of_either reader name true (is_channel channel && are_members_named changes) channel
+    (λ doer. ChangeModes doer channel changes)
 
-abbrev pub changes_channel : Arrival → List ℕ → List ℕ → List ModeChange → Result (List Effect) WireFault
-changes_channel at name channel changes = first_fault (channel_change (reader at) name channel changes)
+abbrev pub changes_channel : Arrival → List ℕ → List ℕ → List ModeChange
+    → Result (List Effect) WireFault
+changes_channel at name channel changes =
+    first_fault (channel_change (reader at) name channel changes)
 
 -- whether a member is behind the link
 abbrev pub is_member_far : Reader → TableRow Flags → Bool
@@ -141,19 +156,23 @@ takes_memory command.Mode = true
 takes_memory other = false
 
 -- what is found of a line whose reading takes memory or takes none, by what it means
-abbrev pub IsFound : Bool → Result (List Effect) WireFault → Result (Option Effect) WireFault → Type 0
+abbrev pub IsFound : Bool → Result (List Effect) WireFault → Result (Option Effect) WireFault
+    → Type 0
 IsFound takes meant (Ok effect) = meant ≡ Ok (option_to_list effect)
 IsFound takes meant (Err Memory) = takes ≡ true
 IsFound takes meant (Err fault) = meant ≡ Err fault
 
 -- the same of a line of these words, by what is looked at in it
-abbrev pub IsFoundIn : Bool → (Reader → Option (List ℕ) → List (List ℕ) → Checked) → Arrival → Option (List ℕ) → List (List ℕ)
-    → Result (Option Effect) WireFault → Type 0
-IsFoundIn takes line at name words result = IsFound takes (first_fault (line (reader at) name words)) result
+abbrev pub IsFoundIn : Bool → (Reader → Option (List ℕ) → List (List ℕ) → Checked) → Arrival
+    → Option (List ℕ) → List (List ℕ) → Result (Option Effect) WireFault → Type 0
+IsFoundIn takes line at name words result =
+    IsFound takes (first_fault (line (reader at) name words)) result
 
 -- the same of a line of this command
-abbrev pub IsRead : Command → Arrival → Option (List ℕ) → List (List ℕ) → Result (Option Effect) WireFault → Type 0
-IsRead command at name words result = IsFoundIn (takes_memory command) (row command).check at name words result
+abbrev pub IsRead : Command → Arrival → Option (List ℕ) → List (List ℕ)
+    → Result (Option Effect) WireFault → Type 0
+IsRead command at name words result =
+    IsFoundIn (takes_memory command) (row command).check at name words result
 
 -- the list of what is found, for which memory may run out
 abbrev pub IsListed : Result (Option Effect) WireFault → Result (Vec Effect) WireFault → Type 0
@@ -167,5 +186,7 @@ IsListed (Err fault) result = result ≡ Err fault
 -- the seven words of an introduction, or what a line means that has another number of them
 abbrev pub IsNewcomer : List (List ℕ) → Result Newcomer WireFault → Type 0
 IsNewcomer words (Ok w) =
-    words ≡ w.nick.now ∷ w.distance.now ∷ w.user.now ∷ w.host.now ∷ w.token.now ∷ w.mode.now ∷ w.real.now ∷ []
-IsNewcomer words (Err fault) = (reader : Reader) → Err fault ≡ first_fault (nick_line reader None words)
+    words ≡ w.nick.now ∷ w.distance.now ∷ w.user.now ∷ w.host.now ∷ w.token.now ∷ w.mode.now
+    ∷ w.real.now ∷ []
+IsNewcomer words (Err fault) =
+    (reader : Reader) → Err fault ≡ first_fault (nick_line reader None words)

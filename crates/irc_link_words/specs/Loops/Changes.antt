@@ -1,5 +1,6 @@
 -- What the code that reads the changes of a MODE gives on its way.
-use Rattle.std.specs.Prelude.{◌≡◌, ℕ, Bool, ⊤, ◌&&◌, Option, Some, None, List, [], ◌∷◌, ◌++◌, drop, length, nat_eq, option_to_list, if◌then◌else◌}
+use Rattle.std.specs.Prelude.{◌≡◌, ℕ, Bool, ⊤, ◌&&◌, Option, Some, None, List, [], ◌∷◌, ◌++◌, drop}
+use Rattle.std.specs.Prelude.{length, nat_eq, option_to_list, if◌then◌else◌}
 use Rattle.std.specs.Borrow.{Bor}
 use Rattle.std.specs.List.{list_all, starts_with}
 use Rattle.std.specs.Cmp.Lexicographic.{pointwise}
@@ -12,9 +13,11 @@ use Rattle.irc_mode_words.specs.ModeWritten.{changes_written}
 use Rattle.irc_modes.specs.Texts.{IsKept}
 use Rattle.irc_link_words.specs.Words.{keeps_word}
 
--- changes, where their words keep the rules of their letters and these are the words that they are written as
+-- changes, where their words keep the rules of their letters and these are the words that they are
+-- written as
 abbrev pub if_written : List ModeChange → List (List ℕ) → Option (List ModeChange)
-if_written changes words = if list_all keeps_word changes && pointwise bytes_eq (changes_written changes) words then Some changes else None
+if_written changes words = if list_all keeps_word changes
+    && pointwise bytes_eq (changes_written changes) words then Some changes else None
 
 -- the word of a change that is asked for is no longer than any mode takes
 abbrev pub IsKeptWord : Asked → Type 0
@@ -45,4 +48,5 @@ bytes_left word used = option_map (λ n. drop n word) used
 
 -- what of a text is behind these bytes, where it begins with them
 abbrev pub behind_bytes : List ℕ → List ℕ → Option (List ℕ)
-behind_bytes bytes text = if starts_with nat_eq text bytes then Some (drop (length bytes) text) else None
+behind_bytes bytes text = if starts_with nat_eq text bytes then Some (drop (length bytes) text)
+    else None

@@ -25,7 +25,8 @@ abbrev pub introduced : User → List ℕ → List ℕ → Written
 introduced user distance token = record {
   sender = nobody;
   command = codes "NICK";
-  middle = user.nick ∷ distance ∷ user.user ∷ user.host ∷ token ∷ (if user.invisible then with_i else no_mode) ∷ [];
+  middle = user.nick ∷ distance ∷ user.user ∷ user.host ∷ token
+      ∷ (if user.invisible then with_i else no_mode) ∷ [];
   last = Some user.real;
 }
 
@@ -36,18 +37,23 @@ head_text name command channel = codes ":" ++ name ++ command ++ channel ++ code
 -- ---- the lines of a channel, of an invitation and of a user's mode
 
 abbrev pub written_modes : Room → List ℕ → List ℕ → List ModeChange → Written
-written_modes room name channel changes = from name (codes "MODE") (channel ∷ changes_words room changes) None
+written_modes room name channel changes =
+    from name (codes "MODE") (channel ∷ changes_words room changes) None
 
 abbrev pub written_join : Room → List ℕ → List ℕ → Bool → Written
-written_join room nick channel op = from (stored_nick room nick) (codes "JOIN") (marked channel op ∷ []) None
+written_join room nick channel op =
+    from (stored_nick room nick) (codes "JOIN") (marked channel op ∷ []) None
 
 abbrev pub written_kick : Room → List ℕ → List ℕ → List ℕ → List ℕ → Written
 written_kick room by channel nick text =
-    from (stored_nick room by) (codes "KICK") (stored_channel room channel ∷ stored_nick room nick ∷ []) (Some text)
+    from (stored_nick room by) (codes "KICK")
+    (stored_channel room channel ∷ stored_nick room nick ∷ []) (Some text)
 
 abbrev pub written_invite : Room → List ℕ → List ℕ → List ℕ → Written
 written_invite room by nick channel =
-    from (stored_nick room by) (codes "INVITE") (stored_nick room nick ∷ stored_channel room channel ∷ []) None
+    from (stored_nick room by) (codes "INVITE")
+    (stored_nick room nick ∷ stored_channel room channel ∷ []) None
 
 abbrev pub written_user_mode : List ℕ → Bool → Written
-written_user_mode nick invisible = from nick (codes "MODE") (nick ∷ (if invisible then with_i else without_i) ∷ []) None
+written_user_mode nick invisible =
+    from nick (codes "MODE") (nick ∷ (if invisible then with_i else without_i) ∷ []) None

@@ -1,5 +1,6 @@
 -- The links on which a line goes, as the code keeps them.
-use Rattle.std.specs.Prelude.{◌≡◌, ℕ, Bool, false, Option, Some, None, List, ◌++◌, filter, map, option_to_list}
+use Rattle.std.specs.Prelude.{◌≡◌, ℕ, Bool, false, Option, Some, None, List, ◌++◌, filter, map}
+use Rattle.std.specs.Prelude.{option_to_list}
 use Rattle.std.specs.BTreeMap.{BTreeMap}
 use Rattle.std.specs.Global.{Vec}
 use Rattle.std.specs.List.{flat_map}
@@ -27,7 +28,8 @@ is_of kept channel = is_named kept.channel channel
 
 -- what is kept, if anything, is right
 abbrev pub AreBranches : Branches → Room → Known → Type 0
-AreBranches kept room known = (channel : List ℕ) → kept.channel ≡ Some channel → kept.links.items ≡ links_toward known (homes_in room channel)
+AreBranches kept room known = (channel : List ℕ) → kept.channel ≡ Some channel
+    → kept.links.items ≡ links_toward known (homes_in room channel)
 
 -- the link toward a user, where it is one of another server
 abbrev pub link_toward : Room → Known → List ℕ → Option ℕ
@@ -51,7 +53,8 @@ but_met arrival ends = but arrival (met_links (numbered ends))
 
 -- what decides on which links a line goes
 abbrev pub ways_around : Around → Option ℕ → Effect → List ℕ
-ways_around around arrival effect = ways (numbered around.ends.now) around.routes.now around.room.now.room arrival effect
+ways_around around arrival effect =
+    ways (numbered around.ends.now) around.routes.now around.room.now.room arrival effect
 
 -- what is kept where nothing is known yet, and what is always kept: what is right, if anything
 abbrev pub KnowsNothing : Ways → Type 0
@@ -65,10 +68,12 @@ IsRight found around = IsRightIn found around.room.now.room around.routes.now
 
 -- the links toward the servers of the members of a channel, and toward that of a user
 abbrev pub toward_members : Around → List ℕ → List ℕ
-toward_members around channel = links_toward around.routes.now (homes_in around.room.now.room channel)
+toward_members around channel =
+    links_toward around.routes.now (homes_in around.room.now.room channel)
 
 abbrev pub toward_user : Around → List ℕ → List ℕ
-toward_user around nick = links_toward around.routes.now (option_to_list (home_under around.room.now.room (key nick)))
+toward_user around nick =
+    links_toward around.routes.now (option_to_list (home_under around.room.now.room (key nick)))
 
 abbrev pub but_toward : Around → Option ℕ → List ℕ → List ℕ
 but_toward around arrival nick = but arrival (toward_user around nick)

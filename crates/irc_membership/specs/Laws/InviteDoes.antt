@@ -16,31 +16,37 @@ use Rattle.irc_membership.specs.Laws.InviteLaw.{all_so, invite_is_own}
 
 -- A user's INVITE can be done.
 abbrev pub InviteIsPossible : Type 0
-InviteIsPossible = (me : User) (room : Room) (nick name : List ℕ) → IsWellFormed room → has_user room me.nick ≡ true
+InviteIsPossible = (me : User) (room : Room) (nick name : List ℕ) → IsWellFormed room
+    → has_user room me.nick ≡ true
     → ArePossible room (invite_steps room me nick name)
 
 -- It does something: whoever is invited is told.
 abbrev pub InviteDoes : Type 0
-InviteDoes = (me : User) (room : Room) (nick name : List ℕ) → AreDoing room (invite_steps room me nick name)
+InviteDoes =
+    (me : User) (room : Room) (nick name : List ℕ) → AreDoing room (invite_steps room me nick name)
 
 -- Whoever is invited already, its steps are the same.
 abbrev pub InviteLooksAtNoInvitation : Type 0
-InviteLooksAtNoInvitation = (me : User) (room other : Room) (nick name : List ℕ) → AreAlike room other
+InviteLooksAtNoInvitation = (me : User) (room other : Room) (nick name : List ℕ)
+    → AreAlike room other
     → invite_steps room me nick name ≡ invite_steps other me nick name
 
 pub invite_is_possible : InviteIsPossible
 invite_is_possible me room nick name well there =
-    own_are_possible me room (invite_steps room me nick name) well there (invite_is_own me room nick name)
+    own_are_possible me room (invite_steps room me nick name) well there
+    (invite_is_own me room nick name)
 
 pub invite_does : InviteDoes
-invite_does me room = all_so DoesSomething me room (record { invites_it = λ nick name other known named. refl })
+invite_does me room =
+    all_so DoesSomething me room (record { invites_it = λ nick name other known named. refl })
 
 found_aside : (me other : User) (name : List ℕ) (found : Option Channel)
     → invites_found me other name found ≡ invites_found me other name (option_map uninviting found)
 found_aside me other name None = refl
 found_aside me other name (Some channel) = refl
 
-user_alike : (me : User) (room now : Room) (nick name : List ℕ) → AreAlike room now → (found : Option User)
+user_alike : (me : User) (room now : Room) (nick name : List ℕ)
+    → AreAlike room now → (found : Option User)
     → invites_user room me nick name found ≡ invites_user now me nick name found
 user_alike me room now nick name alike None = refl
 user_alike me room now nick name alike (Some other) =

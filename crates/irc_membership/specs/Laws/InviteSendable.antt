@@ -11,13 +11,17 @@ use Rattle.irc_membership.specs.Laws.InviteLaw.{all_so, invite_is_own}
 
 -- of a user that is there: the names that it has are stored, or keep the rule
 abbrev pub InviteIsSendable : Type 0
-InviteIsSendable = (me : User) (room : Room) (nick name : List ℕ) → IsWellFormed room → row room.users (key me.nick) ≡ Some me
+InviteIsSendable = (me : User) (room : Room) (nick name : List ℕ) → IsWellFormed room
+    → row room.users (key me.nick) ≡ Some me
     → AreSendable room (invite_steps room me nick name)
 
-pub invite_carries : (me : User) (room : Room) (nick name : List ℕ) → CarrySendable room (invite_steps room me nick name)
-invite_carries me room = all_so CarriesSendable me room (record { invites_it = λ nick name other known named. tt })
+pub invite_carries : (me : User) (room : Room) (nick name : List ℕ)
+    → CarrySendable room (invite_steps room me nick name)
+invite_carries me room =
+    all_so CarriesSendable me room (record { invites_it = λ nick name other known named. tt })
 
 pub invite_is_sendable : InviteIsSendable
 invite_is_sendable me room nick name well mine =
-    own_are_sendable me room (invite_steps room me nick name) well (nick_stored room well (key me.nick) me mine) (invite_is_own me room nick name)
+    own_are_sendable me room (invite_steps room me nick name) well
+    (nick_stored room well (key me.nick) me mine) (invite_is_own me room nick name)
     (invite_carries me room nick name)

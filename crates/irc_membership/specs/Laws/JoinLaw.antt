@@ -1,5 +1,6 @@
 -- The steps of a JOIN are its user's own.
-use Rattle.std.proofs.Common.{◌≡◌, ℕ, Bool, true, false, List, map, refl, sym, ◌∙◌, ap, if◌then◌else◌, ◌⊎◌, inl, inr}
+use Rattle.std.proofs.Common.{◌≡◌, ℕ, Bool, true, false, List, map, refl, sym, ◌∙◌, ap}
+use Rattle.std.proofs.Common.{if◌then◌else◌, ◌⊎◌, inl, inr}
 use Rattle.std.specs.Option.{option_map_or}
 use Rattle.irc_names.specs.Fold.{key}
 use Rattle.irc_users.specs.declared.user.User.{User}
@@ -15,28 +16,34 @@ use Rattle.irc_membership.specs.Join.{JoinEntry, asked_for, is_zero, join_one, j
 use Rattle.irc_membership.specs.Laws.JoinWalk.{one_so}
 use Rattle.irc_membership.specs.Laws.JoinZero.{leaving_own}
 
--- The steps of a JOIN are its user's own in any room, or they leave all the channels that the user is in.
+-- The steps of a JOIN are its user's own in any room, or they leave all the channels that the user
+-- is in.
 abbrev pub JoinIsOwnOrLeaves : Type 0
 JoinIsOwnOrLeaves = (me : User) (room : Room) (list keys : List ℕ)
-    → AreOwn me room (join_steps room me list keys) ⊎ (join_steps room me list keys ≡ map (leaves me) (own_channels room me))
+    → AreOwn me room (join_steps room me list keys)
+    ⊎ (join_steps room me list keys ≡ map (leaves me) (own_channels room me))
 
 -- To leave all channels is its user's own doing too, where the room is well formed.
 abbrev pub LeavingAllIsOwn : Type 0
-LeavingAllIsOwn = (me : User) (room : Room) → IsWellFormed room → AreOwn me room (map (leaves me) (own_channels room me))
+LeavingAllIsOwn = (me : User) (room : Room) → IsWellFormed room
+    → AreOwn me room (map (leaves me) (own_channels room me))
 
 one_own : (me : User) (room : Room) (asked : JoinEntry) → AreOwn me room (join_one me room asked)
 one_own me room asked =
     one_so (IsOwn me) me room asked (record {
       makes = λ outside named none. own.makes asked.channel named none;
       enters = λ outside channel is.
-          own.enters asked.channel channel is (sym (ap (λ found. option_map_or (has_member (key me.nick)) found false) is) ∙ outside);
+          own.enters asked.channel channel is (sym
+          (ap (λ found. option_map_or (has_member (key me.nick)) found false) is) ∙ outside);
     })
 
 own_or_leaves : (me : User) (room : Room) (asked : List JoinEntry) (zero : Bool)
-    → let acts : List Act = if zero then map (leaves me) (own_channels room me) else in_turn (join_one me) room asked in
+    → let acts : List Act =
+    if zero then map (leaves me) (own_channels room me) else in_turn (join_one me) room asked in
     AreOwn me room acts ⊎ (acts ≡ map (leaves me) (own_channels room me))
 own_or_leaves me room asked true = inr refl
-own_or_leaves me room asked false = inl (each-in_turn (IsOwn me) (join_one me) (one_own me) room asked)
+own_or_leaves me room asked false =
+    inl (each-in_turn (IsOwn me) (join_one me) (one_own me) room asked)
 
 pub join_is_own_or_leaves : JoinIsOwnOrLeaves
 unfolding join_steps

@@ -28,17 +28,21 @@ all_carry : (me : User) (text : List ℕ) (room : Room) → IsCarriedText text
 all_carry me text room within None = tt
 all_carry me text room within (Some asked) =
     each-in_turn CarriesSendable (kick_one me text)
-    (λ now one. one_so CarriesSendable me text now one (record { kicks_it = λ channel other is member known. within })) room asked
+    (λ now one. one_so CarriesSendable me text now one
+    (record { kicks_it = λ channel other is member known. within })) room asked
 
-pub kick_carries : (me : User) (room : Room) (channels nicks : List ℕ) (more : List (List ℕ)) → IsCarried me.nick → AllByRecursion IsCarried more
+pub kick_carries : (me : User) (room : Room) (channels nicks : List ℕ) (more : List (List ℕ))
+    → IsCarried me.nick → AllByRecursion IsCarried more
     → CarrySendable room (kick_steps room me channels nicks more)
 unfolding kick_steps
 kick_carries me room channels nicks more nick carried =
-    all_carry me (reason_given more me.nick) room (reason_carried more me.nick carried nick) (kicks_asked (entries channels) (entries nicks))
+    all_carry me (reason_given more me.nick) room (reason_carried more me.nick carried nick)
+    (kicks_asked (entries channels) (entries nicks))
 
 pub kick_is_sendable : KickIsSendable
 kick_is_sendable me room channels nicks more well within mine carried =
-    own_are_sendable me room (kick_steps room me channels nicks more) well (nick_stored room well (key me.nick) me mine)
+    own_are_sendable me room (kick_steps room me channels nicks more) well
+    (nick_stored room well (key me.nick) me mine)
     (kick_is_own me room channels nicks more)
     (kick_carries me room channels nicks more
     (nick_carried me.nick (within.users (key me.nick) me mine).nick) carried)

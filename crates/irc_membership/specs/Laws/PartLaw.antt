@@ -22,24 +22,29 @@ use Rattle.irc_acts.specs.Words.{reason_given}
 use Rattle.irc_membership.specs.Part.{left_by, part_one, part_steps}
 
 abbrev pub PartIsOwn : Type 0
-PartIsOwn = (me : User) (room : Room) (list : List ℕ) (more : List (List ℕ)) → AreOwn me room (part_steps room me list more)
+PartIsOwn = (me : User) (room : Room) (list : List ℕ) (more : List (List ℕ))
+    → AreOwn me room (part_steps room me list more)
 
 -- ---- what is so of each Part of a member is so of each effect of a PART of one channel
 
 -- the user is a member of a channel that was found under the name
-pub record IsSoOfParts (Q : Room → Effect → Type 0) (me : User) (text : List ℕ) (room : Room) (name : List ℕ) : Type 0 where
-  pub leaves_it : (channel : Channel) → row room.channels (key name) ≡ Some channel → has_member (key me.nick) channel ≡ true
-      → Q room (Part me.nick channel.name text)
+pub record IsSoOfParts (Q : Room → Effect → Type 0) (me : User) (text : List ℕ) (room : Room)
+    (name : List ℕ) : Type 0 where
+  pub leaves_it : (channel : Channel) → row room.channels (key name) ≡ Some channel
+      → has_member (key me.nick) channel ≡ true → Q room (Part me.nick channel.name text)
 
-pub found_so : (Q : Room → Effect → Type 0) (me : User) (text : List ℕ) (room : Room) (name : List ℕ) → IsSoOfParts Q me text room name
-    → (found : Option Channel) → row room.channels (key name) ≡ found → EachInTurn Q room (effects_among (left_by me text name found))
+pub found_so : (Q : Room → Effect → Type 0) (me : User) (text : List ℕ) (room : Room)
+    (name : List ℕ) → IsSoOfParts Q me text room name → (found : Option Channel) → row room.channels
+    (key name) ≡ found → EachInTurn Q room (effects_among (left_by me text name found))
 found_so Q me text room name so None is = tt
 found_so Q me text room name so (Some channel) is =
-    by_test (λ (acts : List Act). EachInTurn Q room (effects_among acts)) (has_member (key me.nick) channel)
+    by_test (λ (acts : List Act). EachInTurn Q room (effects_among acts))
+    (has_member (key me.nick) channel)
     (Do (Part me.nick channel.name text) ∷ []) (Answer (NotOnChannel channel.name) ∷ [])
     (λ member. record { now = so.leaves_it channel is member; later = tt }) (λ outside. tt)
 
-one_own : (me : User) (text : List ℕ) (room : Room) (name : List ℕ) → AreOwn me room (part_one me text room name)
+one_own : (me : User) (text : List ℕ) (room : Room) (name : List ℕ)
+    → AreOwn me room (part_one me text room name)
 one_own me text room name =
     found_so (IsOwn me) me text room name
     (record { leaves_it = λ channel is member. own.parts name text channel is member })

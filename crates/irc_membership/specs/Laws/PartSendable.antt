@@ -14,12 +14,14 @@ use Rattle.irc_acts.specs.Words.{reason_given}
 use Rattle.irc_membership.specs.Part.{part_one, part_steps}
 use Rattle.irc_membership.specs.Laws.PartLaw.{found_so}
 
-pub part_carries : (me : User) (room : Room) (list : List ℕ) (more : List (List ℕ)) → IsCarried me.nick → AllByRecursion IsCarried more
+pub part_carries : (me : User) (room : Room) (list : List ℕ) (more : List (List ℕ))
+    → IsCarried me.nick → AllByRecursion IsCarried more
     → CarrySendable room (part_steps room me list more)
 unfolding part_steps
 part_carries me room list more nick carried =
     let text = reason_given more me.nick in
     let within = reason_carried more me.nick carried nick in
     each-in_turn CarriesSendable (part_one me text)
-    (λ now name. found_so CarriesSendable me text now name (record { leaves_it = λ channel is member. within }) (row now.channels (key name)) refl) room
+    (λ now name. found_so CarriesSendable me text now name (record
+    { leaves_it = λ channel is member. within }) (row now.channels (key name)) refl) room
     (entries list)

@@ -7,4 +7,5 @@ use Rattle.irc_membership.specs.Part.{part_one}
 
 -- an act is what leaving one channel does, in the room as some steps leave it
 abbrev pub IsPartAhead : Context → List ℕ → List Act → List ℕ → Act → Type 0
-IsPartAhead context text steps name act = part_one context.me.now text (ahead context.room.now.room steps) name ≡ act ∷ []
+IsPartAhead context text steps name act =
+    part_one context.me.now text (ahead context.room.now.room steps) name ≡ act ∷ []

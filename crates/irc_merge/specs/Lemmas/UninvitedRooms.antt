@@ -10,16 +10,19 @@ use Rattle.irc_room.specs.Room.{Room, IsWellFormed, IsSoundRow}
 use Rattle.irc_room.specs.Lemmas.Rows.{not_none, not_true, same_some}
 use Rattle.irc_merge.specs.Merge.{uninvited, channel_uninvited}
 
-pub uninvited_row : (o : Option Channel) (channel : Channel) → option_and_then channel_uninvited o ≡ Some channel
+pub uninvited_row : (o : Option Channel) (channel : Channel)
+    → option_and_then channel_uninvited o ≡ Some channel
     → (before : Channel) × ((o ≡ Some before) × (record before { invited = empty } ≡ channel))
 uninvited_row None channel is = not_none channel is
 uninvited_row (Some before) channel is = (before, (refl, same_some _ channel is))
 
-uninvited_sound : (users : Table User) (fold : List ℕ) (channel : Channel) → IsSoundRow users fold channel → IsSoundRow users fold (record channel { invited = empty })
+uninvited_sound : (users : Table User) (fold : List ℕ) (channel : Channel)
+    → IsSoundRow users fold channel → IsSoundRow users fold (record channel { invited = empty })
 uninvited_sound users fold channel sound = record {
   named = sound.named;
   members_known = sound.members_known;
-  invited_known = λ q there. not_true (sym (ap is_some (get-empty {X = Unit {0}} fold_cmp q)) ∙ there);
+  invited_known =
+      λ q there. not_true (sym (ap is_some (get-empty {X = Unit {0}} fold_cmp q)) ∙ there);
   some_member = sound.some_member;
 }
 
@@ -27,6 +30,8 @@ pub uninvited_well : (room : Room) → IsWellFormed room → IsWellFormed (uninv
 uninvited_well room well = record {
   users_named = well.users_named;
   channels_sound = λ fold channel is.
-      let found = uninvited_row (row room.channels fold) channel (sym (row-each channel_uninvited room.channels fold) ∙ is) in
-      subst (IsSoundRow room.users fold) found.1.1 (uninvited_sound room.users fold found.0 (well.channels_sound fold found.0 found.1.0));
+      let found = uninvited_row (row room.channels fold) channel
+      (sym (row-each channel_uninvited room.channels fold) ∙ is) in
+      subst (IsSoundRow room.users fold) found.1.1
+      (uninvited_sound room.users fold found.0 (well.channels_sound fold found.0 found.1.0));
 }

@@ -1,5 +1,8 @@
--- The changes that set the modes of a channel are readable: all but the bans at once, and the bans three at a time.
-use Rattle.std.proofs.Common.{◌≡◌, ℕ, ◌+◌, ◌≤◌, Bool, true, false, cond, not, ◌&&◌, Option, Some, None, IfSome, List, [], ◌∷◌, ◌++◌, length, nat_eq, count_by, refl, ap, ◌∙◌, arith}
+-- The changes that set the modes of a channel are readable: all but the bans at once, and the bans
+-- three at a time.
+use Rattle.std.proofs.Common.{◌≡◌, ℕ, ◌+◌, ◌≤◌, Bool, true, false, cond, not, ◌&&◌, Option, Some}
+use Rattle.std.proofs.Common.{None, IfSome, List, [], ◌∷◌, ◌++◌, length, nat_eq, count_by, refl, ap}
+use Rattle.std.proofs.Common.{◌∙◌, arith}
 use Rattle.std.proofs.lemmas.Bool.{and_from}
 use Rattle.std.proofs.lemmas.List.Folds.{list_all-append}
 use Rattle.std.proofs.lemmas.List.Sums.{sum_by-cons, sum_by-append}
@@ -15,7 +18,8 @@ use Rattle.irc_modes.specs.declared.modes.Privacy.TheVariants.{Public, Private, 
 use Rattle.irc_modes.specs.Modes.{is_nil}
 use Rattle.irc_modes.specs.Letters.{letter_byte}
 use Rattle.irc_mode_words.specs.ModeLaws.{SetIsReadable, BansAreReadable}
-use Rattle.irc_modes.specs.ModesSet.{AreWithinLimits, IsLimit, set, flag_set, privacy_set, key_set, limit_set, set_changes, ban_changes}
+use Rattle.irc_modes.specs.ModesSet.{AreWithinLimits, IsLimit, set, flag_set, privacy_set, key_set}
+use Rattle.irc_modes.specs.ModesSet.{limit_set, set_changes, ban_changes}
 use Rattle.irc_mode_words.specs.Readable.{IsOnce, has_its_word, has_parameter, is_of, is_worded}
 use Rattle.irc_mode_words.specs.Lemmas.WrittenLimit.{written_limit}
 
@@ -29,35 +33,57 @@ record AreAtMost (words : ℕ) (of : ModeLetter → ℕ) (changes : List ModeCha
   few : count_by is_worded changes ≤ words
   once : (which : ModeLetter) → count_by (is_of which) changes ≤ of which
 
-joined : (words more : ℕ) (of others : ModeLetter → ℕ) (changes later : List ModeChange) → AreAtMost words of changes → AreAtMost more others later
+joined : (words more : ℕ) (of others : ModeLetter → ℕ) (changes later : List ModeChange)
+    → AreAtMost words of changes → AreAtMost more others later
     → AreAtMost (words + more) (λ which. of which + others which) (changes ++ later)
 joined words more of others changes later front back = record {
-  worded = list_all-append has_its_word changes later ∙ and_from (list_all has_its_word changes) (list_all has_its_word later) front.worded back.worded;
-  few = omega (arith, sum_by-append (λ c. cond (is_worded c) 1 0) changes later, front.few, back.few);
-  once = λ which. omega (arith, sum_by-append (λ c. cond (is_of which c) 1 0) changes later, front.once which, back.once which);
+  worded = list_all-append has_its_word changes later ∙ and_from (list_all has_its_word changes)
+      (list_all has_its_word later) front.worded back.worded;
+  few =
+      omega (arith, sum_by-append (λ c. cond (is_worded c) 1 0) changes later, front.few, back.few);
+  once = λ which. omega (
+    arith,
+    sum_by-append (λ c. cond (is_of which c) 1 0) changes later,
+    front.once which,
+    back.once which,
+  );
 }
 
-flag : (on : Bool) (which : ModeLetter) → has_parameter true which ≡ false → AreAtMost 0 (λ w. one_if w which) (flag_set on which)
-flag true which bare = record { worded = ap (λ b. not b && true) bare; few = omega arith; once = λ w. omega arith }
+flag : (on : Bool) (which : ModeLetter) → has_parameter true which ≡ false
+    → AreAtMost 0 (λ w. one_if w which) (flag_set on which)
+flag true which bare =
+    record { worded = ap (λ b. not b && true) bare; few = omega arith; once = λ w. omega arith }
 flag false which bare = record { worded = refl; few = omega arith; once = λ w. omega arith }
 
-privacy : (p : Privacy) → AreAtMost 0 (λ w. one_if w letter.Private + one_if w letter.Secret) (privacy_set p)
+privacy : (p : Privacy) → AreAtMost 0 (λ w. one_if w letter.Private + one_if w letter.Secret)
+    (privacy_set p)
 privacy Public = record { worded = refl; few = omega arith; once = λ w. omega arith }
 privacy Private = record { worded = refl; few = omega arith; once = λ w. omega arith }
 privacy Secret = record { worded = refl; few = omega arith; once = λ w. omega arith }
 
-some_key : (k : Option (List ℕ)) → IfSome k IsKey → AreAtMost 1 (λ w. one_if w letter.Key) (key_set k)
+some_key : (k : Option (List ℕ)) → IfSome k IsKey
+    → AreAtMost 1 (λ w. one_if w letter.Key) (key_set k)
 some_key None is = record { worded = refl; few = omega arith; once = λ w. omega arith }
-some_key (Some key) is = record { worded = and_from (is_key key) true is refl; few = omega arith; once = λ w. omega arith }
+some_key (Some key) is = record {
+  worded = and_from (is_key key) true is refl;
+  few = omega arith;
+  once = λ w. omega arith;
+}
 
-some_limit : (l : Option ℕ) → IfSome l IsLimit → AreAtMost 1 (λ w. one_if w letter.Limit) (limit_set l)
+some_limit : (l : Option ℕ) → IfSome l IsLimit
+    → AreAtMost 1 (λ w. one_if w letter.Limit) (limit_set l)
 some_limit None is = record { worded = refl; few = omega arith; once = λ w. omega arith }
-some_limit (Some limit) is = record { worded = and_from _ true (written_limit limit is) refl; few = omega arith; once = λ w. omega arith }
+some_limit (Some limit) is = record {
+  worded = and_from _ true (written_limit limit is) refl;
+  few = omega arith;
+  once = λ w. omega arith;
+}
 
 -- each letter is one of them
 abbrev of_each : ModeLetter → ℕ
 of_each w =
-    one_if w letter.InviteOnly + (one_if w letter.Moderated + (one_if w letter.NoOutside + ((one_if w letter.Private + one_if w letter.Secret)
+    one_if w letter.InviteOnly + (one_if w letter.Moderated
+    + (one_if w letter.NoOutside + ((one_if w letter.Private + one_if w letter.Secret)
     + (one_if w letter.TopicLocked + (one_if w letter.Key + one_if w letter.Limit)))))
 
 one_of_each : (which : ModeLetter) → of_each which ≤ 1
@@ -73,7 +99,8 @@ one_of_each letter.Ban = omega arith
 one_of_each letter.Operator = omega arith
 one_of_each letter.Voice = omega arith
 
-all_letters : (m : Modes) → AreWithinLimits m → AreAtMost (0 + (0 + (0 + (0 + (0 + (1 + 1)))))) of_each (set_changes m)
+all_letters : (m : Modes) → AreWithinLimits m
+    → AreAtMost (0 + (0 + (0 + (0 + (0 + (1 + 1)))))) of_each (set_changes m)
 all_letters m h =
     joined _ _ _ _ _ _ (flag m.invite_only letter.InviteOnly refl)
     (joined _ _ _ _ _ _ (flag m.moderated letter.Moderated refl)
@@ -119,13 +146,20 @@ all_bans (mask ∷ bans) masks =
     let rest = all_bans bans (second_so (is_ban_mask mask) (list_all is_ban_mask bans) masks) in
     record {
       worded =
-          and_from (is_ban_mask mask) (list_all has_its_word (ban_changes bans)) (first_so (is_ban_mask mask) (list_all is_ban_mask bans) masks)
+          and_from (is_ban_mask mask) (list_all has_its_word (ban_changes bans))
+          (first_so (is_ban_mask mask) (list_all is_ban_mask bans) masks)
           rest.worded;
-      few = omega (arith, sum_by-cons (λ c. cond (is_worded c) 1 0) (set letter.Ban (Some mask)) (ban_changes bans), rest.few);
+      few = omega (
+        arith,
+        sum_by-cons (λ c. cond (is_worded c) 1 0) (set letter.Ban (Some mask))
+            (ban_changes bans),
+        rest.few,
+      );
       once = λ which single.
           omega (
             arith,
-            sum_by-cons (λ c. cond (is_of which c) 1 0) (set letter.Ban (Some mask)) (ban_changes bans),
+            sum_by-cons (λ c. cond (is_of which c) 1 0) (set letter.Ban (Some mask))
+                (ban_changes bans),
             rest.once which single,
             no_ban which single,
           );

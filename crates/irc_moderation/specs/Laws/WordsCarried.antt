@@ -1,12 +1,16 @@
--- What is read of the words of a MODE has parameters that a line can carry, where it can carry the words.
-use Rattle.std.specs.Prelude.{⊤, ℕ, Bool, true, false, ◌++◌, Option, Some, None, List, [], ◌∷◌, drop, nat_eq}
+-- What is read of the words of a MODE has parameters that a line can carry, where it can carry the
+-- words.
+use Rattle.std.specs.Prelude.{⊤, ℕ, Bool, true, false, ◌++◌, Option, Some, None, List, [], ◌∷◌}
+use Rattle.std.specs.Prelude.{drop, nat_eq}
 use Rattle.std.specs.List.{AllByRecursion}
 use Rattle.std.specs.Option.{IfSome}
 use Rattle.irc_line.specs.Carried.{IsCarried}
 use Rattle.irc_modes.specs.declared.modes.ModeLetter.{ModeLetter}
 use Rattle.irc_modes.specs.declared.modes.ModeLetter.TheVariants as letter
 use Rattle.irc_modes.specs.Letters.{plus_byte}
-use Rattle.irc_mode_words.specs.ModeWords.{Asked, change, Reading, mode_of, needs, answer, reading_of, reading, next_word, letter_asks, words_after, is_sign, letters_read, counts, counted, modes_read}
+use Rattle.irc_mode_words.specs.ModeWords.{Asked, change, Reading, mode_of, needs, answer}
+use Rattle.irc_mode_words.specs.ModeWords.{reading_of, reading, next_word, letter_asks, words_after}
+use Rattle.irc_mode_words.specs.ModeWords.{is_sign, letters_read, counts, counted, modes_read}
 use Rattle.irc_acts.specs.ByTest.{by_test}
 
 abbrev pub IsCarriedAsked : Asked → Type 0
@@ -38,16 +42,18 @@ answer_carried plus letter.Operator None carried = tt
 answer_carried plus letter.Voice (Some word) carried = carried
 answer_carried plus letter.Voice None carried = tt
 
-reading_carried : (plus : Bool) (byte : ℕ) (mode : Option ModeLetter) (next : Option (List ℕ)) → IfSome next IsCarried
-    → IsCarriedReading (reading_of plus byte mode next)
+reading_carried : (plus : Bool) (byte : ℕ) (mode : Option ModeLetter) (next : Option (List ℕ))
+    → IfSome next IsCarried → IsCarriedReading (reading_of plus byte mode next)
 reading_carried plus byte None next carried = tt
 reading_carried plus byte (Some which) next carried = answer_carried plus which next carried
 
-next_carried : (words : List (List ℕ)) → AllByRecursion IsCarried words → IfSome (next_word words) IsCarried
+next_carried : (words : List (List ℕ)) → AllByRecursion IsCarried words
+    → IfSome (next_word words) IsCarried
 next_carried [] all = tt
 next_carried (word ∷ words) all = all.0
 
-behind_first : (words : List (List ℕ)) → AllByRecursion IsCarried words → AllByRecursion IsCarried (drop 1 words)
+behind_first : (words : List (List ℕ)) → AllByRecursion IsCarried words
+    → AllByRecursion IsCarried (drop 1 words)
 behind_first [] all = tt
 behind_first (word ∷ words) all = all.1
 
@@ -58,19 +64,23 @@ after_carried plus byte words all =
     (letter_asks plus (mode_of byte)) (drop 1 words) words (λ takes. behind_first words all)
     (λ none. all)
 
-letters_carried : (plus : Bool) (letters : List ℕ) (words : List (List ℕ)) → AllByRecursion IsCarried words
+letters_carried : (plus : Bool) (letters : List ℕ) (words : List (List ℕ))
+    → AllByRecursion IsCarried words
     → AllByRecursion IsCarriedReading (letters_read plus letters words)
 letters_carried plus [] words all = tt
 letters_carried plus (byte ∷ letters) words all =
-    by_test (λ (readings : List Reading). AllByRecursion IsCarriedReading readings) (is_sign byte) (letters_read (nat_eq byte plus_byte) letters words)
+    by_test (λ (readings : List Reading). AllByRecursion IsCarriedReading readings) (is_sign byte)
+    (letters_read (nat_eq byte plus_byte) letters words)
     (reading plus byte (next_word words) ∷ letters_read plus letters (words_after plus byte words))
     (λ sign. letters_carried (nat_eq byte plus_byte) letters words all)
     (λ other. (
       reading_carried plus byte (mode_of byte) (next_word words) (next_carried words all),
-      letters_carried plus letters (words_after plus byte words) (after_carried plus byte words all),
+      letters_carried plus letters (words_after plus byte words)
+          (after_carried plus byte words all),
     ))
 
-counted_carried : (earlier readings : List Reading) → AllByRecursion IsCarriedReading readings → AllByRecursion IsCarriedAsked (counted earlier readings)
+counted_carried : (earlier readings : List Reading) → AllByRecursion IsCarriedReading readings
+    → AllByRecursion IsCarriedAsked (counted earlier readings)
 counted_carried earlier [] all = tt
 counted_carried earlier (reading ∷ later) all =
     let rest = counted_carried (earlier ++ reading ∷ []) later all.1 in
@@ -79,6 +89,8 @@ counted_carried earlier (reading ∷ later) all =
     (counts earlier reading) (reading.asked ∷ []) []
     (λ counts. (all.0, rest)) (λ dropped. rest)
 
-pub read_carried : (words : List (List ℕ)) → AllByRecursion IsCarried words → AllByRecursion IsCarriedAsked (modes_read words)
+pub read_carried : (words : List (List ℕ)) → AllByRecursion IsCarried words
+    → AllByRecursion IsCarriedAsked (modes_read words)
 read_carried [] all = tt
-read_carried (letters ∷ words) all = counted_carried [] (letters_read true letters words) (letters_carried true letters words all.1)
+read_carried (letters ∷ words) all =
+    counted_carried [] (letters_read true letters words) (letters_carried true letters words all.1)

@@ -1,4 +1,5 @@
--- What the loop over the letters of one who is no operator is at: whether a change was refused already.
+-- What the loop over the letters of one who is no operator is at: whether a change was refused
+-- already.
 use Rattle.std.specs.Prelude.{Bool, true, false, not, ◌&&◌, List, [], ◌∷◌, if◌then◌else◌}
 use Rattle.std.specs.List.{flat_map}
 use Rattle.irc_channels.specs.declared.channel.Channel.{Channel}
@@ -14,7 +15,8 @@ is_change other = false
 
 -- what one letter is answered
 abbrev pub denied_one : Bool → Channel → Asked → List Act
-denied_one refused start item = if is_change item && not refused then Answer (ChanOPrivsNeeded start.name) ∷ [] else letter_replies start item
+denied_one refused start item = if is_change item && not refused
+    then Answer (ChanOPrivsNeeded start.name) ∷ [] else letter_replies start item
 
 -- what the letters that are left are answered
 abbrev pub denied_left : Bool → Channel → List Asked → List Act

@@ -18,20 +18,29 @@ outcome_of_each room channel items = served room.room.users channel channel (all
 
 -- what comes of one, in the channel as the changes that are kept leave it
 abbrev pub outcome_of_one : Kept → Channel → KeptChanges → ModeItem → Outcome
-outcome_of_one room channel kept item = one_served room.room.users channel (channel_behind kept channel) (asked item)
+outcome_of_one room channel kept item =
+    one_served room.room.users channel (channel_behind kept channel) (asked item)
 
 -- a call appends the replies to all letters
-abbrev pub AnswersEach : Kept → Channel → List ModeItem → Vec Act → Vec Act → Result (Unit {0}) AllocError → Type 0
-AnswersEach room channel items old new result = AddsTo result old new (outcome_of_each room channel items).replies
+abbrev pub AnswersEach : Kept → Channel → List ModeItem → Vec Act → Vec Act
+    → Result (Unit {0}) AllocError → Type 0
+AnswersEach room channel items old new result =
+    AddsTo result old new (outcome_of_each room channel items).replies
 
 -- a call keeps the changes of all letters, and no others
-abbrev pub ChangesEach : Kept → Channel → List ModeItem → KeptChanges → Result (Unit {0}) AllocError → Type 0
-ChangesEach room channel items new result = OnOk result (new.changes.items ≡ (outcome_of_each room channel items).changes)
+abbrev pub ChangesEach : Kept → Channel → List ModeItem → KeptChanges → Result (Unit {0}) AllocError
+    → Type 0
+ChangesEach room channel items new result =
+    OnOk result (new.changes.items ≡ (outcome_of_each room channel items).changes)
 
 -- a call appends the reply to one letter
-abbrev pub AnswersOne : Kept → Channel → KeptChanges → ModeItem → Vec Act → Vec Act → Result (Unit {0}) AllocError → Type 0
-AnswersOne room channel kept item old new result = AddsTo result old new (outcome_of_one room channel kept item).replies
+abbrev pub AnswersOne : Kept → Channel → KeptChanges → ModeItem → Vec Act → Vec Act
+    → Result (Unit {0}) AllocError → Type 0
+AnswersOne room channel kept item old new result =
+    AddsTo result old new (outcome_of_one room channel kept item).replies
 
 -- a call keeps the change of one letter, too
-abbrev pub ChangesOne : Kept → Channel → KeptChanges → ModeItem → KeptChanges → Result (Unit {0}) AllocError → Type 0
-ChangesOne room channel old item new result = AddsTo result old.changes new.changes (outcome_of_one room channel old item).changes
+abbrev pub ChangesOne : Kept → Channel → KeptChanges → ModeItem → KeptChanges
+    → Result (Unit {0}) AllocError → Type 0
+ChangesOne room channel old item new result =
+    AddsTo result old.changes new.changes (outcome_of_one room channel old item).changes

@@ -1,5 +1,6 @@
 -- Bans of two lists, joined: what each fold has, and that they are in order, whatever the lists.
-use Rattle.std.proofs.Common.{◌≡◌, ℕ, Bool, true, false, cond, Option, Some, None, List, [], ◌∷◌, refl, sym, ◌∙◌, ap, map}
+use Rattle.std.proofs.Common.{◌≡◌, ℕ, Bool, true, false, cond, Option, Some, None, List, [], ◌∷◌}
+use Rattle.std.proofs.Common.{refl, sym, ◌∙◌, ap, map}
 use Rattle.std.proofs.lemmas.Bool.{and_from}
 use Rattle.std.specs.Prelude.{find}
 use Rattle.std.specs.Cmp.{first_so, second_so}
@@ -8,12 +9,15 @@ use Rattle.std.specs.Ordering.{is_lt}
 use Rattle.std.specs.FinMap.{entries, values}
 use Rattle.irc_names.specs.Fold.{key, same}
 use Rattle.irc_names.specs.Greater.{bytes_cmp, greater_of}
-use Rattle.irc_names.specs.GreaterLaws.{greater_of-itself, greater_text-even, greater_text-associates}
+use Rattle.irc_names.specs.GreaterLaws.{greater_of-itself, greater_text-even}
+use Rattle.irc_names.specs.GreaterLaws.{greater_text-associates}
 use Rattle.irc_names.specs.Tables.{Table, row, both}
 use Rattle.irc_names.specs.TableLaws.{same_table, row-both}
 use Rattle.irc_modes.specs.Bans.{IsBanList}
 use Rattle.irc_modes.specs.Joined.{by_fold, joined_bans}
-use Rattle.irc_modes.specs.Lemmas.BansByFold.{EachRow, AreKeyed, rows-by_fold, keyed-by_fold, entries_so, rises-values, by_fold-values, values-by_fold, row-by_fold, same_bans}
+use Rattle.irc_modes.specs.Lemmas.BansByFold.{EachRow, AreKeyed, rows-by_fold, keyed-by_fold}
+use Rattle.irc_modes.specs.Lemmas.BansByFold.{entries_so, rises-values, by_fold-values}
+use Rattle.irc_modes.specs.Lemmas.BansByFold.{values-by_fold, row-by_fold, same_bans}
 
 -- two lists as one table
 abbrev together : List (List ℕ) → List (List ℕ) → Table (List ℕ)

@@ -1,5 +1,6 @@
 -- The text of a limit: the number that it is, and the limit that is read of it.
-use Rattle.std.proofs.Common.{◌≡◌, ℕ, ◌+◌, ◌-◌, ◌*◌, ◌^◌, ◌<◌, ◌≤◌, true, ◌&&◌, List, length, nat_le, fold, decimal, arith, rules}
+use Rattle.std.proofs.Common.{◌≡◌, ℕ, ◌+◌, ◌-◌, ◌*◌, ◌^◌, ◌<◌, ◌≤◌, true, ◌&&◌, List, length}
+use Rattle.std.proofs.Common.{nat_le, fold, decimal, arith, rules}
 use Rattle.std.proofs.lemmas.Bool.{and_from}
 use Rattle.std.proofs.lemmas.Bool.Decides.{nat_tests}
 use Rattle.std.proofs.lemmas.Fmt.{digits_decimal, digits_value-decimal, length-decimal-le}
@@ -25,8 +26,10 @@ pub limit_number : (digits : List ℕ) → is_limit digits ≡ true → IsLimit 
 unfolding is_limit
 limit_number digits h =
     let all = list_all is_ascii_digit digits && fits max_limit_digits digits in
-    let range : (nat_le 1 (number_of digits) && nat_le (number_of digits) max_limit) ≡ true = second_so all _ h in
-    let least : nat_le 1 (number_of digits) ≡ true = first_so (nat_le 1 (number_of digits)) _ range in
+    let range : (nat_le 1 (number_of digits) && nat_le (number_of digits) max_limit) ≡ true =
+    second_so all _ h in
+    let least : nat_le 1 (number_of digits) ≡ true =
+    first_so (nat_le 1 (number_of digits)) _ range in
     record { least = grind (arith, nat_tests); most = limit-most digits h }
 
 -- a number's text writes that number
@@ -38,9 +41,12 @@ unfolding is_limit
 limit_written limit in_range =
     let number = number_written limit in_range in
     let small : limit < 2 ^ 64 = omega (arith, in_range.most) in
-    let short : length (decimal limit) ≤ max_limit_digits = length-decimal-le 5 limit (omega arith) (omega (arith, in_range.most)) small in
+    let short : length (decimal limit) ≤ max_limit_digits =
+    length-decimal-le 5 limit (omega arith) (omega (arith, in_range.most)) small in
     let least : 1 ≤ number_of (decimal limit) = omega (arith, number, in_range.least) in
     let most : number_of (decimal limit) ≤ max_limit = omega (arith, number, in_range.most) in
     and_from (list_all is_ascii_digit (decimal limit) && fits max_limit_digits (decimal limit)) _
-    (and_from (list_all is_ascii_digit (decimal limit)) _ (digits_decimal numerals limit small) (grind (arith, nat_tests)))
-    (and_from (nat_le 1 (number_of (decimal limit))) _ (grind (arith, nat_tests)) (grind (arith, nat_tests)))
+    (and_from (list_all is_ascii_digit (decimal limit)) _ (digits_decimal numerals limit small)
+    (grind (arith, nat_tests)))
+    (and_from (nat_le 1 (number_of (decimal limit))) _ (grind (arith, nat_tests))
+    (grind (arith, nat_tests)))

@@ -1,5 +1,6 @@
 -- Of changes that set what is set already none raises anything.
-use Rattle.std.proofs.Common.{◌≡◌, ℕ, Bool, true, false, cond, not, ◌||◌, Option, Some, None, IfSome, List, [], ◌∷◌, ◌++◌, find, decimal, refl, ◌∙◌, ap}
+use Rattle.std.proofs.Common.{◌≡◌, ℕ, Bool, true, false, cond, not, ◌||◌, Option, Some, None}
+use Rattle.std.proofs.Common.{IfSome, List, [], ◌∷◌, ◌++◌, find, decimal, refl, ◌∙◌, ap}
 use Rattle.std.proofs.lemmas.Bool.{or_from}
 use Rattle.std.proofs.lemmas.List.Folds.{list_any-append}
 use Rattle.std.specs.declared.cmp.Ordering.{Ordering}
@@ -20,7 +21,8 @@ use Rattle.irc_modes.specs.declared.modes.Privacy.{Privacy}
 use Rattle.irc_modes.specs.declared.modes.Privacy.TheVariants.{Public, Private, Secret}
 use Rattle.irc_modes.specs.Bans.{before, rises}
 use Rattle.irc_modes.specs.Modes.{mode_step}
-use Rattle.irc_modes.specs.ModesSet.{IsLimit, AreWithinLimits, flag_set, privacy_set, key_set, limit_set, set_changes, ban_changes}
+use Rattle.irc_modes.specs.ModesSet.{IsLimit, AreWithinLimits, flag_set, privacy_set, key_set}
+use Rattle.irc_modes.specs.ModesSet.{limit_set, set_changes, ban_changes}
 use Rattle.irc_modes.specs.Raised.{is_above, is_public, is_secret, raises, raising}
 use Rattle.irc_modes.specs.Lemmas.BanPlaces.{Side, low, level, high, side}
 use Rattle.irc_modes.specs.Lemmas.LimitText.{limit_written, number_written}

@@ -1,6 +1,7 @@
 -- What is raised of a burst's changes, one after another, makes of modes those and the burst's,
 -- joined.
-use Rattle.std.proofs.Common.{◌≡◌, ℕ, Bool, true, false, cond, ◌||◌, Option, Some, None, IfSome, List, [], ◌∷◌, ◌++◌, fold, find, decimal, refl, sym, ◌∙◌, ap}
+use Rattle.std.proofs.Common.{◌≡◌, ℕ, Bool, true, false, cond, ◌||◌, Option, Some, None, IfSome}
+use Rattle.std.proofs.Common.{List, [], ◌∷◌, ◌++◌, fold, find, decimal, refl, sym, ◌∙◌, ap}
 use Rattle.std.proofs.lemmas.List.Sums.{fold-append}
 use Rattle.std.specs.List.{list_all}
 use Rattle.std.specs.Cmp.{first_so, second_so}
@@ -18,7 +19,8 @@ use Rattle.irc_modes.specs.declared.modes.Privacy.{Privacy}
 use Rattle.irc_modes.specs.declared.modes.Privacy.TheVariants.{Public, Private, Secret}
 use Rattle.irc_modes.specs.Bans.{before, rises, IsBanList}
 use Rattle.irc_modes.specs.Modes.{with_ban, mode_step, modes_after}
-use Rattle.irc_modes.specs.ModesSet.{IsLimit, AreWithinLimits, flag_set, privacy_set, key_set, limit_set, set_changes, ban_changes}
+use Rattle.irc_modes.specs.ModesSet.{IsLimit, AreWithinLimits, flag_set, privacy_set, key_set}
+use Rattle.irc_modes.specs.ModesSet.{limit_set, set_changes, ban_changes}
 use Rattle.irc_modes.specs.Joined.{joined_bans, joined_modes, joined_privacy}
 use Rattle.irc_modes.specs.Raised.{is_above, raises, raising, raise_step, raise_ban}
 use Rattle.irc_modes.specs.Lemmas.BanPlaces.{Side, low, level, high, side, with_rises}

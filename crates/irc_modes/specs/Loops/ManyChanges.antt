@@ -1,5 +1,5 @@
--- What the code's loops over changes of modes are at: the changes of the bans and of the other modes are made apart, since they do not
--- touch each other.
+-- What the code's loops over changes of modes are at: the changes of the bans and of the other
+-- modes are made apart, since they do not touch each other.
 use Rattle.std.specs.Prelude.{ℕ, Bool, Option, Some, None, List, fold}
 use Rattle.irc_modes.specs.declared.modes.Modes.{Modes}
 use Rattle.irc_modes.specs.declared.modes.ModeChange.{ModeChange}

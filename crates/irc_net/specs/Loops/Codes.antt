@@ -7,4 +7,5 @@ use Rattle.irc_byte_network.specs.Loops.Codes.{byte_network_code}
 
 abbrev pub net_code : Coded NetView
 net_code =
-    code_by (Bool × ByteNetwork) (coded× coded_bool byte_network_code) (λ n. (n.failed, n.network)) (λ p. record { failed = p.0; network = p.1 }) (λ _. refl)
+    code_by (Bool × ByteNetwork) (coded× coded_bool byte_network_code) (λ n. (n.failed, n.network))
+    (λ p. record { failed = p.0; network = p.1 }) (λ _. refl)

@@ -19,4 +19,5 @@ pub record SettlesAt (counted : ℕ) (old new : ByteCourse) : Type 0 where
 
 -- a network came to rest, and what clients received until then is on the desk
 abbrev pub HasComeToRest : ℕ → ByteNetwork → Desk → ByteNetwork → Desk → Type 0
-HasComeToRest counted old before new after = SettlesAt counted (byte_course_at old before) (byte_course_at new after)
+HasComeToRest counted old before new after =
+    SettlesAt counted (byte_course_at old before) (byte_course_at new after)

@@ -10,7 +10,8 @@ use Rattle.irc_network.specs.Histories.{Past}
 use Rattle.irc_network.specs.Network.{Network, Site}
 
 abbrev pub link_code : Coded Link
-link_code = code_by (Name × Name) (coded× text_code text_code) (λ l. (l.near, l.far)) (λ p. record { near = p.0; far = p.1 }) (λ _. refl)
+link_code = code_by (Name × Name) (coded× text_code text_code) (λ l. (l.near, l.far))
+    (λ p. record { near = p.0; far = p.1 }) (λ _. refl)
 
 -- an item, by its kinds in turn
 abbrev pub ItemParts : Type 0
@@ -42,18 +43,22 @@ names_code = coded× text_code text_code
 
 abbrev pub item_code : Coded Item
 item_code =
-    code_by ItemParts (coded⊎ names_code (coded⊎ (coded× coded_ℕ text_code) (coded⊎ coded_ℕ (coded⊎ names_code names_code)))) item_parts item_made
+    code_by ItemParts (coded⊎ names_code (coded⊎ (coded× coded_ℕ text_code)
+    (coded⊎ coded_ℕ (coded⊎ names_code names_code)))) item_parts item_made
     made_of_parts
 
 abbrev pub past_code : Coded Past
 past_code =
-    code_by (List Item × List (List (List ℕ))) (coded× (coded_list item_code) (coded_list (coded_list text_code)))
+    code_by (List Item × List (List (List ℕ)))
+    (coded× (coded_list item_code) (coded_list (coded_list text_code)))
     (λ p. (p.items, p.received)) (λ p. record { items = p.0; received = p.1 }) (λ _. refl)
 
 abbrev pub network_code : Coded Network
 network_code =
-    code_by (List Name × (List Site × (List Link × (List Name × (List (List (List ℕ)) × (List Item × ℕ))))))
-    (coded× (coded_list text_code) (coded× (coded_list site_row.coded) (coded× (coded_list link_code) (coded× (coded_list text_code)
+    code_by (List Name
+    × (List Site × (List Link × (List Name × (List (List (List ℕ)) × (List Item × ℕ))))))
+    (coded× (coded_list text_code) (coded× (coded_list site_row.coded)
+    (coded× (coded_list link_code) (coded× (coded_list text_code)
     (coded× (coded_list (coded_list text_code)) (coded× (coded_list item_code) coded_ℕ))))))
     (λ n. (n.names, (n.sites, (n.links, (n.homes, (n.received, (n.items, n.taken)))))))
     (λ p. record {

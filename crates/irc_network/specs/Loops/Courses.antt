@@ -1,5 +1,6 @@
 -- A network as its code has it while something is done to it.
-use Rattle.std.specs.Prelude.{◌≡◌, ◌<◌, ℕ, zero, suc, true, Option, Some, None, List, [], ◌∷◌, length, Vec}
+use Rattle.std.specs.Prelude.{◌≡◌, ◌<◌, ℕ, zero, suc, true, Option, Some, None, List, [], ◌∷◌}
+use Rattle.std.specs.Prelude.{length, Vec}
 use Rattle.std.specs.List.{slice_get}
 use Rattle.std.specs.declared.alloc.Global.{Global}
 use Rattle.arrayvec.specs.ArrayVec.{ArrayVec}
@@ -14,7 +15,9 @@ use Rattle.irc_network.specs.declared.network.Ends.{Ends as KeptEnds}
 use Rattle.irc_network.specs.declared.put_out.PutOut.{PutOut}
 use Rattle.irc_network.specs.declared.desk.Desk.{Desk}
 use Rattle.irc_network.specs.Calls.{course_at}
-use Rattle.irc_network.specs.Network.{Course, Direction, LinkPlaces, Network, Site, all_sent_out, site_asked, site_asked_if, done_by, has_received, home_place, is_at_rest, left, sent_out, waiting, with_site}
+use Rattle.irc_network.specs.Network.{Course, Direction, LinkPlaces, Network, Site, all_sent_out}
+use Rattle.irc_network.specs.Network.{site_asked, site_asked_if, done_by, has_received, home_place}
+use Rattle.irc_network.specs.Network.{is_at_rest, left, sent_out, waiting, with_site}
 use Rattle.irc_network.specs.Views.{receipts_of}
 
 abbrev pub course : Network → List KeptReceipt → Course
@@ -51,23 +54,29 @@ sent_at place (Some sent) course = sent_out place sent course
 
 -- a server was asked for an event, and so was the one that a client has connected to
 abbrev pub IsAsked : ℕ → Event → Network → Desk → Network → Desk → Type 0
-IsAsked place event old before new after = course_at new after ≡ site_asked place (occurrence_of event) (course_at old before)
+IsAsked place event old before new after =
+    course_at new after ≡ site_asked place (occurrence_of event) (course_at old before)
 
 abbrev pub IsHomeAsked : ℕ → Event → Network → Desk → Network → Desk → Type 0
 IsHomeAsked client event old before new after =
-    course_at new after ≡ site_asked_if (home_place old client) (occurrence_of event) (course_at old before)
+    course_at new after ≡ site_asked_if (home_place old client) (occurrence_of event)
+    (course_at old before)
 
 -- all that was put out on the desk went its way
 abbrev pub AreSentOut : ℕ → Network → Desk → Network → Desk → Type 0
-AreSentOut place old before new after = course_at new after ≡ all_sent_out place before.out.outs (course_at old before)
+AreSentOut place old before new after =
+    course_at new after ≡ all_sent_out place before.out.outs (course_at old before)
 
 -- what was put out at one place there went its way
 abbrev pub IsSentAt : ℕ → ℕ → Network → Desk → Network → Desk → Type 0
-IsSentAt place at old before new after = course_at new after ≡ sent_at place (slice_get before.out.outs at) (course_at old before)
+IsSentAt place at old before new after =
+    course_at new after ≡ sent_at place (slice_get before.out.outs at) (course_at old before)
 
 -- a client received a line, which is among the lines of the call
-abbrev pub IsReceived : ℕ → List ℕ → Network → Vec KeptReceipt Global → Network → Vec KeptReceipt Global → Type 0
-IsReceived client text old before new after = course new after.items ≡ has_received client text (course old before.items)
+abbrev pub IsReceived : ℕ → List ℕ → Network → Vec KeptReceipt Global → Network
+    → Vec KeptReceipt Global → Type 0
+IsReceived client text old before new after =
+    course new after.items ≡ has_received client text (course old before.items)
 
 -- an item was done, and nothing was on the desk before
 abbrev pub IsDone : Item → Network → Network → Desk → Type 0

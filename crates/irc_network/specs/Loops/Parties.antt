@@ -24,7 +24,8 @@ parties_fault net one other = linking_fault net one.name.now other.name.now
 
 -- whether two servers keep one password for each other
 abbrev pub have_one_password : Party → Party → Bool
-have_one_password one other = are_equal (kept_for one.site.now other.name.now) (kept_for other.site.now one.name.now)
+have_one_password one other =
+    are_equal (kept_for one.site.now other.name.now) (kept_for other.site.now one.name.now)
 
 -- it is the server of this name, and this is its room
 pub record IsPartyOf (net : Network) (name : Name) (party : Party) : Type 0 where

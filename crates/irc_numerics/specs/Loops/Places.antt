@@ -1,7 +1,26 @@
 -- Where a reply stands in the order of the numbers.
 use Rattle.std.specs.Prelude.{⊤}
 use Rattle.irc_numerics.specs.declared.replies.Reply.{Reply}
-use Rattle.irc_numerics.specs.declared.replies.Reply.TheVariants.{Welcome, YourHost, Created, MyInfo, UserModeIs, LuserClient, LuserChannels, LuserMe, IsOn, WhoisUser, WhoisServer, EndOfWho, EndOfWhois, WhoisChannels, List as ListRow, ListEnd, ChannelModeIs, NoTopic, Topic, Inviting, WhoReply, NamReply, EndOfNames, BanList, EndOfBanList, NoSuchNick, NoSuchChannel, CannotSendToChan, TooManyChannels, TooManyTargets, NoOrigin, NoRecipient, NoTextToSend, UnknownCommand, NoMotd, NoNicknameGiven, ErroneousNickname, NicknameInUse, UserNotInChannel, NotOnChannel, UserOnChannel, NotRegistered, NeedMoreParams, AlreadyRegistered, KeySet}
+use Rattle.irc_numerics.specs.declared.replies.Reply.TheVariants.{Welcome, YourHost, Created}
+use Rattle.irc_numerics.specs.declared.replies.Reply.TheVariants.{MyInfo, UserModeIs, LuserClient}
+use Rattle.irc_numerics.specs.declared.replies.Reply.TheVariants.{LuserChannels, LuserMe, IsOn}
+use Rattle.irc_numerics.specs.declared.replies.Reply.TheVariants.{WhoisUser, WhoisServer, EndOfWho}
+use Rattle.irc_numerics.specs.declared.replies.Reply.TheVariants.{EndOfWhois, WhoisChannels}
+use Rattle.irc_numerics.specs.declared.replies.Reply.TheVariants.{List as ListRow, ListEnd}
+use Rattle.irc_numerics.specs.declared.replies.Reply.TheVariants.{ChannelModeIs, NoTopic, Topic}
+use Rattle.irc_numerics.specs.declared.replies.Reply.TheVariants.{Inviting, WhoReply, NamReply}
+use Rattle.irc_numerics.specs.declared.replies.Reply.TheVariants.{EndOfNames, BanList, EndOfBanList}
+use Rattle.irc_numerics.specs.declared.replies.Reply.TheVariants.{NoSuchNick, NoSuchChannel}
+use Rattle.irc_numerics.specs.declared.replies.Reply.TheVariants.{CannotSendToChan, TooManyChannels}
+use Rattle.irc_numerics.specs.declared.replies.Reply.TheVariants.{TooManyTargets, NoOrigin}
+use Rattle.irc_numerics.specs.declared.replies.Reply.TheVariants.{NoRecipient, NoTextToSend}
+use Rattle.irc_numerics.specs.declared.replies.Reply.TheVariants.{UnknownCommand, NoMotd}
+use Rattle.irc_numerics.specs.declared.replies.Reply.TheVariants.{NoNicknameGiven}
+use Rattle.irc_numerics.specs.declared.replies.Reply.TheVariants.{ErroneousNickname, NicknameInUse}
+use Rattle.irc_numerics.specs.declared.replies.Reply.TheVariants.{UserNotInChannel, NotOnChannel}
+use Rattle.irc_numerics.specs.declared.replies.Reply.TheVariants.{UserOnChannel, NotRegistered}
+use Rattle.irc_numerics.specs.declared.replies.Reply.TheVariants.{NeedMoreParams, AlreadyRegistered}
+use Rattle.irc_numerics.specs.declared.replies.Reply.TheVariants.{KeySet}
 
 -- from 311 on
 abbrev pub IsBehindStatistics : Reply → Type 0

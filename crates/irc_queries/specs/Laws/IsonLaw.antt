@@ -6,7 +6,8 @@ use Rattle.irc_queries.specs.Ison.{ison_steps}
 
 -- an ISON changes nothing and says nothing to others
 abbrev pub IsonOnlyAnswers : Type 0
-IsonOnlyAnswers = (room : Room) (params : List (List ℕ)) → effects_among (ison_steps room params) ≡ []
+IsonOnlyAnswers =
+    (room : Room) (params : List (List ℕ)) → effects_among (ison_steps room params) ≡ []
 
 pub ison_only_answers : IsonOnlyAnswers
 unfolding ison_steps

@@ -13,10 +13,12 @@ use Rattle.irc_queries.specs.Lusers.{channels_formed, lusers_steps}
 abbrev pub LusersOnlyAnswers : Type 0
 LusersOnlyAnswers = (room : Room) (place : Place) → effects_among (lusers_steps room place) ≡ []
 
-formed_answers : (channels : ℕ) (reply : Reply) → effects_among (channels_formed channels ++ Answer reply ∷ []) ≡ []
+formed_answers : (channels : ℕ) (reply : Reply)
+    → effects_among (channels_formed channels ++ Answer reply ∷ []) ≡ []
 formed_answers channels reply = by_test (nat_eq channels 0)
   where
-    by_test : (b : Bool) → effects_among (cond b [] (Answer (LuserChannels channels) ∷ []) ++ Answer reply ∷ []) ≡ []
+    by_test : (b : Bool)
+        → effects_among (cond b [] (Answer (LuserChannels channels) ∷ []) ++ Answer reply ∷ []) ≡ []
     by_test true = refl
     by_test false = refl
 

@@ -13,7 +13,8 @@ use Rattle.irc_queries.specs.Laws.WhoLaw.{who_only_answers}
 -- a query changes nothing and says nothing to others
 abbrev pub QueryOnlyAnswers : Type 0
 QueryOnlyAnswers =
-    (room : Room) (place : Place) (me : User) (params : List (List ℕ)) (asked : Query) → effects_among (query_steps room place me params asked) ≡ []
+    (room : Room) (place : Place) (me : User) (params : List (List ℕ)) (asked : Query)
+    → effects_among (query_steps room place me params asked) ≡ []
 
 pub query_only_answers : QueryOnlyAnswers
 query_only_answers room place me params query.List = list_only_answers room me params

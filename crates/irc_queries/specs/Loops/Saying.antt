@@ -1,4 +1,5 @@
--- What a LIST or a WHO puts out, part by part. Each relation is from what was put out before to what is put out now.
+-- What a LIST or a WHO puts out, part by part. Each relation is from what was put out before to
+-- what is put out now.
 use Rattle.std.specs.Prelude.{ℕ, Bool, is_some, List, [], ◌∷◌, ◌++◌, length, map}
 use Rattle.std.specs.Borrow.{Bor}
 use Rattle.std.specs.List.{filter_map, flat_map}
@@ -19,53 +20,64 @@ use Rattle.irc_answers.specs.Loops.NameLines.{is_shown}
 use Rattle.irc_answers.specs.Names.{listed, named_members}
 use Rattle.irc_queries.specs.List.{asked_entry, list_steps, listed_entries}
 use Rattle.irc_queries.specs.Said.{SaysSteps}
-use Rattle.irc_queries.specs.Who.{end_of_who, member_line, replies_of_members, who_replies, replies_of_seen, replies_of_users, who_steps}
+use Rattle.irc_queries.specs.Who.{end_of_who, member_line, replies_of_members, who_replies}
+use Rattle.irc_queries.specs.Who.{replies_of_seen, replies_of_users, who_steps}
 
 -- a LIST with these parameters is answered
 abbrev pub AnswersList : Context → List (List ℕ) → ℕ → Batch → Batch → Type 0
-AnswersList context params = SaysSteps context (list_steps context.room.now.room context.me.now params)
+AnswersList context params =
+    SaysSteps context (list_steps context.room.now.room context.me.now params)
 
 -- the entries of those of these channels that are listed
 abbrev pub SaysListed : Context → List Channel → ℕ → Batch → Batch → Type 0
-SaysListed context channels = SaysSteps context (listed_entries context.room.now.room.users context.me.now channels)
+SaysListed context channels =
+    SaysSteps context (listed_entries context.room.now.room.users context.me.now channels)
 
 abbrev pub SaysAllListed : Context → ℕ → Batch → Batch → Type 0
 SaysAllListed context = SaysListed context (values context.room.now.room.channels)
 
 -- the entries of channels of these names
 abbrev pub SaysNamed : Context → List (List ℕ) → ℕ → Batch → Batch → Type 0
-SaysNamed context names = SaysSteps context (flat_map (asked_entry context.room.now.room context.me.now) names)
+SaysNamed context names =
+    SaysSteps context (flat_map (asked_entry context.room.now.room context.me.now) names)
 
 abbrev pub SaysEntry : Context → List ℕ → ℕ → Batch → Batch → Type 0
 SaysEntry context name = SaysSteps context (asked_entry context.room.now.room context.me.now name)
 
--- how many members of a channel NAMES would name to the asker; whether the member of a row is named, where all are or only those without mode i
+-- how many members of a channel NAMES would name to the asker; whether the member of a row is
+-- named, where all are or only those without mode i
 abbrev pub named_here : Context → Channel → ℕ
-named_here context channel = length (named_members context.room.now.room.users context.me.now channel)
+named_here context channel =
+    length (named_members context.room.now.room.users context.me.now channel)
 
 abbrev pub is_named_row : Room → Bool → Row Flags → Bool
 is_named_row room all row = is_some (listed room.users (is_shown all) (row_entry row))
 
 -- a WHO with these parameters is answered
 abbrev pub AnswersWho : Context → List (List ℕ) → ℕ → Batch → Batch → Type 0
-AnswersWho context params = SaysSteps context (who_steps context.room.now.room (place_of context.routes.now) context.me.now params)
+AnswersWho context params = SaysSteps context
+    (who_steps context.room.now.room (place_of context.routes.now) context.me.now params)
 
 -- what is told of whom a word asks for, alone and with the end behind it
 abbrev pub SaysTold : Context → List ℕ → ℕ → Batch → Batch → Type 0
-SaysTold context asked = SaysSteps context (who_replies context.room.now.room (place_of context.routes.now) context.me.now asked)
+SaysTold context asked = SaysSteps context
+    (who_replies context.room.now.room (place_of context.routes.now) context.me.now asked)
 
 abbrev pub SaysAll : Context → List ℕ → List ℕ → ℕ → Batch → Batch → Type 0
 SaysAll context asked given =
-    SaysSteps context (who_replies context.room.now.room (place_of context.routes.now) context.me.now asked ++ end_of_who given ∷ [])
+    SaysSteps context (who_replies context.room.now.room
+    (place_of context.routes.now) context.me.now asked ++ end_of_who given ∷ [])
 
 -- whether the asker, whose own channels stand in these rows, sees a user
 abbrev pub asker_sees : Context → List (Bor (Row Channel)) → User → Bool
-asker_sees context own user = is_seen_from (map (λ (row : Bor (Row Channel)). row.now.value) own) context.me.now user
+asker_sees context own user =
+    is_seen_from (map (λ (row : Bor (Row Channel)). row.now.value) own) context.me.now user
 
 -- what is told of whom a word asks for, of those who are seen so
 abbrev pub SaysSeen : Context → List (Bor (Row Channel)) → List ℕ → ℕ → Batch → Batch → Type 0
 SaysSeen context own asked =
-    SaysSteps context (replies_of_seen context.room.now.room (place_of context.routes.now) (λ user. asker_sees context own user) context.me.now asked)
+    SaysSteps context (replies_of_seen context.room.now.room (place_of context.routes.now)
+    (λ user. asker_sees context own user) context.me.now asked)
 
 -- of the members of the channel of a name, where it is there and known
 abbrev pub SaysFound : Context → List (Bor (Row Channel)) → List ℕ → ℕ → Batch → Batch → Type 0
@@ -76,17 +88,22 @@ SaysFound context own name =
     context.me.now (row room.channels (key name)))
 
 -- of these members of a channel
-abbrev pub SaysMembers : Context → List (Bor (Row Channel)) → Channel → List (List ℕ × Flags) → ℕ → Batch → Batch → Type 0
+abbrev pub SaysMembers : Context → List (Bor (Row Channel)) → Channel → List (List ℕ × Flags) → ℕ
+    → Batch → Batch → Type 0
 SaysMembers context own channel members =
-    SaysSteps context (filter_map (member_line context.room.now.room (place_of context.routes.now) (λ user. asker_sees context own user) channel) members)
+    SaysSteps context (filter_map (member_line context.room.now.room (place_of context.routes.now)
+    (λ user. asker_sees context own user) channel) members)
 
-abbrev pub SaysAllMembers : Context → List (Bor (Row Channel)) → Channel → ℕ → Batch → Batch → Type 0
+abbrev pub SaysAllMembers : Context → List (Bor (Row Channel)) → Channel → ℕ → Batch → Batch
+    → Type 0
 SaysAllMembers context own channel = SaysMembers context own channel (entries channel.members)
 
 -- of these users, where a mask asks for them
-abbrev pub SaysUsers : Context → List (Bor (Row Channel)) → List ℕ → List User → ℕ → Batch → Batch → Type 0
+abbrev pub SaysUsers : Context → List (Bor (Row Channel)) → List ℕ → List User → ℕ → Batch → Batch
+    → Type 0
 SaysUsers context own mask users =
-    SaysSteps context (replies_of_users (place_of context.routes.now) (λ user. asker_sees context own user) mask users)
+    SaysSteps context (replies_of_users (place_of context.routes.now)
+    (λ user. asker_sees context own user) mask users)
 
 abbrev pub SaysAllUsers : Context → List (Bor (Row Channel)) → List ℕ → ℕ → Batch → Batch → Type 0
 SaysAllUsers context own mask = SaysUsers context own mask (values context.room.now.room.users)

@@ -20,7 +20,8 @@ use Rattle.irc_answers.specs.Loops.FilledLines.{Came}
 use Rattle.irc_answers.specs.Names.{in_lines}
 use Rattle.irc_queries.specs.Ison.{ison_steps, users_named}
 use Rattle.irc_queries.specs.Lusers.{lusers_steps}
-use Rattle.irc_queries.specs.Whois.{channels_line, info_of, place_in, places, whois_replies, told_of_list, told_of_one, whois_steps}
+use Rattle.irc_queries.specs.Whois.{channels_line, info_of, place_in, places, whois_replies}
+use Rattle.irc_queries.specs.Whois.{told_of_list, told_of_one, whois_steps}
 
 -- the values of these
 abbrev pub users_now : List (Bor User) → List User
@@ -48,24 +49,30 @@ abbrev pub lusers_here : Context → List Act
 lusers_here context = lusers_steps context.room.now.room (place_of context.routes.now)
 
 abbrev pub whois_here : Context → List (List ℕ) → List Act
-whois_here context params = whois_steps context.room.now.room (place_of context.routes.now) context.me.now params
+whois_here context params =
+    whois_steps context.room.now.room (place_of context.routes.now) context.me.now params
 
 -- what is told of a comma list, of these nicknames, of one, and of a user
 abbrev pub list_here : Context → List ℕ → List Act
-list_here context list = told_of_list context.room.now.room (place_of context.routes.now) context.me.now list
+list_here context list =
+    told_of_list context.room.now.room (place_of context.routes.now) context.me.now list
 
 abbrev pub each_here : Context → List (List ℕ) → List Act
-each_here context nicks = flat_map (told_of_one context.room.now.room (place_of context.routes.now) context.me.now) nicks
+each_here context nicks =
+    flat_map (told_of_one context.room.now.room (place_of context.routes.now) context.me.now) nicks
 
 abbrev pub one_here : Context → List ℕ → List Act
-one_here context nick = told_of_one context.room.now.room (place_of context.routes.now) context.me.now nick
+one_here context nick =
+    told_of_one context.room.now.room (place_of context.routes.now) context.me.now nick
 
 abbrev pub user_here : Context → User → List Act
-user_here context user = whois_replies context.room.now.room (place_of context.routes.now) context.me.now user
+user_here context user =
+    whois_replies context.room.now.room (place_of context.routes.now) context.me.now user
 
 -- the server of a user, and how it describes itself
 abbrev pub home_told : Place → User → Act
-home_told place user = Answer (WhoisServer user.nick user.home (bytes_kept (info_of place user.home)))
+home_told place user =
+    Answer (WhoisServer user.nick user.home (bytes_kept (info_of place user.home)))
 
 -- the lines of these channels of a user, and of those that are listed for the asker
 abbrev pub lines_of : User → List OnChannel → List Act
@@ -75,10 +82,13 @@ abbrev pub places_here : Context → User → List OnChannel
 places_here context user = places context.room.now.room context.me.now user
 
 -- From steps and a line that is being filled to steps and such a line: these channels came.
-abbrev pub CameChannels : User → List OnChannel → Vec Act → ArrayVec OnChannel → Vec Act → ArrayVec OnChannel → Type 0
+abbrev pub CameChannels : User → List OnChannel → Vec Act → ArrayVec OnChannel → Vec Act
+    → ArrayVec OnChannel → Type 0
 CameChannels user channels old held new held_after =
-    Came max_whois_channels (channels_line user) old.items held.items channels new.items held_after.items
+    Came max_whois_channels
+    (channels_line user) old.items held.items channels new.items held_after.items
 
 -- those of these channels of a user that are listed for the asker
-abbrev pub CameListed : User → User → List Channel → Vec Act → ArrayVec OnChannel → Vec Act → ArrayVec OnChannel → Type 0
+abbrev pub CameListed : User → User → List Channel → Vec Act → ArrayVec OnChannel → Vec Act
+    → ArrayVec OnChannel → Type 0
 CameListed me user channels = CameChannels user (filter_map (place_in me user) channels)

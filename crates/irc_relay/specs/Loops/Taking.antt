@@ -11,8 +11,10 @@ is_between from to s = (s.from == from) && (s.to == to)
 
 -- the oldest item on its way between two servers is taken out of what is under way
 pub record TakesOldest (from to item : ℕ) (old new : List Sent) : Type 0 where
-  pub oldest : queue_of reading old (name from) (name to) ≡ item ∷ queue_of reading new (name from) (name to)
-  pub others : (x y : Name) → (x ≡ name from → y ≡ name to → ⊥) → queue_of reading new x y ≡ queue_of reading old x y
+  pub oldest : queue_of reading old (name from) (name to) ≡ item ∷ queue_of reading new (name from)
+      (name to)
+  pub others : (x y : Name) → (x ≡ name from → y ≡ name to → ⊥)
+      → queue_of reading new x y ≡ queue_of reading old x y
 
 -- none is on its way between them, and nothing is taken
 abbrev pub TakesNone : ℕ → ℕ → List Sent → List Sent → Type 0

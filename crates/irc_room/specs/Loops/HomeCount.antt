@@ -1,4 +1,5 @@
--- How many users are connected to the server that keeps a room: the number that the code keeps beside the users.
+-- How many users are connected to the server that keeps a room: the number that the code keeps
+-- beside the users.
 use Rattle.std.specs.Prelude.{◌≡◌, ℕ, Bool, cond, Option, Some, None, List, filter, length}
 use Rattle.std.specs.FinMap.{values}
 use Rattle.irc_names.specs.Fold.{key}

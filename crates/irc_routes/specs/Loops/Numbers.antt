@@ -9,4 +9,5 @@ TellsUsed rows used = (n : ℕ) → n ≤ max_servers → get_or used n false �
 
 -- a number is noted, beside those that were noted before
 abbrev pub IsNoted : ℕ → List Bool → List Bool → Type 0
-IsNoted number old now = (n : ℕ) → n ≤ max_servers → get_or now n false ≡ (nat_eq number n || get_or old n false)
+IsNoted number old now =
+    (n : ℕ) → n ≤ max_servers → get_or now n false ≡ (nat_eq number n || get_or old n false)

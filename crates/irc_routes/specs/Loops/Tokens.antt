@@ -24,16 +24,19 @@ server_at tokens link token = option_map (λ (t : TokenRow). t.name) (row_at tok
 
 -- there is one number more
 abbrev pub HasToken : TokenRow → List TokenRow → List TokenRow → Type 0
-HasToken new old now = table_of token_entry now ≡ alter (token_key new.link new.token) (λ _. Some new) (table_of token_entry old)
+HasToken new old now = table_of token_entry now ≡ alter (token_key new.link new.token)
+    (λ _. Some new) (table_of token_entry old)
 
 -- the number of a server's row stands for it, and nothing else has changed
 pub record HasServer (server : ServerRow) (old now : List TokenRow) : Type 0 where
   pub ordered : IsInFoldedOrder token_entry now
-  pub told : HasToken (record { link = server.link; token = server.token; name = server.name }) old now
+  pub told : HasToken
+      (record { link = server.link; token = server.token; name = server.name }) old now
 
 -- there is no such number on a link
 abbrev pub IsWithoutToken : ℕ → ℕ → List TokenRow → List TokenRow → Type 0
-IsWithoutToken link token old now = table_of token_entry now ≡ alter (token_key link token) (λ _. None) (table_of token_entry old)
+IsWithoutToken link token old now =
+    table_of token_entry now ≡ alter (token_key link token) (λ _. None) (table_of token_entry old)
 
 abbrev pub is_on : ℕ → TokenRow → Bool
 is_on link t = nat_eq t.link link
@@ -48,6 +51,7 @@ pub record AreTold (known : Known) (tokens : List TokenRow) : Type 0 where
   pub told : (link token : ℕ) → server_at tokens link token ≡ token_in known link token
 
 -- what the code's fields always keep
-pub record IsTied (name info created : List ℕ) (rows : List ServerRow) (tokens : List TokenRow) : Type 0 where
+pub record IsTied (name info created : List ℕ) (rows : List ServerRow)
+    (tokens : List TokenRow) : Type 0 where
   pub kept : IsKept name info created rows
   pub told : AreTold (known_by name info created rows) tokens

@@ -1,5 +1,7 @@
--- What the table of folds says of each range of bytes, as the code reads them. Each fact is checked at each byte of the table.
-use Rattle.std.proofs.Common.{◌≡◌, ℕ, ◌+◌, ◌<◌, inl, inr, Bool, true, ◌&&◌, cond, suc, zero, nat_eq, nat_le, refl, arith, subst, sym}
+-- What the table of folds says of each range of bytes, as the code reads them. Each fact is checked
+-- at each byte of the table.
+use Rattle.std.proofs.Common.{◌≡◌, ℕ, ◌+◌, ◌<◌, inl, inr, Bool, true, ◌&&◌, cond, suc, zero, nat_eq}
+use Rattle.std.proofs.Common.{nat_le, refl, arith, subst, sym}
 use Rattle.std.proofs.lemmas.Bool.Decides.{nat_tests}
 use Rattle.std.proofs.lemmas.Bool.{cases_eq, eqb-true}
 use Rattle.std.specs.Cmp.{first_so, second_so}
@@ -22,9 +24,14 @@ agree_below f g (suc n) = nat_eq (f n) (g n) && agree_below f g n
 pub agree_at : (f g : ℕ → ℕ) (bound n : ℕ) → agree_below f g bound ≡ true → n < bound → f n ≡ g n
 agree_at f g zero n agree below = absurd (omega arith)
 agree_at f g (suc k) n agree below =
-    let last : f k ≡ g k = eqb-true (f k) (g k) (first_so (nat_eq (f k) (g k)) (agree_below f g k) agree) in
-    let before : agree_below f g k ≡ true = second_so (nat_eq (f k) (g k)) (agree_below f g k) agree in
-    elim (cases_eq n k) [ inl same ↦ subst (λ m. f m ≡ g m) (sym same) last | inr other ↦ agree_at f g k n before (omega arith) ]
+    let last : f k ≡ g k =
+    eqb-true (f k) (g k) (first_so (nat_eq (f k) (g k)) (agree_below f g k) agree) in
+    let before : agree_below f g k ≡ true =
+    second_so (nat_eq (f k) (g k)) (agree_below f g k) agree in
+    elim (cases_eq n k) [
+      | inl same ↦ subst (λ m. f m ≡ g m) (sym same) last
+      | inr other ↦ agree_at f g k n before (omega arith)
+    ]
 
 table_agrees : agree_below fold by_ranges 256 ≡ true
 unfolding fold fold_table

@@ -1,4 +1,5 @@
--- The front of a mask, as the code cuts it off: the part that the mask begins with, and the mask after it.
+-- The front of a mask, as the code cuts it off: the part that the mask begins with, and the mask
+-- after it.
 use Rattle.std.specs.Prelude.{ℕ, Bool, true, false, cond, List, [], ◌∷◌, nat_eq}
 use Rattle.irc_rules.specs.Fold.{fold}
 use Rattle.irc_rules.specs.Masks.{is_wild}

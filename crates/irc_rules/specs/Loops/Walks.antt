@@ -21,8 +21,8 @@ IsShorter (Star rest text) mask = length rest.now < length mask
 IsShorter Done mask = Unit {0}
 IsShorter Differs mask = Unit {0}
 
--- Where a walk from the start of a text stands at a `*`, the whole mask can match no end of the text, but where the rest of the
--- mask matches some end of what is left.
+-- Where a walk from the start of a text stands at a `*`, the whole mask can match no end of the
+-- text, but where the rest of the mask matches some end of what is left.
 abbrev pub IsFirst : Walk → List ℕ → List ℕ → Type 0
 IsFirst (Star rest left) mask text = Somewhere mask text → Somewhere rest.now left.now
 IsFirst Done mask text = Unit {0}

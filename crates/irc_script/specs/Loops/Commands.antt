@@ -18,4 +18,5 @@ requests_in lines = filter_map request_of (lines_now lines)
 
 -- a command, if there is one, stands behind the others
 abbrev pub AddsCommand : Option Command → Vec Command Global → Vec Command Global → Type 0
-AddsCommand command old new = requests new.items ≡ requests old.items ++ option_to_list (option_map request command)
+AddsCommand command old new =
+    requests new.items ≡ requests old.items ++ option_to_list (option_map request command)

@@ -18,7 +18,8 @@ pub record IsConfigured (names : List Name) (server : Name) (config : Config) : 
 
 -- a server is among the peers of another one, behind those that were, if the two are not the same
 abbrev pub AddsOther : Name → Name → Vec Peer Global → Vec Peer Global → Type 0
-AddsOther server other old new = map known_peer new.items ≡ map known_peer old.items ++ option_to_list (peer_of server other)
+AddsOther server other old new =
+    map known_peer new.items ≡ map known_peer old.items ++ option_to_list (peer_of server other)
 
 abbrev pub IsOwnConfig : List Name → Config → Type 0
 IsOwnConfig names config = IsConfigured names (config_name config) config

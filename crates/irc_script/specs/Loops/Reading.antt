@@ -13,7 +13,8 @@ pub record HasGiven (reads : ℕ) (text : List ℕ) (old new : Option (List ℕ)
   pub gave : Consumes old new text
   pub some : reads ≤ length text
 
--- The end was found, and the text is all that the reader had; or it was not, and as many reads as there may be each gave something.
+-- The end was found, and the text is all that the reader had; or it was not, and as many reads as
+-- there may be each gave something.
 abbrev pub IsReadTo : Bool → List ℕ → Option (List ℕ) → Type 0
 IsReadTo true text remaining = IsTextOf text remaining
 IsReadTo false text remaining = max_reads ≤ length text

@@ -1,5 +1,6 @@
 -- What the steps of a run are at: what was played so far, and what of it is printed.
-use Rattle.std.specs.Prelude.{◌≡◌, ℕ, Bool, if◌then◌else◌, Option, Some, None, Result, Ok, Err, List, [], ◌∷◌, ◌++◌}
+use Rattle.std.specs.Prelude.{◌≡◌, ℕ, Bool, if◌then◌else◌, Option, Some, None, Result, Ok, Err}
+use Rattle.std.specs.Prelude.{List, [], ◌∷◌, ◌++◌}
 use Rattle.std.specs.List.{flat_map}
 use Rattle.arrayvec.specs.ArrayVec.{ArrayVec}
 use denote.Ref.{Bor}
@@ -59,7 +60,8 @@ IsRest held old text new rest = Prints (sink (held old) text) (sink (held new) r
 -- a text is printed, or its end is lost
 abbrev pub PrintsText : {W : Type 0} → (W → Option (List ℕ)) → Result (Unit {0}) Unwritten → List ℕ
     → W → ArrayVec ℕ → W → ArrayVec ℕ → Type 0
-PrintsText held result text old before new after = IsPrinted result (sink_of held old before) (sink_of held new after) text
+PrintsText held result text old before new after =
+    IsPrinted result (sink_of held old before) (sink_of held new after) text
 
 -- the number of a refusal is, or nothing where memory was wanting
 abbrev pub PrintsFault : {W : Type 0} → (W → Option (List ℕ)) → Result (Unit {0}) Trouble → NetFault
@@ -70,13 +72,16 @@ PrintsFault held result fault old before new after =
 -- ---- moves, and requests
 
 -- what was played, and printed
-pub record Played (first : ByteNetwork) (moves : List Move) (last : ByteNetwork) (old new : Sink) : Type 0 where
+pub record Played (first : ByteNetwork) (moves : List Move) (last : ByteNetwork)
+    (old new : Sink) : Type 0 where
   pub text : List ℕ
   pub plays : Plays first moves last text
   pub prints : Prints old new text
 
--- The first of these moves were played, and of what came of them the end may be lost; nothing of it where memory was wanting.
-pub record Breaks (trouble : Trouble) (first : ByteNetwork) (all : List Move) (old new : Sink) : Type 0 where
+-- The first of these moves were played, and of what came of them the end may be lost; nothing of it
+-- where memory was wanting.
+pub record Breaks (trouble : Trouble) (first : ByteNetwork) (all : List Move)
+    (old new : Sink) : Type 0 where
   pub moves : List Move
   pub left : List Move
   pub parts : all ≡ moves ++ left
@@ -86,17 +91,21 @@ pub record Breaks (trouble : Trouble) (first : ByteNetwork) (all : List Move) (o
   pub loses : Loses old new text
   pub kept : trouble ≡ Memory → loses.lost ≡ []
 
-abbrev pub IsPlayed : Result (Unit {0}) Trouble → ByteNetwork → List Move → ByteNetwork → Sink → Sink → Type 0
+abbrev pub IsPlayed : Result (Unit {0}) Trouble → ByteNetwork → List Move → ByteNetwork → Sink
+    → Sink → Type 0
 IsPlayed (Ok _) first moves last old new = Played first moves last old new
 IsPlayed (Err trouble) first moves last old new = Breaks trouble first moves old new
 
--- What is asked for is begun, and this is printed: some of it is done, and of the next request some moves. All of it may be done.
+-- What is asked for is begun, and this is printed: some of it is done, and of the next request some
+-- moves. All of it may be done.
 pub data Begins : ByteNetwork → List Request → List ℕ → Type 0 where
   to_the_end : {first : ByteNetwork} → Begins first [] []
-  partly : {first last : ByteNetwork} {r : Request} {requests : List Request} {text : List ℕ} (moves left : List Move)
-      → moves_of r ≡ moves ++ left → Plays first moves last text → Begins first (r ∷ requests) text
-  further : {first middle : ByteNetwork} {r : Request} {requests : List Request} {start more text : List ℕ}
-      → text ≡ start ++ more → Plays first (moves_of r) middle start → Begins middle requests more → Begins first (r ∷ requests) text
+  partly : {first last : ByteNetwork} {r : Request} {requests : List Request} {text : List ℕ}
+      (moves left : List Move) → moves_of r ≡ moves ++ left → Plays first moves last text
+      → Begins first (r ∷ requests) text
+  further : {first middle : ByteNetwork} {r : Request} {requests : List Request}
+      {start more text : List ℕ} → text ≡ start ++ more → Plays first (moves_of r) middle start
+      → Begins middle requests more → Begins first (r ∷ requests) text
 
 -- What is asked for can be run to its end, and this is a front of what it prints.
 pub record RunOn (first : ByteNetwork) (requests : List Request) (text : List ℕ) : Type 0 where
@@ -107,27 +116,32 @@ pub record RunOn (first : ByteNetwork) (requests : List Request) (text : List �
 
 -- Of a script that is read, whatever of it was begun can be run to its end.
 abbrev pub ScriptsRunOn : Type 0
-ScriptsRunOn = (text : List ℕ) (asked : ScriptAsked) (printed : List ℕ) → script_read text ≡ Ok asked → Begins (first_net asked.servers) asked.requests printed
+ScriptsRunOn = (text : List ℕ) (asked : ScriptAsked) (printed : List ℕ)
+    → script_read text ≡ Ok asked → Begins (first_net asked.servers) asked.requests printed
     → RunOn (first_net asked.servers) asked.requests printed
 
 -- requests were run, and what came of them is printed
-pub record RunWhole (first : ByteNetwork) (requests : List Request) (last : ByteNetwork) (old new : Sink) : Type 0 where
+pub record RunWhole (first : ByteNetwork) (requests : List Request) (last : ByteNetwork)
+    (old new : Sink) : Type 0 where
   pub text : List ℕ
   pub runs : Runs first requests last text
   pub prints : Prints old new text
 
 -- Nothing of what came of them is lost where memory was wanting, and then not all of them were run.
-pub record StopsWhole (first : ByteNetwork) (requests : List Request) (text lost : List ℕ) : Type 0 where
+pub record StopsWhole (first : ByteNetwork) (requests : List Request)
+    (text lost : List ℕ) : Type 0 where
   pub stops : StopsIn first requests text
   pub kept : lost ≡ []
 
-pub record RunInto (trouble : Trouble) (first : ByteNetwork) (requests : List Request) (old new : Sink) : Type 0 where
+pub record RunInto (trouble : Trouble) (first : ByteNetwork) (requests : List Request)
+    (old new : Sink) : Type 0 where
   pub text : List ℕ
   pub begins : Begins first requests text
   pub loses : Loses old new text
   pub whole : trouble ≡ Memory → StopsWhole first requests text loses.lost
 
-abbrev pub HasRun : Result (Unit {0}) Trouble → ByteNetwork → List Request → ByteNetwork → Sink → Sink → Type 0
+abbrev pub HasRun : Result (Unit {0}) Trouble → ByteNetwork → List Request → ByteNetwork → Sink
+    → Sink → Type 0
 HasRun (Ok _) first requests last old new = RunWhole first requests last old new
 HasRun (Err trouble) first requests last old new = RunInto trouble first requests old new
 
@@ -137,16 +151,19 @@ HasRun (Err trouble) first requests last old new = RunInto trouble first request
 abbrev pub PlaysMoves : {W : Type 0} → (W → Option (List ℕ)) → Result (Unit {0}) Trouble → List Move
     → ScriptRun → W → ArrayVec ℕ → ScriptRun → W → ArrayVec ℕ → Type 0
 PlaysMoves held result moves first old before last new after =
-    IsPlayed result first.net.network moves last.net.network (sink_of held old before) (sink_of held new after)
+    IsPlayed result first.net.network moves last.net.network (sink_of held old before)
+    (sink_of held new after)
 
 -- these commands are run
-abbrev pub PerformsAll : {W : Type 0} → (W → Option (List ℕ)) → Result (Unit {0}) Trouble → List Command
-    → ScriptRun → W → ArrayVec ℕ → ScriptRun → W → ArrayVec ℕ → Type 0
+abbrev pub PerformsAll : {W : Type 0} → (W → Option (List ℕ)) → Result (Unit {0}) Trouble
+    → List Command → ScriptRun → W → ArrayVec ℕ → ScriptRun → W → ArrayVec ℕ → Type 0
 PerformsAll held result commands first old before last new after =
-    HasRun result first.net.network (requests commands) last.net.network (sink_of held old before) (sink_of held new after)
+    HasRun result first.net.network (requests commands) last.net.network (sink_of held old before)
+    (sink_of held new after)
 
 -- and nothing waits before and after
 abbrev pub RunsAll : {W : Type 0} → (W → Option (List ℕ)) → Result (Unit {0}) Trouble → List Command
     → ScriptRun → W → ScriptRun → W → Type 0
 RunsAll held result commands first old last new =
-    HasRun result first.net.network (requests commands) last.net.network (sink (held old) []) (sink (held new) [])
+    HasRun result first.net.network (requests commands) last.net.network (sink (held old) [])
+    (sink (held new) [])

@@ -1,5 +1,6 @@
 -- What the code finds at one key of a table, and what it reads a value as.
-use Rattle.std.specs.Prelude.{◌≡◌, ℕ, pos, Bool, true, false, Option, Some, None, Result, Ok, Err, is_some, option_map, List, map, codes, String, Vec, string_bytes}
+use Rattle.std.specs.Prelude.{◌≡◌, ℕ, pos, Bool, true, false, Option, Some, None, Result, Ok, Err}
+use Rattle.std.specs.Prelude.{is_some, option_map, List, map, codes, String, Vec, string_bytes}
 use Rattle.std.specs.List.{filter_map, list_all, list_any}
 use Rattle.std.specs.Str.{bytes_eq}
 use Rattle.toml.specs.Data.{Data, Members, as_integer, as_str, as_table}
@@ -8,8 +9,10 @@ use Rattle.toml.specs.View.{table_view, view}
 use Rattle.toml.specs.declared.value.Value.{Value}
 use Rattle.std.specs.BTreeMap.{BTreeMap}
 use Rattle.std.specs.declared.alloc.Global.{Global}
-use Rattle.irc_settings.specs.Configuration.{Tells, integer_at, peer_at, peer_told, tables_at, tables_in, text_at}
-use Rattle.irc_settings.specs.Keys.{integer, is_in_form, is_kept, is_of_kind, is_peer, is_table, needed, optional, server_keys, tables, text}
+use Rattle.irc_settings.specs.Configuration.{Tells, integer_at, peer_at, peer_told, tables_at}
+use Rattle.irc_settings.specs.Configuration.{tables_in, text_at}
+use Rattle.irc_settings.specs.Keys.{integer, is_in_form, is_kept, is_of_kind, is_peer, is_table}
+use Rattle.irc_settings.specs.Keys.{needed, optional, server_keys, tables, text}
 use Rattle.irc_settings.specs.declared.settings.PeerSettings.{PeerSettings}
 use Rattle.irc_settings.specs.declared.settings.Settings.{Settings}
 use denote.Ref.{Bor}
@@ -40,33 +43,41 @@ is_allowed names key = list_any (λ name. bytes_eq (string_bytes key) name.now) 
 
 -- a text
 abbrev pub ReadsAsText : Data → Result (String Global) SettingsFault → Type 0
-ReadsAsText value = FindsValue (is_some (as_str value)) (λ found. as_str value ≡ Some (string_bytes found))
+ReadsAsText value =
+    FindsValue (is_some (as_str value)) (λ found. as_str value ≡ Some (string_bytes found))
 
 -- a number of bytes, of so many at most
 abbrev pub ReadsAsRoom : ℕ → Data → Result ℕ SettingsFault → Type 0
-ReadsAsRoom most value = FindsValue (is_of_kind (integer 512 most) value) (λ found. as_integer value ≡ Some (pos found))
+ReadsAsRoom most value =
+    FindsValue (is_of_kind (integer 512 most) value) (λ found. as_integer value ≡ Some (pos found))
 
 -- a number from 1 to so many
 abbrev pub ReadsAsNumber : ℕ → Data → Result ℕ SettingsFault → Type 0
-ReadsAsNumber most value = FindsValue (is_of_kind (integer 1 most) value) (λ found. as_integer value ≡ Some (pos found))
+ReadsAsNumber most value =
+    FindsValue (is_of_kind (integer 1 most) value) (λ found. as_integer value ≡ Some (pos found))
 
 -- ---- what stands at a key
 
 -- a text that has to be there
 abbrev pub FindsText : List ℕ → Members → Result (String Global) SettingsFault → Type 0
-FindsText key table = FindsValue (is_kept table (needed key text)) (λ found. text_at key table ≡ Some (string_bytes found))
+FindsText key table = FindsValue (is_kept table (needed key text))
+    (λ found. text_at key table ≡ Some (string_bytes found))
 
 -- a text that may be left out
-abbrev pub FindsOptionalText : List ℕ → Members → Result (Option (String Global)) SettingsFault → Type 0
-FindsOptionalText key table = FindsValue (is_kept table (optional key text)) (λ found. text_at key table ≡ option_map string_bytes found)
+abbrev pub FindsOptionalText : List ℕ → Members → Result (Option (String Global)) SettingsFault
+    → Type 0
+FindsOptionalText key table = FindsValue (is_kept table (optional key text))
+    (λ found. text_at key table ≡ option_map string_bytes found)
 
 -- a number of bytes that has to be there, of so many at most
 abbrev pub FindsRoom : List ℕ → ℕ → Members → Result ℕ SettingsFault → Type 0
-FindsRoom key most table = FindsValue (is_kept table (needed key (integer 512 most))) (λ found. integer_at key table ≡ Some (pos found))
+FindsRoom key most table = FindsValue (is_kept table (needed key (integer 512 most)))
+    (λ found. integer_at key table ≡ Some (pos found))
 
 -- a number that may be left out, from 1 to so many
 abbrev pub FindsOptionalNumber : List ℕ → ℕ → Members → Result (Option ℕ) SettingsFault → Type 0
-FindsOptionalNumber key most table = FindsValue (is_kept table (optional key (integer 1 most))) (λ found. integer_at key table ≡ option_map pos found)
+FindsOptionalNumber key most table = FindsValue (is_kept table (optional key (integer 1 most)))
+    (λ found. integer_at key table ≡ option_map pos found)
 
 -- ---- peers
 
@@ -75,16 +86,19 @@ abbrev pub ReadsPeer : Members → Result PeerSettings SettingsFault → Type 0
 ReadsPeer table = FindsValue (is_peer table) (λ found. peer_at table ≡ peer_told found)
 
 abbrev pub ReadsAsPeer : Data → Result PeerSettings SettingsFault → Type 0
-ReadsAsPeer value = FindsValue (is_table is_peer value) (λ found. option_map peer_at (as_table value) ≡ Some (peer_told found))
+ReadsAsPeer value = FindsValue (is_table is_peer value)
+    (λ found. option_map peer_at (as_table value) ≡ Some (peer_told found))
 
 -- each of these values is such a table
 abbrev pub ReadsEachPeer : List Data → Result (Vec PeerSettings Global) SettingsFault → Type 0
 ReadsEachPeer values =
-    FindsValue (list_all (is_table is_peer) values) (λ found. map peer_at (filter_map as_table values) ≡ map peer_told found.items)
+    FindsValue (list_all (is_table is_peer) values)
+    (λ found. map peer_at (filter_map as_table values) ≡ map peer_told found.items)
 
 -- a value is an array of such tables
 abbrev pub ReadsAsPeers : Data → Result (Vec PeerSettings Global) SettingsFault → Type 0
-ReadsAsPeers value = FindsValue (is_of_kind (tables is_peer) value) (λ found. map peer_at (tables_in value) ≡ map peer_told found.items)
+ReadsAsPeers value = FindsValue (is_of_kind (tables is_peer) value)
+    (λ found. map peer_at (tables_in value) ≡ map peer_told found.items)
 
 -- the array of such tables at the key `peer`, which may be left out
 abbrev pub FindsPeers : Members → Result (Vec PeerSettings Global) SettingsFault → Type 0

@@ -1,5 +1,6 @@
 -- What the code's lines say.
-use Rattle.std.specs.Prelude.{◌≡◌, ⊤, if◌then◌else◌, ℕ, Bool, true, false, Option, Some, None, List, ◌∷◌, codes}
+use Rattle.std.specs.Prelude.{◌≡◌, ⊤, if◌then◌else◌, ℕ, Bool, true, false, Option, Some, None, List}
+use Rattle.std.specs.Prelude.{◌∷◌, codes}
 use Rattle.std.specs.Option.{option_map}
 use Rattle.arrayvec.specs.ArrayVec.{ArrayVec}
 use Rattle.irc_line.specs.Messages.{Sender, Written}
@@ -10,7 +11,8 @@ use Rattle.irc_room_tables.specs.Room.{Room}
 use Rattle.irc_room_tables.specs.Seen.{changes_words, line_from, shown_line}
 use Rattle.irc_users.specs.declared.user.User.{User}
 use Rattle.irc_room_tables.specs.effect.Effect.{Effect}
-use Rattle.irc_room_tables.specs.effect.Effect.TheVariants.{Join, Part, Kick, ChangeModes, SetTopic, Invite}
+use Rattle.irc_room_tables.specs.effect.Effect.TheVariants.{Join, Part, Kick, ChangeModes, SetTopic}
+use Rattle.irc_room_tables.specs.effect.Effect.TheVariants.{Invite}
 
 -- the bytes of a line, if it was written
 abbrev pub line_if : Bool → ArrayVec ℕ → Option (List ℕ)
@@ -23,11 +25,18 @@ mode_params room channel changes = channel ∷ changes_words room changes
 
 -- the parts of a line of changes of a channel's modes
 abbrev pub mode_parts : Room → Sender → List ℕ → List ModeChange → Written
-mode_parts room sender channel changes = record { sender = sender; command = codes "MODE"; middle = mode_params room channel changes; last = None }
+mode_parts room sender channel changes = record {
+  sender = sender;
+  command = codes "MODE";
+  middle = mode_params room channel changes;
+  last = None;
+}
 
 -- the line with these parts is written, where there is somebody who sends it
-abbrev pub Writes : Bool → ArrayVec ℕ → Option Prefix → List ℕ → List (List ℕ) → Option (List ℕ) → Type 0
-Writes there line doer command middle last = line_if there line ≡ line_from command middle last (option_map sender doer)
+abbrev pub Writes : Bool → ArrayVec ℕ → Option Prefix → List ℕ → List (List ℕ) → Option (List ℕ)
+    → Type 0
+Writes there line doer command middle last =
+    line_if there line ≡ line_from command middle last (option_map sender doer)
 
 -- the command of a text that is said, and the word of a change of mode i
 abbrev pub say_command : Bool → List ℕ
@@ -38,7 +47,8 @@ invisible_word invisible = if invisible then codes "+i" else codes "-i"
 
 -- the line that an effect shows to each viewer of one server
 abbrev pub ShowsAt : Room → Effect → List ℕ → Option (List ℕ) → Type 0
-ShowsAt room effect home line = (viewer : User) → viewer.home ≡ home → shown_line room effect viewer ≡ line
+ShowsAt room effect home line =
+    (viewer : User) → viewer.home ≡ home → shown_line room effect viewer ≡ line
 
 -- the line that an effect shows to each viewer
 abbrev pub ShowsAll : Room → Effect → Option (List ℕ) → Type 0

@@ -1,5 +1,6 @@
 -- The users that see an effect, and how they are found by names.
-use Rattle.std.specs.Prelude.{◌≡◌, ℕ, Bool, ◌&&◌, ◌||◌, is_some, not, List, [], ◌∷◌, nat_eq, map, filter, option_to_list, if◌then◌else◌}
+use Rattle.std.specs.Prelude.{◌≡◌, ℕ, Bool, ◌&&◌, ◌||◌, is_some, not, List, [], ◌∷◌, nat_eq, map}
+use Rattle.std.specs.Prelude.{filter, option_to_list, if◌then◌else◌}
 use Rattle.std.specs.Borrow.{Bor}
 use Rattle.std.specs.List.{flat_map, list_any}
 use Rattle.std.specs.Cmp.Lexicographic.{pointwise}
@@ -50,7 +51,8 @@ hears_text room by (target.Channel channel) viewer = hears room by channel viewe
 
 -- the line, for a user of the server of this name
 abbrev pub line_for_own : List ℕ → List ℕ → User → List (List ℕ × ArrayVec ℕ)
-line_for_own own line user = if pointwise nat_eq user.home own then (user.nick, record { items = line }) ∷ [] else []
+line_for_own own line user =
+    if pointwise nat_eq user.home own then (user.nick, record { items = line }) ∷ [] else []
 
 -- the nickname of a user, where it is one of the server of this name
 abbrev pub own_nick : List ℕ → User → List (List ℕ)
@@ -69,11 +71,13 @@ is_sharer channels nick fold = list_any (joins_both (key nick) fold) (values cha
 
 -- a table has rows under just these
 abbrev pub AreSharers : Table Flags → Table Channel → List ℕ → Type 0
-AreSharers names channels nick = (fold : List ℕ) → is_some (row names fold) ≡ is_sharer channels nick fold
+AreSharers names channels nick =
+    (fold : List ℕ) → is_some (row names fold) ≡ is_sharer channels nick fold
 
 -- whether it is that of a member of one of some channels, by their rows
 abbrev pub is_in_any : Table Channel → List (Row (Unit {0})) → List ℕ → Bool
-is_in_any channels rows fold = list_any (λ row. holds has_member channels fold (key row.name.items)) rows
+is_in_any channels rows fold =
+    list_any (λ row. holds has_member channels fold (key row.name.items)) rows
 
 -- whether it is that of one of some rows
 abbrev pub is_one_of : List (Row Flags) → List ℕ → Bool
@@ -85,4 +89,5 @@ user_named users name = option_to_list (row users (key name))
 
 -- a table that has rows under these folds, too
 abbrev pub Gains : Table Flags → Table Flags → (List ℕ → Bool) → Type 0
-Gains before after new = (fold : List ℕ) → is_some (row after fold) ≡ (is_some (row before fold) || new fold)
+Gains before after new =
+    (fold : List ℕ) → is_some (row after fold) ≡ (is_some (row before fold) || new fold)

@@ -12,5 +12,6 @@ text_code = coded_list coded_ℕ
 -- as its fields
 abbrev pub site_code : Coded (Option View) → Coded Site
 site_code server =
-    code_by (Option View × FinMap nat_cmp (List (List ℕ))) (coded× server (code coded_ℕ (coded_list text_code))) (λ s. (s.server, s.queues))
+    code_by (Option View × FinMap nat_cmp (List (List ℕ)))
+    (coded× server (code coded_ℕ (coded_list text_code))) (λ s. (s.server, s.queues))
     (λ p. record { server = p.0; queues = p.1 }) (λ _. refl)

@@ -23,11 +23,15 @@ user_under room nick = option_and_then (λ n. row room.users (key n)) nick
 abbrev pub nick_under : Room → Option (List ℕ) → Option (List ℕ)
 nick_under room nick = option_map (λ (user : User). user.nick) (user_under room nick)
 
--- From what was put out before to what is put out now, that user is told what it asks, if it asks something.
-abbrev pub IsAnsweredAt : View → Option (List ℕ) → ℕ → List (List ℕ) → Option Query → Batch → Batch → Type 0
+-- From what was put out before to what is put out now, that user is told what it asks, if it asks
+-- something.
+abbrev pub IsAnsweredAt : View → Option (List ℕ) → ℕ → List (List ℕ) → Option Query → Batch → Batch
+    → Type 0
 IsAnsweredAt view nick conn params query old new =
     let place = place_of view.routes in
-    new.outs ≡ old.outs ++ all_said place (nick_under view.room nick) conn (asked_steps view.room place (user_under view.room nick) params query)
+    new.outs ≡ old.outs ++ all_said place (nick_under view.room nick) conn
+    (asked_steps view.room place (user_under view.room nick) params query)
 
 abbrev pub AnswersSpeaker : Speaker → Option Query → List (List ℕ) → Stage → Batch → Batch → Type 0
-AnswersSpeaker speaker query params stage old new = IsAnsweredAt (view_of stage) (optional_now speaker.nick) speaker.conn params query old new
+AnswersSpeaker speaker query params stage old new =
+    IsAnsweredAt (view_of stage) (optional_now speaker.nick) speaker.conn params query old new

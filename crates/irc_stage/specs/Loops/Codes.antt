@@ -12,19 +12,23 @@ use Rattle.irc_stage.specs.View.{KnownPeer, End, Ends, View}
 
 abbrev pub peer_code : Coded KnownPeer
 peer_code =
-    code_by (List ℕ × List ℕ) (coded× (coded_list coded_ℕ) (coded_list coded_ℕ)) (λ p. (p.name, p.password)) (λ p. record { name = p.0; password = p.1 }) (λ _. refl)
+    code_by (List ℕ × List ℕ) (coded× (coded_list coded_ℕ) (coded_list coded_ℕ))
+    (λ p. (p.name, p.password)) (λ p. record { name = p.0; password = p.1 }) (λ _. refl)
 
 abbrev pub end_code : Coded End
 end_code =
     code_by (Option (List ℕ) × (Option (List ℕ) × Option (List ℕ)))
-    (coded× (coded_option (coded_list coded_ℕ)) (coded× (coded_option (coded_list coded_ℕ)) (coded_option (coded_list coded_ℕ))))
-    (λ e. (e.starts, (e.password, e.far))) (λ p. record { starts = p.0; password = p.1.0; far = p.1.1 }) (λ _. refl)
+    (coded× (coded_option (coded_list coded_ℕ))
+    (coded× (coded_option (coded_list coded_ℕ)) (coded_option (coded_list coded_ℕ))))
+    (λ e. (e.starts, (e.password, e.far)))
+    (λ p. record { starts = p.0; password = p.1.0; far = p.1.1 }) (λ _. refl)
 
 -- as its parts
 abbrev pub view_code : Coded Known → Coded Client → Coded (Table User) → Coded Channel → Coded View
 view_code routes client users channel =
     code_by (Known × (List KnownPeer × (Ends × (Clients × (Table User × Table Channel)))))
-    (coded× routes (coded× (coded_list peer_code) (coded× (code coded_ℕ end_code) (coded× (code coded_ℕ client) (coded× users (code (coded_list coded_ℕ) channel))))))
+    (coded× routes (coded× (coded_list peer_code) (coded× (code coded_ℕ end_code)
+    (coded× (code coded_ℕ client) (coded× users (code (coded_list coded_ℕ) channel))))))
     (λ v. (v.routes, (v.peers, (v.ends, (v.clients, (v.room.users, v.room.channels))))))
     (λ p. record {
       routes = p.0;

@@ -1,6 +1,7 @@
 -- To whom the line of an effect goes: the connections of the users that see it, told by the folds
 -- of their nicknames.
-use Rattle.std.specs.Prelude.{◌≡◌, ℕ, ⊤, Bool, false, not, ◌&&◌, ◌||◌, nat_eq, Option, None, Some, List, [], ◌∷◌, map, filter, if◌then◌else◌}
+use Rattle.std.specs.Prelude.{◌≡◌, ℕ, ⊤, Bool, false, not, ◌&&◌, ◌||◌, nat_eq, Option, None, Some}
+use Rattle.std.specs.Prelude.{List, [], ◌∷◌, map, filter, if◌then◌else◌}
 use Rattle.std.specs.List.{list_any}
 use Rattle.std.specs.FinMap.{values}
 use Rattle.std.specs.Cmp.Lexicographic.{pointwise}
@@ -9,7 +10,8 @@ use Rattle.irc_names.specs.Tables.{Table, alter, row}
 use Rattle.irc_users.specs.declared.user.User.{User as Person}
 use Rattle.irc_batch.specs.Batches.{Batch, Sent, line_to, put_out_all}
 use Rattle.irc_room.specs.effect.Effect.{Effect}
-use Rattle.irc_room.specs.effect.Effect.TheVariants.{AddUser, Rename, Quit, Join, Part, Kick, ChangeModes, SetTopic, Say, Invite, UserMode}
+use Rattle.irc_room.specs.effect.Effect.TheVariants.{AddUser, Rename, Quit, Join, Part, Kick}
+use Rattle.irc_room.specs.effect.Effect.TheVariants.{ChangeModes, SetTopic, Say, Invite, UserMode}
 use Rattle.irc_room.specs.effect.Target.{Target}
 use Rattle.irc_room.specs.effect.Target.TheVariants.{Channel, User}
 use Rattle.irc_room.specs.Applying.{Kept}
@@ -54,7 +56,8 @@ sees_fold room (UserMode nick invisible) fold = is_nick_of nick fold
 abbrev pub conns_who : Room → Table ℕ → (List ℕ → Bool) → List ℕ
 conns_who room by_nick test =
     conns_of by_nick
-    (map (λ (user : Person). user.nick) (filter (λ (user : Person). test (key user.nick)) (values room.users)))
+    (map (λ (user : Person). user.nick)
+    (filter (λ (user : Person). test (key user.nick)) (values room.users)))
 
 -- those of the users that see an effect
 abbrev pub hearers : Room → Table ℕ → Effect → List ℕ

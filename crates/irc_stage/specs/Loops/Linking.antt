@@ -17,7 +17,8 @@ IsMetAt link stage = IsMetEnd (get (view_of stage).ends link)
 -- a server more, where it is taken
 abbrev pub view_with : Bool → Newcomer → View → View
 view_with taken newcomer view =
-    if taken then with_row newcomer.link newcomer.uplink.now newcomer.name.now newcomer.distance newcomer.token newcomer.info.now view else view
+    if taken then with_row newcomer.link newcomer.uplink.now newcomer.name.now newcomer.distance
+    newcomer.token newcomer.info.now view else view
 
 -- it is taken where it can be, and known from then on
 abbrev pub takes_newcomer : Newcomer → View → Bool
@@ -29,4 +30,5 @@ IsKnownIf newcomer old new taken = view_of new ≡ view_with taken newcomer (vie
 -- a line goes on every link that counts, but for one
 abbrev pub IsToldToAll : Option ℕ → List ℕ → Stage → Batch → Stage → Batch → Type 0
 IsToldToAll arrival line old out new out_after =
-    served_at new out_after.outs ≡ with_sent (lines_on (but arrival (met_links (view_of old).ends)) line) (served_at old out.outs)
+    served_at new out_after.outs ≡ with_sent
+    (lines_on (but arrival (met_links (view_of old).ends)) line) (served_at old out.outs)

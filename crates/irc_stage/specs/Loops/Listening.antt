@@ -1,6 +1,7 @@
 -- Who hears what is said, as the code keeps it: by each channel the connections of its members
 -- that are clients.
-use Rattle.std.specs.Prelude.{◌≡◌, ℕ, ⊤, Bool, true, false, ◌&&◌, Option, Some, None, List, [], map, option_to_list, unwrap_or, if◌then◌else◌}
+use Rattle.std.specs.Prelude.{◌≡◌, ℕ, ⊤, Bool, true, false, ◌&&◌, Option, Some, None, List, [], map}
+use Rattle.std.specs.Prelude.{option_to_list, unwrap_or, if◌then◌else◌}
 use Rattle.std.specs.List.{flat_map, list_any}
 use Rattle.std.specs.Option.{option_map_or}
 use Rattle.std.specs.FinMap.{empty, entries, keys}

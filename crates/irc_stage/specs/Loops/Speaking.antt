@@ -22,12 +22,14 @@ arrival_of (Link link) = Some link
 
 -- what is said, if this says something, the user of this connection says
 abbrev pub IsSaidByClient : ℕ → RoomMachine → Effect → Type 0
-IsSaidByClient conn machine (Say by notice to words) = IsRegisteredAs (key by) (client_of machine conn)
+IsSaidByClient conn machine (Say by notice to words) =
+    IsRegisteredAs (key by) (client_of machine conn)
 IsSaidByClient conn machine effect = ⊤
 
 -- no client says it
 abbrev pub IsSaidElsewhere : RoomMachine → Effect → Type 0
-IsSaidElsewhere machine (Say by notice to words) = (conn : ℕ) → IsRegisteredAs (key by) (client_of machine conn) → ⊥
+IsSaidElsewhere machine (Say by notice to words) =
+    (conn : ℕ) → IsRegisteredAs (key by) (client_of machine conn) → ⊥
 IsSaidElsewhere machine effect = ⊤
 
 -- who speaks by an effect is who acts

@@ -28,7 +28,8 @@ use Rattle.irc_links.specs.Loops.Branching.{IsRightIn}
 pub use Rattle.irc_links.specs.Loops.Numbered.{numbered}
 use Rattle.irc_stage.specs.Handle.{Handled, to_viewer, renamed_in, machine_after, with_effect}
 use Rattle.irc_stage.specs.Matched.{IsMatched}
-use Rattle.irc_stage.specs.EffectTold.{Served, changed, changed_if, client_ended, effect_came, effect_told, quit_by, taken_out, view_after}
+use Rattle.irc_stage.specs.EffectTold.{Served, changed, changed_if, client_ended, effect_came}
+use Rattle.irc_stage.specs.EffectTold.{effect_told, quit_by, taken_out, view_after}
 use Rattle.irc_stage.specs.ClientTold.{closed_told, step_told, steps_told}
 use Rattle.irc_stage.specs.Loops.Listening.{AreSo}
 
@@ -46,8 +47,10 @@ IsRegisteredAs fold other = ⊥
 
 -- the index by nickname has each registered client, and nobody else
 pub record IsIndex (clients : Clients) (by_nick : Table ℕ) : Type 0 where
-  pub found : (conn : ℕ) (nick : List ℕ) → get clients conn ≡ Some (Registered nick) → row by_nick (key nick) ≡ Some conn
-  pub there : (fold : List ℕ) (conn : ℕ) → row by_nick fold ≡ Some conn → IsRegisteredAs fold (get clients conn)
+  pub found : (conn : ℕ) (nick : List ℕ) → get clients conn ≡ Some (Registered nick)
+      → row by_nick (key nick) ≡ Some conn
+  pub there : (fold : List ℕ) (conn : ℕ) → row by_nick fold ≡ Some conn
+      → IsRegisteredAs fold (get clients conn)
 
 abbrev pub IsIndexed : ClientTable → Type 0
 IsIndexed table = IsIndex (clients_of table) table.by_nick
@@ -80,7 +83,8 @@ pub record Keeps (old new : Stage) : Type 0 where
   pub peers : new.peers ≡ old.peers
   pub ends : new.ends ≡ old.ends
 
--- the server now, and what has been put out: to its clients a room machine, with its links all of it
+-- the server now, and what has been put out: to its clients a room machine, with its links all of
+-- it
 abbrev pub so_far : Stage → List Sent → Handled
 so_far stage out = record { machine = machine_at stage; out = out }
 
@@ -91,53 +95,66 @@ served_at stage out = record { view = view_of stage; out = out }
 abbrev pub lines_on : List ℕ → List ℕ → List Sent
 lines_on links line = map (λ link. line_on link line) links
 
--- From one moment of a server, and of what it has put out, to a later one: an effect changes the room and is shown.
+-- From one moment of a server, and of what it has put out, to a later one: an effect changes the
+-- room and is shown.
 abbrev pub Shows : Effect → Stage → Batch → Stage → Batch → Type 0
-Shows effect old out new out_after = so_far new out_after.outs ≡ with_effect effect (so_far old out.outs)
+Shows effect old out new out_after =
+    so_far new out_after.outs ≡ with_effect effect (so_far old out.outs)
 
 -- it is shown to the clients among its viewers
 abbrev pub ShowsTo : Effect → Stage → Batch → Batch → Type 0
 ShowsTo effect old out out_after =
-    out_after.outs ≡ out.outs ++ flat_map (to_viewer (clients_of old.clients)) (seen old.room.room effect)
+    out_after.outs ≡ out.outs ++ flat_map (to_viewer (clients_of old.clients))
+    (seen old.room.room effect)
 
 -- An effect changes the room and is shown, but that an invitation of another server's user is not
 -- kept.
 abbrev pub Changes : Effect → Stage → Batch → Stage → Batch → Type 0
-Changes effect old out new out_after = served_at new out_after.outs ≡ changed effect (served_at old out.outs)
+Changes effect old out new out_after =
+    served_at new out_after.outs ≡ changed effect (served_at old out.outs)
 
 -- An effect is applied, and told on links.
 abbrev pub Applies : Option ℕ → Effect → Stage → Batch → Stage → Batch → Type 0
-Applies arrival effect old out new out_after = served_at new out_after.outs ≡ effect_told arrival effect (served_at old out.outs)
+Applies arrival effect old out new out_after =
+    served_at new out_after.outs ≡ effect_told arrival effect (served_at old out.outs)
 
 -- An effect comes by a link, to be told on or not.
 abbrev pub ComesByLink : Option ℕ → Effect → Stage → Batch → Stage → Batch → Type 0
-ComesByLink arrival effect old out new out_after = served_at new out_after.outs ≡ effect_came arrival effect (served_at old out.outs)
+ComesByLink arrival effect old out new out_after =
+    served_at new out_after.outs ≡ effect_came arrival effect (served_at old out.outs)
 
 abbrev pub ChangesIf : Effect → Stage → Batch → Stage → Batch → Type 0
-ChangesIf effect old out new out_after = served_at new out_after.outs ≡ changed_if effect (served_at old out.outs)
+ChangesIf effect old out new out_after =
+    served_at new out_after.outs ≡ changed_if effect (served_at old out.outs)
 
 -- The user of a nickname quits with this text, and the client that it is is closed.
 abbrev pub TakesOut : List ℕ → List ℕ → Stage → Batch → Stage → Batch → Type 0
-TakesOut nick text old out new out_after = served_at new out_after.outs ≡ taken_out nick text (served_at old out.outs)
+TakesOut nick text old out new out_after =
+    served_at new out_after.outs ≡ taken_out nick text (served_at old out.outs)
 
 abbrev pub Quits : List ℕ → List ℕ → Stage → Batch → Stage → Batch → Type 0
-Quits nick text old out new out_after = served_at new out_after.outs ≡ quit_by nick text (served_at old out.outs)
+Quits nick text old out new out_after =
+    served_at new out_after.outs ≡ quit_by nick text (served_at old out.outs)
 
 abbrev pub EndsClient : List ℕ → List ℕ → Stage → Batch → Stage → Batch → Type 0
-EndsClient nick text old out new out_after = served_at new out_after.outs ≡ client_ended nick text (served_at old out.outs)
+EndsClient nick text old out new out_after =
+    served_at new out_after.outs ≡ client_ended nick text (served_at old out.outs)
 
 -- A step of a client is taken, or steps one after another.
 abbrev pub Takes : Speaker → Act → Stage → Batch → Stage → Batch → Type 0
-Takes speaker act old out new out_after = served_at new out_after.outs ≡ step_told speaker.conn (optional_now speaker.nick) act (served_at old out.outs)
+Takes speaker act old out new out_after = served_at new out_after.outs ≡ step_told speaker.conn
+    (optional_now speaker.nick) act (served_at old out.outs)
 
 abbrev pub TakesAll : Speaker → List Act → Stage → Batch → Stage → Batch → Type 0
 TakesAll speaker acts old out new out_after =
-    served_at new out_after.outs ≡ steps_told speaker.conn (optional_now speaker.nick) acts (served_at old out.outs)
+    served_at new out_after.outs ≡ steps_told speaker.conn (optional_now speaker.nick) acts
+    (served_at old out.outs)
 
 -- The steps of a decision of a client are taken, and then the client is closed if it is to be.
 abbrev pub CarriesOut : Speaker → List Act → Bool → Stage → Batch → Stage → Batch → Type 0
 CarriesOut speaker acts close old out new out_after =
-    served_at new out_after.outs ≡ closed_told close speaker.conn (steps_told speaker.conn (optional_now speaker.nick) acts (served_at old out.outs))
+    served_at new out_after.outs ≡ closed_told close speaker.conn
+    (steps_told speaker.conn (optional_now speaker.nick) acts (served_at old out.outs))
 
 -- what was put out before stands in front
 abbrev pub behind_sent : List Sent → Served → Served
@@ -171,12 +188,14 @@ IsNoUser other = ⊤
 
 -- where this client is a user, no client is registered by its nickname
 abbrev pub IsFreeOf : Client → Clients → Type 0
-IsFreeOf (Registered nick) clients = (conn : ℕ) (name : List ℕ) → get clients conn ≡ Some (Registered name) → key name ≡ key nick → ⊥
+IsFreeOf (Registered nick) clients =
+    (conn : ℕ) (name : List ℕ) → get clients conn ≡ Some (Registered name) → key name ≡ key nick → ⊥
 IsFreeOf client clients = ⊤
 
 -- no client but that of the first nickname is registered by the second
 abbrev pub IsFreeFor : List ℕ → List ℕ → Clients → Type 0
-IsFreeFor nick new clients = (conn : ℕ) (name : List ℕ) → get clients conn ≡ Some (Registered name) → key name ≡ key new → key name ≡ key nick
+IsFreeFor nick new clients = (conn : ℕ) (name : List ℕ) → get clients conn ≡ Some (Registered name)
+    → key name ≡ key new → key name ≡ key nick
 
 -- clients stay apart by their nicknames
 abbrev pub LeavesApart : Effect → Clients → Type 0
@@ -186,14 +205,16 @@ LeavesApart effect clients = ⊤
 -- An effect is possible; each client that is a user is at home here, and no two will be one user.
 pub record IsFit (machine : RoomMachine) (effect : Effect) : Type 0 where
   pub possible : IsPossible machine.room effect
-  pub at_home : (conn : ℕ) (nick : List ℕ) (user : User) → client_of machine conn ≡ Some (Registered nick) → row machine.room.users (key nick) ≡ Some user
-      → user.home ≡ machine.place.name
+  pub at_home : (conn : ℕ) (nick : List ℕ) (user : User)
+      → client_of machine conn ≡ Some (Registered nick)
+      → row machine.room.users (key nick) ≡ Some user → user.home ≡ machine.place.name
   pub apart : LeavesApart effect machine.clients
 
 -- each effect of these steps is so in its turn
 abbrev pub AreInTurn : (RoomMachine → Effect → Type 0) → RoomMachine → List Act → Type 0
 AreInTurn IsSo machine [] = ⊤
-AreInTurn IsSo machine (Do effect ∷ acts) = IsSoFirst (IsSo machine effect) (AreInTurn IsSo (machine_after machine effect) acts)
+AreInTurn IsSo machine (Do effect ∷ acts) =
+    IsSoFirst (IsSo machine effect) (AreInTurn IsSo (machine_after machine effect) acts)
 AreInTurn IsSo machine (act ∷ acts) = AreInTurn IsSo machine acts
 
 abbrev pub AreFit : RoomMachine → List Act → Type 0
@@ -202,7 +223,8 @@ AreFit machine acts = AreInTurn IsFit machine acts
 -- The same at a server with links, where invitations of other servers' users are not kept.
 abbrev pub AreInTurnAt : (RoomMachine → Effect → Type 0) → View → List Act → Type 0
 AreInTurnAt IsSo view [] = ⊤
-AreInTurnAt IsSo view (Do effect ∷ acts) = IsSoFirst (IsSo (machine_of view) effect) (AreInTurnAt IsSo (view_after view effect) acts)
+AreInTurnAt IsSo view (Do effect ∷ acts) =
+    IsSoFirst (IsSo (machine_of view) effect) (AreInTurnAt IsSo (view_after view effect) acts)
 AreInTurnAt IsSo view (act ∷ acts) = AreInTurnAt IsSo view acts
 
 abbrev pub AreFitAt : View → List Act → Type 0

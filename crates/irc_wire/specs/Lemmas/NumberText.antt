@@ -1,8 +1,10 @@
 -- The text of a number is one, and that number is read of it.
-use Rattle.std.proofs.Common.{◌≡◌, ℕ, ◌+◌, ◌-◌, ◌*◌, ◌^◌, ◌<◌, ◌≤◌, true, not, ◌&&◌, List, [], ◌∷◌, length, get_or, nat_le, fold, decimal, arith, rules}
+use Rattle.std.proofs.Common.{◌≡◌, ℕ, ◌+◌, ◌-◌, ◌*◌, ◌^◌, ◌<◌, ◌≤◌, true, not, ◌&&◌, List, [], ◌∷◌}
+use Rattle.std.proofs.Common.{length, get_or, nat_le, fold, decimal, arith, rules}
 use Rattle.std.proofs.lemmas.Bool.{and_from}
 use Rattle.std.proofs.lemmas.Bool.Decides.{nat_tests}
-use Rattle.std.proofs.lemmas.Fmt.{digits_decimal, digits_value-decimal, first_decimal, length-decimal-le}
+use Rattle.std.proofs.lemmas.Fmt.{digits_decimal, digits_value-decimal, first_decimal}
+use Rattle.std.proofs.lemmas.Fmt.{length-decimal-le}
 use Rattle.std.proofs.lemmas.Str.Parse.{IsNumeralModel, numerals_by_fold}
 use Rattle.std.specs.List.{list_all}
 use Rattle.std.specs.Char.{is_ascii_digit}
@@ -28,15 +30,18 @@ unfolding is_number
 number_taken n least most =
     let read = number_read n most in
     let small : n < 2 ^ 64 = omega (arith, most) in
-    let short : length (decimal n) ≤ 10 = length-decimal-le 10 n (omega arith) (omega (arith, most)) small in
+    let short : length (decimal n) ≤ 10 =
+    length-decimal-le 10 n (omega arith) (omega (arith, most)) small in
     let low : 1 ≤ number_of (decimal n) = omega (arith, read, least) in
     let high : number_of (decimal n) ≤ 4294967295 = omega (arith, read, most) in
     let digits = list_all is_ascii_digit (decimal n) in
     let few = fits max_number_digits (decimal n) in
     and_from (digits && few && not (begins_with_zero (decimal n))) _
-    (and_from (digits && few) _ (and_from digits few (digits_decimal numerals n small) (grind (arith, nat_tests)))
+    (and_from (digits && few) _
+    (and_from digits few (digits_decimal numerals n small) (grind (arith, nat_tests)))
     (no_zero (decimal n) (first_decimal n (omega (arith, least)) small)))
-    (and_from (nat_le 1 (number_of (decimal n))) _ (grind (arith, nat_tests)) (grind (arith, nat_tests)))
+    (and_from (nat_le 1 (number_of (decimal n))) _ (grind (arith, nat_tests))
+    (grind (arith, nat_tests)))
 
 pub number_digits : (n : ℕ) → n ≤ 4294967295 → list_all is_ascii_digit (decimal n) ≡ true
 number_digits n most = digits_decimal numerals n (omega (arith, most))

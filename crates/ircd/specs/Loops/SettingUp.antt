@@ -1,5 +1,6 @@
 -- What the code finds in settings, part by part.
-use Rattle.std.specs.Prelude.{◌≡◌, ℕ, ⊤, Option, Result, Ok, Err, List, Some, None, Vec, option_map, string_bytes}
+use Rattle.std.specs.Prelude.{◌≡◌, ℕ, ⊤, Option, Result, Ok, Err, List, Some, None, Vec, option_map}
+use Rattle.std.specs.Prelude.{string_bytes}
 use Rattle.std.specs.declared.alloc.Global.{Global}
 use Rattle.std.specs.Net.Grammar.{IsSocketText}
 use Rattle.std.specs.declared.net.socket_addr.SocketAddr.{SocketAddr}
@@ -7,8 +8,10 @@ use Rattle.irc_names.specs.Names.{IsServer}
 use Rattle.irc_settings.specs.declared.settings.PeerSettings.{PeerSettings}
 use Rattle.irc_sockets.specs.declared.calls.Callee.{Callee}
 use Rattle.irc_endings.specs.declared.fault.Stop.{Stop}
-use Rattle.irc_endings.specs.declared.fault.Stop.TheVariants.{Usage, BadScript, BadConfiguration, Failed}
-use Rattle.ircd.specs.Serving.{AreCalled, CannotBeCalled, IsAddress, IsCallee, IsNoAddress, IsSomeUncalled}
+use Rattle.irc_endings.specs.declared.fault.Stop.TheVariants.{Usage, BadScript, BadConfiguration}
+use Rattle.irc_endings.specs.declared.fault.Stop.TheVariants.{Failed}
+use Rattle.ircd.specs.Serving.{AreCalled, CannotBeCalled, IsAddress, IsCallee, IsNoAddress}
+use Rattle.ircd.specs.Serving.{IsSomeUncalled}
 
 -- the address that a text is, or that it is none
 abbrev pub FindsAddress : List ℕ → Result SocketAddr Stop → Type 0

@@ -18,17 +18,22 @@ abbrev pub Opens : Setup → Result (Engine (LateWire MioWire)) Stop → Type 0
 Opens setup (Ok engine) = IsOpened setup (engine_view engine)
 Opens setup (Err stop) = stop ≡ Failed
 
--- all of so many turns were taken, or one was not, and the program failed; what was said is of links
-abbrev pub TakesTurns : {W : Type 0} → (W → List Call → Type 0) → EngineView W → ℕ → EngineView W → Option (List ℕ) → Option (List ℕ)
-    → Result (Unit {0}) Stop → Type 0
-TakesTurns is_after old turns new errors errors_after (Ok _) = ToldTurns is_after old errors turns new errors_after
-TakesTurns is_after old turns new errors errors_after (Err stop) = (stop ≡ Failed) × AreSomeSaid errors errors_after
+-- all of so many turns were taken, or one was not, and the program failed; what was said is of
+-- links
+abbrev pub TakesTurns : {W : Type 0} → (W → List Call → Type 0) → EngineView W → ℕ → EngineView W
+    → Option (List ℕ) → Option (List ℕ) → Result (Unit {0}) Stop → Type 0
+TakesTurns is_after old turns new errors errors_after (Ok _) =
+    ToldTurns is_after old errors turns new errors_after
+TakesTurns is_after old turns new errors errors_after (Err stop) =
+    (stop ≡ Failed) × AreSomeSaid errors errors_after
 
 -- how serving by an engine ends, once it is open
-abbrev pub IsRun : {W : Type 0} → (W → List Call → Type 0) → ℕ → Engine W → Engine W → (printed printed_after errors errors_after : Option (List ℕ))
-    → Result (Unit {0}) Stop → Type 0
+abbrev pub IsRun : {W : Type 0} → (W → List Call → Type 0) → ℕ → Engine W → Engine W
+    → (printed printed_after errors errors_after : Option (List ℕ)) → Result (Unit {0}) Stop
+    → Type 0
 IsRun is_after turns old new printed printed_after errors errors_after result =
-    Serves is_after turns (engine_view old) (engine_view new) printed printed_after errors errors_after result
+    Serves is_after turns (engine_view old)
+    (engine_view new) printed printed_after errors errors_after result
 
 -- why a file is not read
 abbrev pub IsOfFile : Stop → Type 0

@@ -7,6 +7,8 @@ use Rattle.irc_acts.proofs.ahead.members.Goals as goal
 pub returns : goal.returns
 returns c =
     c.loop-act.invariant.counted
-    ∙ ap (fold (members_by c.args.channel.now) _) (take_all c.loop-act.act-index c.args.steps.now (omega (arith, c.loop-act-test.false)))
-    ∙ ap (λ members. fold (members_by c.args.channel.now) members c.args.steps.now) (members_found c.members_of-members.result.now _ c.members_of-members.ensures)
+    ∙ ap (fold (members_by c.args.channel.now) _)
+    (take_all c.loop-act.act-index c.args.steps.now (omega (arith, c.loop-act-test.false)))
+    ∙ ap (λ members. fold (members_by c.args.channel.now) members c.args.steps.now)
+    (members_found c.members_of-members.result.now _ c.members_of-members.ensures)
     ∙ sym (members_ahead c.args.channel.now c.args.room.now.room c.args.steps.now c.requires)

@@ -8,4 +8,5 @@ use Rattle.irc_acts.proofs.MappedRows.{any_of_map}
 use Rattle.irc_acts.proofs.standing.is_in_one.Goals as goal
 
 pub returns : goal.returns
-returns c = c.is_in_row.ensures ∙ sym (any_of_map (has_member (key c.args.user.now.nick)) (λ (row : Bor (Row Channel)). row.now.value) c.args.channels.now)
+returns c = c.is_in_row.ensures ∙ sym (any_of_map (has_member (key c.args.user.now.nick))
+    (λ (row : Bor (Row Channel)). row.now.value) c.args.channels.now)

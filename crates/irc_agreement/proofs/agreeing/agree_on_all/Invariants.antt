@@ -5,4 +5,5 @@ use Rattle.irc_agreement.specs.Loops.AsTheyAre.{agrees_on}
 use Rattle.irc_agreement.proofs.agreeing.agree_on_all.Given as goal
 
 abbrev pub invariant-loop-row : goal.invariant-loop-row
-invariant-loop-row l = list_all (λ row. agrees_on l.one.room l.other.room (row_entry row)) (take l.row-index l.channels) ≡ true
+invariant-loop-row l = list_all (λ row. agrees_on l.one.room l.other.room (row_entry row))
+    (take l.row-index l.channels) ≡ true

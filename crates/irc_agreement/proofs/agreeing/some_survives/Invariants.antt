@@ -5,4 +5,5 @@ use Rattle.irc_agreement.specs.Loops.AsTheyAre.{survives}
 use Rattle.irc_agreement.proofs.agreeing.some_survives.Given as goal
 
 abbrev pub invariant-loop-member : goal.invariant-loop-member
-invariant-loop-member l = list_any (λ row. survives l.other.room (row_entry row)) (take l.member-index l.members) ≡ false
+invariant-loop-member l =
+    list_any (λ row. survives l.other.room (row_entry row)) (take l.member-index l.members) ≡ false

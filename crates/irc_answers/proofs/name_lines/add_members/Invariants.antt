@@ -8,4 +8,5 @@ use Rattle.irc_answers.proofs.name_lines.add_members.Given as goal
 
 abbrev pub invariant-loop-row : goal.invariant-loop-row
 invariant-loop-row l =
-    Came max_names (name_line l.naming.channel.now) l.fn.steps.items l.fn.held.items (named_among l.naming (map row_entry (take l.row-index l.rows))) l.steps.items l.held.items
+    Came max_names (name_line l.naming.channel.now) l.fn.steps.items l.fn.held.items
+    (named_among l.naming (map row_entry (take l.row-index l.rows))) l.steps.items l.held.items

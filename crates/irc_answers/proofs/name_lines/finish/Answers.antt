@@ -10,7 +10,8 @@ use Rattle.irc_answers.proofs.name_lines.finish.Goals as goal
 pub returns-then-is_empty : goal.returns-then-is_empty
 returns-then-is_empty c =
     nothing_held max_names (name_line c.args.channel.now) c.args.steps.now.items c.args.held.items
-    (ap length (sym c.as_slice.ensures.value) ∙ eqb-true _ _ (sym c.is_empty.ensures ∙ c.if-is_empty.true))
+    (ap length (sym c.as_slice.ensures.value)
+    ∙ eqb-true _ _ (sym c.is_empty.ensures ∙ c.if-is_empty.true))
 
 pub returns : goal.returns
 returns c =
@@ -18,6 +19,8 @@ returns c =
     sent
     ∙ ap (λ a. c.args.steps.now.items ++ a ∷ []) c.in_ok-act.ensures
     ∙ last_held max_names (name_line c.args.channel.now) c.args.steps.now.items c.args.held.items
-    (ap (λ (xs : List Listed). eqb (length xs) 0) (sym c.as_slice.ensures.value) ∙ sym c.is_empty.ensures ∙ c.if-is_empty.false)
-    (subst (λ (xs : List Listed). length xs ≤ max_names) c.as_slice.ensures.value c.as_slice.ensures.fits))
+    (ap (λ (xs : List Listed). eqb (length xs) 0) (sym c.as_slice.ensures.value)
+    ∙ sym c.is_empty.ensures ∙ c.if-is_empty.false)
+    (subst (λ (xs : List Listed). length xs ≤ max_names) c.as_slice.ensures.value
+    c.as_slice.ensures.fits))
     c.put.ensures

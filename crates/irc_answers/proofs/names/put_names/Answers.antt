@@ -18,8 +18,13 @@ returns c =
     let before = c.args.steps.now.items in
     let rows = map row_entry c.as_slice-rows.result.now in
     ok_also c.finish.result (λ sent.
-    all_came max_names (name_line channel) before c.add_members.new.steps.items c.finish.new.steps.items c.new-held.result.items (filter_map (listed users (is_shown c.has_member-all.result)) rows)
+    all_came max_names (name_line channel) before c.add_members.new.steps.items
+    c.finish.new.steps.items c.new-held.result.items
+    (filter_map (listed users (is_shown c.has_member-all.result)) rows)
     c.add_members.new.held.items c.new-held.ensures c.in_ok-add_members.ensures sent
-    ∙ ap (λ (all : Bool). before ++ name_lines channel (filter_map (listed users (is_shown all)) rows)) c.has_member-all.ensures
-    ∙ ap (λ (es : List (List ℕ × Flags)). before ++ name_lines channel (filter_map (listed users (is_shown (has_member (key c.args.context.now.me.now.nick) channel))) es)) c.as_slice-rows.ensures)
+    ∙ ap (λ (all : Bool). before ++ name_lines channel
+    (filter_map (listed users (is_shown all)) rows)) c.has_member-all.ensures
+    ∙ ap (λ (es : List (List ℕ × Flags)). before ++ name_lines channel (filter_map
+    (listed users (is_shown (has_member (key c.args.context.now.me.now.nick) channel))) es))
+    c.as_slice-rows.ensures)
     c.finish.ensures

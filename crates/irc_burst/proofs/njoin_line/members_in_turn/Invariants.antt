@@ -8,4 +8,5 @@ use Rattle.irc_burst.proofs.njoin_line.members_in_turn.Given as goal
 abbrev pub invariant-loop-word : goal.invariant-loop-word
 invariant-loop-word l =
     members_told l.members.items
-    ≡ fold (taken_as_stored (reader l.at).is_far l.at.room.now.room l.channel) [] (map member_of (words_now (take l.word-index l.words)))
+    ≡ fold (taken_as_stored (reader l.at).is_far l.at.room.now.room l.channel) []
+    (map member_of (words_now (take l.word-index l.words)))

@@ -14,5 +14,6 @@ returns c =
     subst (λ told. IfOk c.members_in_turn.result (λ members. members_told members.items ≡ told))
     (ap (λ words. fold taken [] (map member_of (words_now words))) c.as_slice.ensures.value
     ∙ ap (λ words. fold taken [] (map member_of words)) c.in_ok-words.ensures
-    ∙ members_taken far c.args.channel.now room c.members_in_turn.ensures.well (members_of c.args.text.now))
+    ∙ members_taken far c.args.channel.now room c.members_in_turn.ensures.well
+    (members_of c.args.text.now))
     c.members_in_turn.ensures.ones

@@ -12,10 +12,13 @@ pub returns-in-Ok-all_collided : goal.returns-in-Ok-all_collided
 returns-in-Ok-all_collided c =
     let own = c.args.at.routes.now.name in
     let room = c.args.at.room.now.room in
-    let server : option_copied c.as_ref.result ≡ server_of (parsed c.args.message.now).prefix = search rules in
-    effects-ok own room (parsed c.args.message.now) (means room c.args.at.routes.now c.args.at.link (parsed c.args.message.now)) c.in-Ok.effects
+    let server : option_copied c.as_ref.result ≡ server_of (parsed c.args.message.now).prefix =
+    search rules in
+    effects-ok own room (parsed c.args.message.now)
+    (means room c.args.at.routes.now c.args.at.link (parsed c.args.message.now)) c.in-Ok.effects
     c.in-Ok-all_collided.acts c.in-Ok.ensures
-    (c.in-Ok-all_collided.ensures ∙ ap (λ s. map a_deed (flat_map (collided own room s) c.in-Ok.effects.items)) server)
+    (c.in-Ok-all_collided.ensures
+    ∙ ap (λ s. map a_deed (flat_map (collided own room s) c.in-Ok.effects.items)) server)
 
 pub returns-in-Err : goal.returns-in-Err
 returns-in-Err c =
@@ -23,5 +26,6 @@ returns-in-Err c =
     let own = c.args.at.routes.now.name in
     let room = c.args.at.room.now.room in
     let meant = means room c.args.at.routes.now c.args.at.link message in
-    subst (λ f. IsBurstMeant message (effects_told own room message.prefix meant) (Err f)) (sym c.from.ensures)
+    subst (λ f. IsBurstMeant message (effects_told own room message.prefix meant) (Err f))
+    (sym c.from.ensures)
     (effects-err own room message meant c.in-Err.fault c.in-Err.ensures)

@@ -14,4 +14,5 @@ loop-row-preserved c =
     c.in_ok-push_if.ensures
     ∙ ap (λ more. so_far ++ option_to_list more) c.near_member.ensures
     ∙ ap (λ (r : Row Flags). so_far ++ option_to_list (near (row_entry r))) c.row-item.is
-    ∙ one_more_row near c.args.rows.now c.loop-row.row-index _ so_far c.loop-row-test.true c.loop-row.invariant
+    ∙ one_more_row near c.args.rows.now c.loop-row.row-index _ so_far c.loop-row-test.true
+    c.loop-row.invariant

@@ -7,4 +7,5 @@ use Rattle.irc_burst_lines.proofs.bursting.near_members.Given as goal
 
 abbrev pub invariant-loop-row : goal.invariant-loop-row
 invariant-loop-row l =
-    told_members l.members.items ≡ filter_map (near_member (is_near l.routes l.link) l.room.room.users) (map row_entry (take l.row-index l.rows))
+    told_members l.members.items ≡ filter_map (near_member
+    (is_near l.routes l.link) l.room.room.users) (map row_entry (take l.row-index l.rows))

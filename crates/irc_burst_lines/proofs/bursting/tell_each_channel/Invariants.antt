@@ -10,5 +10,7 @@ use Rattle.irc_burst_lines.proofs.bursting.tell_each_channel.Given as goal
 abbrev pub invariant-loop-row : goal.invariant-loop-row
 invariant-loop-row l =
     Completes
-    (lines_now l.fn.lines.items ++ map text (flat_map (λ (r : Row Channel). channel_told l.routes l.link l.room.room.users r.value) l.channels)) l.lines.items
-    (flat_map (λ (r : Row Channel). channel_told l.routes l.link l.room.room.users r.value) (drop l.row-index l.channels))
+    (lines_now l.fn.lines.items ++ map text (flat_map (λ (r : Row Channel).
+    channel_told l.routes l.link l.room.room.users r.value) l.channels)) l.lines.items
+    (flat_map (λ (r : Row Channel). channel_told l.routes l.link l.room.room.users r.value)
+    (drop l.row-index l.channels))

@@ -7,5 +7,7 @@ use Rattle.irc_burst_lines.proofs.bursting.tell_each_user.Given as goal
 
 abbrev pub invariant-loop-user : goal.invariant-loop-user
 invariant-loop-user l =
-    Completes (lines_now l.fn.lines.items ++ map text (map (introduction l.routes) (filter (is_near_user l.routes l.link) (users_now l.users)))) l.lines.items
-    (map (introduction l.routes) (filter (is_near_user l.routes l.link) (users_now (drop l.user-index l.users))))
+    Completes (lines_now l.fn.lines.items ++ map text (map (introduction l.routes)
+    (filter (is_near_user l.routes l.link) (users_now l.users)))) l.lines.items
+    (map (introduction l.routes)
+    (filter (is_near_user l.routes l.link) (users_now (drop l.user-index l.users))))

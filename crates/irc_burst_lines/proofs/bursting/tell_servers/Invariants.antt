@@ -6,5 +6,6 @@ use Rattle.irc_burst_lines.proofs.bursting.tell_servers.Given as goal
 
 abbrev pub invariant-loop-server : goal.invariant-loop-server
 invariant-loop-server l =
-    Completes (lines_now l.fn.lines.items ++ map text (map (row_parts l.routes) (rows_now l.servers))) l.lines.items
+    Completes (lines_now l.fn.lines.items
+    ++ map text (map (row_parts l.routes) (rows_now l.servers))) l.lines.items
     (map (row_parts l.routes) (rows_now (drop l.server-index l.servers)))

@@ -1,4 +1,5 @@
-use Rattle.irc_burst_lines.specs.Lemmas.WholeLines.{server_fits, squit_fits, kill_fits, members_fit, members_are_short, fitting_is_whole}
+use Rattle.irc_burst_lines.specs.Lemmas.WholeLines.{server_fits, squit_fits, kill_fits, members_fit}
+use Rattle.irc_burst_lines.specs.Lemmas.WholeLines.{members_are_short, fitting_is_whole}
 use Rattle.irc_burst_lines.proofs.laws.lines_fit.Goals as goal
 
 pub returns-clause-servers : goal.returns-clause-servers

@@ -7,7 +7,10 @@ use Rattle.irc_mode_words.specs.Lemmas.ModePieces.{words_next, words_done}
 use Rattle.irc_burst_lines.proofs.mode_line.push_words.Goals as goal
 
 pub loop-change-init : goal.loop-change-init
-loop-change-init c = record { still_cut = c.push_cut.ensures.still_cut; pushed = piece_on _ _ [] _ _ c.push_cut.ensures.appended refl }
+loop-change-init c = record {
+  still_cut = c.push_cut.ensures.still_cut;
+  pushed = piece_on _ _ [] _ _ c.push_cut.ensures.appended refl;
+}
 
 pub loop-change-preserved : goal.loop-change-preserved
 loop-change-preserved c =
@@ -19,10 +22,13 @@ loop-change-preserved c =
     ∙ ap (λ (m : ModeChange). cut (line ++ middle_text (option_to_list m.word))) c.change-item.is in
     record {
       still_cut = c.push_parameter.ensures.still_cut;
-      pushed = piece_on line _ _ _ _ pushed (words_next (λ (m : ModeChange). m.word) changes i _ c.loop-change-test.true) ∙ c.loop-change.invariant.pushed;
+      pushed = piece_on line _ _ _ _ pushed
+          (words_next (λ (m : ModeChange). m.word) changes i _ c.loop-change-test.true)
+          ∙ c.loop-change.invariant.pushed;
     }
 
 pub returns-clause-pushed : goal.returns-clause-pushed
 returns-clause-pushed c =
-    words_done (λ (m : ModeChange). m.word) _ _ c.args.changes.now c.loop-change.change-index (omega (arith, c.loop-change-test.false))
+    words_done (λ (m : ModeChange). m.word) _ _ c.args.changes.now c.loop-change.change-index
+    (omega (arith, c.loop-change-test.false))
     c.loop-change.invariant.still_cut c.loop-change.invariant.pushed

@@ -8,5 +8,6 @@ use Rattle.irc_burst_lines.proofs.njoin_line.push_more.Given as goal
 abbrev pub invariant-loop-member : goal.invariant-loop-member
 invariant-loop-member l = record {
   still_cut : length l.line.items ≤ max_line;
-  pushed : cut (l.line.items ++ more_text (told_members (drop l.member-index l.members))) ≡ cut (l.fn.line.items ++ more_text (told_members l.members));
+  pushed : cut (l.line.items ++ more_text (told_members (drop l.member-index l.members)))
+      ≡ cut (l.fn.line.items ++ more_text (told_members l.members));
 }

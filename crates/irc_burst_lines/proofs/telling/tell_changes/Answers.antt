@@ -5,8 +5,10 @@ use Rattle.irc_burst_lines.proofs.telling.tell_changes.Goals as goal
 
 pub loop-rest-preserved : goal.loop-rest-preserved
 loop-rest-preserved c =
-    lines_told (mode_parts c.args.server.now c.args.channel.now) 3 _ _ _ _ c.loop-rest.rest.now _ _ (omega arith) (search rules) c.front.ensures
+    lines_told (mode_parts c.args.server.now c.args.channel.now) 3 _ _ _ _ c.loop-rest.rest.now _ _
+    (omega arith) (search rules) c.front.ensures
     c.behind-rest.ensures c.in_ok-put.ensures c.mode_text.ensures c.loop-rest.invariant
 
 pub returns : goal.returns
-returns c = lines_done (mode_parts c.args.server.now c.args.channel.now) 3 _ _ c.loop-rest.rest.now (search rules) c.loop-rest.invariant
+returns c = lines_done (mode_parts c.args.server.now c.args.channel.now) 3 _ _ c.loop-rest.rest.now
+    (search rules) c.loop-rest.invariant

@@ -6,7 +6,8 @@ use Rattle.irc_burst_lines.proofs.telling.tell_changes.Given as goal
 
 abbrev pub invariant-loop-rest : goal.invariant-loop-rest
 invariant-loop-rest l =
-    Completes (lines_now l.fn.lines.items ++ map text (ban_lines l.server l.channel l.changes)) l.lines.items (ban_lines l.server l.channel l.rest)
+    Completes (lines_now l.fn.lines.items ++ map text (ban_lines l.server l.channel l.changes))
+    l.lines.items (ban_lines l.server l.channel l.rest)
 
 abbrev pub decreases-loop-rest : goal.decreases-loop-rest
 decreases-loop-rest l = length l.rest

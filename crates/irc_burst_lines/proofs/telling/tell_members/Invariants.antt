@@ -6,7 +6,8 @@ use Rattle.irc_burst_lines.proofs.telling.tell_members.Given as goal
 
 abbrev pub invariant-loop-rest : goal.invariant-loop-rest
 invariant-loop-rest l =
-    Completes (lines_now l.fn.lines.items ++ map text (member_lines l.server l.channel (told_members l.members))) l.lines.items
+    Completes (lines_now l.fn.lines.items
+    ++ map text (member_lines l.server l.channel (told_members l.members))) l.lines.items
     (member_lines l.server l.channel (told_members l.rest))
 
 abbrev pub decreases-loop-rest : goal.decreases-loop-rest

@@ -4,4 +4,7 @@ use Rattle.irc_byte_network.proofs.laws.given_as_lines.Goals as goal
 
 pub returns : goal.returns
 returns c =
-    given_as_lines (record { pieces = c.pieces_complete_the_same.ensures.pieces; lines = c.pieces_complete_the_same.ensures.lines }) new_is_real
+    given_as_lines (record {
+      pieces = c.pieces_complete_the_same.ensures.pieces;
+      lines = c.pieces_complete_the_same.ensures.lines;
+    }) new_is_real

@@ -9,8 +9,10 @@ use Rattle.irc_commands.proofs.say.say_to.Given as goal
 abbrev pub invariant-loop-target : goal.invariant-loop-target
 invariant-loop-target l = record {
   room : l.served ≤ MAX_TARGETS;
-  said : l.steps.items ++ unless_notice l.verb (to_entries l.context.room.now.room l.context.me.now l.verb l.words (MAX_TARGETS - l.served) (entries l.rest))
-      ≡ unless_notice l.verb (say_to l.context.room.now.room l.context.me.now l.verb l.targets l.words);
+  said : l.steps.items ++ unless_notice l.verb (to_entries l.context.room.now.room l.context.me.now
+      l.verb l.words (MAX_TARGETS - l.served) (entries l.rest))
+      ≡ unless_notice l.verb
+      (say_to l.context.room.now.room l.context.me.now l.verb l.targets l.words);
 }
 
 abbrev pub decreases-loop-target : goal.decreases-loop-target

@@ -5,7 +5,8 @@ use Rattle.irc_daemons.proofs.laws.daemons_are_one_room.Goals as goal
 
 pub returns : goal.returns
 returns g c =
-    let alike = served_alike c.served_alike.ensures c.nothing_is_behind_an_end.ensures c.served_keeps_ends.ensures in
+    let alike = served_alike c.served_alike.ensures c.nothing_is_behind_an_end.ensures
+    c.served_keeps_ends.ensures in
     let laws : Laws = record {
       pieces = c.pieces_complete_the_same.ensures.pieces;
       lines_end = c.served_lines_end.ensures;

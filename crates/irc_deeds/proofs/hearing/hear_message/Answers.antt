@@ -14,9 +14,11 @@ returns-then-is_met c =
     let message = parsed c.args.message.now in
     subst (IsHeard c.told.result)
     (sym (ap (λ b. if b then of_met (deeds_meant view.room view.routes c.args.link message)
-    else opened view c.args.end.now (handshake_meant (is_some (c.args.end.now).password) view.room view.routes c.args.link message))
+    else opened view c.args.end.now (handshake_meant
+    (is_some (c.args.end.now).password) view.room view.routes c.args.link message))
     (sym c.is_met.ensures ∙ c.if-is_met.true)))
     (subst (λ meant. IsHeard c.told.result (of_met meant))
     (ap (λ room. deeds_meant room (c.routes.result).now c.args.link message) c.room.ensures
     ∙ ap (λ known. deeds_meant view.room known c.args.link message) c.routes.ensures)
-    (met_heard message _ c.read_burst_line.result c.told.result c.read_burst_line.ensures c.told.ensures))
+    (met_heard message _ c.read_burst_line.result c.told.result c.read_burst_line.ensures
+    c.told.ensures))

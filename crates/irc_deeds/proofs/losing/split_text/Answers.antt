@@ -6,5 +6,7 @@ use Rattle.irc_deeds.proofs.losing.split_text.Goals as goal
 
 pub returns : goal.returns
 returns c =
-    let pushed : c.try_extend_from_slice-3.new.self.items ≡ c.args.near.now ++ (codes " " ++ c.args.far.now) = grind (arith, common_steps) in
-    c.cut.ensures ∙ ap cut_words (c.as_slice.ensures.value ∙ pushed) ∙ whole_words _ (grind (arith, common_steps))
+    let pushed : c.try_extend_from_slice-3.new.self.items ≡ c.args.near.now
+    ++ (codes " " ++ c.args.far.now) = grind (arith, common_steps) in
+    c.cut.ensures ∙ ap cut_words (c.as_slice.ensures.value ∙ pushed)
+    ∙ whole_words _ (grind (arith, common_steps))

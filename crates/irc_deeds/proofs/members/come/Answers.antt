@@ -11,8 +11,10 @@ pub returns-clause-ok : goal.returns-clause-ok
 returns-clause-ok c =
     let old = served_at c.args.stage.now c.args.out.now.outs in
     on_ok c.give-2.result _ _
-    (member_came c.args.channel.now (member_told c.args.member.now) old (served_at c.take.new.self c.take.new.out.outs)
-    (served_at c.give.new.stage c.give.new.out.outs) (served_at c.give-2.new.stage c.give-2.new.out.outs)
+    (member_came c.args.channel.now (member_told c.args.member.now) old
+    (served_at c.take.new.self c.take.new.out.outs)
+    (served_at c.give.new.stage c.give.new.out.outs)
+    (served_at c.give-2.new.stage c.give-2.new.out.outs)
     (c.in_ok-take.ensures.ok
     ∙ ap (λ nick. changed_if (Join nick c.copy-2.result false) old) c.copy.ensures
     ∙ ap (λ channel. changed_if (Join c.args.member.now.nick channel false) old) c.copy-2.ensures)

@@ -9,6 +9,8 @@ pub returns : goal.returns
 returns c =
     c.loop-user.invariant
     ∙ ap (map (λ (user : Bor User). user.now.nick))
-    (take_all c.loop-user.user-index c.deref-user-items.result.now c.loop-user-test.false ∙ c.deref-user-items.ensures.value)
-    ∙ sym (map-map (λ (user : User). user.nick) (λ (user : Bor User). user.now) c.in_ok-users.users.items)
+    (take_all c.loop-user.user-index c.deref-user-items.result.now c.loop-user-test.false
+    ∙ c.deref-user-items.ensures.value)
+    ∙ sym (map-map (λ (user : User). user.nick)
+    (λ (user : Bor User). user.now) c.in_ok-users.users.items)
     ∙ ap (map (λ (user : User). user.nick)) c.in_ok-users.ensures

@@ -12,7 +12,8 @@ pub returns-clause-ok : goal.returns-clause-ok
 returns-clause-ok c =
     let view = view_of c.args.stage.now in
     on_ok c.put_all.result _ _
-    (answered view c.args.link c.args.name.now c.in-Some.end.now c.args.out.now.outs c.greet.new.out.outs c.put_all.new.out.outs _
+    (answered view c.args.link c.args.name.now c.in-Some.end.now c.args.out.now.outs
+    c.greet.new.out.outs c.put_all.new.out.outs _
     (sym c.end.ensures ∙ ap option_copied c.in-Some.is) c.in_ok-greet.ensures.ok
     (ap lines_now c.as_slice.ensures.value ∙ c.in_ok-lines.ensures
     ∙ ap (λ room. map text (burst_parts room c.routes.result.now c.args.link)) c.room.ensures

@@ -17,7 +17,8 @@ returns-in_ok-close_link-in-Closes-clause-ok c =
     on_ok c.lose_link.result _ _
     (λ lost. closed_lost c.args.link c.in-Closes.reason view out c.close_link.new.self.outs _
     (ap (λ (b : Batch). b.outs) c.in_ok-close_link-in-Closes.ensures.ok) lost
-    ∙ ap (λ what. behind_sent out (after_heard view c.args.link (heard_of what))) (sym c.in-Closes.is))
+    ∙ ap (λ what. behind_sent out (after_heard view c.args.link (heard_of what)))
+    (sym c.in-Closes.is))
     c.lose_link.ensures.ok
 
 pub returns-in-Tells-clause-ok : goal.returns-in-Tells-clause-ok
@@ -25,7 +26,9 @@ returns-in-Tells-clause-ok c =
     let view = view_of c.args.stage.now in
     let out = c.args.out.now.outs in
     on_ok c.tell_all.result _ _
-    (λ told. told ∙ ap (λ acts. all_told c.args.link (acts_told acts) (served_at c.args.stage.now out)) c.as_slice.ensures.value
+    (λ told. told ∙ ap (λ acts. all_told c.args.link (acts_told acts)
+    (served_at c.args.stage.now out)) c.as_slice.ensures.value
     ∙ told_in_front c.args.link (acts_told c.in-Tells.acts.items) view out
-    ∙ ap (λ what. behind_sent out (after_heard view c.args.link (heard_of what))) (sym c.in-Tells.is))
+    ∙ ap (λ what. behind_sent out (after_heard view c.args.link (heard_of what)))
+    (sym c.in-Tells.is))
     c.tell_all.ensures.ok

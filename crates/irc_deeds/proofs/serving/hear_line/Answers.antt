@@ -12,4 +12,5 @@ follow-requires-clause-hearable c =
     let end = c.in-Some.end.now in
     at_stage c.args.link what c.args.stage.now
     (subst (λ o. IsHearableAt o what) (sym (ap option_copied c.in-Some.is) ∙ c.end.ensures)
-    (subst (IsHearableAt (Some end)) (sym c.in_ok-heard.ensures) (hearable (view_of c.args.stage.now) c.args.link end (read_of c.args.line.now))))
+    (subst (IsHearableAt (Some end)) (sym c.in_ok-heard.ensures)
+    (hearable (view_of c.args.stage.now) c.args.link end (read_of c.args.line.now))))

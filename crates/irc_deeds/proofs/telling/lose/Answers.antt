@@ -8,7 +8,9 @@ pub returns-clause-ok : goal.returns-clause-ok
 returns-clause-ok c =
     let loss = c.args.loss in
     on_ok c.tell_all.result _ _
-    (λ told. loses_done (Some c.args.link) loss.server.now loss.name.now loss.text.now _ (served_at c.args.stage.now c.args.out.now.outs)
-    (served_at c.quit_all.new.stage c.quit_all.new.out.outs) (view_of c.remove_server.new.self) _ c.in_ok-quit_all.ensures.ok c.remove_server.ensures.ok
+    (λ told. loses_done (Some c.args.link) loss.server.now loss.name.now loss.text.now _
+    (served_at c.args.stage.now c.args.out.now.outs)
+    (served_at c.quit_all.new.stage c.quit_all.new.out.outs)
+    (view_of c.remove_server.new.self) _ c.in_ok-quit_all.ensures.ok c.remove_server.ensures.ok
     c.squit_text-line.ensures told)
     c.tell_all.ensures.ok

@@ -1,4 +1,6 @@
-use Rattle.irc_effects.specs.Lemmas.RespelledRooms.{respelled_is_well_formed, respelled_is_within_limits, one_row_respelled, all_else_stays, respelled_once}
+use Rattle.irc_effects.specs.Lemmas.RespelledRooms.{respelled_is_well_formed}
+use Rattle.irc_effects.specs.Lemmas.RespelledRooms.{respelled_is_within_limits, one_row_respelled}
+use Rattle.irc_effects.specs.Lemmas.RespelledRooms.{all_else_stays, respelled_once}
 use Rattle.irc_effects.proofs.laws.one_name_is_respelled.Goals as goal
 
 pub returns-clause-well_formed : goal.returns-clause-well_formed

@@ -1,4 +1,5 @@
-use Rattle.irc_effects.proofs.ShownWhole.{sent_fits_its_line, sent_is_shown_whole, named_is_whole_too}
+use Rattle.irc_effects.proofs.ShownWhole.{sent_fits_its_line, sent_is_shown_whole}
+use Rattle.irc_effects.proofs.ShownWhole.{named_is_whole_too}
 use Rattle.irc_effects.proofs.laws.sent_is_shown_whole.Goals as goal
 
 pub returns-clause-fits : goal.returns-clause-fits

@@ -9,7 +9,13 @@ use Rattle.irc_follow.specs.Lemmas.SidesFollowed.{IsKnownOfLine}
 use Rattle.irc_items.proofs.laws.given_stays_sound.Goals as goal
 
 pub returns : goal.returns
-returns c = given_stays_sound (record { rest = c.rest_is_one_room.ensures; world = c.taken_make_world.ensures; client = client; link = link; cut = cut })
+returns c = given_stays_sound (record {
+  rest = c.rest_is_one_room.ensures;
+  world = c.taken_make_world.ensures;
+  client = client;
+  link = link;
+  cut = cut;
+})
   where
     line : IsKnownOfLine
     line = record {
@@ -21,7 +27,10 @@ returns c = given_stays_sound (record { rest = c.rest_is_one_room.ensures; world
     }
 
     steps : AreStepLaws
-    steps = record { step_keeps = c.step_keeps_world.ensures; refusals = c.refusals_are_the_worlds.ensures }
+    steps = record {
+      step_keeps = c.step_keeps_world.ensures;
+      refusals = c.refusals_are_the_worlds.ensures;
+    }
 
     decisions : AreDecisionLaws
     decisions = record {
@@ -70,8 +79,10 @@ returns c = given_stays_sound (record { rest = c.rest_is_one_room.ensures; world
         only_connected = c.only_connected_receive.ensures;
       };
       home = record { decisions = decisions; sound = c.part_at_rest_is_sound.ensures };
-      tells = λ s world after routes h view happening same_links fixed forest streams among is_world of_world right fits place due.
-          tells_from_home telling s world routes h view happening fixed forest streams is_world fits place due after same_links;
+      tells = λ s world after routes h view happening same_links fixed forest streams among is_world
+          of_world right fits place due.
+          tells_from_home telling s world routes h view happening fixed forest streams is_world fits
+          place due after same_links;
       place = c.place_is_worlds.ensures;
       kept = c.keeps_its_setting.ensures;
       steps = steps;
@@ -79,14 +90,26 @@ returns c = given_stays_sound (record { rest = c.rest_is_one_room.ensures; world
 
     cut : AreCutItemLaws
     cut = record {
-      cut = record { quiet = c.rest_stays.ensures; line = line; only_connected = c.only_connected_receive.ensures; behind = c.behind_is_that_side.ensures };
+      cut = record {
+        quiet = c.rest_stays.ensures;
+        line = line;
+        only_connected =
+            c.only_connected_receive.ensures;
+        behind = c.behind_is_that_side.ensures;
+      };
       sides = record {
         at_rest = c.part_at_rest_is_sound.ensures;
         behind = c.behind_is_that_side.ensures;
         after_cut = c.tree_after_cut.ensures;
         squits = c.squits_split.ensures;
       };
-      lines = record { written = c.written_is_read.ensures; alone = c.every_line_is_read.ensures.alone; as_line = c.written_is_line.ensures; names = c.names_are_line_words.ensures };
+      lines =
+          record {
+            written = c.written_is_read.ensures;
+            alone = c.every_line_is_read.ensures.alone;
+            as_line = c.written_is_line.ensures;
+            names = c.names_are_line_words.ensures;
+          };
       done = c.done_stays_sound.ensures;
       kept = c.keeps_its_setting.ensures;
       steps = steps;
@@ -94,11 +117,21 @@ returns c = given_stays_sound (record { rest = c.rest_is_one_room.ensures; world
 
     link : AreLinkItemLaws
     link = record {
-      link = record { after_link = c.part_after_link.ensures; quiet = c.rest_stays.ensures; line = line; only_connected = c.only_connected_receive.ensures };
+      link = record {
+        after_link = c.part_after_link.ensures;
+        quiet = c.rest_stays.ensures;
+        line = line;
+        only_connected = c.only_connected_receive.ensures;
+      };
       rooms = record {
         sides = record {
           handshakes = record {
-            lines = record { written = c.written_is_read.ensures; alone = c.every_line_is_read.ensures.alone; as_line = c.written_is_line.ensures; names = c.names_are_line_words.ensures };
+            lines = record {
+              written = c.written_is_read.ensures;
+              alone = c.every_line_is_read.ensures.alone;
+              as_line = c.written_is_line.ensures;
+              names = c.names_are_line_words.ensures;
+            };
             passwords = c.lines_fit.ensures.passwords;
             names = c.lines_fit.ensures.names;
           };

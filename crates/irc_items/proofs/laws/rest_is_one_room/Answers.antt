@@ -9,7 +9,8 @@ pub returns : goal.returns
 returns c = rest_is_one_room (record {
   at_rest = record {
     quiet = c.rest_stays.ensures;
-    in_turn = λ m links source net t forest covers. comes_in_turn m links (streams_from links source) net t (covers_flows links source forest covers);
+    in_turn = λ m links source net t forest covers. comes_in_turn m links
+        (streams_from links source) net t (covers_flows links source forest covers);
   };
   world = c.taken_make_world.ensures;
   side = c.part_at_rest_is_sound.ensures;

@@ -5,4 +5,5 @@ use Rattle.std.specs.Str.{bytes_eq}
 use Rattle.irc_late.proofs.hearing.are_same.Goals as goal
 
 pub returns : goal.returns
-returns c = c.eq.ensures ∙ sym (pointwise-map (λ (word : Bor (List ℕ)). word.now) bytes_eq c.args.words.now c.args.others.now)
+returns c = c.eq.ensures ∙ sym
+    (pointwise-map (λ (word : Bor (List ℕ)). word.now) bytes_eq c.args.words.now c.args.others.now)

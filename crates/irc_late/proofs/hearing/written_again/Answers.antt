@@ -7,5 +7,6 @@ pub returns : goal.returns
 returns c =
     c.write_message.ensures
     ∙ ap text
-    (written_as c.args.message.now c.args.words.now c.before_last.result.now c.sender_again.result c.last_of.result
+    (written_as c.args.message.now c.args.words.now c.before_last.result.now c.sender_again.result
+    c.last_of.result
     c.sender_again.ensures c.before_last.ensures c.last_of.ensures)

@@ -5,4 +5,5 @@ use Rattle.irc_late.proofs.late_wire.drop_unread.Goals as goal
 
 pub returns-in-Some : goal.returns-in-Some
 returns-in-Some c =
-    subst (λ conn. ChangesIf conn without_held c.args.links.now c.drop_held.new.links) (sym c.in-Some.is) c.drop_held.ensures
+    subst (λ conn. ChangesIf conn without_held c.args.links.now c.drop_held.new.links)
+    (sym c.in-Some.is) c.drop_held.ensures

@@ -5,5 +5,6 @@ use Rattle.irc_late.proofs.late_wire.offer.Goals as goal
 
 pub returns-in-Some : goal.returns-in-Some
 returns-in-Some c =
-    changed _ _ _ c.in-Some.link.now _ c.in-Some.ensures.value (c.get_mut.follows.holds _).3 (with_offered c.args.bytes.now)
+    changed _ _ _ c.in-Some.link.now _ c.in-Some.ensures.value (c.get_mut.follows.holds _).3
+    (with_offered c.args.bytes.now)
     (c.offer.ensures ∙ ap (with_offered c.args.bytes.now) c.deref_mut.ensures.value)

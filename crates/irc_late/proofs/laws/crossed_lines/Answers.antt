@@ -1,4 +1,5 @@
-use Rattle.irc_late.proofs.Examples.{crossed_kill_is_left_out, crossed_nick_is_killed, crossed_rename_is_left_out}
+use Rattle.irc_late.proofs.Examples.{crossed_kill_is_left_out, crossed_nick_is_killed}
+use Rattle.irc_late.proofs.Examples.{crossed_rename_is_left_out}
 use Rattle.irc_late.proofs.laws.crossed_lines.Goals as goal
 
 pub returns-clause-kill : goal.returns-clause-kill

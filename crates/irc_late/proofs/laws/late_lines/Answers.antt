@@ -1,4 +1,5 @@
-use Rattle.irc_late.proofs.Examples.{key_stays, kick_is_put_right, killed_is_left_out, mode_is_put_right}
+use Rattle.irc_late.proofs.Examples.{key_stays, kick_is_put_right, killed_is_left_out}
+use Rattle.irc_late.proofs.Examples.{mode_is_put_right}
 use Rattle.irc_late.proofs.laws.late_lines.Goals as goal
 
 pub returns-clause-left_out : goal.returns-clause-left_out

@@ -9,6 +9,8 @@ returns-clause-takes c =
     let used = c.args.used.now in
     let left = drop used c.args.bytes.now in
     let more = c.take-more.result.0 in
-    subst (TakesLine c.args.framer.now left c.take-more.result.1 c.take-more.new.self) (drop-drop more used c.args.bytes.now)
-    (takes_line c.pieces_complete_the_same.ensures.pieces c.args.framer.now c.take-more.new.self left _ more c.take-more.result.1 c.take-more.ensures.of_some_stream
+    subst (TakesLine c.args.framer.now left c.take-more.result.1 c.take-more.new.self)
+    (drop-drop more used c.args.bytes.now)
+    (takes_line c.pieces_complete_the_same.ensures.pieces c.args.framer.now c.take-more.new.self
+    left _ more c.take-more.result.1 c.take-more.ensures.of_some_stream
     (take_rest c.args.bytes.now used) c.take-more.ensures.takes c.take-more.ensures.whole)

@@ -8,4 +8,5 @@ use Rattle.irc_line.proofs.framing.lines_of_pieces.Goals as goal
 pub returns : goal.returns
 returns c =
     all_lines _ _ _ c.loop-piece.invariant
-    ∙ ap (λ ps. lines (flat_map (λ p. p.now) ps)) (take_all c.loop-piece.piece-index c.args.pieces.now c.loop-piece-test.false)
+    ∙ ap (λ ps. lines (flat_map (λ p. p.now) ps))
+    (take_all c.loop-piece.piece-index c.args.pieces.now c.loop-piece-test.false)

@@ -7,4 +7,5 @@ use Rattle.irc_line.proofs.framing.lines_of_pieces.Given as goal
 
 -- the lines so far are those of the pieces so far
 abbrev pub invariant-loop-piece : goal.invariant-loop-piece
-invariant-loop-piece l = TakesInto nothing_begun (flat_map (λ p. p.now) (take l.piece-index l.pieces)) [] l.framer (bytes_of l.found.items)
+invariant-loop-piece l = TakesInto nothing_begun
+    (flat_map (λ p. p.now) (take l.piece-index l.pieces)) [] l.framer (bytes_of l.found.items)

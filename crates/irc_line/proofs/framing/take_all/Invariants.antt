@@ -6,7 +6,8 @@ use Rattle.irc_line.proofs.framing.take_all.Given as goal
 
 -- whatever the rest gives completes what the whole piece gives
 abbrev pub invariant-loop-rest : goal.invariant-loop-rest
-invariant-loop-rest l = (new : Begun) (after : List (List ℕ)) → TakesInto l.framer l.rest (bytes_of l.found.items) new after
+invariant-loop-rest l = (new : Begun) (after : List (List ℕ))
+    → TakesInto l.framer l.rest (bytes_of l.found.items) new after
     → TakesInto l.fn.framer l.fn.piece (bytes_of l.fn.found.items) new after
 
 abbrev pub decreases-loop-rest : goal.decreases-loop-rest

@@ -10,7 +10,8 @@ abbrev pub invariant-loop-first : goal.invariant-loop-first
 invariant-loop-first l = record {
   room : length l.params.items < max_parameters;
   no_space : begins is_space l.rest ≡ false;
-  completes : (more : List (List ℕ)) → ReadsParams (max_parameters - length l.params.items) l.rest more
+  completes : (more : List (List ℕ))
+      → ReadsParams (max_parameters - length l.params.items) l.rest more
       → ReadsParams max_parameters l.fn.text (params_now l.params ++ more);
 }
 

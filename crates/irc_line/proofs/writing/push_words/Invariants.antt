@@ -8,5 +8,6 @@ use Rattle.irc_line.proofs.writing.push_words.Given as goal
 abbrev pub invariant-loop-word : goal.invariant-loop-word
 invariant-loop-word l = record {
   still_cut : length l.line.items ≤ max_line;
-  pushed : l.line.items ≡ cut (l.fn.line.items ++ middle_text (words_now (take l.word-index l.words)));
+  pushed : l.line.items ≡ cut
+      (l.fn.line.items ++ middle_text (words_now (take l.word-index l.words)));
 }

@@ -9,5 +9,7 @@ use Rattle.irc_line.proofs.writing.write_message.Goals as goal
 pub returns : goal.returns
 returns c =
     let parts = written c.args.parts.now in
-    all_written _ _ _ _ _ parts (c.push_prefix.ensures.pushed ∙ ap (λ old. cut (old ++ prefix_text (prefix_of parts.sender))) c.new-line.ensures)
-    c.push_cut.ensures.appended c.push_words.ensures.pushed c.push_last.ensures.pushed (grind (arith, common_steps))
+    all_written _ _ _ _ _ parts (c.push_prefix.ensures.pushed
+    ∙ ap (λ old. cut (old ++ prefix_text (prefix_of parts.sender))) c.new-line.ensures)
+    c.push_cut.ensures.appended c.push_words.ensures.pushed c.push_last.ensures.pushed
+    (grind (arith, common_steps))

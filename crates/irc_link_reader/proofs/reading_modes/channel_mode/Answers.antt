@@ -9,4 +9,5 @@ returns-in-Ok-Some c =
     is-found _ _ c.change_modes.result
     (c.change_modes.ensures
     ∙ ap first_fault
-    (modes-told (reader c.args.at) c.args.name.now c.args.target.now c.args.params c.in-Ok-Some.changes c.requires (search rules)))
+    (modes-told (reader c.args.at) c.args.name.now c.args.target.now c.args.params
+    c.in-Ok-Some.changes c.requires (search rules)))

@@ -7,5 +7,6 @@ use Rattle.irc_link_words.proofs.changes.are_letters_of.Given as goal
 abbrev pub invariant-loop-change : goal.invariant-loop-change
 invariant-loop-change l = record {
   within : l.used ≤ length l.word;
-  rest : bytes_eq (letters_from l.sign (drop l.change-index l.changes)) (drop l.used l.word) ≡ bytes_eq (letters_text l.changes) l.word;
+  rest : bytes_eq (letters_from l.sign (drop l.change-index l.changes)) (drop l.used l.word)
+      ≡ bytes_eq (letters_text l.changes) l.word;
 }

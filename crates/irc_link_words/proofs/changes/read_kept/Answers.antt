@@ -10,11 +10,14 @@ push_made-requires c = search (kept_at, modes_kept, rules)
 
 pub loop-item-preserved : goal.loop-item-preserved
 loop-item-preserved c =
-    made_more c.loop-item.changes.items c.push_made.new.changes.items _ c.as_slice-item-items.result.now c.loop-item.item-index _ c.loop-item-test.true
+    made_more c.loop-item.changes.items c.push_made.new.changes.items _
+    c.as_slice-item-items.result.now c.loop-item.item-index _ c.loop-item-test.true
     c.in_ok-push_made.ensures c.loop-item.invariant
 
 pub returns : goal.returns
 returns c =
-    made_done c.loop-item.changes.items _ c.as_slice-item-items.result.now c.loop-item.item-index (omega (arith, c.loop-item-test.false))
+    made_done c.loop-item.changes.items _ c.as_slice-item-items.result.now c.loop-item.item-index
+    (omega (arith, c.loop-item-test.false))
     c.loop-item.invariant
-    ∙ ap (filter_map made) (ap all_asked c.as_slice-item-items.ensures.value ∙ c.in_ok-items.ensures)
+    ∙ ap (filter_map made) (ap all_asked c.as_slice-item-items.ensures.value
+    ∙ c.in_ok-items.ensures)

@@ -5,4 +5,5 @@ use Rattle.irc_link_words.specs.Words.{made}
 use Rattle.irc_link_words.proofs.changes.read_kept.Given as goal
 
 abbrev pub invariant-loop-item : goal.invariant-loop-item
-invariant-loop-item l = l.changes.items ++ filter_map made (all_asked (drop l.item-index l.item-items)) ≡ filter_map made (all_asked l.item-items)
+invariant-loop-item l = l.changes.items ++ filter_map made
+    (all_asked (drop l.item-index l.item-items)) ≡ filter_map made (all_asked l.item-items)

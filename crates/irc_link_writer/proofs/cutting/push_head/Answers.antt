@@ -11,5 +11,7 @@ returns-clause-head c =
     let one = c.push_cut.ensures.appended ∙ ap (λ old. cut (old ++ codes ":")) c.requires in
     let two = cut_two [] _ _ (codes ":") name one c.push_cut-2.ensures.appended in
     let three = cut_two [] _ _ (codes ":" ++ name) command two c.push_cut-3.ensures.appended in
-    let four = cut_two [] _ _ (codes ":" ++ name ++ command) channel three c.push_cut-4.ensures.appended in
-    cut_two [] _ _ (codes ":" ++ name ++ command ++ channel) (codes " ") four c.push_cut-5.ensures.appended
+    let four =
+    cut_two [] _ _ (codes ":" ++ name ++ command) channel three c.push_cut-4.ensures.appended in
+    cut_two [] _ _ (codes ":" ++ name ++ command ++ channel)
+    (codes " ") four c.push_cut-5.ensures.appended

@@ -3,4 +3,5 @@ use Rattle.irc_links.specs.Loops.Branching.{hops_of}
 use Rattle.irc_links.proofs.branches.add_hops.Given as goal
 
 abbrev pub invariant-loop-nick : goal.invariant-loop-nick
-invariant-loop-nick l = l.links.items ≡ l.fn.links.items ++ hops_of l.room.room l.routes (take l.nick-index l.nicks)
+invariant-loop-nick l =
+    l.links.items ≡ l.fn.links.items ++ hops_of l.room.room l.routes (take l.nick-index l.nicks)

@@ -7,7 +7,8 @@ use Rattle.irc_membership.proofs.JoinOne.{flags_tell}
 use Rattle.irc_membership.proofs.join.is_in.Goals as goal
 
 pub flags-requires : goal.flags-requires
-flags-requires c = own_joins_are_moves c.args.context.now.me.now.nick c.args.context.now.room.now.room c.args.steps.now c.requires
+flags-requires c = own_joins_are_moves c.args.context.now.me.now.nick
+    c.args.context.now.room.now.room c.args.steps.now c.requires
 
 pub returns : goal.returns
 returns c =

@@ -22,5 +22,6 @@ returns c =
     ∙ ap (map (leaves me)) (own_of_rows room me c.as_slice.result.now
     (ap (map (λ (row : Bor (Row Channel)). row_entry row.now)) c.as_slice.ensures.value
     ∙ (c.in_ok-rows.ensures
-    ∙ ap (λ nick. filter (λ e. has_member (key nick) e.1) (entries room.channels)) c.as_bytes.ensures.value))))
+    ∙ ap (λ nick. filter (λ e. has_member (key nick) e.1) (entries room.channels))
+    c.as_bytes.ensures.value))))
     c.leave_all.ensures

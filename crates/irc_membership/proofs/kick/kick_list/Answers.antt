@@ -12,8 +12,11 @@ loop-channel-preserved c =
     let before = c.loop-channel.steps.items in
     let asked = kicking c.in-Some.channel.now c.in-Some.nick.now in
     let act = c.kick_one-act.result in
-    let served = ap (λ s. kick_one me text (ahead room s) asked) (sym c.as_slice.ensures.value) ∙ c.kick_one-act.ensures in
+    let served = ap (λ s. kick_one me text (ahead room s) asked) (sym c.as_slice.ensures.value)
+    ∙ c.kick_one-act.ensures in
     record {
-      leaves = kicks_more me text room before (act ∷ []) asked c.put.new.steps.items c.know_well_formed.ensures c.loop-channel.invariant.leaves served c.in_ok-put.ensures;
-      served = kicked_so_far me text room before (act ∷ []) c.put.new.steps.items _ asked _ _ c.in-Some.ensures.0 served c.in_ok-put.ensures c.loop-channel.invariant.served;
+      leaves = kicks_more me text room before (act ∷ []) asked c.put.new.steps.items
+          c.know_well_formed.ensures c.loop-channel.invariant.leaves served c.in_ok-put.ensures;
+      served = kicked_so_far me text room before (act ∷ []) c.put.new.steps.items _ asked _ _
+          c.in-Some.ensures.0 served c.in_ok-put.ensures c.loop-channel.invariant.served;
     }

@@ -13,8 +13,10 @@ invariant-loop-channel l =
     let serve = kick_one l.context.me.now l.text in
     record {
       leaves : AreLeaves room l.steps.items;
-      served : l.steps.items ++ in_turn serve (ahead room l.steps.items) (kicks_left l.left.is_one (entries l.left.channels.now) (entries l.left.nicks.now))
-          ≡ in_turn serve room (kicks_left l.asked.is_one (entries l.asked.channels.now) (entries l.asked.nicks.now));
+      served : l.steps.items ++ in_turn serve (ahead room l.steps.items)
+          (kicks_left l.left.is_one (entries l.left.channels.now) (entries l.left.nicks.now))
+          ≡ in_turn serve room (kicks_left l.asked.is_one (entries l.asked.channels.now)
+          (entries l.asked.nicks.now));
     }
 
 abbrev pub decreases-loop-channel : goal.decreases-loop-channel

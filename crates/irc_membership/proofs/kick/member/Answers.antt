@@ -10,6 +10,7 @@ flags-requires c = leaves_are_moves c.args.room.now.room c.args.steps.now c.requ
 pub returns-then-is_some : goal.returns-then-is_some
 returns-then-is_some c =
     c.user.ensures
-    ∙ sym (member_is c.args.room.now.room c.args.steps.now (key c.args.nick.now) (key c.args.channel.now)
+    ∙ sym (member_is c.args.room.now.room c.args.steps.now (key c.args.nick.now)
+    (key c.args.channel.now)
     (leaves_are_moves c.args.room.now.room c.args.steps.now c.requires)
     (sym (c.is_some.ensures ∙ ap is_some c.flags.ensures) ∙ c.if-is_some.true))

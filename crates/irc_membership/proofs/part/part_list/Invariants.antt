@@ -5,11 +5,13 @@ use Rattle.irc_acts.specs.Moves.{AreLeaves}
 use Rattle.irc_membership.specs.Part.{part_one}
 use Rattle.irc_membership.proofs.part.part_list.Given as goal
 
--- the steps so far, and those of the rest in the room that they leave, are the steps of the whole list
+-- the steps so far, and those of the rest in the room that they leave, are the steps of the whole
+-- list
 abbrev pub invariant-loop-name : goal.invariant-loop-name
 invariant-loop-name l = record {
   leaves : AreLeaves l.context.room.now.room l.steps.items;
-  served : l.steps.items ++ in_turn (part_one l.context.me.now l.text) (ahead l.context.room.now.room l.steps.items) (entries l.rest)
+  served : l.steps.items ++ in_turn (part_one l.context.me.now l.text)
+      (ahead l.context.room.now.room l.steps.items) (entries l.rest)
       ≡ in_turn (part_one l.context.me.now l.text) l.context.room.now.room (entries l.list);
 }
 

@@ -9,4 +9,5 @@ returns-clause-pushed c =
     let old = c.args.line.now.items in
     cut_two _ _ _ _ _ c.push_cut.ensures.appended c.push_cut-2.ensures.appended
     ∙ ap (λ t. cut (old ++ (t ++ c.byte.result ∷ []))) c.sign_text.ensures
-    ∙ ap (λ b. cut (old ++ (sign_between c.args.sign c.args.change.now.plus ++ b ∷ []))) c.byte.ensures
+    ∙ ap (λ b. cut (old ++ (sign_between c.args.sign c.args.change.now.plus ++ b ∷ [])))
+    c.byte.ensures

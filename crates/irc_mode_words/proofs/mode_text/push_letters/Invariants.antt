@@ -8,5 +8,6 @@ use Rattle.irc_mode_words.proofs.mode_text.push_letters.Given as goal
 abbrev pub invariant-loop-change : goal.invariant-loop-change
 invariant-loop-change l = record {
   still_cut : length l.line.items ≤ max_line;
-  pushed : cut (l.line.items ++ letters_from l.sign (drop l.change-index l.changes)) ≡ cut (l.fn.line.items ++ letters_text l.changes);
+  pushed : cut (l.line.items ++ letters_from l.sign (drop l.change-index l.changes))
+      ≡ cut (l.fn.line.items ++ letters_text l.changes);
 }

@@ -6,4 +6,5 @@ use Rattle.irc_moderation.proofs.channel_mode.deny.Given as goal
 
 -- the replies so far, and those to the letters that are left, are those to all letters
 abbrev pub invariant-loop-item : goal.invariant-loop-item
-invariant-loop-item l = l.steps.items ++ denied_left l.refused l.channel (all_asked (drop l.item-index l.items)) ≡ denied l.channel (all_asked l.items)
+invariant-loop-item l = l.steps.items ++ denied_left l.refused l.channel
+    (all_asked (drop l.item-index l.items)) ≡ denied l.channel (all_asked l.items)

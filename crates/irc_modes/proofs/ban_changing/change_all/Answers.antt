@@ -10,12 +10,15 @@ pub loop-change-init : goal.loop-change-init
 loop-change-init c = record {
   so_far = refl;
   ordered = c.requires.ordered;
-  room = room_at_start c.args.bans.now.items c.args.changes.now (vec_len c.args.bans.now) (vec_capacity c.args.bans.now) c.args.bans.now.ok.0 c.requires.room;
+  room = room_at_start c.args.bans.now.items c.args.changes.now (vec_len c.args.bans.now)
+      (vec_capacity c.args.bans.now) c.args.bans.now.ok.0 c.requires.room;
 }
 
 pub change_one-requires-clause-room : goal.change_one-requires-clause-room
-change_one-requires-clause-room c = room_before_item c.args.bans.now.items c.loop-change.bans.items c.args.changes.now c.loop-change.change-index c.change-item.result
-    (vec_len c.loop-change.bans) (vec_capacity c.loop-change.bans) c.requires.ordered c.loop-change.invariant.ordered
+change_one-requires-clause-room c = room_before_item c.args.bans.now.items c.loop-change.bans.items
+    c.args.changes.now c.loop-change.change-index c.change-item.result
+    (vec_len c.loop-change.bans)
+    (vec_capacity c.loop-change.bans) c.requires.ordered c.loop-change.invariant.ordered
     c.loop-change-test.true c.change-item.is c.loop-change.bans.ok.0 c.loop-change.invariant.room
 
 pub loop-change-preserved : goal.loop-change-preserved
@@ -32,7 +35,10 @@ loop-change-preserved c =
           ∙ ap (λ (m : ModeChange). ban_step (bans_after (take i changes) start) m) c.change-item.is
           ∙ sym (fold_more ban_step start changes i change c.loop-change-test.true);
       ordered = c.change_one.ensures.ordered;
-      room = subst (λ bans. HasRoom start (drop (i + 1) changes) bans (vec_capacity c.change_one.new.bans)) (sym after)
-          (room_after_item start c.loop-change.bans.items changes i change (vec_capacity c.loop-change.bans) (vec_capacity c.change_one.new.bans)
-          c.requires.ordered c.loop-change.invariant.ordered c.loop-change-test.true c.change-item.is c.loop-change.invariant.room c.change_one.ensures.capacity);
+      room = subst (λ bans. HasRoom start (drop (i + 1) changes) bans
+          (vec_capacity c.change_one.new.bans)) (sym after)
+          (room_after_item start c.loop-change.bans.items changes i change
+          (vec_capacity c.loop-change.bans) (vec_capacity c.change_one.new.bans)
+          c.requires.ordered c.loop-change.invariant.ordered c.loop-change-test.true
+          c.change-item.is c.loop-change.invariant.room c.change_one.ensures.capacity);
     }

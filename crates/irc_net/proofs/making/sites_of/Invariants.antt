@@ -5,7 +5,8 @@ use Rattle.irc_net.proofs.making.sites_of.Given as goal
 
 -- the sites so far, and those of the configurations that are left, are all
 abbrev pub invariant-loop-config : goal.invariant-loop-config
-invariant-loop-config l = l.sites.items ++ map new_site (into_iter_items l.rest) ≡ map new_site l.fn.configs.items
+invariant-loop-config l =
+    l.sites.items ++ map new_site (into_iter_items l.rest) ≡ map new_site l.fn.configs.items
 
 abbrev pub decreases-loop-config : goal.decreases-loop-config
 decreases-loop-config l = into_iter_len l.rest

@@ -7,7 +7,9 @@ use Rattle.irc_net.proofs.net.take_all.Given as goal
 
 -- so many lines were completed
 abbrev pub invariant-loop-lines : goal.invariant-loop-lines
-invariant-loop-lines g l = GoesCounted l.count (byte_course l.fn.network l.fn.desk.lines.items) (byte_course l.network l.desk.lines.items)
+invariant-loop-lines g l = GoesCounted l.count (byte_course l.fn.network l.fn.desk.lines.items)
+    (byte_course l.network l.desk.lines.items)
 
 abbrev pub decreases-loop-lines : goal.decreases-loop-lines
-decreases-loop-lines g l = lines_left (most_now (net_in_lines l.fn.network)) (course_in_lines (byte_course l.network l.desk.lines.items))
+decreases-loop-lines g l = lines_left (most_now (net_in_lines l.fn.network))
+    (course_in_lines (byte_course l.network l.desk.lines.items))

@@ -13,24 +13,28 @@ pub returns-in-UnknownMode : goal.returns-in-UnknownMode
 unfolding reply_number words table
 returns-in-UnknownMode c =
     is_line c.args.head.server.now c.args.head.name.now c.in-UnknownMode.is c.telling.ensures refl
-    (says refl (ap in_a_row (kept (codes "is unknown mode char to me for ") (both c.as_bytes.ensures.value no_more))))
+    (says refl (ap in_a_row (kept (codes "is unknown mode char to me for ")
+    (both c.as_bytes.ensures.value no_more))))
 
 pub returns-in-InviteOnlyChan : goal.returns-in-InviteOnlyChan
 unfolding reply_number words table
 returns-in-InviteOnlyChan c =
-    is_line c.args.head.server.now c.args.head.name.now c.in-InviteOnlyChan.is c.on-in-InviteOnlyChan.ensures refl
+    is_line c.args.head.server.now c.args.head.name.now c.in-InviteOnlyChan.is
+    c.on-in-InviteOnlyChan.ensures refl
     refl
 
 pub returns-in-BannedFromChan : goal.returns-in-BannedFromChan
 unfolding reply_number words table
 returns-in-BannedFromChan c =
-    is_line c.args.head.server.now c.args.head.name.now c.in-BannedFromChan.is c.on-in-BannedFromChan.ensures refl
+    is_line c.args.head.server.now c.args.head.name.now c.in-BannedFromChan.is
+    c.on-in-BannedFromChan.ensures refl
     refl
 
 pub returns-in-BadChannelKey : goal.returns-in-BadChannelKey
 unfolding reply_number words table
 returns-in-BadChannelKey c =
-    is_line c.args.head.server.now c.args.head.name.now c.in-BadChannelKey.is c.on-in-BadChannelKey.ensures refl
+    is_line c.args.head.server.now c.args.head.name.now c.in-BadChannelKey.is
+    c.on-in-BadChannelKey.ensures refl
     refl
 
 pub returns-in-BanListFull : goal.returns-in-BanListFull
@@ -42,7 +46,8 @@ returns-in-BanListFull c =
 pub returns-in-ChanOPrivsNeeded : goal.returns-in-ChanOPrivsNeeded
 unfolding reply_number words table
 returns-in-ChanOPrivsNeeded c =
-    is_line c.args.head.server.now c.args.head.name.now c.in-ChanOPrivsNeeded.is c.on-in-ChanOPrivsNeeded.ensures refl
+    is_line c.args.head.server.now c.args.head.name.now c.in-ChanOPrivsNeeded.is
+    c.on-in-ChanOPrivsNeeded.ensures refl
     refl
 
 pub returns-in-UModeUnknownFlag : goal.returns-in-UModeUnknownFlag
@@ -54,5 +59,6 @@ returns-in-UModeUnknownFlag c =
 pub returns-in-UsersDontMatch : goal.returns-in-UsersDontMatch
 unfolding reply_number words table
 returns-in-UsersDontMatch c =
-    is_line c.args.head.server.now c.args.head.name.now c.in-UsersDontMatch.is c.said-in-UsersDontMatch.ensures refl
+    is_line c.args.head.server.now c.args.head.name.now c.in-UsersDontMatch.is
+    c.said-in-UsersDontMatch.ensures refl
     refl

@@ -18,7 +18,8 @@ returns-in-ListEnd c =
 pub returns-in-ChannelModeIs : goal.returns-in-ChannelModeIs
 unfolding reply_number words table
 returns-in-ChannelModeIs c =
-    is_line c.args.head.server.now c.args.head.name.now c.in-ChannelModeIs.is c.mode_line.ensures refl
+    is_line c.args.head.server.now c.args.head.name.now c.in-ChannelModeIs.is
+    c.mode_line.ensures refl
     (has_modes refl c.deref-in-ChannelModeIs.ensures.0 refl refl)
 
 pub returns-in-NoTopic : goal.returns-in-NoTopic

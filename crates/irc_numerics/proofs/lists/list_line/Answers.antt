@@ -7,9 +7,11 @@ pub returns-in-WhoReply : goal.returns-in-WhoReply
 unfolding reply_number words table
 returns-in-WhoReply c =
     is_line c.args.head.server.now c.args.head.name.now c.in-WhoReply.is c.who_line.ensures refl
-    (says (both c.channel_or_star.ensures (both c.as_bytes.ensures.value (both c.as_bytes-in-WhoReply.ensures.value
+    (says (both c.channel_or_star.ensures
+    (both c.as_bytes.ensures.value (both c.as_bytes-in-WhoReply.ensures.value
     (both c.as_bytes-in-WhoReply-2.ensures.value (both c.as_bytes-in-WhoReply-3.ensures.value
-    (both c.here.ensures refl)))))) (ap in_a_row (kept (decimal c.in-WhoReply.hops) (kept (codes " ")
+    (both c.here.ensures refl)))))) (ap in_a_row (kept (decimal c.in-WhoReply.hops) (kept
+    (codes " ")
     (both c.as_bytes-in-WhoReply-4.ensures.value no_more)))))
 
 pub returns-in-NamReply : goal.returns-in-NamReply

@@ -8,4 +8,5 @@ returns c =
     let line = numbered c.args.head.server.now c.args.head.name.now (codes "353") in
     let text = spaced (map marked_nick c.args.names.now) in
     c.cut_text.ensures text c.names_text.ensures
-    ∙ ap (λ words. line (saying words text)) (both c.as_bytes.ensures (both c.as_bytes-2.ensures.value no_more))
+    ∙ ap (λ words. line (saying words text))
+    (both c.as_bytes.ensures (both c.as_bytes-2.ensures.value no_more))

@@ -9,5 +9,6 @@ returns c =
     let line = numbered c.args.head.server.now c.args.head.name.now (codes "352") in
     let hops = c.as_bytes.ensures.value ∙ c.format.ensures.text in
     c.who_text.ensures
-    ∙ ap (λ pieces. line (saying (words_now c.args.words.now) (in_a_row pieces))) (both hops (kept (codes " ")
+    ∙ ap (λ pieces. line (saying (words_now c.args.words.now) (in_a_row pieces)))
+    (both hops (kept (codes " ")
     (kept c.args.real.now no_more)))

@@ -10,5 +10,6 @@ returns c =
     let servers = c.as_bytes-2.ensures.value ∙ c.format-2.ensures.text in
     c.client_counts.ensures
     ∙ ap (λ pieces. line (said (in_a_row pieces)))
-    (kept (codes "There are ") (both users (kept (codes " users and 0 services on ") (both servers (kept
+    (kept (codes "There are ")
+    (both users (kept (codes " users and 0 services on ") (both servers (kept
     (codes " servers") no_more)))))

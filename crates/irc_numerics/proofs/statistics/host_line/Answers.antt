@@ -8,4 +8,5 @@ returns c =
     let line = numbered c.args.head.server.now c.args.head.name.now (codes "002") in
     c.telling.ensures
     ∙ ap (λ pieces. line (said (in_a_row pieces)))
-    (kept (codes "Your host is ") (both c.as_bytes.ensures.value (kept (codes ", running version treeircd-1") no_more)))
+    (kept (codes "Your host is ")
+    (both c.as_bytes.ensures.value (kept (codes ", running version treeircd-1") no_more)))

@@ -10,4 +10,5 @@ returns c =
     let links = c.as_bytes-2.ensures.value ∙ c.format-2.ensures.text in
     c.own_counts.ensures
     ∙ ap (λ pieces. line (said (in_a_row pieces)))
-    (kept (codes "I have ") (both clients (kept (codes " clients and ") (both links (kept (codes " servers") no_more)))))
+    (kept (codes "I have ") (both clients
+    (kept (codes " clients and ") (both links (kept (codes " servers") no_more)))))

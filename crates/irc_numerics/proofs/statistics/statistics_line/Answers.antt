@@ -7,7 +7,8 @@ pub returns-in-Welcome : goal.returns-in-Welcome
 unfolding reply_number words table
 returns-in-Welcome c =
     is_line c.args.head.server.now c.args.head.name.now c.in-Welcome.is c.welcome_line.ensures refl
-    (says refl (ap in_a_row (kept (codes "Welcome to the Internet Relay Network ") (kept c.in-Welcome.nick (kept (codes "!")
+    (says refl (ap in_a_row (kept (codes "Welcome to the Internet Relay Network ")
+    (kept c.in-Welcome.nick (kept (codes "!")
     (kept c.in-Welcome.user (kept (codes "@") (kept c.in-Welcome.host no_more))))))))
 
 pub returns-in-YourHost : goal.returns-in-YourHost
@@ -20,7 +21,8 @@ pub returns-in-Created : goal.returns-in-Created
 unfolding reply_number words table
 returns-in-Created c =
     is_line c.args.head.server.now c.args.head.name.now c.in-Created.is c.telling.ensures refl
-    (says refl (ap in_a_row (kept (codes "This server was created ") (both c.deref.ensures.0 no_more))))
+    (says refl
+    (ap in_a_row (kept (codes "This server was created ") (both c.deref.ensures.0 no_more))))
 
 pub returns-in-MyInfo : goal.returns-in-MyInfo
 unfolding reply_number words table
@@ -31,13 +33,15 @@ returns-in-MyInfo c =
 pub returns-in-UserModeIs : goal.returns-in-UserModeIs
 unfolding reply_number words table
 returns-in-UserModeIs c =
-    is_line c.args.head.server.now c.args.head.name.now c.in-UserModeIs.is c.plain-in-UserModeIs.ensures refl
+    is_line c.args.head.server.now c.args.head.name.now c.in-UserModeIs.is
+    c.plain-in-UserModeIs.ensures refl
     (ap plain (both c.user_mode.ensures refl))
 
 pub returns-in-LuserClient : goal.returns-in-LuserClient
 unfolding reply_number words table
 returns-in-LuserClient c =
-    is_line c.args.head.server.now c.args.head.name.now c.in-LuserClient.is c.client_line.ensures refl
+    is_line c.args.head.server.now c.args.head.name.now c.in-LuserClient.is
+    c.client_line.ensures refl
     refl
 
 pub returns-in-LuserChannels : goal.returns-in-LuserChannels

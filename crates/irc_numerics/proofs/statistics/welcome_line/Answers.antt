@@ -8,6 +8,7 @@ returns c =
     let line = numbered c.args.head.server.now c.args.head.name.now (codes "001") in
     c.telling.ensures
     ∙ ap (λ pieces. line (said (in_a_row pieces)))
-    (kept (codes "Welcome to the Internet Relay Network ") (both c.as_bytes.ensures.value (kept (codes "!")
+    (kept (codes "Welcome to the Internet Relay Network ")
+    (both c.as_bytes.ensures.value (kept (codes "!")
     (both c.as_bytes-2.ensures.value
     (kept (codes "@") (both c.as_bytes-3.ensures.value no_more))))))

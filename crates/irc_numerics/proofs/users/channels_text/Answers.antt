@@ -13,6 +13,7 @@ loop-i-preserved c =
     let text = c.loop-i.text.items in
     let mark = mark_text c.index-channels-i.result.mark in
     let name = c.as_bytes.ensures.value in
-    entry_goes_on on_channel c.args.channels.now c.loop-i.i c.index-channels-i.result _ _ c.loop-i-test.true c.index-channels-i.is c.loop-i.invariant
+    entry_goes_on on_channel c.args.channels.now c.loop-i.i c.index-channels-i.result _ _
+    c.loop-i-test.true c.index-channels-i.is c.loop-i.invariant
     (λ first. c.push_entry.ensures.first first ∙ ap (λ n. cut (text ++ (mark ++ n))) name)
     (λ later. c.push_entry.ensures.later later ∙ ap (λ n. cut (text ++ (space ∷ (mark ++ n)))) name)

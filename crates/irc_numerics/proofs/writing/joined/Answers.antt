@@ -7,4 +7,5 @@ loop-piece-init c = c.new-text.ensures ∙ cut-nil
 
 pub loop-piece-preserved : goal.loop-piece-preserved
 loop-piece-preserved c =
-    piece_goes_on _ _ c.args.pieces.now c.loop-piece.piece-index _ c.loop-piece-test.true c.loop-piece.invariant c.push.ensures
+    piece_goes_on _ _ c.args.pieces.now c.loop-piece.piece-index _ c.loop-piece-test.true
+    c.loop-piece.invariant c.push.ensures

@@ -6,4 +6,5 @@ use Rattle.irc_numerics.proofs.writing.push_marked.Goals as goal
 pub returns : goal.returns
 returns c =
     let old = c.args.text.now.items in
-    cut_two old _ _ _ _ (c.push.ensures ∙ ap (λ mark. cut (old ++ mark)) c.as_bytes.ensures) c.push-2.ensures
+    cut_two old _ _ _ _ (c.push.ensures
+    ∙ ap (λ mark. cut (old ++ mark)) c.as_bytes.ensures) c.push-2.ensures

@@ -4,4 +4,5 @@ use Rattle.irc_outbox.proofs.MemoryLaws.{by_order}
 use Rattle.irc_outbox.proofs.memory.add.Goals as goal
 
 pub returns-in-Ok : goal.returns-in-Ok
-returns-in-Ok c = λ q. c.in-Ok.ensures.updates.0 q ∙ ap (λ b. cond b (Some c.args.far) (far_at c.args.fars.now q)) (by_order c.args.conn q)
+returns-in-Ok c = λ q. c.in-Ok.ensures.updates.0 q
+    ∙ ap (λ b. cond b (Some c.args.far) (far_at c.args.fars.now q)) (by_order c.args.conn q)

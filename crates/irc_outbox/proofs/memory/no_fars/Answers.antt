@@ -7,7 +7,9 @@ use Rattle.irc_outbox.proofs.MemoryLaws.{none_fresh}
 use Rattle.irc_outbox.proofs.memory.no_fars.Goals as goal
 
 pub returns-clause-fresh : goal.returns-clause-fresh
-returns-clause-fresh c = none_fresh c.new.result (λ conn. ap (lookup (is_at (nat_cmp conn))) c.new.ensures.empty)
+returns-clause-fresh c =
+    none_fresh c.new.result (λ conn. ap (lookup (is_at (nat_cmp conn))) c.new.ensures.empty)
 
 pub returns-clause-planned : goal.returns-clause-planned
-returns-clause-planned c = none_planned c.new.result (λ conn. ap (lookup (is_at (nat_cmp conn))) c.new.ensures.empty)
+returns-clause-planned c =
+    none_planned c.new.result (λ conn. ap (lookup (is_at (nat_cmp conn))) c.new.ensures.empty)

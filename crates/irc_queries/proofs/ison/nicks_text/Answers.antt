@@ -21,7 +21,9 @@ loop-i-preserved c =
     let now = λ (user : Bor User). user.now in
     let once = λ (user : Bor User). user.now.nick in
     entry_goes_on once users i c.index-users-i.result _ _ c.loop-i-test.true c.index-users-i.is
-    (c.loop-i.invariant ∙ ap (λ (nicks : List (List ℕ)). cut (spaced nicks)) (mapped_twice nick now (take i users)))
+    (c.loop-i.invariant ∙ ap (λ (nicks : List (List ℕ)). cut (spaced nicks))
+    (mapped_twice nick now (take i users)))
     (λ first. c.push_nick.ensures.first first ∙ ap (λ n. cut (text ++ n)) name)
     (λ later. c.push_nick.ensures.later later ∙ ap (λ n. cut (text ++ (space ∷ n))) name)
-    ∙ ap (λ (nicks : List (List ℕ)). cut (spaced nicks)) (sym (mapped_twice nick now (take (i + 1) users)))
+    ∙ ap (λ (nicks : List (List ℕ)). cut (spaced nicks))
+    (sym (mapped_twice nick now (take (i + 1) users)))

@@ -5,4 +5,5 @@ use Rattle.irc_users.specs.declared.user.User.{User}
 use Rattle.irc_queries.proofs.ison.nicks_text.Given as goal
 
 abbrev pub invariant-loop-i : goal.invariant-loop-i
-invariant-loop-i l = l.text.items ≡ cut (spaced (map (λ (user : User). user.nick) (map (λ user. user.now) (take l.i l.users))))
+invariant-loop-i l = l.text.items
+    ≡ cut (spaced (map (λ (user : User). user.nick) (map (λ user. user.now) (take l.i l.users))))

@@ -5,4 +5,5 @@ use Rattle.irc_queries.proofs.ison.push_nick.Goals as goal
 
 pub returns-else-place-eq0-clause-later : goal.returns-else-place-eq0-clause-later
 returns-else-place-eq0-clause-later c behind =
-    cut_two c.args.text.now.items _ _ (space ∷ []) c.args.nick.now c.push-else-place-eq0.ensures c.push-else-place-eq0-2.ensures
+    cut_two c.args.text.now.items _ _
+    (space ∷ []) c.args.nick.now c.push-else-place-eq0.ensures c.push-else-place-eq0-2.ensures

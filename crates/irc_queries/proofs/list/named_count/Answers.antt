@@ -15,5 +15,7 @@ returns c =
     let rows = map row_entry c.as_slice.result.now in
     c.named_among.ensures
     ∙ count_found (listed users (is_shown c.has_member-all.result)) row_entry c.as_slice.result.now
-    ∙ ap (λ (all : Bool). length (filter_map (listed users (is_shown all)) rows)) c.has_member-all.ensures
-    ∙ ap (λ (es : List (List ℕ × Flags)). length (filter_map (listed users (is_shown (has_member (key c.args.context.now.me.now.nick) c.args.channel.now))) es)) c.as_slice.ensures
+    ∙ ap (λ (all : Bool). length (filter_map (listed users (is_shown all)) rows))
+    c.has_member-all.ensures
+    ∙ ap (λ (es : List (List ℕ × Flags)). length (filter_map (listed users (is_shown (has_member
+    (key c.args.context.now.me.now.nick) c.args.channel.now))) es)) c.as_slice.ensures

@@ -10,8 +10,10 @@ use Rattle.irc_queries.proofs.list.say_list.Given as goal
 -- the entries so far, and those of the rest, are those of all
 abbrev pub invariant-loop-asked : goal.invariant-loop-asked
 invariant-loop-asked l = record {
-  said : l.out.outs ++ all_said (place_of l.context.routes.now) (Some l.context.me.now.nick) l.conn (flat_map (asked_entry l.context.room.now.room l.context.me.now) (entries l.rest))
-      ≡ l.initial.out.outs ++ all_said (place_of l.context.routes.now) (Some l.context.me.now.nick) l.conn (flat_map (asked_entry l.context.room.now.room l.context.me.now) (entries l.list));
+  said : l.out.outs ++ all_said (place_of l.context.routes.now) (Some l.context.me.now.nick) l.conn
+      (flat_map (asked_entry l.context.room.now.room l.context.me.now) (entries l.rest))
+      ≡ l.initial.out.outs ++ all_said (place_of l.context.routes.now) (Some l.context.me.now.nick)
+      l.conn (flat_map (asked_entry l.context.room.now.room l.context.me.now) (entries l.list));
   grew : Grew l.initial.out.outs l.out.outs;
 }
 

@@ -9,4 +9,5 @@ pub returns : goal.returns
 returns c =
     let room = c.args.room.now.room in
     own_of_rows room c.args.user.now c.in_ok-rows.rows.items
-    (c.in_ok-rows.ensures ∙ ap (λ (nick : List ℕ). filter (λ e. has_member (key nick) e.1) (entries room.channels)) c.as_bytes.ensures.value)
+    (c.in_ok-rows.ensures ∙ ap (λ (nick : List ℕ). filter (λ e. has_member (key nick) e.1)
+    (entries room.channels)) c.as_bytes.ensures.value)

@@ -8,6 +8,8 @@ pub returns : goal.returns
 returns c =
     let known = c.args.routes.now in
     c.unwrap_or.ensures
-    ∙ ap (λ d. unwrap_or d 0) (c.distance.ensures ∙ ap (λ name. distance_of known name) c.as_bytes.ensures.value
+    ∙ ap (λ d. unwrap_or d 0) (c.distance.ensures
+    ∙ ap (λ name. distance_of known name) c.as_bytes.ensures.value
     ∙ (c.place_tells.ensures known c.args.home.now c.created.ensures.numbered).distance)
-    ∙ sym (mapped_or (λ (s : KnownServer). s.distance) 0 (server_named (place_of known) c.args.home.now))
+    ∙ sym (mapped_or (λ (s : KnownServer). s.distance) 0
+    (server_named (place_of known) c.args.home.now))

@@ -11,6 +11,10 @@ use Rattle.irc_queries.proofs.who.say_members.Given as goal
 abbrev pub invariant-loop-row : goal.invariant-loop-row
 invariant-loop-row l = record {
   said : l.out.outs
-      ≡ l.initial.out.outs ++ all_said (place_of l.context.routes.now) (Some l.context.me.now.nick) l.conn (filter_map (member_line l.context.room.now.room (place_of l.context.routes.now) (λ user. is_seen_from (map (λ row. row.now.value) l.own) l.context.me.now user) l.channel) (map row_entry (take l.row-index l.row-items)));
+      ≡ l.initial.out.outs
+      ++ all_said (place_of l.context.routes.now) (Some l.context.me.now.nick) l.conn
+      (filter_map (member_line l.context.room.now.room (place_of l.context.routes.now) (λ user.
+      is_seen_from (map (λ row. row.now.value) l.own) l.context.me.now user) l.channel)
+      (map row_entry (take l.row-index l.row-items)));
   grew : Grew l.initial.out.outs l.out.outs;
 }

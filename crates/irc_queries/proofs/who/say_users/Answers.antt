@@ -13,9 +13,13 @@ use Rattle.irc_queries.proofs.who.say_users.Goals as goal
 pub returns-clause-ok : goal.returns-clause-ok
 returns-clause-ok c =
     let context = c.args.context.now in
-    let seen = λ (user : User). is_seen_from (map (λ (row : Bor (Row Channel)). row.now.value) c.args.own.now) context.me.now user in
+    let seen = λ (user : User). is_seen_from
+    (map (λ (row : Bor (Row Channel)). row.now.value) c.args.own.now) context.me.now user in
     c.loop-user.invariant.said
-    ∙ ap (λ users. c.args.out.now.outs ++ all_said (place_of context.routes.now) (Some context.me.now.nick) c.args.conn (replies_of_users (place_of context.routes.now) seen c.args.mask.now users))
+    ∙ ap (λ users. c.args.out.now.outs
+    ++ all_said (place_of context.routes.now) (Some context.me.now.nick) c.args.conn
+    (replies_of_users (place_of context.routes.now) seen c.args.mask.now users))
     (ap (map (λ (user : Bor User). user.now))
-    (take_all c.loop-user.user-index c.as_slice-user-items.result.now c.loop-user-test.false ∙ c.as_slice-user-items.ensures.value)
+    (take_all c.loop-user.user-index c.as_slice-user-items.result.now c.loop-user-test.false
+    ∙ c.as_slice-user-items.ensures.value)
     ∙ c.in_ok-users.ensures)

@@ -9,6 +9,9 @@ use Rattle.irc_queries.proofs.who.say_users.Given as goal
 abbrev pub invariant-loop-user : goal.invariant-loop-user
 invariant-loop-user l = record {
   said : l.out.outs
-      ≡ l.initial.out.outs ++ all_said (place_of l.context.routes.now) (Some l.context.me.now.nick) l.conn (replies_of_users (place_of l.context.routes.now) (λ user. is_seen_from (map (λ row. row.now.value) l.own) l.context.me.now user) l.mask (map (λ user. user.now) (take l.user-index l.user-items)));
+      ≡ l.initial.out.outs ++ all_said (place_of l.context.routes.now)
+      (Some l.context.me.now.nick) l.conn (replies_of_users (place_of l.context.routes.now)
+      (λ user. is_seen_from (map (λ row. row.now.value) l.own) l.context.me.now user) l.mask
+      (map (λ user. user.now) (take l.user-index l.user-items)));
   grew : Grew l.initial.out.outs l.out.outs;
 }

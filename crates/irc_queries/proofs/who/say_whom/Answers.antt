@@ -14,6 +14,8 @@ returns-clause-ok c =
     let context = c.args.context.now in
     let place = place_of context.routes.now in
     let value = λ (row : Bor (Row Channel)). row.now.value in
-    subst (λ (own : List Channel). OnOk c.say_told.result (c.say_told.new.out.outs ≡ c.args.out.now.outs ++ all_said place (Some context.me.now.nick) c.args.conn
-    (replies_of_seen context.room.now.room place (λ (user : User). is_seen_from own context.me.now user) context.me.now c.args.asked.now)))
+    subst (λ (own : List Channel). OnOk c.say_told.result (c.say_told.new.out.outs
+    ≡ c.args.out.now.outs ++ all_said place (Some context.me.now.nick) c.args.conn
+    (replies_of_seen context.room.now.room place
+    (λ (user : User). is_seen_from own context.me.now user) context.me.now c.args.asked.now)))
     (ap (map value) c.as_slice.ensures.value ∙ c.in_ok-own.ensures) c.say_told.ensures.ok

@@ -17,9 +17,15 @@ loop-row-preserved c =
     let rows = c.args.rows.now in
     let i = c.loop-row.row-index in
     let value = λ (row : Bor (Row Channel)). row.now.value in
-    subst (λ (places : List OnChannel). Came max_whois_channels line c.args.steps.now.items c.args.held.now.items places c.add_channel.new.steps.items c.add_channel.new.held.items)
+    subst (λ (places : List OnChannel). Came max_whois_channels line c.args.steps.now.items
+    c.args.held.now.items places c.add_channel.new.steps.items c.add_channel.new.held.items)
     (sym (rows_more give value rows i c.row-item.result c.loop-row-test.true c.row-item.is))
-    (more_came max_whois_channels line c.args.steps.now.items c.loop-row.steps.items c.add_channel.new.steps.items c.args.held.now.items c.loop-row.held.items c.add_channel.new.held.items
-    (filter_map give (map value (take i rows))) (filter_map give (value c.row-item.result ∷ [])) c.loop-row.invariant
-    (subst (λ (channel : Channel). Came max_whois_channels line c.loop-row.steps.items c.loop-row.held.items (filter_map give (channel ∷ [])) c.add_channel.new.steps.items c.add_channel.new.held.items)
+    (more_came max_whois_channels line c.args.steps.now.items c.loop-row.steps.items
+    c.add_channel.new.steps.items c.args.held.now.items c.loop-row.held.items
+    c.add_channel.new.held.items
+    (filter_map give (map value (take i rows)))
+    (filter_map give (value c.row-item.result ∷ [])) c.loop-row.invariant
+    (subst (λ (channel : Channel). Came max_whois_channels line c.loop-row.steps.items
+    c.loop-row.held.items (filter_map give (channel ∷ [])) c.add_channel.new.steps.items
+    c.add_channel.new.held.items)
     c.channel.ensures c.in_ok-add_channel.ensures))

@@ -9,15 +9,20 @@ use Rattle.irc_queries.proofs.whois.finish.Goals as goal
 
 pub returns-then-is_empty : goal.returns-then-is_empty
 returns-then-is_empty c =
-    nothing_held max_whois_channels (channels_line c.args.user.now) c.args.steps.now.items c.args.held.items
-    (ap length (sym c.as_slice.ensures.value) ∙ eqb-true _ _ (sym c.is_empty.ensures ∙ c.if-is_empty.true))
+    nothing_held max_whois_channels
+    (channels_line c.args.user.now) c.args.steps.now.items c.args.held.items
+    (ap length (sym c.as_slice.ensures.value)
+    ∙ eqb-true _ _ (sym c.is_empty.ensures ∙ c.if-is_empty.true))
 
 pub returns : goal.returns
 returns c =
     ok_also c.put.result (λ sent.
     sent
     ∙ ap (λ a. c.args.steps.now.items ++ a ∷ []) c.channels_line.ensures
-    ∙ last_held max_whois_channels (channels_line c.args.user.now) c.args.steps.now.items c.args.held.items
-    (ap (λ (xs : List OnChannel). eqb (length xs) 0) (sym c.as_slice.ensures.value) ∙ sym c.is_empty.ensures ∙ c.if-is_empty.false)
-    (subst (λ (xs : List OnChannel). length xs ≤ max_whois_channels) c.as_slice.ensures.value c.as_slice.ensures.fits))
+    ∙ last_held max_whois_channels
+    (channels_line c.args.user.now) c.args.steps.now.items c.args.held.items
+    (ap (λ (xs : List OnChannel). eqb (length xs) 0) (sym c.as_slice.ensures.value)
+    ∙ sym c.is_empty.ensures ∙ c.if-is_empty.false)
+    (subst (λ (xs : List OnChannel). length xs ≤ max_whois_channels) c.as_slice.ensures.value
+    c.as_slice.ensures.fits))
     c.put.ensures

@@ -18,8 +18,11 @@ returns c =
     let give = place_in c.args.context.now.me.now user in
     let value = λ (row : Bor (Row Channel)). row.now.value in
     ok_also c.finish.result (λ sent.
-    all_came max_whois_channels line before c.add_channels.new.steps.items c.finish.new.steps.items c.new-held.result.items (filter_map give (map value c.as_slice.result.now))
+    all_came max_whois_channels line before c.add_channels.new.steps.items c.finish.new.steps.items
+    c.new-held.result.items (filter_map give (map value c.as_slice.result.now))
     c.add_channels.new.held.items c.new-held.ensures c.in_ok-add_channels.ensures sent
-    ∙ ap (λ (rows : List (Bor (Row Channel))). before ++ lines_of max_whois_channels line (filter_map give (map value rows))) c.as_slice.ensures.value
-    ∙ ap (λ (channels : List Channel). before ++ lines_of max_whois_channels line (filter_map give channels)) c.in_ok-rows.ensures)
+    ∙ ap (λ (rows : List (Bor (Row Channel))). before ++ lines_of max_whois_channels line
+    (filter_map give (map value rows))) c.as_slice.ensures.value
+    ∙ ap (λ (channels : List Channel). before ++ lines_of max_whois_channels line
+    (filter_map give channels)) c.in_ok-rows.ensures)
     c.finish.ensures

@@ -8,8 +8,10 @@ use Rattle.irc_queries.proofs.whois.put_list.Given as goal
 -- what was told so far, and what is told of the rest, are what is told of all
 abbrev pub invariant-loop-nick : goal.invariant-loop-nick
 invariant-loop-nick l =
-    l.steps.items ++ flat_map (told_of_one l.context.room.now.room (place_of l.context.routes.now) l.context.me.now) (entries l.rest)
-    ≡ l.fn.steps.items ++ flat_map (told_of_one l.context.room.now.room (place_of l.context.routes.now) l.context.me.now) (entries l.list)
+    l.steps.items ++ flat_map (told_of_one l.context.room.now.room
+    (place_of l.context.routes.now) l.context.me.now) (entries l.rest)
+    ≡ l.fn.steps.items ++ flat_map (told_of_one l.context.room.now.room
+    (place_of l.context.routes.now) l.context.me.now) (entries l.list)
 
 abbrev pub decreases-loop-nick : goal.decreases-loop-nick
 decreases-loop-nick l = length l.rest

@@ -8,5 +8,8 @@ use Rattle.irc_registering.specs.RegisteringViews.{registered_of}
 
 pub returns-in-Some : goal.returns-in-Some
 returns-in-Some c =
-    let row = first_nick c.args.room.now.room (place_of c.args.routes.now) c.args.pending c.args.params.now c.in-Some.given.now c.in-Some.ensures.value (ap not (sym c.is_empty.ensures ∙ c.if-not-is_empty.true)) in
-    subst (λ (target : Registered). IfOk c.choose_nick.result (λ r. registered_of r ≡ target)) (sym row) c.choose_nick.ensures
+    let row = first_nick c.args.room.now.room (place_of c.args.routes.now)
+    c.args.pending c.args.params.now c.in-Some.given.now c.in-Some.ensures.value
+    (ap not (sym c.is_empty.ensures ∙ c.if-not-is_empty.true)) in
+    subst (λ (target : Registered). IfOk c.choose_nick.result (λ r. registered_of r ≡ target))
+    (sym row) c.choose_nick.ensures

@@ -4,4 +4,5 @@ use Rattle.irc_relay.specs.Lemmas.DeliveryRuns.{delivery_away}
 use Rattle.irc_relay.proofs.laws_of_relays.delivery_goes_away.Goals as goal
 
 pub returns : goal.returns
-returns g c = λ m links source p t line back old new forest covers. delivery_away m links (streams_from links source) p t line back old new (covers_flows links source forest covers)
+returns g c = λ m links source p t line back old new forest covers. delivery_away m links
+    (streams_from links source) p t line back old new (covers_flows links source forest covers)

@@ -5,7 +5,8 @@ use Rattle.irc_room_tables.proofs.changing.change.Goals as goal
 
 pub rename_user-requires-clause-free : goal.rename_user-requires-clause-free
 rename_user-requires-clause-free c =
-    free_in_room c.args.users.now.users c.args.channels.now c.args.effect.now _ _ c.requires.well c.in-Rename.is c.requires.possible.nick_free
+    free_in_room c.args.users.now.users c.args.channels.now c.args.effect.now _ _ c.requires.well
+    c.in-Rename.is c.requires.possible.nick_free
 
 pub returns-in-Quit-clause-ok : goal.returns-in-Quit-clause-ok
 unfolding after

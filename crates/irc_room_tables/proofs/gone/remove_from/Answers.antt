@@ -12,5 +12,7 @@ returns-clause-others c =
     let nick = key c.args.nick.now in
     let name = key c.args.name.now in
     tells_at (invited_beside nick) _ _ _ c.remove_from.ensures
-    (tells_dropped (invited_beside nick) c.args.invited.now.rows name (option_and_then (without_user nick)) c.args.channels.now c.requires _
-    (λ n. holds (is_ended_with nick) c.args.channels.now n name) c.forget_if_alone.ensures (λ n. gone_asked nick (row c.args.channels.now name) n))
+    (tells_dropped (invited_beside nick) c.args.invited.now.rows name
+    (option_and_then (without_user nick)) c.args.channels.now c.requires _
+    (λ n. holds (is_ended_with nick) c.args.channels.now n name) c.forget_if_alone.ensures
+    (λ n. gone_asked nick (row c.args.channels.now name) n))

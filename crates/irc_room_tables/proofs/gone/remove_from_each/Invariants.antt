@@ -8,5 +8,6 @@ use Rattle.irc_room_tables.proofs.gone.remove_from_each.Given as goal
 
 abbrev pub invariant-loop-name : goal.invariant-loop-name
 invariant-loop-name l =
-    (l.channels ≡ in_turn (without_user (key l.nick)) (folds_of (map row_entry (take l.name-index l.names))) l.initial.channels)
+    (l.channels ≡ in_turn (without_user (key l.nick))
+    (folds_of (map row_entry (take l.name-index l.names))) l.initial.channels)
     × TellsOfOthers (key l.nick) l.channels l.invited.rows

@@ -8,4 +8,5 @@ use Rattle.irc_room_tables.proofs.gone.rename_in_each.Given as goal
 
 abbrev pub invariant-loop-name : goal.invariant-loop-name
 invariant-loop-name l =
-    l.channels ≡ in_turn (λ c. Some (renamed (key l.nick) (key l.new) c)) (folds_of (map row_entry (take l.name-index l.names))) l.initial.channels
+    l.channels ≡ in_turn (λ c. Some (renamed (key l.nick) (key l.new) c))
+    (folds_of (map row_entry (take l.name-index l.names))) l.initial.channels

@@ -9,4 +9,7 @@ use Rattle.irc_room_tables.proofs.indexed_channels.change_modes.Goals as goal
 pub returns-in-Err-NoSuchChannel-clause-ok : goal.returns-in-Err-NoSuchChannel-clause-ok
 returns-in-Err-NoSuchChannel-clause-ok c =
     c.in-Err-NoSuchChannel.ensures.refused
-    ∙ sym (alter_same (key c.args.channel.now) _ _ (owed_stays (all_changed c.args.changes.now) (row c.args.channels.now (key c.args.channel.now)) c.in-Err-NoSuchChannel.field-0 c.in-Err-NoSuchChannel.ensures.fault (λ memory. none_is_memory (sym c.in-Err-NoSuchChannel.field-0-is ∙ memory))))
+    ∙ sym (alter_same (key c.args.channel.now) _ _ (owed_stays
+    (all_changed c.args.changes.now) (row c.args.channels.now (key c.args.channel.now))
+    c.in-Err-NoSuchChannel.field-0 c.in-Err-NoSuchChannel.ensures.fault
+    (λ memory. none_is_memory (sym c.in-Err-NoSuchChannel.field-0-is ∙ memory))))

@@ -7,4 +7,5 @@ use Rattle.irc_room_tables.proofs.indexed_channels.leave.Goals as goal
 pub returns : goal.returns
 returns c =
     either_way c.part.result _ _ _ c.part.ensures.ok c.part.ensures.refused
-    (λ fault is. alter_same (key c.args.channel.now) _ _ (left_stays (key c.args.nick.now) _ fault (sym is ∙ c.part.ensures.fault)))
+    (λ fault is. alter_same (key c.args.channel.now) _ _
+    (left_stays (key c.args.nick.now) _ fault (sym is ∙ c.part.ensures.fault)))

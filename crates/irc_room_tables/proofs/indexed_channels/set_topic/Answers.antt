@@ -8,4 +8,5 @@ use Rattle.irc_room_tables.proofs.indexed_channels.set_topic.Goals as goal
 pub returns : goal.returns
 returns c =
     either_way c.set_topic.result _ _ _ c.set_topic.ensures.ok c.set_topic.ensures.refused
-    (λ fault is. alter_same (key c.args.channel.now) _ _ (absent_stays (with_topic c.args.topic.now) _ fault (sym is ∙ c.set_topic.ensures.fault)))
+    (λ fault is. alter_same (key c.args.channel.now) _ _
+    (absent_stays (with_topic c.args.topic.now) _ fault (sym is ∙ c.set_topic.ensures.fault)))

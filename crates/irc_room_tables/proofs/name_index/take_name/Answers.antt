@@ -6,7 +6,8 @@ use Rattle.irc_room_tables.proofs.name_index.take_name.Goals as goal
 
 pub unreachable-requires : goal.unreachable-requires
 unreachable-requires c =
-    surely_taken (row c.args.rows.now (key c.args.nick.now)) c.try_at.result c.try_at.ensures.absent c.try_at.ensures.sure
+    surely_taken (row c.args.rows.now (key c.args.nick.now)) c.try_at.result c.try_at.ensures.absent
+    c.try_at.ensures.sure
     (sym c.is_err.ensures.value ∙ c.if-is_err.true)
 
 pub returns : goal.returns

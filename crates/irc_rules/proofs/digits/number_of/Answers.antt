@@ -10,7 +10,12 @@ overflow_mul-number c = omega (arith, c.loop-digit.invariant.below.nine (omega a
 
 pub overflow_add-number : goal.overflow_add-number
 overflow_add-number c =
-    omega (arith, c.loop-digit.invariant.below.nine (omega arith), c.from.ensures, c.type_inv.digits c.loop-digit.digit-index)
+    omega (
+      arith,
+      c.loop-digit.invariant.below.nine (omega arith),
+      c.from.ensures,
+      c.type_inv.digits c.loop-digit.digit-index,
+    )
 
 pub loop-digit-preserved : goal.loop-digit-preserved
 loop-digit-preserved c =
@@ -22,5 +27,6 @@ loop-digit-preserved c =
           ap (λ d. 10 * number + d) c.from.ensures
           ∙ ap (λ n. 10 * n + (get_or c.args.digits.now i 0 - 48)) c.loop-digit.invariant.so_far
           ∙ sym (number_more c.args.digits.now i c.loop-digit-test.true);
-      below = rw (c.from.ensures) (below_next i number (get_or c.args.digits.now i 0) c.loop-digit.invariant.below byte);
+      below = rw (c.from.ensures)
+          (below_next i number (get_or c.args.digits.now i 0) c.loop-digit.invariant.below byte);
     }

@@ -6,5 +6,7 @@ use Rattle.irc_script.proofs.configs.peers_of.Goals as goal
 
 pub loop-other-preserved : goal.loop-other-preserved
 loop-other-preserved c =
-    c.in_ok-push_other.ensures ∙ ap (λ peers. peers ++ option_to_list (peer_of c.args.server.now c.other-item.result)) c.loop-other.invariant
-    ∙ sym (one_name_more (peer_of c.args.server.now) c.args.servers.now c.loop-other.other-index c.other-item.result c.loop-other-test.true c.other-item.is)
+    c.in_ok-push_other.ensures ∙ ap (λ peers. peers
+    ++ option_to_list (peer_of c.args.server.now c.other-item.result)) c.loop-other.invariant
+    ∙ sym (one_name_more (peer_of c.args.server.now) c.args.servers.now c.loop-other.other-index
+    c.other-item.result c.loop-other-test.true c.other-item.is)

@@ -5,4 +5,5 @@ use Rattle.irc_script.proofs.configs.peers_of.Given as goal
 
 -- the peers among the servers so far
 abbrev pub invariant-loop-other : goal.invariant-loop-other
-invariant-loop-other l = map known_peer l.peers.items ≡ peers_for l.fn.server (take l.other-index l.servers)
+invariant-loop-other l =
+    map known_peer l.peers.items ≡ peers_for l.fn.server (take l.other-index l.servers)

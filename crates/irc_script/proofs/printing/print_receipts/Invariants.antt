@@ -6,4 +6,5 @@ use Rattle.irc_script.proofs.printing.print_receipts.Given as goal
 -- what was received so far is printed
 abbrev pub invariant-loop-line : goal.invariant-loop-line
 invariant-loop-line g l =
-    Prints (sink (g.W.Write.contents l.fn.output) l.fn.waiting.items) (sink (g.W.Write.contents l.output) l.waiting.items) (text_of (take l.line-index l.lines))
+    Prints (sink (g.W.Write.contents l.fn.output) l.fn.waiting.items)
+    (sink (g.W.Write.contents l.output) l.waiting.items) (text_of (take l.line-index l.lines))

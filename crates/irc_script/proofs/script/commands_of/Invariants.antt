@@ -6,4 +6,5 @@ use Rattle.irc_script.proofs.script.commands_of.Given as goal
 
 -- the commands so far are those of the lines so far
 abbrev pub invariant-loop-line : goal.invariant-loop-line
-invariant-loop-line l = requests l.commands.items ≡ filter_map request_of (lines_now (take l.line-index l.lines))
+invariant-loop-line l =
+    requests l.commands.items ≡ filter_map request_of (lines_now (take l.line-index l.lines))

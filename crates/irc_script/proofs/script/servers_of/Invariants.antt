@@ -9,4 +9,5 @@ pub record Named (servers lines left : List (List ℕ)) (place : ℕ) : Type 0 w
   pub each : length servers ≡ place
 
 abbrev pub invariant-loop-line : goal.invariant-loop-line
-invariant-loop-line l = Named l.servers.items (lines_now l.lines) (lines_now (drop l.line-index l.lines)) l.line-index
+invariant-loop-line l =
+    Named l.servers.items (lines_now l.lines) (lines_now (drop l.line-index l.lines)) l.line-index

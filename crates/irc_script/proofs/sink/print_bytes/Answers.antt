@@ -12,5 +12,7 @@ returns-in_ok-write_waiting-in-Err g c =
     let same : c.try_extend_from_slice.new.self.items ≡ c.args.waiting.now.items = search rules in
     printed_behind c.write_whole.result old (sink held []) (sink now waits) [] c.args.bytes.now
     (subst (λ w. Prints old (sink held w) []) c.write_waiting.ensures.none
-    (subst (λ w. Prints (sink (g.W.Write.contents c.args.output.now) w) (sink held waits) []) same c.in_ok-write_waiting-in-Err.ensures.prints))
-    (written_out c.write_whole.result held now c.args.bytes.now waits c.write_waiting.ensures.none c.write_whole.ensures.whole c.write_whole.ensures.front)
+    (subst (λ w. Prints (sink (g.W.Write.contents c.args.output.now) w) (sink held waits) []) same
+    c.in_ok-write_waiting-in-Err.ensures.prints))
+    (written_out c.write_whole.result held now c.args.bytes.now waits c.write_waiting.ensures.none
+    c.write_whole.ensures.whole c.write_whole.ensures.front)

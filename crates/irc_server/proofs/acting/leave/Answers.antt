@@ -18,14 +18,17 @@ returns-in_default-clause-ok c =
     let out = c.args.out.now.outs in
     let left = unseated c.args.conn (view_of old) in
     ap (λ (v : View). record { view = v; out = out })
-    (view_kept old c.take_out.new.self (without_client (machine_at old) c.args.conn) c.take_out.ensures.keeps c.take_out.ensures.out)
+    (view_kept old c.take_out.new.self (without_client (machine_at old) c.args.conn)
+    c.take_out.ensures.keeps c.take_out.ensures.out)
     ∙ nothing_behind left out
-    ∙ ap (λ u. behind_sent out (quit_told u (in_silence left))) (sym c.in_default.is ∙ c.requires.user)
+    ∙ ap (λ u. behind_sent out (quit_told u (in_silence left)))
+    (sym c.in_default.is ∙ c.requires.user)
 
 pub apply-requires-clause-fit : goal.apply-requires-clause-fit
 apply-requires-clause-fit c =
     subst (λ m. IsFit m (Quit c.in-Some.nick c.cut-text.result)) (sym c.take_out.ensures.out)
-    (gone_fit (machine_at c.args.stage.now) c.args.conn c.in-Some.nick c.cut-text.result c.requires.matched c.requires.ready.sound.well_formed
+    (gone_fit (machine_at c.args.stage.now) c.args.conn c.in-Some.nick c.cut-text.result
+    c.requires.matched c.requires.ready.sound.well_formed
     (sym c.requires.user ∙ c.in-Some.is))
 
 pub returns-clause-ok : goal.returns-clause-ok
@@ -35,10 +38,14 @@ returns-clause-ok c =
     let left = unseated c.args.conn (view_of old) in
     on_ok c.apply.result _ _
     (λ is. is
-    ∙ ap (λ (v : View). effect_told None (Quit c.in-Some.nick c.cut-text.result) (record { view = v; out = out }))
-    (view_kept old c.take_out.new.self (without_client (machine_at old) c.args.conn) c.take_out.ensures.keeps c.take_out.ensures.out)
-    ∙ ap (λ text. effect_told None (Quit c.in-Some.nick text) (record { view = left; out = out })) (c.cut-text.ensures ∙ lost_is_whole)
+    ∙ ap (λ (v : View). effect_told None (Quit c.in-Some.nick c.cut-text.result)
+    (record { view = v; out = out }))
+    (view_kept old c.take_out.new.self (without_client (machine_at old) c.args.conn)
+    c.take_out.ensures.keeps c.take_out.ensures.out)
+    ∙ ap (λ text. effect_told None (Quit c.in-Some.nick text) (record { view = left; out = out }))
+    (c.cut-text.ensures ∙ lost_is_whole)
     ∙ ap (effect_told None (Quit c.in-Some.nick lost_text)) (nothing_behind left out)
     ∙ told_behind None (Quit c.in-Some.nick lost_text) out (in_silence left)
-    ∙ ap (λ u. behind_sent out (quit_told u (in_silence left))) (sym c.in-Some.is ∙ c.requires.user))
+    ∙ ap (λ u. behind_sent out (quit_told u (in_silence left)))
+    (sym c.in-Some.is ∙ c.requires.user))
     c.apply.ensures.ok

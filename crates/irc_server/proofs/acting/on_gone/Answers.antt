@@ -9,4 +9,6 @@ pub leave-requires-clause-user : goal.leave-requires-clause-user
 leave-requires-clause-user c =
     let machine = machine_at c.args.stage.now in
     let there = sym c.client_of.ensures ∙ ap option_copied c.in-Some.is in
-    c.nick_of-user.ensures ∙ sym (user_is machine c.requires.matched c.args.conn c.in-Some.client.now there) ∙ ap (user_of machine.room) (sym there)
+    c.nick_of-user.ensures
+    ∙ sym (user_is machine c.requires.matched c.args.conn c.in-Some.client.now there)
+    ∙ ap (user_of machine.room) (sym there)

@@ -15,7 +15,8 @@ on_registration-requires-clause-free c =
     let machine = machine_at c.args.stage.now in
     let message = parsed c.args.message.now in
     let pending = c.pending-pending.result.now in
-    registering_free c.registering_is_possible.ensures c.registered_is_added.ensures c.unregistered_changes_nothing.ensures c.registered_stays.ensures
+    registering_free c.registering_is_possible.ensures c.registered_is_added.ensures
+    c.unregistered_changes_nothing.ensures c.registered_stays.ensures
     machine c.args.conn pending message _
     (c.in_ok-given-in-Some-Registering.ensures
     ∙ ap (λ (r : Room). register r (place_of c.routes.result.now) pending message) c.room.ensures
@@ -28,8 +29,10 @@ on_registration-requires-clause-fit c =
     let message = parsed c.args.message.now in
     let pending = c.pending-pending.result.now in
     let given = c.in_ok-given-in-Some-Registering.given in
-    fit_along c.alike_stay_alike.ensures c.alike_take_alike.ensures (given_view c.args.stage.now c.args.conn given) given.steps.items
-    (registering_fit c.registering_is_possible.ensures c.registered_is_added.ensures c.unregistered_changes_nothing.ensures c.registered_stays.ensures
+    fit_along c.alike_stay_alike.ensures c.alike_take_alike.ensures
+    (given_view c.args.stage.now c.args.conn given) given.steps.items
+    (registering_fit c.registering_is_possible.ensures c.registered_is_added.ensures
+    c.unregistered_changes_nothing.ensures c.registered_stays.ensures
     machine c.args.conn pending message _
     (c.in_ok-given-in-Some-Registering.ensures
     ∙ ap (λ (r : Room). register r (place_of c.routes.result.now) pending message) c.room.ensures
@@ -42,8 +45,10 @@ on_registration-requires-clause-spoken c =
     let message = parsed c.args.message.now in
     let pending = c.pending-pending.result.now in
     let given = c.in_ok-given-in-Some-Registering.given in
-    spoken_along c.alike_stay_alike.ensures c.args.conn (given_view c.args.stage.now c.args.conn given) given.steps.items
-    (registering_spoken c.registered_is_added.ensures c.unregistered_changes_nothing.ensures machine.room machine.place pending message _
+    spoken_along c.alike_stay_alike.ensures c.args.conn
+    (given_view c.args.stage.now c.args.conn given) given.steps.items
+    (registering_spoken c.registered_is_added.ensures c.unregistered_changes_nothing.ensures
+    machine.room machine.place pending message _
     (c.in_ok-given-in-Some-Registering.ensures
     ∙ ap (λ (r : Room). register r (place_of c.routes.result.now) pending message) c.room.ensures
     ∙ ap (λ (k : Known). register machine.room (place_of k) pending message) c.routes.ensures)

@@ -9,6 +9,8 @@ use Rattle.irc_settings.proofs.peers.all_peers.Given as goal
 -- what is found stands before what the values that are left tell
 abbrev pub invariant-loop-value : goal.invariant-loop-value
 invariant-loop-value l = record {
-  tested : list_all (is_table is_peer) (map view l.fn.values) ≡ list_all (is_table is_peer) (map view (drop l.value-index l.values));
-  told : map peer_at (filter_map as_table (map view l.fn.values)) ≡ map peer_told l.found.items ++ map peer_at (filter_map as_table (map view (drop l.value-index l.values)));
+  tested : list_all (is_table is_peer) (map view l.fn.values) ≡ list_all (is_table is_peer)
+      (map view (drop l.value-index l.values));
+  told : map peer_at (filter_map as_table (map view l.fn.values)) ≡ map peer_told l.found.items
+      ++ map peer_at (filter_map as_table (map view (drop l.value-index l.values)));
 }

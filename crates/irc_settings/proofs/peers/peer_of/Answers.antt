@@ -13,9 +13,21 @@ returns-then-not-has_only c =
 pub returns : goal.returns
 returns c =
     let kept : list_all (is_kept (table_view c.args.table.now)) peer_keys ≡ true =
-    rw (c.in_ok-text.ensures.0, c.in_ok-text-2.ensures.0, c.in_ok-optional_text.ensures.0, c.in_ok-optional_number.ensures.0) in
+    rw (
+      c.in_ok-text.ensures.0,
+      c.in_ok-text-2.ensures.0,
+      c.in_ok-optional_text.ensures.0,
+      c.in_ok-optional_number.ensures.0,
+    ) in
     let passes : is_peer (table_view c.args.table.now) ≡ true =
     ap (λ b. b && retries_calls_alone (table_view c.args.table.now))
     (all_kept peer_keys c.args.table.now.entries (sym c.has_only.ensures ∙ search rules) kept)
-    ∙ (sym c.retries_calls_alone.ensures ∙ search rules) in
-    (passes, rw (c.in_ok-text.ensures.1, c.in_ok-text-2.ensures.1, c.in_ok-optional_text.ensures.1, c.in_ok-optional_number.ensures.1))
+    ∙ (sym c.retries_calls_alone.ensures ∙ search rules) in (
+      passes,
+      rw (
+        c.in_ok-text.ensures.1,
+        c.in_ok-text-2.ensures.1,
+        c.in_ok-optional_text.ensures.1,
+        c.in_ok-optional_number.ensures.1,
+      ),
+    )

@@ -6,7 +6,8 @@ use Rattle.irc_settings.proofs.KeysOfTables.{unknown_key, all_kept}
 use Rattle.irc_settings.proofs.settings.settings_in.Goals as goal
 
 pub returns-then-not-has_only : goal.returns-then-not-has_only
-returns-then-not-has_only c = unknown_key server_keys c.args.document.now.entries (sym c.has_only.ensures ∙ search rules)
+returns-then-not-has_only c =
+    unknown_key server_keys c.args.document.now.entries (sym c.has_only.ensures ∙ search rules)
 
 pub returns : goal.returns
 returns c =

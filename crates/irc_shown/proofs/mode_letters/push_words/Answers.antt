@@ -8,7 +8,10 @@ use Rattle.irc_mode_words.specs.Lemmas.ModePieces.{words_next, words_done}
 use Rattle.irc_shown.proofs.mode_letters.push_words.Goals as goal
 
 pub loop-change-init : goal.loop-change-init
-loop-change-init c = record { still_cut = c.push_cut.ensures.still_cut; pushed = piece_on _ _ [] _ _ c.push_cut.ensures.appended refl }
+loop-change-init c = record {
+  still_cut = c.push_cut.ensures.still_cut;
+  pushed = piece_on _ _ [] _ _ c.push_cut.ensures.appended refl;
+}
 
 pub loop-change-preserved : goal.loop-change-preserved
 loop-change-preserved c =
@@ -18,13 +21,16 @@ loop-change-preserved c =
     let written = written_word c.args.tables.now in
     let pushed = c.push_parameter.ensures.pushed
     ∙ ap (λ o. cut (line ++ middle_text (option_to_list o))) c.written_word.ensures
-    ∙ ap (λ (m : ModeChange). cut (line ++ middle_text (option_to_list (written m)))) c.change-item.is in
+    ∙ ap (λ (m : ModeChange). cut (line ++ middle_text (option_to_list (written m))))
+    c.change-item.is in
     record {
       still_cut = c.push_parameter.ensures.still_cut;
-      pushed = piece_on line _ _ _ _ pushed (words_next written changes i _ c.loop-change-test.true) ∙ c.loop-change.invariant.pushed;
+      pushed = piece_on line _ _ _ _ pushed (words_next written changes i _ c.loop-change-test.true)
+          ∙ c.loop-change.invariant.pushed;
     }
 
 pub returns-clause-pushed : goal.returns-clause-pushed
 returns-clause-pushed c =
-    words_done (written_word c.args.tables.now) _ _ c.args.changes.now c.loop-change.change-index (omega (arith, c.loop-change-test.false))
+    words_done (written_word c.args.tables.now) _ _ c.args.changes.now c.loop-change.change-index
+    (omega (arith, c.loop-change-test.false))
     c.loop-change.invariant.still_cut c.loop-change.invariant.pushed

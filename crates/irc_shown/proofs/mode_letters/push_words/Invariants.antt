@@ -9,6 +9,7 @@ use Rattle.irc_shown.proofs.mode_letters.push_words.Given as goal
 abbrev pub invariant-loop-change : goal.invariant-loop-change
 invariant-loop-change l = record {
   still_cut : length l.line.items ≤ max_line;
-  pushed : cut (l.line.items ++ middle_text (filter_map (written_word l.tables) (drop l.change-index l.changes)))
+  pushed : cut (l.line.items
+      ++ middle_text (filter_map (written_word l.tables) (drop l.change-index l.changes)))
       ≡ cut (l.fn.line.items ++ middle_text (filter_map (written_word l.tables) l.changes));
 }

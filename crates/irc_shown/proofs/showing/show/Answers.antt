@@ -12,10 +12,13 @@ returns-in_ok-add_viewers c =
     let room = c.args.tables.now in
     let effect = c.args.effect.now in
     let line = c.effect_line.new.line in
-    let shows = subst (λ there. ShowsAt room effect own (line_if there line)) c.if-effect_line.true c.effect_line.ensures in
-    ap (map (λ viewer. (viewer, line))) (c.in_ok-add_viewers.ensures ∙ ap (λ l. l ++ flat_map (own_nick own) (viewers room effect)) c.requires.none)
+    let shows = subst (λ there. ShowsAt room effect own (line_if there line)) c.if-effect_line.true
+    c.effect_line.ensures in
+    ap (map (λ viewer. (viewer, line))) (c.in_ok-add_viewers.ensures
+    ∙ ap (λ l. l ++ flat_map (own_nick own) (viewers room effect)) c.requires.none)
     ∙ told_each own line.items (viewers room effect)
-    ∙ sym (all_is_told own room effect _ shows c.know_well_formed.ensures.users_named c.requires.busy)
+    ∙ sym
+    (all_is_told own room effect _ shows c.know_well_formed.ensures.users_named c.requires.busy)
 
 pub returns-else-effect_line : goal.returns-else-effect_line
 returns-else-effect_line c =
@@ -23,5 +26,7 @@ returns-else-effect_line c =
     let room = c.args.tables.now in
     let effect = c.args.effect.now in
     let line = c.effect_line.new.line in
-    let shows = subst (λ there. ShowsAt room effect own (line_if there line)) c.if-effect_line.false c.effect_line.ensures in
-    ap (map (λ viewer. (viewer, line))) c.requires.none ∙ sym (no_line_tells_nothing own room effect shows c.know_well_formed.ensures.users_named c.requires.busy)
+    let shows = subst (λ there. ShowsAt room effect own (line_if there line)) c.if-effect_line.false
+    c.effect_line.ensures in
+    ap (map (λ viewer. (viewer, line))) c.requires.none ∙ sym (no_line_tells_nothing own room effect
+    shows c.know_well_formed.ensures.users_named c.requires.busy)

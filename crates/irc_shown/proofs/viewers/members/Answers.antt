@@ -15,7 +15,9 @@ returns c =
     let channels = c.tables.inside.channels in
     found_also c.users_of.result
     (λ found is. is
-    ∙ members_chosen c.tables.inside.users.users c.tables.invariant.users_named (row channels (key c.args.channel.now)) (map row_entry c.members.result.now)
+    ∙ members_chosen c.tables.inside.users.users c.tables.invariant.users_named
+    (row channels (key c.args.channel.now)) (map row_entry c.members.result.now)
     (c.members.ensures ∙ ap (λ name. members_in (row channels (key name))) c.as_bytes.ensures.value)
-    ∙ ap (λ (room : Room). users_who room.users (λ viewer. is_member room viewer c.args.channel.now)) c.tables.view_is)
+    ∙ ap (λ (room : Room). users_who room.users
+    (λ viewer. is_member room viewer c.args.channel.now)) c.tables.view_is)
     c.users_of.ensures

@@ -9,5 +9,7 @@ use Rattle.irc_shown.proofs.viewers.names_sharing.Goals as goal
 
 pub returns : goal.returns
 returns c = λ fold.
-    sharers_among _ _ c.new-names.ensures c.args.nick.now c.tables.inside.channels c.in_ok-put_shared.ensures fold
-    ∙ ap (λ (room : Room). list_any (joins_both (key c.args.nick.now) fold) (values room.channels)) c.tables.view_is
+    sharers_among _ _ c.new-names.ensures c.args.nick.now c.tables.inside.channels
+    c.in_ok-put_shared.ensures fold
+    ∙ ap (λ (room : Room). list_any (joins_both (key c.args.nick.now) fold)
+    (values room.channels)) c.tables.view_is

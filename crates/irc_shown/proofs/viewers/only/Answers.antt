@@ -10,7 +10,8 @@ pub returns : goal.returns
 returns c =
     let users = c.tables.inside.users.users in
     c.in_ok-add_named.ensures
-    ∙ ap (λ found. map (λ user. user.now) found ++ option_to_list (row users (key c.as_bytes.result.now))) c.new-found.ensures.items
+    ∙ ap (λ found. map (λ user. user.now) found
+    ++ option_to_list (row users (key c.as_bytes.result.now))) c.new-found.ensures.items
     ∙ ap (λ name. option_to_list (row users (key name))) c.as_bytes.ensures.value
     ∙ one_chosen users c.tables.invariant.users_named c.args.nick.now
     ∙ ap (λ (room : Room). users_who room.users (same c.args.nick.now)) c.tables.view_is

@@ -10,4 +10,5 @@ returns c =
     ap (map (λ user. user.now)) c.leave_out.ensures
     ∙ chosen_now (λ user. not (same c.args.by.now user.nick)) c.in_ok-found.found.items
     ∙ ap (filter (λ user. not (same c.args.by.now user.nick))) c.in_ok-found.ensures
-    ∙ chosen_twice (λ user. not (same c.args.by.now user.nick)) (λ user. is_member c.args.tables.now user.nick c.args.channel.now) (values c.args.tables.now.users)
+    ∙ chosen_twice (λ user. not (same c.args.by.now user.nick)) (λ user.
+    is_member c.args.tables.now user.nick c.args.channel.now) (values c.args.tables.now.users)

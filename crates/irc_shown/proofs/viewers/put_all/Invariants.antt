@@ -7,4 +7,5 @@ use Rattle.irc_shown.specs.Loops.Viewing.{Gains}
 use Rattle.irc_shown.proofs.viewers.put_all.Given as goal
 
 abbrev pub invariant-loop-row : goal.invariant-loop-row
-invariant-loop-row l = Gains l.fn.names l.names (λ fold. list_any (λ row. holds has_member l.channels fold (key row.name.items)) (take l.row-index l.rows))
+invariant-loop-row l = Gains l.fn.names l.names (λ fold. list_any
+    (λ row. holds has_member l.channels fold (key row.name.items)) (take l.row-index l.rows))

@@ -7,5 +7,6 @@ use Rattle.irc_shown.proofs.viewers.put_members.Goals as goal
 pub returns : goal.returns
 returns c =
     ok_also c.put_rows.result
-    (gains_alike c.args.names.now _ _ _ (channel_rows (row c.args.channels.now (key c.args.name.now)) c.members.result.now c.members.ensures))
+    (gains_alike c.args.names.now _ _ _ (channel_rows
+    (row c.args.channels.now (key c.args.name.now)) c.members.result.now c.members.ensures))
     c.put_rows.ensures

@@ -4,4 +4,5 @@ use Rattle.irc_shown.proofs.WhoSees.{put_gains}
 use Rattle.irc_shown.proofs.viewers.put_name.Goals as goal
 
 pub returns : goal.returns
-returns c = ok_also c.insert.result (put_gains c.args.names.now _ (key c.args.name.now) _) c.insert.ensures.ok
+returns c = ok_also c.insert.result
+    (put_gains c.args.names.now _ (key c.args.name.now) _) c.insert.ensures.ok

@@ -6,4 +6,5 @@ use Rattle.irc_shown.specs.Loops.Viewing.{Gains}
 use Rattle.irc_shown.proofs.viewers.put_rows.Given as goal
 
 abbrev pub invariant-loop-row : goal.invariant-loop-row
-invariant-loop-row l = Gains l.fn.names l.names (λ fold. list_any (λ row. same_fold fold (key row.name.items)) (take l.row-index l.rows))
+invariant-loop-row l = Gains l.fn.names l.names
+    (λ fold. list_any (λ row. same_fold fold (key row.name.items)) (take l.row-index l.rows))

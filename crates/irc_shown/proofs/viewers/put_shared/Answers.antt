@@ -16,6 +16,7 @@ returns c =
     (gains_alike c.args.names.now _ _ _
     (λ q.
     list_any-row_name (holds has_member channels q) c.channels_of_user.result.now
-    ∙ ap (list_any (λ (n : List ℕ × Unit {0}). holds has_member channels q n.0)) c.channels_of_user.ensures
+    ∙ ap (list_any (λ (n : List ℕ × Unit {0}). holds has_member channels q n.0))
+    c.channels_of_user.ensures
     ∙ own_shared (key c.args.nick.now) channels q))
     c.put_all.ensures

@@ -4,4 +4,5 @@ use Rattle.irc_room_tables.specs.Found.{users_under}
 use Rattle.irc_shown.proofs.viewers.users_of.Given as goal
 
 abbrev pub invariant-loop-row : goal.invariant-loop-row
-invariant-loop-row l = map (λ user. user.now) l.found.items ≡ users_under l.users.users (map row_entry (take l.row-index l.rows))
+invariant-loop-row l = map (λ user. user.now) l.found.items ≡ users_under l.users.users
+    (map row_entry (take l.row-index l.rows))

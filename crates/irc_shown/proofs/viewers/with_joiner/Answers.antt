@@ -12,13 +12,19 @@ use Rattle.irc_shown.proofs.viewers.with_joiner.Goals as goal
 
 pub returns : goal.returns
 returns c =
-    let named = subst (λ (room : Room). AreNamed room.users) c.tables.view_is c.tables.invariant.users_named in
+    let named = subst
+    (λ (room : Room). AreNamed room.users) c.tables.view_is c.tables.invariant.users_named in
     let channels = c.args.tables.now.channels in
     found_also c.users_of.result
     (λ found is. is
-    ∙ ap (λ (room : Room). users_under room.users (map row_entry c.as_slice.result.now)) c.tables.view_is
+    ∙ ap (λ (room : Room). users_under room.users (map row_entry c.as_slice.result.now))
+    c.tables.view_is
     ∙ names_chosen c.args.tables.now.users named _ c.as_slice.result.now _ c.as_slice.ensures
-    (joiner_among _ _ _ c.new-names.ensures c.args.nick.now (row channels (key c.args.channel.now)) c.members.result.now
-    (c.members.ensures ∙ ap (λ (room : Room). members_in (row room.channels (key c.as_bytes.result.now))) c.tables.view_is ∙ ap (λ name. members_in (row channels (key name))) c.as_bytes.ensures.value)
-    c.as_bytes-2.result.now c.as_bytes-2.ensures.value c.in_ok-put_rows.ensures c.in_ok-put_name.ensures))
+    (joiner_among _ _ _ c.new-names.ensures c.args.nick.now
+    (row channels (key c.args.channel.now)) c.members.result.now
+    (c.members.ensures ∙ ap (λ (room : Room).
+    members_in (row room.channels (key c.as_bytes.result.now))) c.tables.view_is
+    ∙ ap (λ name. members_in (row channels (key name))) c.as_bytes.ensures.value)
+    c.as_bytes-2.result.now c.as_bytes-2.ensures.value c.in_ok-put_rows.ensures
+    c.in_ok-put_name.ensures))
     c.users_of.ensures

@@ -7,4 +7,6 @@ use Rattle.irc_stage.proofs.clients.no_clients.Goals as goal
 
 pub returns-clause-indexed : goal.returns-clause-indexed
 returns-clause-indexed c =
-    subst (λ cs. IsIndex cs c.new-2.result) (sym (ap (λ es. from_entries {R = nat_cmp} es) c.new.ensures.empty)) (subst (IsIndex empty) (sym c.new-2.ensures) nobody_indexed)
+    subst (λ cs. IsIndex cs c.new-2.result)
+    (sym (ap (λ es. from_entries {R = nat_cmp} es) c.new.ensures.empty))
+    (subst (IsIndex empty) (sym c.new-2.ensures) nobody_indexed)

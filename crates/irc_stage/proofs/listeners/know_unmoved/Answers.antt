@@ -3,4 +3,5 @@ use Rattle.irc_stage.proofs.listeners.know_unmoved.Goals as goal
 
 pub returns : goal.returns
 returns c =
-    unmoved_so c.args.listeners.now.lists c.args.room.now.room c.args.clients.now.by_nick c.args.effect.now c.requires.unmoved c.requires.so
+    unmoved_so c.args.listeners.now.lists c.args.room.now.room c.args.clients.now.by_nick
+    c.args.effect.now c.requires.unmoved c.requires.so

@@ -9,8 +9,11 @@ use Rattle.irc_tables.proofs.table.place_of.Goals as goal
 
 pub returns : goal.returns
 returns g c =
-    let by_fold = c.binary_search_by.ensures.position (λ row. fold_cmp (key row.name.items) (key c.args.name.now))
-    (answers_kept _ _ (λ f. f.0.now ≡ c.args.name.now) (λ f a r g kept called. (search rules, search rules)) _ refl) in
-    let place : IsPlaceOf row_entry c.args.rows.now (key c.args.name.now) c.binary_search_by.result =
+    let by_fold = c.binary_search_by.ensures.position
+    (λ row. fold_cmp (key row.name.items) (key c.args.name.now))
+    (answers_kept _ _ (λ f. f.0.now ≡ c.args.name.now)
+    (λ f a r g kept called. (search rules, search rules)) _ refl) in
+    let place : IsPlaceOf row_entry c.args.rows.now
+    (key c.args.name.now) c.binary_search_by.result =
     place_found row_entry _ _ _ c.requires c.binary_search_by.ensures.bound by_fold in
     record { place = place; known = place-known row_entry _ _ _ c.requires place }

@@ -7,7 +7,8 @@ use Rattle.irc_users.proofs.users.all_of.Given as goal
 
 abbrev pub invariant-loop-head : goal.invariant-loop-head
 invariant-loop-head l = record {
-  found : map (λ user. user.now) l.found.items ++ map (sitter l.seats) l.head-iterator ≡ map (sitter l.seats) (values l.heads);
+  found : map (λ user. user.now) l.found.items ++ map (sitter l.seats) l.head-iterator
+      ≡ map (sitter l.seats) (values l.heads);
   sat : list_all (is_sat l.seats) l.head-iterator ≡ true;
   more : (goal.iterator-loop-head).can_next l.head-iterator;
   ends : (goal.iterator-loop-head).is_finite l.head-iterator;

@@ -8,9 +8,11 @@ pub loop-head-init : goal.loop-head-init
 loop-head-init c =
     let all = c.into_iter-head-iterator.ensures.into_iter_gives ∙ c.values-head-items.ensures in
     record {
-      found = none_so_far (is_found_by c.args.mask.now) c.args.seats.now c.args.heads.now c.new-found.result.items
+      found = none_so_far
+          (is_found_by c.args.mask.now) c.args.seats.now c.args.heads.now c.new-found.result.items
           c.into_iter-head-iterator.result c.new-found.ensures.items all;
-      sat = rest_full c.args.seats.now c.args.heads.now c.requires c.into_iter-head-iterator.result all;
+      sat = rest_full c.args.seats.now c.args.heads.now c.requires
+          c.into_iter-head-iterator.result all;
       more = tt;
       ends = tt;
     }

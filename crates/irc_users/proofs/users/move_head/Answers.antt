@@ -9,13 +9,17 @@ returns-then-ne-clause-ok c =
     c.remove.ensures.after
     ∙ ap (λ n. alter (key n) (λ _. None) c.insert.new.self) c.as_bytes-then-ne.ensures.value
     ∙ ap (alter (key c.args.nick.now) (λ _. None))
-    (c.in_ok-insert.ensures.ok ∙ ap (λ n. alter (key n) (λ _. Some c.args.head) c.args.heads.now) (c.as_bytes.ensures.value ∙ c.copy-new.ensures))
+    (c.in_ok-insert.ensures.ok ∙ ap (λ n. alter (key n) (λ _. Some c.args.head) c.args.heads.now)
+    (c.as_bytes.ensures.value ∙ c.copy-new.ensures))
     ∙ put_first c.args.heads.now c.args.nick.now c.args.head.nick c.args.head
-    (ap (same c.args.nick.now) (sym c.copy-new.ensures) ∙ apart_so _ (sym c.ne.ensures ∙ c.if-ne.true))
+    (ap (same c.args.nick.now) (sym c.copy-new.ensures)
+    ∙ apart_so _ (sym c.ne.ensures ∙ c.if-ne.true))
 
 pub returns-else-ne-clause-ok : goal.returns-else-ne-clause-ok
 returns-else-ne-clause-ok c =
     c.in_ok-insert.ensures.ok
-    ∙ ap (λ n. alter (key n) (λ _. Some c.args.head) c.args.heads.now) (c.as_bytes.ensures.value ∙ c.copy-new.ensures)
+    ∙ ap (λ n. alter (key n) (λ _. Some c.args.head) c.args.heads.now)
+    (c.as_bytes.ensures.value ∙ c.copy-new.ensures)
     ∙ put_over c.args.heads.now c.args.nick.now c.args.head.nick c.args.head
-    (ap (same c.args.nick.now) (sym c.copy-new.ensures) ∙ one_so _ (sym c.ne.ensures ∙ c.if-ne.false))
+    (ap (same c.args.nick.now) (sym c.copy-new.ensures)
+    ∙ one_so _ (sym c.ne.ensures ∙ c.if-ne.false))

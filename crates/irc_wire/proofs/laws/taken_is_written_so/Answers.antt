@@ -1,4 +1,5 @@
-use Rattle.irc_wire.specs.Lemmas.ModesRead.{otherwise_written_is_refused, taken_is_read_again, taken_is_written_so}
+use Rattle.irc_wire.specs.Lemmas.ModesRead.{otherwise_written_is_refused, taken_is_read_again}
+use Rattle.irc_wire.specs.Lemmas.ModesRead.{taken_is_written_so}
 use Rattle.irc_wire.proofs.laws.taken_is_written_so.Goals as goal
 
 pub returns-clause-taken : goal.returns-clause-taken

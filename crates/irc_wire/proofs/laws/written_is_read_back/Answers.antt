@@ -8,7 +8,8 @@ use Rattle.irc_wire.proofs.laws.written_is_read_back.Goals as goal
 pub returns : goal.returns
 returns c room known other others link effect plain is = record {
   is_line = c.written_is_line.ensures (wire room known effect)
-      (told_is_carried c.names_are_line_words.ensures room known effect is.room_within (plain_tellable room known effect plain is.sendable));
+      (told_is_carried c.names_are_line_words.ensures room known effect is.room_within
+      (plain_tellable room known effect plain is.sendable));
   line = line_back (record {
     written = c.written_is_read.ensures;
     alone = c.every_line_is_read.ensures.alone;

@@ -8,8 +8,10 @@ use Rattle.irc_wires.proofs.row.without_still.Goals as goal
 pub returns-then-is_still_to : goal.returns-then-is_still_to
 returns-then-is_still_to c =
     taken_out c.args.wires.now c.remove.new.self c.args.to c.remove.ensures.updates
-    ∙ sym (put_still (numbered c.args.wires.now) c.args.to (wire_in c.args.to (numbered c.args.wires.now))
+    ∙ sym (put_still (numbered c.args.wires.now) c.args.to
+    (wire_in c.args.to (numbered c.args.wires.now))
     (sym c.is_still_to.ensures ∙ c.if-is_still_to.true))
 
 pub returns-else-is_still_to : goal.returns-else-is_still_to
-returns-else-is_still_to c = sym (put_again (numbered c.args.wires.now) c.args.to (sym c.is_still_to.ensures ∙ c.if-is_still_to.false))
+returns-else-is_still_to c = sym (put_again (numbered c.args.wires.now) c.args.to
+    (sym c.is_still_to.ensures ∙ c.if-is_still_to.false))

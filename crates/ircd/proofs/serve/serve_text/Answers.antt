@@ -8,11 +8,15 @@ open-requires g c =
     made_has_nobody set_up.config _ (set_up.no_fault, set_up.server_is)
 
 pub returns-in_err-setup : goal.returns-in_err-setup
-returns-in_err-setup g c = text_refused c.args.text.now c.args.turns c.from_residual.result c.in_err-setup.field-0.0 _ _ c.in_err-setup.ensures c.from_residual.ensures.1
+returns-in_err-setup g c = text_refused c.args.text.now c.args.turns c.from_residual.result
+    c.in_err-setup.field-0.0 _ _ c.in_err-setup.ensures c.from_residual.ensures.1
 
 pub returns-in_err-engine : goal.returns-in_err-engine
 returns-in_err-engine g c =
-    not_opened c.args.text.now c.args.turns c.from_residual-in_err-engine.result c.in_err-engine.field-0.0 _ _ c.in_err-engine.ensures c.from_residual-in_err-engine.ensures.1
+    not_opened c.args.text.now c.args.turns c.from_residual-in_err-engine.result
+    c.in_err-engine.field-0.0 _ _ c.in_err-engine.ensures
+    c.from_residual-in_err-engine.ensures.1
 
 pub returns : goal.returns
-returns g c = text_served c.args.turns _ _ c.args.text.now _ _ _ _ _ c.run_engine.result c.in_ok-setup.ensures c.in_ok-engine.ensures c.run_engine.ensures
+returns g c = text_served c.args.turns _ _ c.args.text.now _ _ _ _ _ c.run_engine.result
+    c.in_ok-setup.ensures c.in_ok-engine.ensures c.run_engine.ensures

@@ -2,31 +2,39 @@ use Rattle.std.proofs.Common.{◌∙◌, Ok, Err, refl, subst}
 use Rattle.std.specs.Net.Grammar.{IsSocketText}
 use Rattle.ircd.specs.Serving.{AreCalled}
 use Rattle.ircd.specs.Loops.SettingUp.{FindsCallees, FindsName}
-use Rattle.ircd.proofs.SettingUp.{calls_refused, found_in, links_refused, own_refused, server_refused}
+use Rattle.ircd.proofs.SettingUp.{calls_refused, found_in, links_refused, own_refused}
+use Rattle.ircd.proofs.SettingUp.{server_refused}
 use Rattle.ircd.proofs.setup.set_up.Goals as goal
 
 pub returns-in_err-callees : goal.returns-in_err-callees
 returns-in_err-callees c =
     calls_refused c.args.settings.now c.from_residual.result c.in_err-callees.field-0.0
-    (subst (λ peers. FindsCallees peers (Err c.in_err-callees.field-0.0)) c.deref.ensures.value c.in_err-callees.ensures)
+    (subst (λ peers. FindsCallees peers (Err c.in_err-callees.field-0.0)) c.deref.ensures.value
+    c.in_err-callees.ensures)
     c.from_residual.ensures.1
 
 pub returns-in_err-optional_address : goal.returns-in_err-optional_address
 returns-in_err-optional_address c =
-    links_refused c.args.settings.now c.from_residual-in_err-optional_address.result c.in_err-optional_address.field-0.0
-    (found_in c.as_ref.result c.args.settings.now.listen_links (Err c.in_err-optional_address.field-0.0) c.as_ref.ensures.value c.in_err-optional_address.ensures)
+    links_refused c.args.settings.now c.from_residual-in_err-optional_address.result
+    c.in_err-optional_address.field-0.0
+    (found_in c.as_ref.result c.args.settings.now.listen_links
+    (Err c.in_err-optional_address.field-0.0) c.as_ref.ensures.value
+    c.in_err-optional_address.ensures)
     c.from_residual-in_err-optional_address.ensures.1
 
 pub returns-in_err-new : goal.returns-in_err-new
 returns-in_err-new c =
-    server_refused c.args.settings.now c.in_ok-config.field-0 c.from_residual-in_err-new.result c.in_err-new.field-0.0
+    server_refused c.args.settings.now c.in_ok-config.field-0 c.from_residual-in_err-new.result
+    c.in_err-new.field-0.0
     c.in_ok-config.ensures c.in_err-new.ensures
     c.from_residual-in_err-new.ensures.1
 
 pub returns-in_err-server_name : goal.returns-in_err-server_name
 returns-in_err-server_name c =
-    own_refused c.args.settings.now c.from_residual-in_err-server_name.result c.in_err-server_name.field-0.0
-    (subst (λ text. FindsName text (Err c.in_err-server_name.field-0.0)) c.as_str-2.ensures.value c.in_err-server_name.ensures)
+    own_refused c.args.settings.now c.from_residual-in_err-server_name.result
+    c.in_err-server_name.field-0.0
+    (subst (λ text. FindsName text (Err c.in_err-server_name.field-0.0)) c.as_str-2.ensures.value
+    c.in_err-server_name.ensures)
     c.from_residual-in_err-server_name.ensures.1
 
 pub returns : goal.returns
@@ -36,10 +44,13 @@ returns c = record {
   no_fault = c.in_ok-new.ensures.0;
   server_is = c.in_ok-new.ensures.1;
   own = c.in_ok-server_name.ensures ∙ c.as_str-2.ensures.value;
-  clients = subst (λ text. IsSocketText text c.in_ok-address.field-0) c.as_str.ensures.value c.in_ok-address.ensures;
-  links = found_in c.as_ref.result c.args.settings.now.listen_links (Ok c.in_ok-optional_address.field-0) c.as_ref.ensures.value
+  clients = subst (λ text. IsSocketText text c.in_ok-address.field-0) c.as_str.ensures.value
+      c.in_ok-address.ensures;
+  links = found_in c.as_ref.result c.args.settings.now.listen_links
+      (Ok c.in_ok-optional_address.field-0) c.as_ref.ensures.value
       c.in_ok-optional_address.ensures;
-  called = subst (λ peers. AreCalled peers c.in_ok-callees.field-0.items) c.deref.ensures.value c.in_ok-callees.ensures;
+  called = subst (λ peers. AreCalled peers c.in_ok-callees.field-0.items) c.deref.ensures.value
+      c.in_ok-callees.ensures;
   spread = c.own_spread.ensures;
   connections_per_address = refl;
   client_room = refl;

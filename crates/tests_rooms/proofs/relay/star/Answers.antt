@@ -7,4 +7,5 @@ use Rattle.tests_rooms.proofs.relay.star.Goals as goal
 pub returns-clause-forest : goal.returns-clause-forest
 unfolding part
 returns-clause-forest c =
-    subst (λ (edges : List Edge). IsForest (links_of edges)) (sym (c.new.ensures.edges ∙ c.in_ok-edges.ensures.items)) (λ e. cc, (λ e. cc, (λ e. cc, tt)))
+    subst (λ (edges : List Edge). IsForest (links_of edges)) (sym
+    (c.new.ensures.edges ∙ c.in_ok-edges.ensures.items)) (λ e. cc, (λ e. cc, (λ e. cc, tt)))

@@ -15,7 +15,8 @@ returns-then-lines-gt0 g c =
     let old = byte_course c.args.self.now c.args.desk.now.lines.items in
     let now = byte_course c.loop-lines.self c.loop-lines.desk.lines.items in
     let new = byte_course c.come_in_turn.new.self c.come_in_turn.new.desk.lines.items in
-    some_come old now new c.in-Some.lines c.loop-lines.invariant (subst (λ lines. TurnsBy lines now new) c.in-Some.is c.in_ok-lines.ensures)
+    some_come old now new c.in-Some.lines c.loop-lines.invariant
+    (subst (λ lines. TurnsBy lines now new) c.in-Some.is c.in_ok-lines.ensures)
     c.if-lines-gt0.true
 
 pub loop-lines-smaller : goal.loop-lines-smaller
@@ -23,7 +24,8 @@ loop-lines-smaller g c =
     let old = byte_course c.args.self.now c.args.desk.now.lines.items in
     let now = byte_course c.loop-lines.self c.loop-lines.desk.lines.items in
     let new = byte_course c.come_in_turn.new.self c.come_in_turn.new.desk.lines.items in
-    fewer_on old now new c.in-Some.lines c.loop-lines.invariant (subst (λ lines. TurnsBy lines now new) c.in-Some.is c.in_ok-lines.ensures)
+    fewer_on old now new c.in-Some.lines c.loop-lines.invariant
+    (subst (λ lines. TurnsBy lines now new) c.in-Some.is c.in_ok-lines.ensures)
     c.if-lines-gt0.false
 
 pub loop-lines-preserved : goal.loop-lines-preserved
@@ -31,7 +33,8 @@ loop-lines-preserved g c =
     let old = byte_course c.args.self.now c.args.desk.now.lines.items in
     let now = byte_course c.loop-lines.self c.loop-lines.desk.lines.items in
     let new = byte_course c.come_in_turn.new.self c.come_in_turn.new.desk.lines.items in
-    tidily_on old now new c.in-Some.lines c.loop-lines.invariant (subst (λ lines. TurnsBy lines now new) c.in-Some.is c.in_ok-lines.ensures)
+    tidily_on old now new c.in-Some.lines c.loop-lines.invariant
+    (subst (λ lines. TurnsBy lines now new) c.in-Some.is c.in_ok-lines.ensures)
     c.if-lines-gt0.false
 
 pub returns : goal.returns
@@ -39,4 +42,5 @@ returns g c =
     let old = byte_course c.args.self.now c.args.desk.now.lines.items in
     let now = byte_course c.loop-lines.self c.loop-lines.desk.lines.items in
     let new = byte_course c.come_in_turn.new.self c.come_in_turn.new.desk.lines.items in
-    none_come old now new c.loop-lines.invariant (subst (λ lines. TurnsBy lines now new) c.in_default.is c.in_ok-lines.ensures)
+    none_come old now new c.loop-lines.invariant
+    (subst (λ lines. TurnsBy lines now new) c.in_default.is c.in_ok-lines.ensures)

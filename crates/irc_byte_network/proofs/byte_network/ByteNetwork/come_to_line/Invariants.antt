@@ -4,7 +4,8 @@ use Rattle.irc_byte_network.proofs.Going.{GoesTidily}
 use Rattle.irc_byte_network.proofs.byte_network.ByteNetwork.come_to_line.Given as goal
 
 abbrev pub invariant-loop-lines : goal.invariant-loop-lines
-invariant-loop-lines g l = GoesTidily (byte_course l.fn.self l.fn.desk.lines.items) (byte_course l.self l.desk.lines.items)
+invariant-loop-lines g l =
+    GoesTidily (byte_course l.fn.self l.fn.desk.lines.items) (byte_course l.self l.desk.lines.items)
 
 abbrev pub decreases-loop-lines : goal.decreases-loop-lines
 decreases-loop-lines g l = bytes_on_way l.self.wires

@@ -9,7 +9,8 @@ returns-then-is_done g c = ended (sym c.is_done.ensures ∙ c.if-is_done.true) c
 
 pub returns-then-has_some : goal.returns-then-has_some
 returns-then-has_some g c =
-    on_ok c.note.result _ _ (λ noted. stayed (sym c.is_done.ensures ∙ c.if-is_done.false) refl refl refl
+    on_ok c.note.result _ _
+    (λ noted. stayed (sym c.is_done.ensures ∙ c.if-is_done.false) refl refl refl
     (noted_as _ _ _ _ _ (sym c.if-has_some.true ∙ c.has_some.ensures) noted)) c.note.ensures
 
 pub returns : goal.returns

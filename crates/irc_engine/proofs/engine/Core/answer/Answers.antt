@@ -7,4 +7,5 @@ pub returns-in-Idle-clause-done : goal.returns-in-Idle-clause-done
 returns-in-Idle-clause-done g c = nothing_to_do _ _ _ _ c.in-Idle.is
 
 pub returns-in-Readable-clause-notes : goal.returns-in-Readable-clause-notes
-returns-in-Readable-clause-notes g c = on_ok c.read.result _ _ (λ marks q. marks q false) c.read.ensures.marks
+returns-in-Readable-clause-notes g c =
+    on_ok c.read.result _ _ (λ marks q. marks q false) c.read.ensures.marks

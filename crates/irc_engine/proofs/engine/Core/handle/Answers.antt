@@ -10,13 +10,15 @@ want_of_memory-requires g c = only_memory _ _ _ _ _ _ _ _ c.requires c.in-Err.en
 pub returns-in_ok-note-in-Ok-clause-at_one : goal.returns-in_ok-note-in-Ok-clause-at_one
 returns-in_ok-note-in-Ok-clause-at_one g c =
     on_ok c.dispatch.result _ _
-    (λ carries. at_one_after _ c.who_is_connected.ensures _ _ _ _ _ c.args.self.now.connections c.dispatch.new.self (ap (λ (b : Batch). b.outs) c.clear.ensures)
+    (λ carries. at_one_after _ c.who_is_connected.ensures _ _ _ _ _ c.args.self.now.connections
+    c.dispatch.new.self (ap (λ (b : Batch). b.outs) c.clear.ensures)
     c.in-Ok.ensures c.requires carries)
     c.dispatch.ensures.carries
 
 pub returns-in_ok-note-in-Ok-clause-asks : goal.returns-in_ok-note-in-Ok-clause-asks
 returns-in_ok-note-in-Ok-clause-asks g c =
     on_both c.dispatch.result _ _ _
-    (λ carries closed. asked_once _ _ _ _ _ _ _ c.args.self.now.connections c.dispatch.new.self _ _ _ (ap (λ (b : Batch). b.outs) c.clear.ensures) c.in-Ok.ensures
+    (λ carries closed. asked_once _ _ _ _ _ _ _ c.args.self.now.connections c.dispatch.new.self _ _
+    _ (ap (λ (b : Batch). b.outs) c.clear.ensures) c.in-Ok.ensures
     c.in_ok-note-in-Ok.ensures closed carries)
     c.dispatch.ensures.carries c.dispatch.ensures.noted

@@ -5,7 +5,9 @@ use Rattle.irc_engine.proofs.RunLaws.{on_ok, asks_as}
 use Rattle.irc_engine.proofs.engine.Core.handle_end.Goals as goal
 
 pub handle-requires : goal.handle-requires
-handle-requires g c = subst (λ (e : Event). IsToHearIn e c.args.self.now) (sym c.end_event.ensures) c.requires
+handle-requires g c =
+    subst (λ (e : Event). IsToHearIn e c.args.self.now) (sym c.end_event.ensures) c.requires
 
 pub returns-clause-asks : goal.returns-clause-asks
-returns-clause-asks g c = on_ok c.handle.result _ _ (asks_as _ _ _ _ _ c.end_event.ensures) c.handle.ensures.asks
+returns-clause-asks g c =
+    on_ok c.handle.result _ _ (asks_as _ _ _ _ _ c.end_event.ensures) c.handle.ensures.asks

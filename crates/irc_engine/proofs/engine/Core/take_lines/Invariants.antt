@@ -8,7 +8,8 @@ use Rattle.irc_engine.proofs.engine.Core.take_lines.Given as goal
 -- the bytes so far are heard
 abbrev pub invariant-loop-used : goal.invariant-loop-used
 invariant-loop-used g l = record {
-  ran : Ran g.W.Wire.is_after [] [] (only_of l.conn (take l.used l.fn.self.buffer.items)) (moment_of l.fn.self) (moment_of l.self);
+  ran : Ran g.W.Wire.is_after [] [] (only_of l.conn (take l.used l.fn.self.buffer.items))
+      (moment_of l.fn.self) (moment_of l.self);
   at_one : IsAtOneIn l.self;
   told : KeepsTold l.fn.self l.self;
   marks : KeepsMarks l.fn.self.connections l.self.connections;

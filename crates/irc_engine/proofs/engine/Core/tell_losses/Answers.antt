@@ -15,37 +15,55 @@ use Rattle.irc_engine.proofs.RunLaws.{ran_none, ran_on, ran_gone}
 use Rattle.irc_engine.proofs.engine.Core.tell_losses.Goals as goal
 
 pub loop-conn-init : goal.loop-conn-init
-loop-conn-init g c = record { ran = ran_none _ _; at_one = c.requires; in_order = none_so_far; marks = λ q pending is. is; same = refl }
+loop-conn-init g c = record {
+  ran = ran_none _ _;
+  at_one = c.requires;
+  in_order = none_so_far;
+  marks = λ q pending is. is;
+  same = refl;
+}
 
 pub handle_end-requires : goal.handle_end-requires
 handle_end-requires g c =
     hears_end _ _ _ c.loop-conn.invariant.at_one _ _ _ _ refl c.in-Some.ensures.member
-    (λ q. c.in-Some.ensures.updates.0 q ∙ set_at (lost_at c.loop-conn.self.connections.lost) None _ q)
+    (λ q. c.in-Some.ensures.updates.0 q
+    ∙ set_at (lost_at c.loop-conn.self.connections.lost) None _ q)
 
 pub loop-conn-preserved : goal.loop-conn-preserved
 loop-conn-preserved g c =
     record {
       ran = ran_on _ _ _ _ c.loop-conn.invariant.ran
-          (ran_gone _ _ _ _ _ _ c.loop-conn.self.connections (record c.loop-conn.self.connections { lost = c.take_lowest.new.lost }) _ refl refl c.in-Some.ensures.member
-          (λ q. c.in-Some.ensures.updates.0 q ∙ set_at (lost_at c.loop-conn.self.connections.lost) None _ q) c.in_ok-handle_end.ensures.asks.0);
+          (ran_gone _ _ _ _ _ _ c.loop-conn.self.connections (record c.loop-conn.self.connections
+          { lost = c.take_lowest.new.lost }) _ refl refl c.in-Some.ensures.member
+          (λ q. c.in-Some.ensures.updates.0 q ∙ set_at (lost_at c.loop-conn.self.connections.lost)
+          None _ q) c.in_ok-handle_end.ensures.asks.0);
       at_one = c.in_ok-handle_end.ensures.at_one;
-      in_order = tells_lowest _ _ _ _ _ c.loop-conn.invariant.in_order (record { is_lost = c.in-Some.ensures.member; is_lowest = λ q there. le_from_not_gt _ q (c.in-Some.ensures.least q there) }) refl
-          (λ q. c.in-Some.ensures.updates.0 q ∙ set_at (lost_at c.loop-conn.self.connections.lost) None _ q) c.in_ok-handle_end.ensures.asks;
-      marks = λ q pending is. c.in_ok-handle_end.ensures.marks q pending (c.loop-conn.invariant.marks q pending is);
+      in_order = tells_lowest _ _ _ _ _ c.loop-conn.invariant.in_order
+          (record {
+            is_lost = c.in-Some.ensures.member;
+            is_lowest = λ q there. le_from_not_gt _ q (c.in-Some.ensures.least q there);
+          }) refl
+          (λ q. c.in-Some.ensures.updates.0 q ∙ set_at (lost_at c.loop-conn.self.connections.lost)
+          None _ q) c.in_ok-handle_end.ensures.asks;
+      marks = λ q pending is. c.in_ok-handle_end.ensures.marks q pending
+          (c.loop-conn.invariant.marks q pending is);
       same = c.handle_end.ensures.same ∙ c.loop-conn.invariant.same;
     }
 
 pub returns-clause-ran : goal.returns-clause-ran
 returns-clause-ran g c =
     subst (λ (es : List (ℕ × Kind)). RanOn g.W.Wire.is_after (moment_of c.args.self.now)
-    (record (moment_of c.loop-conn.self) { lost = λ q. lookup (is_at (nat_cmp q)) es })) (sym c.in_default.ensures.unchanged) c.loop-conn.invariant.ran
+    (record (moment_of c.loop-conn.self) { lost = λ q. lookup (is_at (nat_cmp q)) es }))
+    (sym c.in_default.ensures.unchanged) c.loop-conn.invariant.ran
 
 pub returns-clause-in_order : goal.returns-clause-in_order
 returns-clause-in_order g c =
     subst (λ (es : List (ℕ × Kind)). TellsLosses g.W.Wire.is_after (moment_of c.args.self.now)
-    (record (moment_of c.loop-conn.self) { lost = λ q. lookup (is_at (nat_cmp q)) es })) (sym c.in_default.ensures.unchanged) c.loop-conn.invariant.in_order
+    (record (moment_of c.loop-conn.self) { lost = λ q. lookup (is_at (nat_cmp q)) es }))
+    (sym c.in_default.ensures.unchanged) c.loop-conn.invariant.in_order
 
 pub returns-clause-at_one : goal.returns-clause-at_one
 returns-clause-at_one g c =
-    subst (λ (es : List (ℕ × Kind)). IsAtOne c.loop-conn.self.server (connection_of c.loop-conn.self.connections.table) (λ q. lookup (is_at (nat_cmp q)) es))
+    subst (λ (es : List (ℕ × Kind)). IsAtOne c.loop-conn.self.server
+    (connection_of c.loop-conn.self.connections.table) (λ q. lookup (is_at (nat_cmp q)) es))
     (sym c.in_default.ensures.unchanged) c.loop-conn.invariant.at_one

@@ -12,11 +12,13 @@ answer-requires-clause-told g c = none_to_tell _ _ _ c.requires
 pub returns-clause-settled : goal.returns-clause-settled
 returns-clause-settled g c =
     on_both c.flush.result _ _ _
-    (λ one told. settled_again _ _ _ (told (c.in_ok-answer.ensures.told (none_to_tell _ _ _ c.requires))) one)
+    (λ one told. settled_again _ _ _
+    (told (c.in_ok-answer.ensures.told (none_to_tell _ _ _ c.requires))) one)
     c.flush.ensures.at_one c.flush.ensures.told
 
 pub returns-clause-done : goal.returns-clause-done
 returns-clause-done g c =
     does_both _ c.args.self.now c.answer.new.self c.flush.new.self _ _ c.flush.result
-    c.in_ok-answer.ensures.done c.in_ok-answer.ensures.told c.in_ok-answer.ensures.notes c.flush.ensures.done
+    c.in_ok-answer.ensures.done c.in_ok-answer.ensures.told c.in_ok-answer.ensures.notes
+    c.flush.ensures.done
     c.flush.ensures.told c.flush.ensures.in_order

@@ -9,7 +9,8 @@ use Rattle.irc_engine.proofs.engine.Engine.new.Goals as goal
 
 pub invariant_of-result : goal.invariant_of-result
 invariant_of-result g c = record {
-  settled = λ well. settled_new _ _ _ c.requires.nobody c.new-2.ensures (λ conn. ap (lookup (is_at (nat_cmp conn))) c.new-4.ensures.empty);
+  settled = λ well. settled_new _ _ _ c.requires.nobody c.new-2.ensures
+      (λ conn. ap (lookup (is_at (nat_cmp conn))) c.new-4.ensures.empty);
 }
 
 pub returns : goal.returns
@@ -22,7 +23,8 @@ returns g c = record {
   no_connections = c.new-2.ensures;
   in_order = record {
     all_told = λ conn. ap (lookup (is_at (nat_cmp conn))) c.new-4.ensures.empty;
-    noted = λ conn. ap (list_any (is_at (nat_cmp conn))) c.new-3.ensures.empty ∙ sym (ap has_some_at (c.new-2.ensures conn));
+    noted = λ conn. ap (list_any (is_at (nat_cmp conn))) c.new-3.ensures.empty
+        ∙ sym (ap has_some_at (c.new-2.ensures conn));
     none_done = λ conn. ap is_done_at (c.new-2.ensures conn);
   };
   reads_at_most = c.in_ok-buffer.ensures.len;

@@ -10,15 +10,20 @@ loop-turn-init g c = no_told
 pub loop-turn-preserved : goal.loop-turn-preserved
 loop-turn-preserved g c =
     told_more _ _ _ _ _ c.loop-turn.invariant
-    (subst (λ r. TellsTurned g.W.Wire.is_after (engine_view c.loop-turn.self) (engine_view c.turn_telling.new.self)
-    (g.E.Write.contents c.loop-turn.errors) (g.E.Write.contents c.turn_telling.new.errors) r) c.in_ok-turn_telling.was c.turn_telling.ensures)
+    (subst (λ r. TellsTurned g.W.Wire.is_after (engine_view c.loop-turn.self)
+    (engine_view c.turn_telling.new.self)
+    (g.E.Write.contents c.loop-turn.errors) (g.E.Write.contents c.turn_telling.new.errors) r)
+    c.in_ok-turn_telling.was c.turn_telling.ensures)
 
 pub returns-in_err-turn_telling : goal.returns-in_err-turn_telling
 returns-in_err-turn_telling g c =
-    told_stops _ _ _ _ _ _ _ _ _ c.from_residual.result c.in_err-turn_telling.field-0.0 c.loop-turn-test.true c.loop-turn.invariant
+    told_stops _ _ _ _ _ _ _ _ _ c.from_residual.result c.in_err-turn_telling.field-0.0
+    c.loop-turn-test.true c.loop-turn.invariant
     c.in_err-turn_telling.ensures c.from_residual.ensures.1
 
 pub returns : goal.returns
 returns g c =
-    all_told (subst (λ n. ToldTurns g.W.Wire.is_after (engine_view c.args.self.now) (g.E.Write.contents c.args.errors.now) n (engine_view c.loop-turn.self)
-    (g.E.Write.contents c.loop-turn.errors)) (omega (arith, c.loop-turn-test.false, c.loop-turn.auto._turn-end)) c.loop-turn.invariant)
+    all_told (subst (λ n. ToldTurns g.W.Wire.is_after (engine_view c.args.self.now)
+    (g.E.Write.contents c.args.errors.now) n (engine_view c.loop-turn.self)
+    (g.E.Write.contents c.loop-turn.errors)) (omega
+    (arith, c.loop-turn-test.false, c.loop-turn.auto._turn-end)) c.loop-turn.invariant)

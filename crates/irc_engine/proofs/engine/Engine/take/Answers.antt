@@ -10,4 +10,5 @@ returns-in-Ok g c = takes_it refl refl c.in-Ok.ensures.done
 
 pub returns-in-Err : goal.returns-in-Err
 returns-in-Err g c = runs_out refl (λ order idle.
-    let done = c.turn.ensures.quiet idle.nothing_ready (λ q. order.noted q ∙ idle.nothing_left q) in let failed = c.in-Err.is in cc)
+    let done = c.turn.ensures.quiet idle.nothing_ready (λ q. order.noted q ∙ idle.nothing_left q) in
+    let failed = c.in-Err.is in cc)

@@ -8,12 +8,20 @@ loop-self-preserved c =
     let goes = sym c.goes_on.ensures ∙ c.loop-self-test.true in
     record {
       gives =
-          more_given c.args.own.now c.args.self.now c.args.memory.now c.args.back.now (take c.loop-self.count c.loop-self.buffer) mid c.loop-self.memory c.loop-self.back c.loop-self.invariant.gives
-          c.next_line.new.self c.next_line.new.memory c.next_line.new.back (take c.give_line-count-in-loop-self.result c.give_line-count-in-loop-self.new.buffer)
+          more_given c.args.own.now c.args.self.now c.args.memory.now c.args.back.now
+          (take c.loop-self.count c.loop-self.buffer) mid c.loop-self.memory c.loop-self.back
+          c.loop-self.invariant.gives
+          c.next_line.new.self c.next_line.new.memory c.next_line.new.back
+          (take c.give_line-count-in-loop-self.result c.give_line-count-in-loop-self.new.buffer)
           c.give_line-count-in-loop-self.new.self
-          (hears_one c.args.own.now mid c.loop-self.memory c.loop-self.back c.next_line.result c.next_line.new.self c.next_line.new.memory c.next_line.new.back c.if-not-next_line.false c.next_line.ensures)
-          (all_given_on (length c.loop-self.buffer) c.loop-self.count mid goes) (none_waits (length c.loop-self.buffer) c.loop-self.count mid goes) c.give_line-count-in-loop-self.ensures.given
-          (same_but c.next_line.new.self c.give_line-count-in-loop-self.new.self _ c.give_line-count-in-loop-self.ensures.left);
+          (hears_one c.args.own.now mid c.loop-self.memory c.loop-self.back c.next_line.result
+          c.next_line.new.self c.next_line.new.memory c.next_line.new.back
+          c.if-not-next_line.false c.next_line.ensures)
+          (all_given_on (length c.loop-self.buffer) c.loop-self.count mid goes)
+          (none_waits (length c.loop-self.buffer) c.loop-self.count mid goes)
+          c.give_line-count-in-loop-self.ensures.given
+          (same_but c.next_line.new.self c.give_line-count-in-loop-self.new.self _
+          c.give_line-count-in-loop-self.ensures.left);
       within = c.give_line-count-in-loop-self.ensures.within;
       size = c.give_line-count-in-loop-self.ensures.size ∙ c.loop-self.invariant.size;
     }

@@ -5,7 +5,8 @@ use Rattle.irc_late.proofs.incoming.Incoming.give.Given as goal
 -- what is at the front of the buffer was given on so far
 abbrev pub invariant-loop-self : goal.invariant-loop-self
 invariant-loop-self l = record {
-  gives : Gives l.own l.fn.self l.fn.memory l.fn.back (take l.count l.buffer) l.self l.memory l.back;
+  gives : Gives l.own l.fn.self l.fn.memory l.fn.back
+      (take l.count l.buffer) l.self l.memory l.back;
   within : l.count ≤ length l.buffer;
   size : length l.buffer ≡ length l.fn.buffer;
 }

@@ -8,5 +8,6 @@ pub returns : goal.returns
 returns c =
     let given = c.self.inside.given in
     let line = c.self.inside.line.items in
-    shown given c.len.result (drop given line) (length-drop given line ∙ ap (λ n. n - given) (sym c.len.ensures.value))
+    shown given c.len.result (drop given line) (length-drop given line
+    ∙ ap (λ n. n - given) (sym c.len.ensures.value))
     ∙ ap (λ (come : Coming). is_some_bytes come.line) c.self.view_is

@@ -10,6 +10,8 @@ returns-else-has_line c =
     let filled = c.self.inside.filled in
     let read = take filled c.self.inside.input.items in
     let held =
-    shown used filled (drop used read) (length-drop used read ∙ ap (λ n. n - used) (length-take-le filled c.self.inside.input.items c.self.invariant.filled_within))
+    shown used filled (drop used read) (length-drop used read ∙ ap (λ n. n - used)
+    (length-take-le filled c.self.inside.input.items c.self.invariant.filled_within))
     ∙ ap (λ (come : Coming). is_some_bytes come.input) c.self.view_is in
-    held_bytes (is_some_bytes c.args.self.now.line) (is_some_bytes c.args.self.now.input) _ (sym c.has_line.ensures ∙ c.if-has_line.false) (cc held)
+    held_bytes (is_some_bytes c.args.self.now.line) (is_some_bytes c.args.self.now.input) _
+    (sym c.has_line.ensures ∙ c.if-has_line.false) (cc held)

@@ -10,7 +10,8 @@ returns-in_err-got-clause-account g c = record {
   wire_between = c.read_at.new.wire;
   answer = Err c.in_err-got.field-0.0;
   reads = c.in_err-got.ensures.account;
-  behind = (err_so c.from_residual.result c.in_err-got.field-0.0 c.from_residual.ensures.1, refl, refl);
+  behind =
+      (err_so c.from_residual.result c.in_err-got.field-0.0 c.from_residual.ensures.1, refl, refl);
   asked = c.unless-self.ensures;
   reading = refl;
   own = refl;
@@ -27,7 +28,8 @@ returns-in_err-write_back_at-clause-account g c = record {
   behind = (
     Err c.in_err-write_back_at.field-0.0,
     c.in_err-write_back_at.ensures,
-    err_so c.from_residual-in_err-write_back_at.result c.in_err-write_back_at.field-0.0 c.from_residual-in_err-write_back_at.ensures.1,
+    err_so c.from_residual-in_err-write_back_at.result c.in_err-write_back_at.field-0.0
+        c.from_residual-in_err-write_back_at.ensures.1,
   );
   asked = c.unless-self.ensures;
   reading = refl;

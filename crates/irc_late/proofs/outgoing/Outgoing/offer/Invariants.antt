@@ -7,7 +7,8 @@ use Rattle.irc_late.proofs.outgoing.Outgoing.offer.Given as goal
 abbrev pub invariant-loop-line : goal.invariant-loop-line
 invariant-loop-line l = record {
   within : l.used ≤ length l.bytes;
-  begun : begun_behind l.self.framer (drop l.used l.bytes) ≡ begun_behind l.fn.self.framer (drop l.fn.self.ahead l.bytes);
+  begun : begun_behind l.self.framer (drop l.used l.bytes) ≡ begun_behind l.fn.self.framer
+      (drop l.fn.self.ahead l.bytes);
   told : lines_put_out l.memory (completed l.self.framer (drop l.used l.bytes))
       ≡ lines_put_out l.fn.memory (completed l.fn.self.framer (drop l.fn.self.ahead l.bytes));
   same : l.self.ahead ≡ l.fn.self.ahead;

@@ -6,5 +6,6 @@ pub returns-in-Some : goal.returns-in-Some
 returns-in-Some c = λ i. record {
   framer = c.args.self.now.framer;
   ahead = c.saturating_sub-self.ensures i;
-  is_between_lines = option_map_or (λ byte. nat_eq byte 10) (c.in-Some.ensures.value i) c.args.self.now.is_between_lines;
+  is_between_lines = option_map_or (λ byte. nat_eq byte 10)
+      (c.in-Some.ensures.value i) c.args.self.now.is_between_lines;
 }

@@ -10,5 +10,7 @@ push_cut-requires c =
 
 pub invariant_of-self : goal.invariant_of-self
 invariant_of-self c =
-    goes_on_real (begun c.self.inside.kept.items c.self.inside.nul_seen) c.args.run.now c.push_cut.new.line.items _ c.self.invariant
-    c.requires.no_end c.push_cut.ensures.appended (ap (λ b. c.self.inside.nul_seen || b) c.requires.nul)
+    goes_on_real (begun c.self.inside.kept.items c.self.inside.nul_seen) c.args.run.now
+    c.push_cut.new.line.items _ c.self.invariant
+    c.requires.no_end c.push_cut.ensures.appended
+    (ap (λ b. c.self.inside.nul_seen || b) c.requires.nul)

@@ -8,7 +8,9 @@ use Rattle.irc_net.proofs.net.Net+Kept.received.Goals as goal
 
 pub returns-clause-owed : goal.returns-clause-owed
 returns-clause-owed c =
-    subst (λ (net : NetView). IsOwed net c.args.client (map line_bytes c.received.result.now)) c.self.view_is
-    (owed c.received_is_front.ensures c.rest_is_one_room.ensures c.rest_as_lines.ensures.lines (record { failed = c.self.inside.failed; network = c.self.inside.network }) c.args.client
+    subst (λ (net : NetView). IsOwed net c.args.client (map line_bytes c.received.result.now))
+    c.self.view_is
+    (owed c.received_is_front.ensures c.rest_is_one_room.ensures c.rest_as_lines.ensures.lines
+    (record { failed = c.self.inside.failed; network = c.self.inside.network }) c.args.client
     (map line_bytes c.received.result.now) c.self.invariant
     (c.received.ensures ∙ ap (λ (net : Network). received_by net c.args.client) c.network.ensures))

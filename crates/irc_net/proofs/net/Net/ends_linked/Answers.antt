@@ -6,23 +6,30 @@ use Rattle.irc_network.specs.Network.{Network, link_places}
 use Rattle.irc_net.proofs.net.Net.ends_linked.Goals as goal
 
 pub returns-then-self : goal.returns-then-self
-returns-then-self g c = inl (ap (λ (n : NetView). n.failed) (sym c.self.view_is) ∙ c.if-self.true, refl)
+returns-then-self g c =
+    inl (ap (λ (n : NetView). n.failed) (sym c.self.view_is) ∙ c.if-self.true, refl)
 
 pub returns-in-Some : goal.returns-in-Some
 returns-in-Some g c =
     inr (
       ap (λ (n : NetView). n.failed) (sym c.self.view_is) ∙ c.if-self.false,
-      ap (λ (n : NetView). deliver_fault n.network c.args.from.now c.args.to.now) (sym c.self.view_is) ∙ sym c.in-Some.ensures,
+      ap (λ (n : NetView). deliver_fault n.network c.args.from.now c.args.to.now)
+          (sym c.self.view_is) ∙ sym c.in-Some.ensures,
     )
 
 pub returns-in-Some-ends_of : goal.returns-in-Some-ends_of
 returns-in-Some-ends_of g c = record {
   stands = ap (λ (n : NetView). n.failed) (sym c.self.view_is) ∙ c.if-self.false;
-  none = ap (λ (n : NetView). deliver_fault n.network c.args.from.now c.args.to.now) (sym c.self.view_is) ∙ sym c.in_default.ensures;
-  ends_are = ap (λ (n : NetView). link_places n.network.network c.args.from.now c.args.to.now) (sym c.self.view_is)
-      ∙ sym (c.in-Some-ends_of.ensures.ends ∙ ap (λ (n : Network). link_places n c.args.from.now c.args.to.now) c.network.ensures);
+  none = ap (λ (n : NetView). deliver_fault n.network c.args.from.now c.args.to.now)
+      (sym c.self.view_is) ∙ sym c.in_default.ensures;
+  ends_are = ap (λ (n : NetView). link_places n.network.network c.args.from.now c.args.to.now)
+      (sym c.self.view_is)
+      ∙ sym (c.in-Some-ends_of.ensures.ends
+      ∙ ap (λ (n : Network). link_places n c.args.from.now c.args.to.now) c.network.ensures);
 }
 
 pub returns-in-None : goal.returns-in-None
-returns-in-None g c = absurd (are_placed c.self.inside.network c.args.from.now c.args.to.now (sym c.in_default.ensures)
-    (sym (c.in-None.ensures.ends ∙ ap (λ (n : Network). link_places n c.args.from.now c.args.to.now) c.network.ensures)))
+returns-in-None g c = absurd
+    (are_placed c.self.inside.network c.args.from.now c.args.to.now (sym c.in_default.ensures)
+    (sym (c.in-None.ensures.ends
+    ∙ ap (λ (n : Network). link_places n c.args.from.now c.args.to.now) c.network.ensures)))

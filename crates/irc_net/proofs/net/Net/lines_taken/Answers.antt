@@ -8,5 +8,8 @@ use Rattle.irc_net.proofs.net.Net.lines_taken.Goals as goal
 pub returns-clause-few : goal.returns-clause-few
 returns-clause-few g c =
     subst (λ (net : NetView). TakesFew net c.lines_taken.result) c.self.view_is
-    (takes_few c.taken_are_few.ensures (record { failed = c.self.inside.failed; network = c.self.inside.network }) c.lines_taken.result c.self.invariant
+    (takes_few c.taken_are_few.ensures (record {
+      failed = c.self.inside.failed;
+      network = c.self.inside.network;
+    }) c.lines_taken.result c.self.invariant
     (c.lines_taken.ensures ∙ ap (λ (net : Network). net.taken) c.network.ensures))

@@ -10,23 +10,31 @@ use Rattle.irc_net.proofs.net.Net.new.Goals as goal
 
 pub forest_of-requires-clause-named : goal.forest_of-requires-clause-named
 forest_of-requires-clause-named g c =
-    let none : configs_fault c.args.configs.items ≡ None = sym (c.configs_fault.ensures ∙ ap configs_fault c.deref.ensures.value) ∙ c.in_default.is in
+    let none : configs_fault c.args.configs.items ≡ None =
+    sym (c.configs_fault.ensures ∙ ap configs_fault c.deref.ensures.value) ∙ c.in_default.is in
     subst (AllByRecursion IsServerConfig) (sym c.deref-2.ensures.value)
-    (ordered_named c.args.configs.items c.in_order-ordered.result.items none c.in_order-ordered.ensures.ones)
+    (ordered_named c.args.configs.items c.in_order-ordered.result.items none
+    c.in_order-ordered.ensures.ones)
 
 pub forest_of-requires-clause-few : goal.forest_of-requires-clause-few
 forest_of-requires-clause-few g c =
-    let none : configs_fault c.args.configs.items ≡ None = sym (c.configs_fault.ensures ∙ ap configs_fault c.deref.ensures.value) ∙ c.in_default.is in
+    let none : configs_fault c.args.configs.items ≡ None =
+    sym (c.configs_fault.ensures ∙ ap configs_fault c.deref.ensures.value) ∙ c.in_default.is in
     subst (λ configs. length configs ≤ 256) (sym c.deref-2.ensures.value)
-    (ordered_few c.args.configs.items c.in_order-ordered.result.items none c.in_order-ordered.ensures.ones)
+    (ordered_few c.args.configs.items c.in_order-ordered.result.items none
+    c.in_order-ordered.ensures.ones)
 
 pub invariant_of-result : goal.invariant_of-result
 invariant_of-result g c =
-    let none : configs_fault c.args.configs.items ≡ None = sym (c.configs_fault.ensures ∙ ap configs_fault c.deref.ensures.value) ∙ c.in_default.is in
+    let none : configs_fault c.args.configs.items ≡ None =
+    sym (c.configs_fault.ensures ∙ ap configs_fault c.deref.ensures.value) ∙ c.in_default.is in
     let ordered = c.in_order-ordered.result.items in
     let counted : vec_len c.in_ok-sites.sites ≡ length c.in_ok-sites.sites.items = omega arith in
     λ _. subst IsKeptSound
-    (sym (new_made c.in_ok-new.field-0 _ c.in_ok-new.ensures (c.len-count.ensures ∙ counted ∙ sym (ap (λ (n : Network). length n.sites) c.new.ensures))
-    (c.new.ensures ∙ network_made ordered c.deref-2.result.now c.in_ok-forest.forest c.in_ok-sites.sites.items c.deref-2.ensures.value c.in_ok-forest.ensures
+    (sym (new_made c.in_ok-new.field-0 _ c.in_ok-new.ensures (c.len-count.ensures ∙ counted
+    ∙ sym (ap (λ (n : Network). length n.sites) c.new.ensures))
+    (c.new.ensures ∙ network_made ordered c.deref-2.result.now c.in_ok-forest.forest
+    c.in_ok-sites.sites.items c.deref-2.ensures.value c.in_ok-forest.ensures
     c.in_ok-sites.ensures)))
-    (c.networks_stay_sound.ensures.new (made_of ordered) (made_is_new c.args.configs.items ordered none c.in_order-ordered.ensures.ones))
+    (c.networks_stay_sound.ensures.new (made_of ordered)
+    (made_is_new c.args.configs.items ordered none c.in_order-ordered.ensures.ones))

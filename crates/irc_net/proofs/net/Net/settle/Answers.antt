@@ -7,7 +7,8 @@ use Rattle.irc_net.proofs.Calling.{settles_by, settling_wants}
 use Rattle.irc_net.proofs.net.Net.settle.Goals as goal
 
 pub returns-then-self-clause-settled : goal.returns-then-self-clause-settled
-returns-then-self-clause-settled g c = settling_by_failed (ap (λ (n : NetView). n.failed) (sym c.self.view_is) ∙ c.if-self.true)
+returns-then-self-clause-settled g c =
+    settling_by_failed (ap (λ (n : NetView). n.failed) (sym c.self.view_is) ∙ c.if-self.true)
 
 pub returns-in_err-count-clause-settled : goal.returns-in_err-count-clause-settled
 returns-in_err-count-clause-settled g c =
@@ -18,9 +19,11 @@ pub invariant_of-self-2 : goal.invariant_of-self-2
 invariant_of-self-2 g c =
     let net = c.self.inside.network in
     let lines = c.take_all.new.desk.lines.items in
-    λ _. c.networks_stay_sound.ensures.settled net c.take_all.new.network c.in_ok-count.count (receipts_of lines) (c.self.invariant c.if-self.false)
+    λ _. c.networks_stay_sound.ensures.settled net c.take_all.new.network c.in_ok-count.count
+    (receipts_of lines) (c.self.invariant c.if-self.false)
     (settles_by net c.take_all.new.network lines c.in_ok-count.count
-    (subst (λ ls. SettlesAt c.in_ok-count.count (byte_course net ls) (byte_course c.take_all.new.network lines)) c.new-desk.ensures c.in_ok-count.ensures))
+    (subst (λ ls. SettlesAt c.in_ok-count.count (byte_course net ls)
+    (byte_course c.take_all.new.network lines)) c.new-desk.ensures c.in_ok-count.ensures))
 
 pub returns-clause-rest : goal.returns-clause-rest
 returns-clause-rest g c = c.in_ok-count.ensures.rest
@@ -29,7 +32,9 @@ pub returns-clause-settled : goal.returns-clause-settled
 returns-clause-settled g c =
     let net = c.self.inside.network in
     let lines = c.take_all.new.desk.lines.items in
-    subst (λ (old : NetView). IsSettled old (Ok (c.in_ok-count.count, receipts_of lines)) (standing c.take_all.new.network)) c.self.view_is
+    subst (λ (old : NetView). IsSettled old (Ok (c.in_ok-count.count, receipts_of lines))
+    (standing c.take_all.new.network)) c.self.view_is
     (settles_it c.if-self.false
     (settles_by net c.take_all.new.network lines c.in_ok-count.count
-    (subst (λ ls. SettlesAt c.in_ok-count.count (byte_course net ls) (byte_course c.take_all.new.network lines)) c.new-desk.ensures c.in_ok-count.ensures)))
+    (subst (λ ls. SettlesAt c.in_ok-count.count (byte_course net ls)
+    (byte_course c.take_all.new.network lines)) c.new-desk.ensures c.in_ok-count.ensures)))

@@ -6,5 +6,6 @@ use Rattle.irc_network.proofs.network.Network.send_out.Given as goal
 -- what was put out so far has gone its way
 abbrev pub invariant-loop-at : goal.invariant-loop-at
 invariant-loop-at g l =
-    (course l.self l.desk.lines.items ≡ all_sent_out l.place (take l.at l.fn.desk.out.outs) (course l.fn.self l.fn.desk.lines.items))
+    (course l.self l.desk.lines.items ≡ all_sent_out l.place (take l.at l.fn.desk.out.outs)
+    (course l.fn.self l.fn.desk.lines.items))
     × (l.desk.out ≡ l.fn.desk.out)

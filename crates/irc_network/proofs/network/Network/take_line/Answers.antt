@@ -11,6 +11,9 @@ returns g c =
     let i = c.self.inside in
     let old = seen i.forest i.sites.items i.homes.items (g.H.History.past i.history) i.taken in
     let sites = slice_set old.sites c.args.from c.take_line.new.self in
-    subst (λ (net : Network). IsLineTaken c.args.from c.args.to c.take_line.result net (record old { sites = sites })) c.self.view_is
-    (line_taken old c.args.from c.args.to c.in-Some.site.now c.take_line.new.self c.take_line.result sites
-    (found_at old.sites c.args.from c.in-Some.site.now c.in-Some.ensures.item.3.0 c.in-Some.ensures.item.1) c.take_line.ensures refl)
+    subst (λ (net : Network). IsLineTaken c.args.from c.args.to c.take_line.result net
+    (record old { sites = sites })) c.self.view_is
+    (line_taken old c.args.from c.args.to c.in-Some.site.now c.take_line.new.self
+    c.take_line.result sites
+    (found_at old.sites c.args.from c.in-Some.site.now c.in-Some.ensures.item.3.0
+    c.in-Some.ensures.item.1) c.take_line.ensures refl)

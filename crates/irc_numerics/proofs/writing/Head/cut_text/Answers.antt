@@ -8,4 +8,5 @@ pub returns : goal.returns
 returns c whole is =
     let line = numbered c.args.self.server.now c.args.self.name.now c.args.number.now in
     let words = words_now c.args.words.now in
-    c.write.ensures ∙ ap (λ text. line (saying words text)) (c.as_slice.ensures.value ∙ is) ∙ numbered-cut _ _ _ words whole
+    c.write.ensures ∙ ap (λ text. line (saying words text)) (c.as_slice.ensures.value ∙ is)
+    ∙ numbered-cut _ _ _ words whole

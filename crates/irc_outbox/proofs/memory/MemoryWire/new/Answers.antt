@@ -8,9 +8,14 @@ pub loop-step-preserved : goal.loop-step-preserved
 loop-step-preserved c = record {
   fresh = c.in_ok-plan.ensures.fresh c.loop-step.invariant.fresh;
   planned = subst (λ steps. ArePlanned steps c.plan.new.fars)
-      (sym (taken_more c.deref-step-items.result.now c.loop-step.step-index _ c.loop-step-test.true c.step-item.is))
-      (c.in_ok-plan.ensures.planned.plans (take c.loop-step.step-index c.deref-step-items.result.now) c.loop-step.invariant.planned);
-  longest_is = c.max-longest.ensures ∙ ap (λ n. max n (length c.bytes.result.now)) c.loop-step.invariant.longest_is
-      ∙ ap (λ xs. max (longest_of (take c.loop-step.step-index c.deref-step-items.result.now)) (length xs)) c.bytes.ensures
-      ∙ sym (longest_more c.deref-step-items.result.now c.loop-step.step-index _ c.loop-step-test.true c.step-item.is);
+      (sym (taken_more c.deref-step-items.result.now c.loop-step.step-index _ c.loop-step-test.true
+      c.step-item.is))
+      (c.in_ok-plan.ensures.planned.plans (take c.loop-step.step-index
+      c.deref-step-items.result.now) c.loop-step.invariant.planned);
+  longest_is = c.max-longest.ensures
+      ∙ ap (λ n. max n (length c.bytes.result.now)) c.loop-step.invariant.longest_is
+      ∙ ap (λ xs. max (longest_of (take c.loop-step.step-index c.deref-step-items.result.now))
+      (length xs)) c.bytes.ensures
+      ∙ sym (longest_more c.deref-step-items.result.now c.loop-step.step-index _
+      c.loop-step-test.true c.step-item.is);
 }

@@ -4,4 +4,5 @@ use Rattle.irc_registering.specs.CommandNames.{found, row_named, row_view}
 
 -- the row is that of those that are left
 abbrev pub invariant-loop-name : goal.invariant-loop-name
-invariant-loop-name l = row_named l.word ≡ found l.word (map row_view (drop l.name-index l.name-items))
+invariant-loop-name l =
+    row_named l.word ≡ found l.word (map row_view (drop l.name-index l.name-items))

@@ -7,5 +7,6 @@ use Rattle.irc_room_tables.proofs.indexed_channels.IndexedChannels.names_of.Goal
 pub returns : goal.returns
 returns c =
     c.names.ensures
-    ∙ names_told (key c.args.nick.now) c.self.inside.rows c.self.inside.joined.rows c.self.invariant.joined
+    ∙ names_told
+    (key c.args.nick.now) c.self.inside.rows c.self.inside.joined.rows c.self.invariant.joined
     ∙ ap (own_names (key c.args.nick.now)) c.self.view_is

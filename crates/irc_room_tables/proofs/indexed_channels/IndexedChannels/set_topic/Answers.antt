@@ -12,10 +12,12 @@ invariant_of-self c =
     let rows = c.self.inside.rows in record {
       joined =
           tells_at has_member _ _ _ c.set_topic.ensures
-          (tells_kept has_member c.self.inside.joined.rows name (option_map change) rows c.self.invariant.joined
+          (tells_kept has_member c.self.inside.joined.rows name
+          (option_map change) rows c.self.invariant.joined
           (λ n. mapped_said has_member change (λ m channel. refl) (row rows name) n));
       invited =
           tells_at is_invited _ _ _ c.set_topic.ensures
-          (tells_kept is_invited c.self.inside.invited.rows name (option_map change) rows c.self.invariant.invited
+          (tells_kept is_invited c.self.inside.invited.rows name
+          (option_map change) rows c.self.invariant.invited
           (λ n. mapped_said is_invited change (λ m channel. refl) (row rows name) n));
     }

@@ -10,6 +10,8 @@ pub returns-clause-ok : goal.returns-clause-ok
 returns-clause-ok c =
     ok_also c.try_at.result
     (λ is. added c.args.self.now.rows c.open.new.rows _ (key c.args.nick.now) (key c.args.name.now)
-    (subst (λ n. IsOpened c.args.self.now.rows c.open.new.rows (key n)) c.as_bytes.ensures.value c.in_ok-open.ensures.ok)
-    (is ∙ ap (λ n. alter (key n) (option_map (λ (ns : Names). alter (key c.args.name.now) (λ _. Some tt) ns)) c.open.new.rows) c.as_bytes-2.ensures.value))
+    (subst (λ n. IsOpened c.args.self.now.rows c.open.new.rows (key n)) c.as_bytes.ensures.value
+    c.in_ok-open.ensures.ok)
+    (is ∙ ap (λ n. alter (key n) (option_map (λ (ns : Names). alter (key c.args.name.now)
+    (λ _. Some tt) ns)) c.open.new.rows) c.as_bytes-2.ensures.value))
     c.try_at.ensures.ok

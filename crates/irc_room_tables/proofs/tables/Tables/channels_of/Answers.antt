@@ -15,5 +15,6 @@ returns c =
     is
     ∙ ap (entries_under c.self.inside.channels) c.names_of.ensures
     ∙ own_found (key c.args.nick.now) c.self.inside.channels
-    ∙ ap (λ (room : Room). filter (λ e. has_member (key c.args.nick.now) e.1) (entries room.channels)) c.self.view_is)
+    ∙ ap (λ (room : Room). filter (λ e. has_member (key c.args.nick.now) e.1)
+    (entries room.channels)) c.self.view_is)
     c.with_names.ensures

@@ -7,4 +7,5 @@ use Rattle.irc_room_tables.proofs.tables.Tables.new.Goals as goal
 
 pub invariant_of-result : goal.invariant_of-result
 invariant_of-result c =
-    subst IsWellFormed (sym (ap (λ u. room_of u c.new-2.result) c.new.ensures.users ∙ ap (λ t. room_of empty t) c.new-2.ensures)) no_room_is_well_formed
+    subst IsWellFormed (sym (ap (λ u. room_of u c.new-2.result) c.new.ensures.users
+    ∙ ap (λ t. room_of empty t) c.new-2.ensures)) no_room_is_well_formed

@@ -9,5 +9,7 @@ use Rattle.irc_room_tables.proofs.tables.Tables.respell.Goals as goal
 pub invariant_of-self : goal.invariant_of-self
 invariant_of-self c =
     let users = c.self.inside.users.users in
-    subst (λ (channels : Table Channel). IsWellFormed (room_of users channels)) (sym c.respell.ensures)
-    (respelled_is_well_formed c.args.channel.now (room_of users c.self.inside.channels) c.self.invariant)
+    subst (λ (channels : Table Channel). IsWellFormed (room_of users channels))
+    (sym c.respell.ensures)
+    (respelled_is_well_formed c.args.channel.now
+    (room_of users c.self.inside.channels) c.self.invariant)

@@ -9,6 +9,7 @@ pub returns : goal.returns
 returns c =
     ok_also c.put_each.result
     (sets_alike _ _ _ _ _ _
-    (λ q. ap (λ names. is_named names q) (c.names_of.ensures ∙ ap (names_of c.args.room.now.room) c.as_bytes.ensures.value)
+    (λ q. ap (λ names. is_named names q) (c.names_of.ensures
+    ∙ ap (names_of c.args.room.now.room) c.as_bytes.ensures.value)
     ∙ named_in c.args.room.now.room c.args.nick.now q))
     c.put_each.ensures

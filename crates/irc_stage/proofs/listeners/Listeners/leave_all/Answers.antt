@@ -7,6 +7,7 @@ use Rattle.irc_stage.proofs.listeners.Listeners.leave_all.Goals as goal
 pub returns : goal.returns
 returns c =
     sets_alike _ _ _ _ _ _
-    (λ q. ap (λ names. is_named names q) (c.names_of.ensures ∙ ap (names_of c.args.room.now.room) c.as_bytes.ensures.value)
+    (λ q. ap (λ names. is_named names q) (c.names_of.ensures
+    ∙ ap (names_of c.args.room.now.room) c.as_bytes.ensures.value)
     ∙ named_in c.args.room.now.room c.args.nick.now q)
     c.remove_each.ensures

@@ -15,10 +15,14 @@ returns-in_ok-follow-in-Join-clause-shown c =
     let by_nick = c.args.clients.now.by_nick in
     let lists = c.follow.new.self.lists in
     ok_also c.tell.result
-    (sent_to c.args.out.now c.tell.new.out (conns_at lists (key c.as_bytes.result.now)) (hearers room by_nick c.args.effect.now)
+    (sent_to c.args.out.now c.tell.new.out (conns_at lists (key c.as_bytes.result.now))
+    (hearers room by_nick c.args.effect.now)
     (ap (λ name. conns_at lists (key name)) c.as_bytes.ensures.value
-    ∙ join_heard room c.own.ensures.well_formed by_nick lists c.in-Join.nick c.in-Join.channel c.in-Join.op
-    (doer_there _ (sym (ap (λ e. list_all (has_user room) (needs_users e)) c.in-Join.is) ∙ c.requires.possible.users_there))
-    (subst (λ e. AreSo lists (after room e) (index_after e by_nick)) c.in-Join.is c.in_ok-follow-in-Join.ensures)
+    ∙ join_heard room c.own.ensures.well_formed by_nick lists c.in-Join.nick c.in-Join.channel
+    c.in-Join.op
+    (doer_there _ (sym (ap (λ e. list_all (has_user room) (needs_users e)) c.in-Join.is)
+    ∙ c.requires.possible.users_there))
+    (subst (λ e. AreSo lists (after room e) (index_after e by_nick)) c.in-Join.is
+    c.in_ok-follow-in-Join.ensures)
     ∙ ap (hearers room by_nick) (sym c.in-Join.is)))
     c.tell.ensures.ok

@@ -15,9 +15,11 @@ returns-in-len1-clause-ok c = λ by_nick so.
     (λ is. is
     ∙ ap (λ conns. put_out_all (to_others c.args.out.now.held c.args.one conns) c.args.out.now)
     (ap (λ name. conns_at c.args.self.now.lists (key name)) c.as_slice.ensures.value
-    ∙ beside_one c.args.room.now.room c.own.ensures.well_formed by_nick c.args.self.now.lists so c.args.nick.now (key c.name-item.result.name.items)
+    ∙ beside_one c.args.room.now.room c.own.ensures.well_formed by_nick c.args.self.now.lists so
+    c.args.nick.now (key c.name-item.result.name.items)
     (sym (c.names_of-names.ensures ∙ ap (names_of c.args.room.now.room) c.as_bytes.ensures.value)
-    ∙ ap (map (λ row. key row.name.items)) (one_row c.names_of-names.result.now c.name-item.result c.in-len1.len_at_least c.in-len1.len_below c.name-item.is))))
+    ∙ ap (map (λ row. key row.name.items)) (one_row c.names_of-names.result.now c.name-item.result
+    c.in-len1.len_at_least c.in-len1.len_below c.name-item.is))))
     c.tell.ensures.ok
 
 pub returns-clause-ok : goal.returns-clause-ok
@@ -26,6 +28,8 @@ returns-clause-ok c = λ by_nick so.
     (λ is. is
     ∙ ap (λ conns. put_out_all (to_others c.args.out.now.held c.args.one conns) c.args.out.now)
     (ap values c.in_ok-conns.ensures
-    ∙ ap (λ names. values (with_lists c.args.self.now.lists names empty)) (c.names_of-names.ensures ∙ ap (names_of c.args.room.now.room) c.as_bytes.ensures.value)
-    ∙ beside_all c.args.room.now.room c.own.ensures.well_formed by_nick c.args.self.now.lists so c.args.nick.now))
+    ∙ ap (λ names. values (with_lists c.args.self.now.lists names empty))
+    (c.names_of-names.ensures ∙ ap (names_of c.args.room.now.room) c.as_bytes.ensures.value)
+    ∙ beside_all c.args.room.now.room c.own.ensures.well_formed by_nick c.args.self.now.lists so
+    c.args.nick.now))
     c.send_to_all_others.ensures.ok

@@ -13,17 +13,22 @@ returns-then-is_empty-clause-ok c = λ new.
     ok_also c.tell_one.result
     (λ is. is
     ∙ ap (λ conns. put_out_all (to_each c.args.out.now.held conns) c.args.out.now)
-    (renamed_alone c.args.room.now.room c.own.ensures.well_formed c.args.clients.now.by_nick c.args.nick.now new c.requires.there
+    (renamed_alone c.args.room.now.room c.own.ensures.well_formed c.args.clients.now.by_nick
+    c.args.nick.now new c.requires.there
     (sym (c.names_of.ensures ∙ ap (names_of c.args.room.now.room) c.as_bytes.ensures.value)
-    ∙ ap (map (λ row. key row.name.items)) (no_rows c.names_of.result.now c.is_empty.result c.is_empty.ensures c.if-is_empty.true))))
+    ∙ ap (map (λ row. key row.name.items))
+    (no_rows c.names_of.result.now c.is_empty.result c.is_empty.ensures c.if-is_empty.true))))
     c.tell_one.ensures.ok
 
 pub returns-clause-ok : goal.returns-clause-ok
 returns-clause-ok c = λ new.
     ok_also c.tell_beside.result
     (sent_to c.args.out.now c.tell_beside.new.out
-    (conns_who c.args.room.now.room c.args.clients.now.by_nick (is_beside c.args.room.now.room c.args.nick.now))
+    (conns_who c.args.room.now.room c.args.clients.now.by_nick
+    (is_beside c.args.room.now.room c.args.nick.now))
     (hearers c.args.room.now.room c.args.clients.now.by_nick (Rename c.args.nick.now new))
-    (renamed_some c.args.room.now.room c.own.ensures.well_formed c.args.clients.now.by_nick c.args.nick.now new c.names_of.result.now c.is_empty.result
-    c.is_empty.ensures c.if-is_empty.false (c.names_of.ensures ∙ ap (names_of c.args.room.now.room) c.as_bytes.ensures.value)))
+    (renamed_some c.args.room.now.room c.own.ensures.well_formed c.args.clients.now.by_nick
+    c.args.nick.now new c.names_of.result.now c.is_empty.result
+    c.is_empty.ensures c.if-is_empty.false (c.names_of.ensures
+    ∙ ap (names_of c.args.room.now.room) c.as_bytes.ensures.value)))
     (c.tell_beside.ensures.ok c.args.clients.now.by_nick c.requires.so)

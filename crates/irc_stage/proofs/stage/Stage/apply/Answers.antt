@@ -9,7 +9,9 @@ pub returns-then-is_empty-clause-ok : goal.returns-then-is_empty-clause-ok
 returns-then-is_empty-clause-ok c =
     let no_ends = empty_by c.args.self.now.ends (c.is_empty.ensures.0 c.if-is_empty.true) in
     on_ok c.show.result _ _
-    (λ is. shown_served c.args.self.now c.show.new.self c.args.effect.now c.args.out.now.outs c.show.new.out.outs c.show.ensures.keeps is
+    (λ is. shown_served c.args.self.now c.show.new.self c.args.effect.now c.args.out.now.outs
+    c.show.new.out.outs c.show.ensures.keeps is
     (stays_here (view_of c.args.self.now) c.requires.ready.met no_ends c.args.effect.now)
-    ∙ told_nowhere (view_of c.args.self.now) c.requires.ready.met no_ends (arrival_of c.args.origin) c.args.effect.now c.args.out.now.outs)
+    ∙ told_nowhere (view_of c.args.self.now) c.requires.ready.met no_ends
+    (arrival_of c.args.origin) c.args.effect.now c.args.out.now.outs)
     c.show.ensures.ok

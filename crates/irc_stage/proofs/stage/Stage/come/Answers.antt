@@ -9,17 +9,21 @@ use Rattle.irc_stage.proofs.stage.Stage.come.Goals as goal
 pub apply-requires-clause-fit : goal.apply-requires-clause-fit
 apply-requires-clause-fit c =
     fit_by (machine_at c.args.self.now) c.args.effect.now c.requires.serving.matched
-    (counted (view_of c.args.self.now) c.args.effect.now (sym c.counts.ensures ∙ c.if-counts.true)).0
+    (counted (view_of c.args.self.now) c.args.effect.now
+    (sym c.counts.ensures ∙ c.if-counts.true)).0
 
 pub apply-requires-clause-spoken : goal.apply-requires-clause-spoken
 apply-requires-clause-spoken c =
     said_elsewhere (view_of c.args.self.now) c.args.effect.now c.requires.serving.matched
-    (counted (view_of c.args.self.now) c.args.effect.now (sym c.counts.ensures ∙ c.if-counts.true)).1
+    (counted (view_of c.args.self.now) c.args.effect.now
+    (sym c.counts.ensures ∙ c.if-counts.true)).1
 
 pub returns-then-counts-clause-serving : goal.returns-then-counts-clause-serving
 returns-then-counts-clause-serving c =
     let old = served_at c.args.self.now c.args.out.now.outs in
-    serves_on_ok c.apply.result c.apply.new.self c.apply.new.out.outs (effect_told (Some c.args.link) c.args.effect.now old)
+    serves_on_ok c.apply.result c.apply.new.self c.apply.new.out.outs
+    (effect_told (Some c.args.link) c.args.effect.now old)
     (told_holds (Some c.args.link) c.args.effect.now old
-    (changed_stays c.args.effect.now old (holds_at c.args.self.now c.args.out.now.outs c.requires.serving) (sym c.counts.ensures ∙ c.if-counts.true)))
+    (changed_stays c.args.effect.now old (holds_at c.args.self.now c.args.out.now.outs
+    c.requires.serving) (sym c.counts.ensures ∙ c.if-counts.true)))
     c.apply.ensures.ready c.apply.ensures.ok

@@ -12,6 +12,7 @@ returns-clause-serving c =
     on_ok c.put_end.result _ _
     (λ is. serves_with_ends c.args.self.now c.requires.serving c.put_end.new.ends
     (subst (λ (es : Ends). AreEnds es c.args.self.now.routes) (sym is)
-    (put_met (numbered c.args.self.now.ends) c.args.self.now.routes c.args.link c.new.result c.requires.serving.ready.met
+    (put_met (numbered c.args.self.now.ends) c.args.self.now.routes c.args.link c.new.result
+    c.requires.serving.ready.met
     (λ counted. absurd (subst IsMetEnd c.requires.new counted)))))
     c.put_end.ensures

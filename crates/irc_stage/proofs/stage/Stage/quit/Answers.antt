@@ -14,5 +14,7 @@ change-requires-clause-fit c =
     let room = c.args.self.now.room.room in
     let there : has_user room c.copy.result ≡ true =
     ap (λ n. is_some (row room.users (key n))) (c.copy.ensures ∙ sym c.as_bytes.ensures.value)
-    ∙ some_there c.user.result (row room.users (key c.as_bytes.result.now)) c.user.ensures c.if-is_none.ensures in
-    fit_by (machine_at c.args.self.now) (Quit c.copy.result c.copy-2.result) c.requires.serving.matched (quit_possible room c.copy.result c.copy-2.result there)
+    ∙ some_there c.user.result
+    (row room.users (key c.as_bytes.result.now)) c.user.ensures c.if-is_none.ensures in
+    fit_by (machine_at c.args.self.now) (Quit c.copy.result c.copy-2.result)
+    c.requires.serving.matched (quit_possible room c.copy.result c.copy-2.result there)

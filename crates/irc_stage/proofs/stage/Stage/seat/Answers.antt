@@ -10,7 +10,8 @@ returns-clause-ready c =
       sound = c.requires.ready.sound;
       indexed = indexed;
       heard = so_by _ _ _ _ by_nick
-          (seated c.args.self.now.room.room c.args.self.now.clients.by_nick c.args.self.now.listeners.lists c.seat.new.self.lists c.requires.ready.heard
+          (seated c.args.self.now.room.room c.args.self.now.clients.by_nick
+          c.args.self.now.listeners.lists c.seat.new.self.lists c.requires.ready.heard
           c.args.conn c.args.client c.in_ok-seat.ensures);
       branches = c.requires.ready.branches;
       met = c.requires.ready.met;

@@ -8,11 +8,13 @@ use Rattle.irc_stage.proofs.stage.Stage.show_line.Goals as goal
 
 pub follow-requires-clause-apart : goal.follow-requires-clause-apart
 follow-requires-clause-apart c =
-    brings_none (clients_of c.args.self.now.clients) c.args.self.now.clients.by_nick c.requires.ready.indexed c.args.effect.now c.requires.fit.apart
+    brings_none (clients_of c.args.self.now.clients) c.args.self.now.clients.by_nick
+    c.requires.ready.indexed c.args.effect.now c.requires.fit.apart
 
 pub show-requires-clause-apart : goal.show-requires-clause-apart
 show-requires-clause-apart c =
-    brings_none (clients_of c.args.self.now.clients) c.args.self.now.clients.by_nick c.requires.ready.indexed c.args.effect.now c.requires.fit.apart
+    brings_none (clients_of c.args.self.now.clients) c.args.self.now.clients.by_nick
+    c.requires.ready.indexed c.args.effect.now c.requires.fit.apart
 
 pub returns-then-not-write-clause-shown : goal.returns-then-not-write-clause-shown
 returns-then-not-write-clause-shown c =
@@ -21,16 +23,21 @@ returns-then-not-write-clause-shown c =
     (λ is. sym (append-nil c.args.out.now.outs)
     ∙ ap (λ l. c.args.out.now.outs ++ l)
     (sym (shown_to_hearers c.args.self.now c.args.effect.now c.requires.ready c.requires.fit None
-    (λ viewer home. c.write.ensures viewer home ∙ ap (λ b. if b then Some line else None) c.if-not-write.true))))
+    (λ viewer home. c.write.ensures viewer home
+    ∙ ap (λ b. if b then Some line else None) c.if-not-write.true))))
     c.follow.ensures
 
 pub returns-clause-shown : goal.returns-clause-shown
 returns-clause-shown c =
     let line = c.write.new.line.items in
-    let conns = hearers c.args.self.now.room.room c.args.self.now.clients.by_nick c.args.effect.now in
+    let conns =
+    hearers c.args.self.now.room.room c.args.self.now.clients.by_nick c.args.effect.now in
     on_ok c.show.result _ _
-    (λ is. put_to_each c.args.out.now c.hold.new.self c.show.new.out _ line conns c.in_ok-hold.ensures.ok c.deref.ensures.0 is
+    (λ is. put_to_each c.args.out.now c.hold.new.self c.show.new.out _ line conns
+    c.in_ok-hold.ensures.ok c.deref.ensures.0 is
     ∙ ap (λ l. c.args.out.now.outs ++ l)
-    (sym (shown_to_hearers c.args.self.now c.args.effect.now c.requires.ready c.requires.fit (Some line)
-    (λ viewer home. c.write.ensures viewer home ∙ ap (λ b. if b then Some line else None) c.if-not-write.false))))
+    (sym (shown_to_hearers c.args.self.now c.args.effect.now c.requires.ready c.requires.fit
+    (Some line)
+    (λ viewer home. c.write.ensures viewer home
+    ∙ ap (λ b. if b then Some line else None) c.if-not-write.false))))
     c.show.ensures.shown

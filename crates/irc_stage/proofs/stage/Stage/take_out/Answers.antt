@@ -9,8 +9,10 @@ returns-clause-ready c = record {
   sound = c.requires.ready.sound;
   indexed = c.take_out-2.ensures.indexed;
   heard = so_by _ _ _ _
-      (c.take_out-2.ensures.by_nick ∙ ap (λ client. departed client c.args.self.now.clients.by_nick) (sym c.client_of-client.ensures))
-      (taken_out c.args.self.now.room.room c.args.self.now.clients.by_nick c.args.self.now.listeners.lists c.take_out.new.self.lists c.requires.ready.heard
+      (c.take_out-2.ensures.by_nick ∙ ap (λ client. departed client c.args.self.now.clients.by_nick)
+      (sym c.client_of-client.ensures))
+      (taken_out c.args.self.now.room.room c.args.self.now.clients.by_nick
+      c.args.self.now.listeners.lists c.take_out.new.self.lists c.requires.ready.heard
       _ c.take_out.ensures);
   branches = c.requires.ready.branches;
   met = c.requires.ready.met;

@@ -70,7 +70,8 @@ returns-then-not-stays g c =
     ∙ taken_out (c.get_mut.follows.lender w) c.remove.new.self _ c.in-Some.folded fold
     (put_in c.self.inside.rows (c.get_mut.follows.lender w) table c.in-Some.folded fold w shows
     short updates) short c.remove.ensures.updates
-    ∙ changed_goes table fold (g.C.RowChange.changed c.args.change.now) c.in-Some-get_mut.value.now w
+    ∙ changed_goes table fold
+    (g.C.RowChange.changed c.args.change.now) c.in-Some-get_mut.value.now w
     c.change-stays.result
     (sym (row_in c.self.inside.rows table c.in-Some.folded fold shows short) ∙ sym found)
     c.change-stays.ensures c.if-not-stays.true
@@ -86,7 +87,8 @@ returns-else-not-stays g c =
     let updates = (c.get_mut.follows.holds w).3 (ap is_some (sym found)) in
     put_in c.self.inside.rows (c.get_mut.follows.lender w) table c.in-Some.folded fold w shows
     short updates
-    ∙ changed_stays table fold (g.C.RowChange.changed c.args.change.now) c.in-Some-get_mut.value.now w
+    ∙ changed_stays table fold
+    (g.C.RowChange.changed c.args.change.now) c.in-Some-get_mut.value.now w
     c.change-stays.result
     (sym (row_in c.self.inside.rows table c.in-Some.folded fold shows short) ∙ sym found)
     c.change-stays.ensures c.if-not-stays.false

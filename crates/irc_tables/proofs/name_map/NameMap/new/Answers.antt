@@ -10,4 +10,5 @@ returns g c = ap (from_entries {R = fold_cmp}) c.new.ensures.empty
 
 pub invariant_of-result : goal.invariant_of-result
 invariant_of-result g c =
-    subst (λ table. HasShortNames {X = g.row.V.Denot} table) (sym (ap (from_entries {R = fold_cmp}) c.new.ensures.empty)) (none_at_first g.row.V.Denot)
+    subst (λ table. HasShortNames {X = g.row.V.Denot} table)
+    (sym (ap (from_entries {R = fold_cmp}) c.new.ensures.empty)) (none_at_first g.row.V.Denot)

@@ -5,4 +5,5 @@ use Rattle.irc_tables.specs.Lemmas.RowsAsTable.{entries-table_of}
 use Rattle.irc_tables.proofs.table.NameTable.as_slice.Goals as goal
 
 pub returns : goal.returns
-returns g c = ap (map row_entry) c.as_slice.ensures.value ∙ sym (entries-table_of row_entry _ c.self.invariant) ∙ ap entries c.self.view_is
+returns g c = ap (map row_entry) c.as_slice.ensures.value
+    ∙ sym (entries-table_of row_entry _ c.self.invariant) ∙ ap entries c.self.view_is

@@ -10,8 +10,10 @@ use Rattle.irc_tables.proofs.table.NameTable.change_at.Goals as goal
 pub returns-in-Err : goal.returns-in-Err
 returns-in-Err g c =
     let fold = key c.args.name.now in
-    let gap = subst (λ rows. BelongsAt (row_entry {V = g.row.V.Denot}) rows fold c.in-Err.field-0) c.deref.ensures.value c.in-Err.ensures.place in
+    let gap = subst (λ rows. BelongsAt (row_entry {V = g.row.V.Denot}) rows fold c.in-Err.field-0)
+    c.deref.ensures.value c.in-Err.ensures.place in
     let none = ap (λ t. row t fold) (sym c.self.view_is) ∙ row-absent row_entry _ _ _ gap in
     sym (alter-absent c.args.self.now fold none)
-    ∙ alter_alike c.args.self.now fold (λ _. None) (option_and_then (g.C.RowChange.changed c.args.change.now))
+    ∙ alter_alike c.args.self.now fold (λ _. None)
+    (option_and_then (g.C.RowChange.changed c.args.change.now))
     (ap (option_and_then (g.C.RowChange.changed c.args.change.now)) (sym none))

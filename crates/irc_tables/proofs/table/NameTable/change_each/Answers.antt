@@ -6,7 +6,8 @@ use Rattle.irc_tables.proofs.table.NameTable.change_each.Goals as goal
 
 pub invariant_of-self : goal.invariant_of-self
 invariant_of-self g c =
-    retained-sorted row_entry (g.C.RowChange.changed c.args.change.now) (λ f. f.0.now ≡ c.args.change.now) _
+    retained-sorted row_entry (g.C.RowChange.changed c.args.change.now)
+    (λ f. f.0.now ≡ c.args.change.now) _
     (λ s x b t y held call.
     let shows = call.shows in let leaves = call.leaves in let called = call.called in
     record { still = search rules; named = search rules; value = search rules })
@@ -14,7 +15,8 @@ invariant_of-self g c =
 
 pub returns : goal.returns
 returns g c =
-    retained-table row_entry (g.C.RowChange.changed c.args.change.now) (λ f. f.0.now ≡ c.args.change.now) _
+    retained-table row_entry (g.C.RowChange.changed c.args.change.now)
+    (λ f. f.0.now ≡ c.args.change.now) _
     (λ s x b t y held call.
     let shows = call.shows in let leaves = call.leaves in let called = call.called in
     record { still = search rules; named = search rules; value = search rules })

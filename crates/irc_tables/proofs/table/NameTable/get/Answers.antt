@@ -11,4 +11,5 @@ returns-in-Ok g c =
     let fold = key c.args.name.now in
     sym (ap (λ table. row table fold) (sym c.self.view_is)
     ∙ row-stands row_entry _ fold c.in-Ok.place _ c.self.invariant
-    (subst (λ rows. StandsAt (row_entry {V = g.row.V.Denot}) rows fold c.in-Ok.place) c.deref.ensures.value c.in-Ok.ensures.place) c.index.ensures)
+    (subst (λ rows. StandsAt (row_entry {V = g.row.V.Denot}) rows fold c.in-Ok.place)
+    c.deref.ensures.value c.in-Ok.ensures.place) c.index.ensures)

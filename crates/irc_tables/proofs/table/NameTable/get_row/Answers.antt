@@ -10,5 +10,6 @@ pub returns-in-Ok : goal.returns-in-Ok
 returns-in-Ok g c =
     let fold = key c.args.name.now in
     entry-stands row_entry _ fold c.in-Ok.place _ c.self.invariant
-    (subst (λ rows. StandsAt (row_entry {V = g.row.V.Denot}) rows fold c.in-Ok.place) c.deref.ensures.value c.in-Ok.ensures.place) c.index.ensures
+    (subst (λ rows. StandsAt (row_entry {V = g.row.V.Denot}) rows fold c.in-Ok.place)
+    c.deref.ensures.value c.in-Ok.ensures.place) c.index.ensures
     ∙ ap (λ table. option_map (λ value. (fold, value)) (row table fold)) c.self.view_is

@@ -5,4 +5,6 @@ use Rattle.irc_tables.specs.Lemmas.RowsAsTable.{length-keys}
 use Rattle.irc_tables.proofs.table.NameTable.len.Goals as goal
 
 pub returns : goal.returns
-returns g c = ap length c.as_slice.ensures.value ∙ sym (length-keys row_entry c.self.inside.rows.items c.self.invariant) ∙ ap (λ t. length (keys t)) c.self.view_is
+returns g c = ap length c.as_slice.ensures.value
+    ∙ sym (length-keys row_entry c.self.inside.rows.items c.self.invariant)
+    ∙ ap (λ t. length (keys t)) c.self.view_is

@@ -6,7 +6,8 @@ use Rattle.irc_tables.proofs.table.NameTable.with_room.Goals as goal
 
 pub invariant_of-result : goal.invariant_of-result
 invariant_of-result g c =
-    subst (λ rows. IsInFoldedOrder (row_entry {V = g.row.V.Denot}) rows) (sym c.in_ok-rows.ensures.items)
+    subst (λ rows. IsInFoldedOrder (row_entry {V = g.row.V.Denot}) rows)
+    (sym c.in_ok-rows.ensures.items)
     (nothing-sorted row_entry)
 
 pub returns : goal.returns

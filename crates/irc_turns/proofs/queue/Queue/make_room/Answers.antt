@@ -8,9 +8,11 @@ invariant_of-self-in-Continue-branch-2 c =
     let order = c.self.inside.order in
     let marks = c.self.inside.marks in
     record {
-      once = subst (λ numbers. StandsOnce numbers c.resize.new.self.items) (sym c.reserve.ensures.items)
+      once = subst (λ numbers. StandsOnce numbers c.resize.new.self.items)
+          (sym c.reserve.ensures.items)
           (subst (λ ms. StandsOnce order.items ms) (sym c.in_ok-resize.ensures.items)
-          (widened order.items marks.items c.args.room (c.args.room - vec_len marks) (omega (arith, c.if-room-len.true, c.len.ensures, marks.ok.0)) c.self.invariant.once));
+          (widened order.items marks.items c.args.room (c.args.room - vec_len marks) (omega
+          (arith, c.if-room-len.true, c.len.ensures, marks.ok.0)) c.self.invariant.once));
       room = omega (
         arith,
         c.resize.new.self.ok.0,

@@ -1,11 +1,14 @@
-use Rattle.std.proofs.Common.{◌≡◌, ◌<◌, ℕ, true, false, length, get_or, refl, sym, ◌∙◌, ap, subst, arith}
+use Rattle.std.proofs.Common.{◌≡◌, ◌<◌, ℕ, true, false, length, get_or, refl, sym, ◌∙◌, ap, subst}
+use Rattle.std.proofs.Common.{arith}
 use Rattle.std.specs.List.{slice_get, swap_remove}
 use Rattle.irc_turns.specs.HeldBack.{held_at}
 use Rattle.irc_turns.specs.declared.holding.Held.{Held}
 use Rattle.irc_turns.specs.Numbered.{NumberedTalkers, only, tried_again, is_due, nobody, one_more}
-use Rattle.irc_turns.proofs.LettingGo.{before_place, due_by_room, due_by_time, not_due, fuller, gone, one_further}
+use Rattle.irc_turns.proofs.LettingGo.{before_place, due_by_room, due_by_time, not_due, fuller}
+use Rattle.irc_turns.proofs.LettingGo.{gone, one_further}
 use Rattle.irc_turns.proofs.talkers.Talkers.let_go.Goals as goal
-use Rattle.irc_turns.proofs.talkers.Talkers.let_go.Goals.{in_default-via-in-Some+else-is_full, in_default-via-in_default}
+use Rattle.irc_turns.proofs.talkers.Talkers.let_go.Goals.{in_default-via-in-Some+else-is_full}
+use Rattle.irc_turns.proofs.talkers.Talkers.let_go.Goals.{in_default-via-in_default}
 
 pub loop-place-init : goal.loop-place-init
 loop-place-init c = record {
@@ -22,12 +25,16 @@ pub loop-place-preserved-then-is_full : goal.loop-place-preserved-then-is_full
 loop-place-preserved-then-is_full c =
     let place = c.loop-place.place in
     let within =
-    subst (λ (s : NumberedTalkers). place < length s.holding.held) c.self.view_is (subst (λ n. place < n) c.len.ensures c.loop-place-test.true) in
-    let held = ap (λ (s : NumberedTalkers). held_at s.holding place) (sym c.self.view_is) ∙ sym c.at.ensures ∙ c.in-Some.is in
+    subst (λ (s : NumberedTalkers). place < length s.holding.held) c.self.view_is
+    (subst (λ n. place < n) c.len.ensures c.loop-place-test.true) in
+    let held = ap (λ (s : NumberedTalkers). held_at s.holding place) (sym c.self.view_is)
+    ∙ sym c.at.ensures ∙ c.in-Some.is in
     record {
       one_by_one = c.loop-place.invariant.one_by_one;
-      all = one_further (λ k. (d : Held) → is_due c.args.self.now (get_or c.loop-place.self.holding.held k d) ≡ false) place c.loop-place.invariant.all
-          (λ d. not_due c.args.self.now c.loop-place.self place c.in-Some.by d within held (sym c.is_full.ensures ∙ c.if-is_full.true)
+      all = one_further (λ k. (d : Held) → is_due c.args.self.now
+          (get_or c.loop-place.self.holding.held k d) ≡ false) place c.loop-place.invariant.all
+          (λ d. not_due c.args.self.now c.loop-place.self place c.in-Some.by d within held
+          (sym c.is_full.ensures ∙ c.if-is_full.true)
           c.loop-place.invariant.full c.loop-place.invariant.passed);
       full = c.loop-place.invariant.full;
       passed = c.loop-place.invariant.passed;
@@ -39,29 +46,40 @@ loop-place-preserved c =
     let place = c.loop-place.place in
     let held = c.let_go-held.result in
     let holding = c.let_go-held.new.self in
-    let there = ap (λ (s : NumberedTalkers). slice_get s.holding.held place) (sym c.self.view_is) ∙ c.let_go-held.ensures.who in
-    let others = c.let_go-held.ensures.others ∙ ap (λ (s : NumberedTalkers). swap_remove s.holding.held place held) c.self.view_is in
-    let passed = c.let_go-held.ensures.passed ∙ ap (λ (s : NumberedTalkers). s.holding.passed) c.self.view_is in
-    let tried = c.try_again.ensures ∙ ap (λ (s : NumberedTalkers). only tried_again held.by (record s { holding = holding })) c.self.view_is in
-    let left = ap (λ (s : NumberedTalkers). s.holding) c.ask_again.ensures ∙ ap (λ (s : NumberedTalkers). s.holding) c.try_again.ensures in
-    let at = ap (λ (s : NumberedTalkers). held_at s.holding place) (sym c.self.view_is) ∙ sym c.at.ensures in
+    let there = ap (λ (s : NumberedTalkers). slice_get s.holding.held place) (sym c.self.view_is)
+    ∙ c.let_go-held.ensures.who in
+    let others = c.let_go-held.ensures.others
+    ∙ ap (λ (s : NumberedTalkers). swap_remove s.holding.held place held) c.self.view_is in
+    let passed = c.let_go-held.ensures.passed
+    ∙ ap (λ (s : NumberedTalkers). s.holding.passed) c.self.view_is in
+    let tried = c.try_again.ensures ∙ ap (λ (s : NumberedTalkers).
+    only tried_again held.by (record s { holding = holding })) c.self.view_is in
+    let left = ap (λ (s : NumberedTalkers). s.holding) c.ask_again.ensures
+    ∙ ap (λ (s : NumberedTalkers). s.holding) c.try_again.ensures in
+    let at = ap (λ (s : NumberedTalkers). held_at s.holding place) (sym c.self.view_is)
+    ∙ sym c.at.ensures in
     let due : is_due between held ≡ true = elim c.in_default.branch [
       | in_default-via-in-Some+else-is_full w ↦
-          due_by_room between place w.in-Some.by held there (at ∙ w.in-Some.is) (sym w.is_full.ensures ∙ w.if-is_full.false)
+          due_by_room between place w.in-Some.by held there (at ∙ w.in-Some.is)
+          (sym w.is_full.ensures ∙ w.if-is_full.false)
       | in_default-via-in_default w ↦ due_by_time between place held there (at ∙ w.in_default.is)
     ] in
     record {
-      one_by_one = one_more between c.ask_again.new.self place held c.loop-place.invariant.one_by_one
-          (gone between c.try_again.new.self c.ask_again.new.self holding place held there due others passed tried c.ask_again.ensures);
+      one_by_one =
+          one_more between c.ask_again.new.self place held c.loop-place.invariant.one_by_one
+          (gone between c.try_again.new.self c.ask_again.new.self holding place held there due
+          others passed tried c.ask_again.ensures);
       all = λ k below d.
           ap (λ h. is_due c.args.self.now (get_or h.held k d)) left
           ∙ ap (λ xs. is_due c.args.self.now (get_or xs k d)) others
           ∙ ap (is_due c.args.self.now) (before_place between.holding.held place k held d below
-          (subst (λ (s : NumberedTalkers). place < length s.holding.held) c.self.view_is (subst (λ n. place < n) c.len.ensures c.loop-place-test.true)))
+          (subst (λ (s : NumberedTalkers). place < length s.holding.held) c.self.view_is
+          (subst (λ n. place < n) c.len.ensures c.loop-place-test.true)))
           ∙ c.loop-place.invariant.all k below d;
       full = λ number full.
           c.loop-place.invariant.full number
-          (fuller between c.try_again.new.self c.ask_again.new.self held.by held.who (ap (λ (s : NumberedTalkers). s.by_number) tried)
+          (fuller between c.try_again.new.self c.ask_again.new.self held.by held.who
+          (ap (λ (s : NumberedTalkers). s.by_number) tried)
           (ap (λ (s : NumberedTalkers). s.by_number) c.ask_again.ensures) number full);
       passed = ap (λ h. h.passed) left ∙ passed ∙ c.loop-place.invariant.passed;
     }

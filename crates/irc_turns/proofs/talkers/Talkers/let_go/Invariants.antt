@@ -7,8 +7,10 @@ use Rattle.irc_turns.proofs.talkers.Talkers.let_go.Given as goal
 abbrev pub invariant-loop-place : goal.invariant-loop-place
 invariant-loop-place l = record {
   one_by_one : LetsGo l.fn.self l.self;
-  all : (k : ℕ) → k < l.place → (d : Held) → is_due l.fn.self (get_or l.self.holding.held k d) ≡ false;
-  full : (number : ℕ) → is_full_one (talker_at l.self number) ≡ true → is_full_one (talker_at l.fn.self number) ≡ true;
+  all : (k : ℕ) → k < l.place → (d : Held)
+      → is_due l.fn.self (get_or l.self.holding.held k d) ≡ false;
+  full : (number : ℕ) → is_full_one (talker_at l.self number) ≡ true
+      → is_full_one (talker_at l.fn.self number) ≡ true;
   passed : l.self.holding.passed ≡ l.fn.self.holding.passed;
 }
 

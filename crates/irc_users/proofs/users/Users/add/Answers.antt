@@ -7,23 +7,27 @@ use Rattle.irc_users.proofs.users.Users.add.Goals as goal
 pub returns-then-has_head-clause-taken : goal.returns-then-has_head-clause-taken
 returns-then-has_head-clause-taken c =
     let there : is_some (row c.args.self.now.users (key c.args.user.nick)) ≡ true =
-    user_by_head c.self.inside.seats c.self.inside.heads _ c.self.view_is c.self.invariant (key c.args.user.nick) ∙ sym c.has_head.ensures ∙ c.if-has_head.true in
+    user_by_head c.self.inside.seats c.self.inside.heads _ c.self.view_is c.self.invariant
+    (key c.args.user.nick) ∙ sym c.has_head.ensures ∙ c.if-has_head.true in
     search (rules, there)
 
 pub returns-in_default-clause-taken : goal.returns-in_default-clause-taken
 returns-in_default-clause-taken c =
     let absent : is_some (row c.args.self.now.users (key c.args.user.nick)) ≡ false =
-    user_by_head c.self.inside.seats c.self.inside.heads _ c.self.view_is c.self.invariant (key c.args.user.nick) ∙ sym c.has_head.ensures ∙ c.if-has_head.false in
+    user_by_head c.self.inside.seats c.self.inside.heads _ c.self.view_is c.self.invariant
+    (key c.args.user.nick) ∙ sym c.has_head.ensures ∙ c.if-has_head.false in
     search (rules, absent)
 
 pub returns-then-is_err-clause-taken : goal.returns-then-is_err-clause-taken
 returns-then-is_err-clause-taken c =
     let absent : is_some (row c.args.self.now.users (key c.args.user.nick)) ≡ false =
-    user_by_head c.self.inside.seats c.self.inside.heads _ c.self.view_is c.self.invariant (key c.args.user.nick) ∙ sym c.has_head.ensures ∙ c.if-has_head.false in
+    user_by_head c.self.inside.seats c.self.inside.heads _ c.self.view_is c.self.invariant
+    (key c.args.user.nick) ∙ sym c.has_head.ensures ∙ c.if-has_head.false in
     search (rules, absent)
 
 pub returns-clause-taken : goal.returns-clause-taken
 returns-clause-taken c =
     let absent : is_some (row c.args.self.now.users (key c.args.user.nick)) ≡ false =
-    user_by_head c.self.inside.seats c.self.inside.heads _ c.self.view_is c.self.invariant (key c.args.user.nick) ∙ sym c.has_head.ensures ∙ c.if-has_head.false in
+    user_by_head c.self.inside.seats c.self.inside.heads _ c.self.view_is c.self.invariant
+    (key c.args.user.nick) ∙ sym c.has_head.ensures ∙ c.if-has_head.false in
     search (rules, absent)

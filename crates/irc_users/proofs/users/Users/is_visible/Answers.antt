@@ -10,11 +10,14 @@ use Rattle.irc_users.proofs.users.Users.is_visible.Goals as goal
 
 pub returns-in-Some : goal.returns-in-Some
 returns-in-Some c =
-    told_by (sitting c.self.inside.seats) c.self.inside.heads c.self.invariant (λ (h : Head). not h.invisible) (λ (user : User). not user.invisible) (λ _ _. refl) (key c.args.name.now)
+    told_by (sitting c.self.inside.seats) c.self.inside.heads c.self.invariant (λ (h : Head).
+    not h.invisible) (λ (user : User). not user.invisible) (λ _ _. refl) (key c.args.name.now)
     c.in-Some.head.now (sym c.in-Some.ensures)
-    ∙ ap (λ (n : NumberedUsers). option_map (λ (user : User). not user.invisible) (row n.users (key c.args.name.now))) c.self.view_is
+    ∙ ap (λ (n : NumberedUsers). option_map (λ (user : User). not user.invisible)
+    (row n.users (key c.args.name.now))) c.self.view_is
 
 pub returns-in-None : goal.returns-in-None
 returns-in-None c =
     sym (ap (option_map (λ (user : User). not user.invisible))
-    (no_one c.self.inside.seats c.self.inside.heads _ c.self.view_is c.self.invariant (key c.args.name.now) (sym c.in-None.ensures)))
+    (no_one c.self.inside.seats c.self.inside.heads _ c.self.view_is c.self.invariant
+    (key c.args.name.now) (sym c.in-None.ensures)))

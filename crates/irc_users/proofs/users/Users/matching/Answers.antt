@@ -7,5 +7,7 @@ use Rattle.irc_users.proofs.users.Users.matching.Goals as goal
 
 pub returns : goal.returns
 returns c =
-    subst (λ (us : List User). FindsUsers c.matched_by.result (filter (is_found_by c.args.mask.now) us)) (sym (values-users c.self.inside.seats c.self.inside.heads c.self.invariant) ∙ ap (λ (n : NumberedUsers). values n.users) c.self.view_is)
+    subst (λ (us : List User). FindsUsers c.matched_by.result (filter (is_found_by c.args.mask.now)
+    us)) (sym (values-users c.self.inside.seats c.self.inside.heads c.self.invariant)
+    ∙ ap (λ (n : NumberedUsers). values n.users) c.self.view_is)
     c.matched_by.ensures

@@ -9,8 +9,10 @@ use Rattle.irc_wires.proofs.row.Row.close.Goals as goal
 
 pub invariant_of-self : goal.invariant_of-self
 invariant_of-self c =
-    subst IsLean (sym (taken_out c.self.inside.wires c.remove.new.self c.args.to c.remove.ensures.updates))
+    subst IsLean
+    (sym (taken_out c.self.inside.wires c.remove.new.self c.args.to c.remove.ensures.updates))
     (lean_without (numbered c.self.inside.wires) c.args.to c.self.invariant)
 
 pub returns : goal.returns
-returns c = taken_out c.self.inside.wires c.remove.new.self c.args.to c.remove.ensures.updates ∙ ap (λ (row : Row). remove row c.args.to) c.self.view_is
+returns c = taken_out c.self.inside.wires c.remove.new.self c.args.to c.remove.ensures.updates
+    ∙ ap (λ (row : Row). remove row c.args.to) c.self.view_is

@@ -9,8 +9,10 @@ use Rattle.irc_wires.proofs.row.Row.first.Goals as goal
 pub loop-to-init : goal.loop-to-init
 loop-to-init c = (
   ap (find (λ to. has_byte (wire_in to c.args.self.now)))
-      (c.into_iter-to-iterator.ensures.into_iter_gives ∙ c.keys-to-items.ensures.rest ∙ keys_listed c.self.inside.wires c.keys-to-items.ensures.ordered)
-      ∙ ap (λ (row : Row). find (λ to. has_byte (wire_in to c.args.self.now)) (keys row)) c.self.view_is,
+      (c.into_iter-to-iterator.ensures.into_iter_gives ∙ c.keys-to-items.ensures.rest
+      ∙ keys_listed c.self.inside.wires c.keys-to-items.ensures.ordered)
+      ∙ ap (λ (row : Row). find (λ to. has_byte (wire_in to c.args.self.now))
+      (keys row)) c.self.view_is,
   tt,
   tt,
 )

@@ -5,5 +5,6 @@ use Rattle.irc_wires.proofs.row.Row.is_still.Goals as goal
 
 pub returns : goal.returns
 returns c =
-    still_if_empty c.is_empty.result c.self.inside.wires.entries c.self.invariant c.is_empty.ensures.0 c.is_empty.ensures.1
+    still_if_empty c.is_empty.result c.self.inside.wires.entries c.self.invariant
+    c.is_empty.ensures.0 c.is_empty.ensures.1
     ∙ ap are_still_in c.self.view_is

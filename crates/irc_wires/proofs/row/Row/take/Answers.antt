@@ -24,28 +24,33 @@ returns-in_default-clause-lines c =
 pub returns-in_default-clause-row : goal.returns-in_default-clause-row
 returns-in_default-clause-row c =
     ap (λ (wires : BTreeMap _ _). numbered wires) c.get_mut.follows.holds-at-none
-    ∙ sym (put_nowhere (numbered c.self.inside.wires) c.args.count c.args.to (missing c.self.inside.wires c.args.to (sym c.in_default.ensures.value)))
-    ∙ ap (λ (row : Row). put_in c.args.to (advanced c.args.count (wire_in c.args.to row)) row) c.self.view_is
+    ∙ sym (put_nowhere (numbered c.self.inside.wires) c.args.count c.args.to
+    (missing c.self.inside.wires c.args.to (sym c.in_default.ensures.value)))
+    ∙ ap (λ (row : Row). put_in c.args.to (advanced c.args.count (wire_in c.args.to row)) row)
+    c.self.view_is
 
 pub invariant_of-self-2 : goal.invariant_of-self-2
 invariant_of-self-2 c =
     subst IsLean
     (sym (put_twice (numbered c.self.inside.wires) _ _ c.args.to c.take-taken.new.self
-    (put c.self.inside.wires (c.get_mut.follows.lender c.take-taken.new.self) c.args.to c.take-taken.new.self
+    (put c.self.inside.wires
+    (c.get_mut.follows.lender c.take-taken.new.self) c.args.to c.take-taken.new.self
     ((c.get_mut.follows.holds c.take-taken.new.self).3 (ap is_some (sym c.in-Some.ensures.value))))
     c.without_still.ensures))
     (lean_put (numbered c.self.inside.wires) c.args.to c.take-taken.new.self c.self.invariant)
 
 pub returns-clause-taken : goal.returns-clause-taken
 returns-clause-taken c =
-    subst (λ (w : Wire). IfOk c.take-taken.result (λ taken. taken ≡ min c.args.count (length w.bytes)))
+    subst (λ (w : Wire). IfOk c.take-taken.result
+    (λ taken. taken ≡ min c.args.count (length w.bytes)))
     (sym (there c.self.inside.wires c.args.to c.in-Some.wire.now (sym c.in-Some.ensures.value))
     ∙ ap (wire_in c.args.to) c.self.view_is)
     c.take-taken.ensures.taken
 
 pub returns-clause-lines : goal.returns-clause-lines
 returns-clause-lines c =
-    subst (λ (w : Wire). OnOk c.take-taken.result (bytes_of c.take-taken.new.lines.items ≡ bytes_of c.args.lines.now.items ++ lines_by c.args.count w))
+    subst (λ (w : Wire). OnOk c.take-taken.result (bytes_of c.take-taken.new.lines.items
+    ≡ bytes_of c.args.lines.now.items ++ lines_by c.args.count w))
     (sym (there c.self.inside.wires c.args.to c.in-Some.wire.now (sym c.in-Some.ensures.value))
     ∙ ap (wire_in c.args.to) c.self.view_is)
     c.take-taken.ensures.lines
@@ -54,9 +59,12 @@ pub returns-clause-row : goal.returns-clause-row
 returns-clause-row c =
     on_ok c.take-taken.result c.take-taken.ensures.wire (λ done.
     put_twice (numbered c.self.inside.wires) _ _ c.args.to c.take-taken.new.self
-    (put c.self.inside.wires (c.get_mut.follows.lender c.take-taken.new.self) c.args.to c.take-taken.new.self
+    (put c.self.inside.wires
+    (c.get_mut.follows.lender c.take-taken.new.self) c.args.to c.take-taken.new.self
     ((c.get_mut.follows.holds c.take-taken.new.self).3 (ap is_some (sym c.in-Some.ensures.value))))
     c.without_still.ensures
     ∙ ap (λ (w : Wire). put_in c.args.to w (numbered c.self.inside.wires))
-    (done ∙ ap (advanced c.args.count) (sym (there c.self.inside.wires c.args.to c.in-Some.wire.now (sym c.in-Some.ensures.value))))
-    ∙ ap (λ (row : Row). put_in c.args.to (advanced c.args.count (wire_in c.args.to row)) row) c.self.view_is)
+    (done ∙ ap (advanced c.args.count) (sym
+    (there c.self.inside.wires c.args.to c.in-Some.wire.now (sym c.in-Some.ensures.value))))
+    ∙ ap (λ (row : Row). put_in c.args.to (advanced c.args.count (wire_in c.args.to row)) row)
+    c.self.view_is)

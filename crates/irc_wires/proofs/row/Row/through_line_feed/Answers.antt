@@ -7,10 +7,12 @@ use Rattle.irc_wires.proofs.row.Row.through_line_feed.Goals as goal
 pub returns-in-Some : goal.returns-in-Some
 returns-in-Some c =
     c.through_line_feed.ensures
-    ∙ ap (λ (w : Wire). through_line_feed w.bytes) (sym (there c.self.inside.wires c.args.to c.in-Some.wire.now (sym c.in-Some.ensures.value)))
+    ∙ ap (λ (w : Wire). through_line_feed w.bytes)
+    (sym (there c.self.inside.wires c.args.to c.in-Some.wire.now (sym c.in-Some.ensures.value)))
     ∙ ap (λ (row : Row). through_line_feed (wire_in c.args.to row).bytes) c.self.view_is
 
 pub returns-in-None : goal.returns-in-None
 returns-in-None c =
-    ap (λ (w : Wire). through_line_feed w.bytes) (sym (nowhere c.self.inside.wires c.args.to (sym c.in-None.ensures.value)))
+    ap (λ (w : Wire). through_line_feed w.bytes)
+    (sym (nowhere c.self.inside.wires c.args.to (sym c.in-None.ensures.value)))
     ∙ ap (λ (row : Row). through_line_feed (wire_in c.args.to row).bytes) c.self.view_is

@@ -5,5 +5,6 @@ use Rattle.irc_wires.proofs.wire.Wire.has_byte.Goals as goal
 
 pub returns : goal.returns
 returns c =
-    ap not (c.is_empty.ensures ∙ sym (none_is c.self.inside.come c.self.inside.texts c.self.invariant.part))
+    ap not (c.is_empty.ensures
+    ∙ sym (none_is c.self.inside.come c.self.inside.texts c.self.invariant.part))
     ∙ ap has_byte c.self.view_is

@@ -5,9 +5,12 @@ use Rattle.irc_wires.proofs.wire.Wire.take.Goals as goal
 
 pub loop-taken-preserved : goal.loop-taken-preserved
 loop-taken-preserved c =
-    more_come c.pieces_complete_the_same.ensures.pieces c.args.self.now c.is_of_some_stream.ensures c.args.count c.loop-taken.taken c.take_part-used.result.0
-    c.loop-taken.self c.take_part-used.new.self (bytes_of c.args.lines.now.items) (bytes_of c.loop-taken.lines.items) (bytes_of c.push_found.new.lines.items) _
-    c.loop-taken.invariant c.take_part-used.ensures.at_most c.take_part-used.ensures.within c.take_part-used.ensures.wire c.take_part-used.ensures.lines
+    more_come c.pieces_complete_the_same.ensures.pieces c.args.self.now c.is_of_some_stream.ensures
+    c.args.count c.loop-taken.taken c.take_part-used.result.0
+    c.loop-taken.self c.take_part-used.new.self (bytes_of c.args.lines.now.items)
+    (bytes_of c.loop-taken.lines.items) (bytes_of c.push_found.new.lines.items) _
+    c.loop-taken.invariant c.take_part-used.ensures.at_most c.take_part-used.ensures.within
+    c.take_part-used.ensures.wire c.take_part-used.ensures.lines
     c.in_ok-push_found.ensures
 
 pub returns-else-has_byte-clause-taken : goal.returns-else-has_byte-clause-taken

@@ -6,20 +6,26 @@ use Rattle.irc_wires.proofs.wire.Wire.take_part.Goals as goal
 pub returns-clause-within : goal.returns-clause-within
 returns-clause-within c =
     subst (λ (w : Wire). c.take-used.result.0 ≤ length w.bytes) c.self.view_is
-    (used_within c.self.inside.come c.take-used.result.0 c.args.most c.self.inside.texts c.first_bytes-piece.result.now c.self.invariant.part
-    (c.first_bytes-piece.ensures.value ∙ ap (take c.args.most) c.rest_of_oldest.ensures.value) c.take-used.ensures.used)
+    (used_within c.self.inside.come c.take-used.result.0 c.args.most c.self.inside.texts
+    c.first_bytes-piece.result.now c.self.invariant.part
+    (c.first_bytes-piece.ensures.value
+    ∙ ap (take c.args.most) c.rest_of_oldest.ensures.value) c.take-used.ensures.used)
 
 pub returns-clause-wire : goal.returns-clause-wire
 returns-clause-wire c =
-    part_advanced c.pieces_complete_the_same.ensures.pieces c.self.inside.come c.take-used.result.0 c.args.most c.self.inside.texts
+    part_advanced c.pieces_complete_the_same.ensures.pieces c.self.inside.come c.take-used.result.0
+    c.args.most c.self.inside.texts
     c.first_bytes-piece.result.now c.self.inside.framer c.take-used.new.self _ c.self.invariant
-    (c.first_bytes-piece.ensures.value ∙ ap (take c.args.most) c.rest_of_oldest.ensures.value) c.take-used.ensures.used c.take-used.ensures.takes _
+    (c.first_bytes-piece.ensures.value ∙ ap (take c.args.most) c.rest_of_oldest.ensures.value)
+    c.take-used.ensures.used c.take-used.ensures.takes _
     c.without_come-self-inside.ensures.bytes
     ∙ ap (advanced c.take-used.result.0) c.self.view_is
 
 pub returns-clause-lines : goal.returns-clause-lines
 returns-clause-lines c =
-    part_found c.pieces_complete_the_same.ensures.pieces c.self.inside.come c.take-used.result.0 c.args.most c.self.inside.texts
+    part_found c.pieces_complete_the_same.ensures.pieces c.self.inside.come c.take-used.result.0
+    c.args.most c.self.inside.texts
     c.first_bytes-piece.result.now c.self.inside.framer c.take-used.new.self _ c.self.invariant
-    (c.first_bytes-piece.ensures.value ∙ ap (take c.args.most) c.rest_of_oldest.ensures.value) c.take-used.ensures.used c.take-used.ensures.takes
+    (c.first_bytes-piece.ensures.value ∙ ap (take c.args.most) c.rest_of_oldest.ensures.value)
+    c.take-used.ensures.used c.take-used.ensures.takes
     ∙ ap (lines_by c.take-used.result.0) c.self.view_is

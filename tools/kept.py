@@ -1,0 +1,65 @@
+#!/usr/bin/env python3
+"""kept.py [CHECKOUT]: gives a checkout the libraries that a gate on this machine has proved.
+
+`rt ci` keeps what it proved beside the kit, by the sums of all that it read. `rt check` does not
+look there: in a new checkout it begins with the lowest library. This puts into crates/NAME/out what
+was kept of the same text, lowest crate first, so that a check of any crate above begins at once,
+reads its libraries as they were proved, and is whole. It tells which crates are still missing; no
+verdict rests on it. Run it again while a gate goes on.
+"""
+import importlib.machinery
+import importlib.util
+import os
+import shutil
+import sys
+
+
+def loaded(name, path):
+    loader = importlib.machinery.SourceFileLoader(name, path)
+    module = importlib.util.module_from_spec(importlib.util.spec_from_loader(name, loader))
+    sys.modules[name] = module
+    loader.exec_module(module)
+    return module
+
+
+def crates_of(top):
+    """The kit's `rt`, and the crates of crates.txt, each after those that it stands on."""
+    sys.dont_write_bytecode = True
+    once = loaded("rt_once", f"{top}/rt-once")
+    rt = once.loaded(os.path.realpath(shutil.which("rt")))
+    rtlib = sys.modules["rtlib"]
+    once.read_once(rtlib, once.walking(rtlib.Crate))
+    os.chdir(top)
+    rt.Crate.allowed = rt.handles_of(top)
+    rtlib.Crate.cuts_libraries = True
+    known = {}
+    with open("crates.txt", encoding="utf-8") as it:
+        names = [line.split(":")[0] for line in it if ":" in line and not line.startswith("#")]
+    for folder in [f"{top}/crates/{name}" for name in names]:
+        if folder not in known:
+            known[folder] = rt.Crate(folder, top, known)
+    return rt, list(known.values())
+
+
+def main():
+    rt, crates = crates_of(os.path.realpath(sys.argv[1] if len(sys.argv) > 1 else "."))
+    kept, given, missing = rt.Kept(crates), [], []
+    for crate in [it for it in crates if it.makes_rlib()]:
+        if any(it.name in missing for it in crate.below()):
+            missing.append(crate.name)
+            continue
+        stamp = f"{crate.folder}/out/rlib/stamp"
+        if os.path.isfile(stamp):
+            os.remove(stamp)
+        if kept.give(crate, False, kept.key(crate)):
+            with open(stamp, "w", encoding="utf-8") as it:
+                it.write(crate.stamp())
+            kept.is_built(crate)
+            given.append(crate.name)
+        else:
+            missing.append(crate.name)
+    print(f"{len(given)} libraries are there; not proved here yet: {' '.join(missing) or 'none'}")
+
+
+if __name__ == "__main__":
+    main()
