@@ -48,10 +48,11 @@ def main():
         if any(it.name in missing for it in crate.below()):
             missing.append(crate.name)
             continue
-        stamp = f"{crate.folder}/out/rlib/stamp"
-        if os.path.isfile(stamp):
-            os.remove(stamp)
-        if kept.give(crate, False, kept.key(crate)):
+        stamp, key = f"{crate.folder}/out/rlib/stamp", kept.key(crate)
+        if os.path.isdir(kept.place(crate, False, key)):
+            # (beside files of another build `rt` would take what it kept for damaged, and drop it)
+            shutil.rmtree(f"{crate.folder}/out/rlib", ignore_errors=True)
+        if kept.give(crate, False, key):
             with open(stamp, "w", encoding="utf-8") as it:
                 it.write(crate.stamp())
             kept.is_built(crate)

@@ -1,16 +1,13 @@
 //! The numeric replies of an IRC server to its clients (RFC 2812 section 5), each with its words.
 #![tactic(auto)]
 
-mod channel_refusals;
-mod channels;
 pub mod laws;
 pub mod limits;
-mod lists;
+mod longer_lines;
 mod name_list;
-mod refusals;
 mod replies;
-mod statistics;
-mod users;
+mod table;
+mod texts;
 mod writing;
 
 pub use name_list::NameList;

@@ -7,7 +7,7 @@ ghost use Rattle.irc_numerics.specs.Loops.Heads.{line_behind};
 ghost use Rattle.irc_numerics.specs.Replies.{reply_text, plain, said, saying, in_a_row, mark_text};
 
 use crate::replies::{Mark, Reply};
-use crate::statistics::statistics_line;
+use crate::table::table_line;
 use arrayvec::ArrayVec;
 use irc_line::limits::{MAX_LINE, MAX_PARAMETERS};
 use irc_line::{Line, Parts, Prefix, Text, write_message};
@@ -29,7 +29,7 @@ pub fn reply_line(server: &ServerName, nick: Option<&Nick>, reply: &Reply) -> Te
         server: server.as_bytes(),
         name,
     };
-    statistics_line(head, reply)
+    table_line(head, reply)
 }
 
 /// What is the same in each reply to a client: its server's name, and the reply name.

@@ -93,15 +93,14 @@ kept_refused inside now room is same =
     ap (λ (r : Room). record { own = inside.own; failed = true; room = r }) same
     ∙ ap (λ (k : Kept). record k { failed = true }) is
 
-pub not_done : {U E A : Type 0} (e : E) (u : U) → ◌≡◌ {A = Result U E} (Err e) (Ok u) → A
+not_done : {U E A : Type 0} (e : E) (u : U) → ◌≡◌ {A = Result U E} (Err e) (Ok u) → A
 not_done e u is = cc
 
 -- an effect that does nothing leaves all as it was, and shows nothing
-pub idle_kept : (old : Kept) (effect : Effect) (new : Kept) → is_idle old.room effect ≡ true
-    → Changed old effect (Ok tt) new → new ≡ old
-idle_kept old effect new idle changed =
-    changed.1 ∙ ap (λ (r : Room). record old { room = r })
-    (idle_changes_nothing old.room effect idle)
+pub idle_kept : (old : Kept) (effect : Effect) → is_idle old.room effect ≡ true
+    → old ≡ record old { room = after old.room effect }
+idle_kept old effect idle =
+    ap (λ (r : Room). record old { room = r }) (sym (idle_changes_nothing old.room effect idle))
 
 pub idle_stays : (old : Kept) (effect : Effect) (result : Result (Unit {0}) RoomFault) (new : Kept)
     (shown : ShownLine) → Applied old effect result new shown → IdleKeeps old effect result new

@@ -12,11 +12,11 @@ ghost use Rattle.irc_names.specs.Limits.{max_channel};
 ghost use Rattle.irc_names.specs.Tables.{row};
 ghost use Rattle.irc_tables.specs.RowViews.{row_entry};
 ghost use Rattle.irc_channels.specs.ChannelTable.{members_in};
-ghost use Rattle.irc_shown.specs.After.{titled_by};
+ghost use Rattle.irc_shown.specs.After.{after, titled_by};
 ghost use Rattle.irc_shown.specs.Applying.{Kept, Applied, Changed, IdleKeeps, IdleStays, ShowsHere};
 ghost use Rattle.irc_shown.specs.Applying.{does, pairs_of, respelling_fault, room_fault};
 ghost use Rattle.irc_shown.specs.Applying.{shown_here};
-ghost use Rattle.irc_shown.specs.Effects.{brings_free};
+ghost use Rattle.irc_shown.specs.Effects.{brings_free, IsPossible};
 ghost use Rattle.irc_shown.specs.Laws.{no_room};
 ghost use Rattle.irc_shown.specs.Readers.{user_at, channel_at, channels_of, flags_at};
 ghost use Rattle.irc_shown.specs.Readers.{is_invited_at, is_visible_at, names_of, nicks_in};
@@ -25,7 +25,7 @@ ghost use Rattle.irc_shown.specs.Room.{IsWellFormed};
 ghost use Rattle.irc_shown.specs.Seen.{changes_text, stored_channel, stored_nick, target_name};
 
 use crate::home_count::{staying, with_newcomer};
-use crate::performing::{perform, put_out};
+use crate::performing::put_out;
 use crate::refusing::{missing, refusal};
 use irc_channels::{Channel, Flags, Stored};
 use irc_line::Text;
@@ -345,15 +345,38 @@ impl Room {
         if let Some(fault) = self.fault_of(effect) {
             return Err(fault);
         }
+        if is_idle(&self.tables, effect) {
+            return Ok(());
+        }
+        match self.make(effect) {
+            Ok(()) => Ok(()),
+            Err(_) => Err(RoomFault::Memory),
+        }
+    }
+
+    /// Makes the change of an effect that is known to be possible, without looking once more for
+    /// what it names, and shows it to nobody: for a caller who has looked, and who has asked
+    /// whether the room serves. Unlike [`Room::change`] it may take memory for an effect that does
+    /// nothing.
+    ///
+    /// # Errors
+    /// Where memory runs out: [`Room::change`] answers [`RoomFault::Failed`] from then on.
+    pub fn make(&mut self, effect: &Effect) -> Result<(), AllocError>
+        requires alive { self.old.failed ≡ false }
+        requires possible { IsPossible self.old.room effect.now }
+        ensures ok { OnOk result
+            (self.new ≡ record self.old { room = after self.old.room effect.now }) }
+        ensures refused { OnErr result (self.new ≡ record self.old { failed = true }) }
+    {
         let stay = staying(&self.own, &self.tables, self.at_home, effect);
         self.failed = true;
-        match perform(&mut self.tables, effect) {
+        match self.tables.change(effect) {
             Ok(()) => {
                 self.failed = false;
                 self.at_home = with_newcomer(&self.own, &self.tables, stay, effect);
                 Ok(())
             }
-            Err(_) => Err(RoomFault::Memory),
+            Err(error) => Err(error),
         }
     }
 

@@ -1,7 +1,5 @@
 //! The tables of a room after an effect, or once a channel was respelled.
-ghost use Rattle.std.specs.Prelude.{◌≡◌, Some, None, OnOk, OnErr};
-ghost use Rattle.irc_names.specs.Fold.{key};
-ghost use Rattle.irc_names.specs.Tables.{row, alter};
+ghost use Rattle.std.specs.Prelude.{◌≡◌, OnOk, OnErr};
 ghost use Rattle.irc_effects.specs.After.{after, titled_by};
 ghost use Rattle.irc_effects.specs.Effects.{IsPossible};
 ghost use Rattle.irc_room_tables.specs.Codes.{room_of};
@@ -11,7 +9,7 @@ use crate::indexed_channels::IndexedChannels;
 use crate::tables::Tables;
 use irc_effects::Effect;
 use irc_names::{ChannelName, Nick};
-use irc_users::{User, Users, UsersFault};
+use irc_users::Users;
 use std::alloc::{AllocError, Global};
 
 impl Tables {
@@ -53,7 +51,7 @@ fn change(
     ensures refused { OnErr result ((users.new ≡ users.old) × (channels.new ≡ channels.old)) }
 {
     match effect {
-        Effect::AddUser(user) => add(users, user),
+        Effect::AddUser(user) => users.add_free(user.copy()),
         Effect::Rename { nick, new } => channels.rename_user(users, nick, new),
         Effect::Quit { nick, .. } => {
             users.remove(nick);
@@ -80,19 +78,5 @@ fn change(
             users.set_invisible(nick, *invisible);
             Ok(())
         }
-    }
-}
-
-/// Adds a user whose nickname is free.
-fn add(users: &mut Users, user: &User) -> Result<(), AllocError>
-    requires { row users.old.users (key user.now.nick) ≡ None }
-    ensures ok { OnOk result
-        (users.new.users ≡ alter (key user.now.nick) (λ _. Some user.now) users.old.users) }
-    ensures refused { OnErr result (users.new ≡ users.old) }
-{
-    match users.add(user.copy()) {
-        Ok(()) => Ok(()),
-        Err(UsersFault::Taken) => unreachable!(),
-        Err(UsersFault::Memory) => Err(AllocError),
     }
 }

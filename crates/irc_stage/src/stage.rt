@@ -35,7 +35,7 @@ use irc_links::{Around, LinkEnd, Ways};
 use irc_names::{ChannelName, Nick};
 use irc_numerics::reply_line;
 use irc_queries::{Query, answer};
-use irc_room::{Effect, Room, RoomFault, Target, laws};
+use irc_room::{Effect, Room, Target, laws};
 use irc_routes::Routes;
 use irc_users::User;
 use std::alloc::{AllocError, Global};
@@ -80,11 +80,8 @@ fn happen(room: &mut Room, ways: &mut Ways, effect: &Effect) -> Result<(), Alloc
 {
     ways.forget();
     laws::after_is_well_formed();
-    match room.change(effect) {
-        Ok(()) => Ok(()),
-        Err(RoomFault::Memory) => Err(AllocError),
-        Err(_) => unreachable!(),
-    }
+    room.make(effect)?;
+    Ok(())
 }
 
 /// Clients whose user takes another nickname by an effect are that user still.

@@ -1,6 +1,6 @@
 -- What the two tables of users answer, by their heads and by who sits where.
-use Rattle.std.proofs.Common.{◌≡◌, ◌≢◌, ℕ, List, map, length, refl, sym, ◌∙◌, ap, subst, Option}
-use Rattle.std.proofs.Common.{Some, None, is_some, option_map}
+use Rattle.std.proofs.Common.{◌≡◌, ◌≢◌, ℕ, false, List, map, length, refl, sym, ◌∙◌, ap, subst}
+use Rattle.std.proofs.Common.{Option, Some, None, is_some, option_map}
 use Rattle.std.proofs.lemmas.List.{length-map}
 use Rattle.std.specs.FinMap.{keys, values}
 use Rattle.std.specs.Option.{option_and_then, option_map_or}
@@ -122,6 +122,10 @@ module _ (seats : Slab (Box User)) (heads : Table Head) (roster : IsRoster seats
 
 -- ---- as the view of the code's fields has it
 
+absent : {X : Type 0} (o : Option X) → is_some o ≡ false → o ≡ None
+absent None none = refl
+absent (Some x) none = cc
+
 module _ (seats : Slab (Box User)) (heads : Table Head) (users : NumberedUsers)
     (view : numbered seats heads ≡ users) (roster : IsRoster seats heads) where
   pub held_by : (n : ℕ) (found : Option User) → sitting seats n ≡ found → HasNumber users n found
@@ -144,3 +148,11 @@ module _ (seats : Slab (Box User)) (heads : Table Head) (users : NumberedUsers)
   pub user_by_head : (fold : List ℕ) → is_some (row users.users fold) ≡ is_some (row heads fold)
   user_by_head fold = ap (λ (n : NumberedUsers). is_some (row n.users fold)) (sym view)
       ∙ known (sitting seats) heads roster fold
+
+  -- a nickname that no head is found under is free, and none is found under a free one
+  pub free_of_heads : (fold : List ℕ) → is_some (row heads fold) ≡ false
+      → row users.users fold ≡ None
+  free_of_heads fold none = absent (row users.users fold) (user_by_head fold ∙ none)
+
+  pub no_head : (fold : List ℕ) → row users.users fold ≡ None → row heads fold ≡ None
+  no_head fold none = absent (row heads fold) (sym (user_by_head fold) ∙ ap is_some none)

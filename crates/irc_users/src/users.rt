@@ -108,13 +108,25 @@ impl Users {
         if has_head(&self.heads, &user.nick) {
             return Err(UsersFault::Taken);
         }
-        let Ok(user) = Box::new(self.alloc, user) else {
-            return Err(UsersFault::Memory);
-        };
-        if take_seat(&mut self.seats, &mut self.heads, user).is_err() {
+        if self.add_free(user).is_err() {
             return Err(UsersFault::Memory);
         }
         Ok(())
+    }
+
+    /// Adds a user whose nickname is free, which is not looked for once more. No other user's
+    /// number changes.
+    ///
+    /// # Errors
+    /// Where memory runs out; nothing has changed then.
+    pub fn add_free(&mut self, user: User) -> Result<(), AllocError>
+        requires { row self.old.users (key user.nick) ≡ None }
+        ensures ok { OnOk result (self.new.users ≡ with_user user self.old.users) }
+        ensures numbers { OnOk result (OthersKeep user.nick self.old.numbers self.new.numbers) }
+        ensures refused { OnErr result (self.new ≡ self.old) }
+    {
+        let user = Box::new(self.alloc, user)?;
+        take_seat(&mut self.seats, &mut self.heads, user)
     }
 
     /// Gives the user with a nickname another, as spelled. It keeps its number, as all others do.
