@@ -1,6 +1,6 @@
 pub mod EffectsRead
 pub mod GoingOn
-pub mod LinesRead
+pub mod ServerRows
 pub mod MemberWords
 pub mod MembersInTurn
 pub mod OutOfPlace

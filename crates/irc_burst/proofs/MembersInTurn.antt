@@ -28,12 +28,13 @@ use Rattle.irc_merge.specs.Lemmas.BooleanTests.{and_not}
 use Rattle.std.proofs.lemmas.List.{map-append}
 use Rattle.irc_room.specs.Room.{Room, IsWellFormed}
 use Rattle.irc_room.specs.Seen.{stored_nick}
-use Rattle.irc_burst.specs.declared.acts.NewMember.{NewMember}
+use Rattle.irc_link_reader.specs.declared.deed.NewMember.{NewMember}
 use Rattle.irc_burst.specs.DeedsMeant.{as_stored}
-use Rattle.irc_burst.specs.Loops.Acts.{is_member_among, members_told, taken_as_stored}
+use Rattle.irc_link_reader.specs.Loops.Tellings.{told_members}
+use Rattle.irc_burst.specs.Loops.Acts.{is_member_among, taken_as_stored}
 
 pub among-told : (nick : List ℕ) (members : List NewMember) → is_member_among
-    (members_told members) nick ≡ list_any (λ (member : NewMember). same member.nick nick) members
+    (told_members members) nick ≡ list_any (λ (member : NewMember). same member.nick nick) members
 among-told nick [] = refl
 among-told nick (member ∷ members) = ap (λ b. same member.nick nick || b) (among-told nick members)
 

@@ -35,55 +35,24 @@ use Rattle.irc_names.specs.Tables.{row}
 use Rattle.irc_users.specs.declared.user.User.{User}
 use Rattle.irc_channels.specs.declared.flags.Flags.{Flags}
 use Rattle.irc_names.specs.Digits.{number_of}
-use Rattle.irc_room.specs.effect.By.TheVariants as by
 use Rattle.irc_room.specs.effect.Effect.{Effect}
-use Rattle.irc_room.specs.effect.Effect.TheVariants.{AddUser, Rename, ChangeModes, SetTopic}
+use Rattle.irc_room.specs.effect.Effect.TheVariants.{AddUser, Rename}
 use Rattle.irc_room.specs.Room.{Room}
 use Rattle.irc_room.specs.Seen.{stored_nick}
 use Rattle.irc_routes.specs.Info.{is_info}
 use Rattle.irc_routes.specs.Known.{Known, is_known}
 use Rattle.irc_merge.specs.Bursts.{members_a_line}
 use Rattle.irc_merge.specs.BurstRead.{introduced, new_members, brought}
-use Rattle.irc_merge.specs.Deeds.{Deed, does, kills, loses, sets, tops}
+use Rattle.irc_merge.specs.Deeds.{Deed, does, kills, loses}
 use Rattle.irc_link_words.specs.declared.fault.WireFault.{WireFault}
-use Rattle.irc_link_words.specs.declared.fault.WireFault.TheVariants as fault
 use Rattle.irc_link_words.specs.Numbers.{is_number, max_number}
 use Rattle.irc_link_words.specs.Words.{is_command, are_words}
 use Rattle.irc_link_reader.specs.Means.{means}
 use Rattle.irc_link_reader.specs.Reader.{Reader, reader_of, may_come}
+pub use Rattle.irc_link_reader.specs.Told.{Told, a_deed, a_server, Judged, unless_late}
+pub use Rattle.irc_link_reader.specs.Told.{first_reason, server_of, kept_prefix, wire_reason}
 use Rattle.irc_handshake.specs.Openings.{password_of, greeting_of}
 use Rattle.irc_handshake.specs.Peers.{not_taken}
-
--- a deed, with the numbers of a SERVER line
-pub data Told : Type 0 where
-  a_deed : (deed : Deed) → Told
-  a_server : (uplink name : List ℕ) (distance token : ℕ) (info : List ℕ) → Told
-
--- What is looked at in a line of a server whose command is known, in this order: whether its
--- parameters are as they should be, whether its number is free, whether it came by the right link,
--- whether its names are names, and whether something else is against it; and what it tells if
--- nothing is.
-pub record Judged : Type 0 where
-  pub parameters : Bool
-  pub token : Bool
-  pub direction : Bool
-  pub names : Bool
-  pub late : Option CloseReason
-  pub told : List Told
-
--- what a line tells that is right in itself, unless something else is against it
-abbrev pub unless_late : Option CloseReason → List Told → Result (List Told) CloseReason
-unless_late None told = Ok told
-unless_late (Some reason) told = Err reason
-
--- the first that is not so closes the link
-abbrev pub first_reason : Judged → Result (List Told) CloseReason
-first_reason judged =
-    if not judged.parameters then Err reason.Parameters
-    else (if not judged.token then Err reason.BadToken
-    else (if not judged.direction then Err reason.WrongDirection
-    else (if not judged.names then Err reason.BadName
-    else unless_late judged.late judged.told)))
 
 -- a line with too few or too many parameters, or not from a name where it has to be
 abbrev pub malformed_burst : Judged
@@ -241,32 +210,12 @@ njoin_line reader room _ _ = malformed_burst
 
 -- ---- lines that tell of effects
 
--- the server whose line it is, if it is one of a server
-abbrev pub server_of : Option (List ℕ) → Option (List ℕ)
-server_of None = None
-server_of (Some name) = if is_server name then Some name else None
-
--- A server's change of modes or of a topic is told on in the name of that server.
-abbrev pub kept_prefix : Option (List ℕ) → Effect → Deed
-kept_prefix (Some server) (ChangeModes by.Home channel changes) = sets server channel changes
-kept_prefix (Some server) (SetTopic by.Home channel topic) = tops server channel topic
-kept_prefix server effect = does effect
-
 -- what an effect comes to: where it gives a nickname that is held, its holder is killed, and who
 -- was to have it is killed or not taken
 abbrev pub collided : List ℕ → Room → Option (List ℕ) → Effect → List Deed
 collided own room server (AddUser user) = introduced own room user
 collided own room server (Rename nick new) = renamed_or_killed own room nick new
 collided own room server other = kept_prefix server other ∷ []
-
--- why a line is refused that tells of an effect; none is for want of memory
-abbrev pub wire_reason : WireFault → CloseReason
-wire_reason fault.UnknownCommand = reason.UnknownCommand
-wire_reason fault.Parameters = reason.Parameters
-wire_reason fault.BadToken = reason.BadToken
-wire_reason fault.WrongDirection = reason.WrongDirection
-wire_reason fault.BadName = reason.BadName
-wire_reason fault.Memory = reason.Parameters
 
 -- What effects come to in this room: where a nickname is held already, users are killed instead.
 abbrev pub effects_told : List ℕ → Room → Option (List ℕ) → Result (List Effect) WireFault

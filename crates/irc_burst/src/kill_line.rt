@@ -1,13 +1,12 @@
 //! KILL: a nickname that two users have (RFC 2812 section 3.7.1).
 ghost use Rattle.std.specs.Prelude.{◌≡◌, Ok, Err, codes, if◌then◌else◌};
 ghost use Rattle.std.specs.Str.{bytes_eq};
-ghost use Rattle.irc_link_words.specs.declared.fault.WireFault.TheVariants.{Parameters};
+ghost use Rattle.irc_batch.specs.declared.close_reason.CloseReason.TheVariants.{Parameters};
 ghost use Rattle.irc_burst.specs.Loops.Acts.{GivesTold, kill_line_at, killed_at, told_if};
 
-use crate::acts::BurstAct;
-use crate::fault::BurstFault;
-use irc_link_reader::{Arrival, expect_from};
-use irc_link_words::{Params, WireFault, read_nick, read_server};
+use irc_batch::CloseReason;
+use irc_link_reader::{Arrival, Deed, Killing, expect_from};
+use irc_link_words::{Params, read_nick, read_server};
 use irc_names::ServerName;
 
 /// The holder of a nickname is killed; nothing is done where nobody has it.
@@ -15,7 +14,7 @@ pub(crate) fn kill_line(
     at: Arrival<'_>,
     server: &[u8],
     mut params: Params<'_>,
-) -> Result<Option<BurstAct>, BurstFault>
+) -> Result<Option<Deed>, CloseReason>
     ensures { GivesTold (kill_line_at at.entry server.now params.entry) result }
 {
     let nick = params.next()?;
@@ -29,26 +28,26 @@ pub(crate) fn kill_line(
 }
 
 /// Refuses another text than that of a collision.
-fn expect_collision(text: &[u8]) -> Result<(), WireFault>
+fn expect_collision(text: &[u8]) -> Result<(), CloseReason>
     ensures { result ≡ (if bytes_eq text.now (codes "Nick collision") then Ok tt
         else Err Parameters) }
 {
     if text == b"Nick collision".as_slice() {
         Ok(())
     } else {
-        Err(WireFault::Parameters)
+        Err(CloseReason::Parameters)
     }
 }
 
 /// The holder of a nickname is killed, if there is one.
-fn killed(at: Arrival<'_>, server: ServerName, nick: &[u8]) -> Option<BurstAct>
+fn killed(at: Arrival<'_>, server: ServerName, nick: &[u8]) -> Option<Deed>
     ensures { told_if result ≡ killed_at at.entry server nick.now }
 {
     match at.room.user(nick) {
-        Some(user) => Some(BurstAct::Kill {
+        Some(user) => Some(Deed::Kill(Killing {
             server,
             nick: user.nick.copy(),
-        }),
+        })),
         None => None,
     }
 }

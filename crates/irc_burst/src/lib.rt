@@ -2,8 +2,6 @@
 //! have, members and modes and topics of a burst. Definitions are in `specs/`.
 #![tactic(auto)]
 
-mod acts;
-mod commands;
 mod effect_acts;
 mod fault;
 mod handshake;
@@ -14,7 +12,9 @@ mod njoin_line;
 mod reading;
 mod server_lines;
 
-pub use acts::{BurstAct, NewMember};
 pub use fault::BurstFault;
 pub use handshake::read_handshake_line;
-pub use reading::read_burst_line;
+pub use irc_link_reader::{
+    Arrivals, Deed, Deed as BurstAct, Killing, Loss, NewMember, NewServer, Setting, Topic,
+};
+pub use reading::{read_burst_line, read_line};

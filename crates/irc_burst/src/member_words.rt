@@ -3,24 +3,25 @@
 ghost use Rattle.std.specs.Prelude.{◌≡◌, ◌<◌, Ok, Err, count_by, length, if◌then◌else◌};
 ghost use Rattle.std.specs.List.{after_first, before_first, list_all, position_or_len, slice_split};
 ghost use Rattle.irc_channels.specs.declared.flags.Flags.{Flags};
-ghost use Rattle.irc_link_words.specs.declared.fault.WireFault.TheVariants.{BadName, Parameters};
+ghost use Rattle.irc_batch.specs.declared.close_reason.CloseReason.TheVariants.{BadName};
+ghost use Rattle.irc_batch.specs.declared.close_reason.CloseReason.TheVariants.{Parameters};
 ghost use Rattle.irc_burst.specs.DeedsMeant.{has_mark, is_comma, member_of, without_mark};
 ghost use Rattle.irc_burst.specs.Loops.Acts.{are_few, are_named, has_member_nick};
 
+use irc_batch::CloseReason;
 use irc_burst_lines::MEMBERS_A_LINE;
 use irc_channels::Flags;
-use irc_link_words::WireFault;
 use irc_names::is_nick;
 
 /// Refuses more members than one line may bring.
 #[tactic(auto, using(crate::proofs::MemberWords::few_told))]
-pub(crate) fn expect_few(text: &[u8]) -> Result<(), WireFault>
+pub(crate) fn expect_few(text: &[u8]) -> Result<(), CloseReason>
     ensures { result ≡ (if are_few text.now then Ok tt else Err Parameters) }
 {
     if commas(text) < MEMBERS_A_LINE {
         Ok(())
     } else {
-        Err(WireFault::Parameters)
+        Err(CloseReason::Parameters)
     }
 }
 
@@ -33,13 +34,13 @@ fn commas(text: &[u8]) -> usize
 
 /// Refuses members of whom one has no nickname.
 #[tactic(auto, using(crate::proofs::MemberWords::nicks_told))]
-pub(crate) fn expect_nicks(text: &[u8]) -> Result<(), WireFault>
+pub(crate) fn expect_nicks(text: &[u8]) -> Result<(), CloseReason>
     ensures { result ≡ (if are_named text.now then Ok tt else Err BadName) }
 {
     if are_nicks(text) {
         Ok(())
     } else {
-        Err(WireFault::BadName)
+        Err(CloseReason::BadName)
     }
 }
 

@@ -1,41 +1,49 @@
 //! NJOIN: users become members of a channel (RFC 2813 section 4.2.2).
-ghost use Rattle.std.specs.Prelude.{◌≡◌, ◌&&◌, [], Some, None, fold, map, not, option_to_list};
-ghost use Rattle.std.specs.Prelude.{IfOk, OnOk, if◌then◌else◌};
+ghost use Rattle.std.specs.Prelude.{◌≡◌, [], fold, map, IfOk, IsOk, OnErr, OnOk};
 ghost use Rattle.std.specs.List.{list_any, slice_split};
 ghost use Rattle.irc_line.specs.PartViews.{words_now};
-ghost use Rattle.irc_names.specs.Fold.{key, same};
+ghost use Rattle.irc_names.specs.Fold.{same};
 ghost use Rattle.irc_room.specs.Room.{IsWellFormed};
-ghost use Rattle.irc_merge.specs.BurstRead.{brought, new_members};
+ghost use Rattle.irc_link_reader.specs.Loops.Tellings.{told_members};
 ghost use Rattle.irc_link_reader.specs.Loops.Readings.{reader};
-ghost use Rattle.irc_burst.specs.DeedsMeant.{a_deed, as_stored, first_reason, is_comma, member_of};
-ghost use Rattle.irc_burst.specs.DeedsMeant.{members_of, njoin_line};
-ghost use Rattle.irc_burst.specs.Loops.Acts.{IsActRead, act_told, closes, is_member_among};
-ghost use Rattle.irc_burst.specs.Loops.Acts.{members_brought, members_found, members_told};
-ghost use Rattle.irc_burst.specs.Loops.Acts.{new_nick, njoin_line_at, taken_as_stored, told_if};
+ghost use Rattle.irc_burst.specs.DeedsMeant.{first_reason, is_comma, member_of};
+ghost use Rattle.irc_burst.specs.Loops.Acts.{
+  is_member_among,
+  members_brought,
+  members_found,
+  new_members_at,
+  new_nick,
+  njoin_line_at,
+  taken_at,
+  told_if,
+  GivesTold,
+};
 
-use crate::acts::{BurstAct, NewMember};
-use crate::fault::BurstFault;
 use crate::member_words::{expect_few, expect_nicks, flags_of, nick_of};
-use irc_link_reader::{Arrival, expect_from, is_far};
+use irc_batch::CloseReason;
+use irc_link_reader::{Arrival, Arrivals, Deed, NewMember, expect_from, is_far};
 use irc_link_words::{Params, read_channel, read_server};
 use irc_names::{ChannelName, Nick, ServerName, same};
 use std::alloc::{AllocError, Global};
 
 /// Users become members of a channel; nothing is done where nobody does.
-#[tactic(auto, using(crate::proofs::LinesRead::lines_read))]
 pub(crate) fn njoin_line(
     alloc: Global,
     at: Arrival<'_>,
     server: &[u8],
     params: Params<'_>,
-) -> Result<Option<BurstAct>, BurstFault>
-    ensures { IsActRead (first_reason (njoin_line_at at.entry server.now params.entry)) result }
+) -> Result<Result<Option<Deed>, CloseReason>, AllocError>
+    ensures told { IfOk result (λ told.
+        GivesTold (njoin_line_at at.entry server.now params.entry) told) }
+    ensures memory { OnErr result
+        (IsOk (first_reason (njoin_line_at at.entry server.now params.entry))) }
 {
-    let words = member_words(at, server, params)?;
-    match new_members(alloc, at, words.channel.as_bytes(), words.text) {
-        Ok(members) => Ok(brought(words.server, words.channel, members)),
-        Err(_) => Err(BurstFault::Memory),
-    }
+    let words = match member_words(at, server, params) {
+        Ok(words) => words,
+        Err(reason) => return Ok(Err(reason)),
+    };
+    let members = new_members(alloc, at, words.channel.as_bytes(), words.text)?;
+    Ok(Ok(brought(words.server, words.channel, members)))
 }
 
 /// Members are brought, if there are any.
@@ -43,17 +51,17 @@ fn brought(
     server: ServerName,
     channel: ChannelName,
     members: Vec<NewMember, Global>,
-) -> Option<BurstAct>
+) -> Option<Deed>
     ensures { told_if result ≡ members_brought server channel members.items }
 {
     if members.is_empty() {
         None
     } else {
-        Some(BurstAct::Members {
+        Some(Deed::Members(Arrivals {
             server,
             channel,
             members,
-        })
+        }))
     }
 }
 
@@ -70,10 +78,9 @@ fn member_words<'a>(
     at: Arrival<'_>,
     server: &[u8],
     mut params: Params<'a>,
-) -> Result<MemberWords<'a>, BurstFault>
+) -> Result<MemberWords<'a>, CloseReason>
     ensures { members_found (reader at.entry) at.entry.room.now.room result
-        ≡ closes (first_reason (njoin_line (reader at.entry) at.entry.room.now.room
-        (Some server.now) params.entry)) }
+        ≡ first_reason (njoin_line_at at.entry server.now params.entry) }
 {
     let channel = params.next()?;
     let text = params.next()?;
@@ -104,9 +111,8 @@ fn new_members(
     channel: &[u8],
     text: &[u8],
 ) -> Result<Vec<NewMember, Global>, AllocError>
-    ensures { IfOk result (λ members. members_told members.items
-        ≡ map (as_stored at.entry.room.now.room) (new_members
-        (reader at.entry).is_far at.entry.room.now.room channel.now (members_of text.now))) }
+    ensures { IfOk result (λ members. told_members members.items
+        ≡ new_members_at at.entry channel.now text.now) }
 {
     let words = split(alloc, text)?;
     members_in_turn(alloc, at, channel, words.as_slice())
@@ -119,9 +125,8 @@ fn members_in_turn(
     channel: &[u8],
     words: &[&[u8]],
 ) -> Result<Vec<NewMember, Global>, AllocError>
-    ensures ones { IfOk result (λ members. members_told members.items
-        ≡ fold (taken_as_stored (reader at.entry).is_far at.entry.room.now.room channel.now) []
-        (map member_of (words_now words.now))) }
+    ensures ones { IfOk result (λ members. told_members members.items
+        ≡ fold (taken_at at.entry channel.now) [] (map member_of (words_now words.now))) }
     ensures well { IsWellFormed at.entry.room.now.room }
 {
     at.room.own();
@@ -139,9 +144,8 @@ fn push_new(
     channel: &[u8],
     word: &[u8],
 ) -> Result<(), AllocError>
-    ensures { OnOk result (members_told members.new.items
-        ≡ taken_as_stored (reader at.entry).is_far at.entry.room.now.room channel.now
-        (members_told members.old.items) (member_of word.now)) }
+    ensures { OnOk result (told_members members.new.items
+        ≡ taken_at at.entry channel.now (told_members members.old.items) (member_of word.now)) }
 {
     let among = is_among(members.as_slice(), nick_of(word));
     match new_nick(at, channel, nick_of(word)) {
@@ -157,7 +161,7 @@ fn push_new(
 /// Whether a nickname is one of those of some members.
 #[tactic(auto, using(crate::proofs::MembersInTurn::among_told))]
 fn is_among(members: &[NewMember], nick: &[u8]) -> bool
-    ensures { result ≡ is_member_among (members_told members.now) nick.now }
+    ensures { result ≡ is_member_among (told_members members.now) nick.now }
 {
     is_named(members, nick)
 }

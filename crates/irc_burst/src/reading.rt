@@ -1,134 +1,155 @@
-//! Lines of servers, read as what they mean (RFC 2813 section 4, RFC 2812 section 3.7.1).
-ghost use Rattle.std.specs.Prelude.{◌≡◌, Some};
-ghost use Rattle.irc_line.specs.MessageViews.{optional_now, parsed};
-ghost use Rattle.irc_burst.specs.DeedsMeant.{server_of};
-ghost use Rattle.irc_burst.specs.Loops.Acts.{IsBurstMeant, AreActsListed, IsActRead, IsReadIn};
-ghost use Rattle.irc_burst.specs.Loops.Acts.{effects_at};
+//! Lines of a link, read as what they mean (RFC 2813 section 4, RFC 2812 section 3.7.1).
+ghost use Rattle.std.specs.Prelude.{◌≡◌, Some, IfOk, IsOk, OnErr};
+ghost use Rattle.irc_line.specs.MessageViews.{parsed};
+ghost use Rattle.irc_burst.specs.Loops.Acts.{
+  deeds_read,
+  effect_line_at,
+  meant_at,
+  told_found,
+  IsReadIn,
+  MayWant,
+  MayWantOf,
+};
 ghost use Rattle.irc_burst.specs.Loops.Commands.{comes_to};
 
-use crate::acts::BurstAct;
-use crate::commands::{Command, command_of};
-use crate::effect_acts::all_collided;
+use crate::effect_acts::{collided, listed};
 use crate::fault::BurstFault;
 use crate::kill_line::kill_line;
 use crate::njoin_line::njoin_line;
 use crate::server_lines::{pass_line, server_line, squit_line};
 use irc_batch::CloseReason;
 use irc_line::Message;
-use irc_link_reader::{Arrival, read_effect};
-use irc_link_words::Params;
-use irc_names::ServerName;
+use irc_link_reader::{Arrival, Deed, tell_effect};
+use irc_link_words::{Command, EffectCommand, Params, ServerCommand, command_of};
 use irc_room::Room;
 use irc_routes::Routes;
-use std::alloc::Global;
+use std::alloc::{AllocError, Global};
 
-/// What a line means that came by a link after its handshake: the acts that it tells of, in order.
+/// What a line means that came by a link after its handshake: the deeds that it tells of, in order.
 ///
 /// # Errors
 /// [`BurstFault::Closes`] with the first reason, in this order: UnknownCommand, Parameters,
 /// BadToken, WrongDirection, BadName, then AlreadyKnown, Full or Order. [`BurstFault::Memory`]
 /// where memory runs out, which takes a line that means something, or a MODE: it is never told in
 /// place of another line's fault.
-#[tactic(auto, using(crate::proofs::EffectsRead::whole_lines))]
 pub fn read_burst_line(
     alloc: Global,
     message: &Message<'_>,
     room: &Room,
     routes: &Routes,
     link: u64,
-) -> Result<Vec<BurstAct, Global>, BurstFault>
+) -> Result<Vec<Deed, Global>, BurstFault>
     ensures { IsReadIn room.now.room routes.now link (parsed message.now) result }
 {
     let at = Arrival { room, routes, link };
+    match read_line(alloc, at, message) {
+        Ok(Ok(deeds)) => Ok(deeds),
+        Ok(Err(reason)) => Err(BurstFault::Closes(reason)),
+        Err(_) => Err(BurstFault::Memory),
+    }
+}
+
+/// What a line means that came by a link after its handshake: the deeds that it tells of, in order,
+/// or why it closes the link. Reasons are looked for in this order: UnknownCommand, Parameters,
+/// BadToken, WrongDirection, BadName, then AlreadyKnown, Full or Order.
+///
+/// # Errors
+/// Where memory runs out, which takes a line that means something, or a MODE: it is never told in
+/// place of another line's reason.
+#[tactic(auto, using(crate::proofs::EffectsRead::whole_lines))]
+pub fn read_line(
+    alloc: Global,
+    at: Arrival<'_>,
+    message: &Message<'_>,
+) -> Result<Result<Vec<Deed, Global>, CloseReason>, AllocError>
+    ensures meant { IfOk result (λ read. deeds_read read ≡ meant_at at.entry (parsed message.now)) }
+    ensures memory { OnErr result (MayWant (parsed message.now)
+        (meant_at at.entry (parsed message.now))) }
+{
     match command_of(message.command) {
-        Some(command) => listed(alloc, read_command(alloc, at, command, message)),
-        None => read_effects(alloc, at, message),
+        Some(Command::OfEffects(command)) => effect_line(alloc, at, command, message),
+        Some(Command::OfServers(command)) => server_deeds(alloc, at, command, message),
+        None => Ok(Err(CloseReason::UnknownCommand)),
     }
 }
 
-/// The act that is read alone, or none.
-fn listed(
-    alloc: Global,
-    read: Result<Option<BurstAct>, BurstFault>,
-) -> Result<Vec<BurstAct, Global>, BurstFault>
-    ensures { AreActsListed read result }
-{
-    let mut acts = Vec::new(alloc);
-    if let Some(act) = read? {
-        if acts.push(act).is_err() {
-            return Err(BurstFault::Memory);
-        }
-    }
-    Ok(acts)
-}
-
-/// What a line means that tells of effects.
-#[tactic(auto, using(crate::proofs::EffectsRead::effects_so))]
-fn read_effects(
+/// What a line means that tells of an effect.
+fn effect_line(
     alloc: Global,
     at: Arrival<'_>,
+    command: EffectCommand,
     message: &Message<'_>,
-) -> Result<Vec<BurstAct, Global>, BurstFault>
-    ensures { IsBurstMeant (parsed message.now) (effects_at at.entry (parsed message.now)) result }
+) -> Result<Result<Vec<Deed, Global>, CloseReason>, AllocError>
+    ensures meant { IfOk result (λ read. deeds_read read ≡ effect_line_at command at.entry
+        (parsed message.now)) }
+    ensures memory { OnErr result (MayWantOf command
+        (effect_line_at command at.entry (parsed message.now))) }
 {
-    let server = server_of(message.prefix);
-    match read_effect(alloc, message, at.room, at.routes, at.link) {
-        Ok(effects) => match all_collided(alloc, at, server.as_ref(), effects) {
-            Ok(acts) => Ok(acts),
-            Err(_) => Err(BurstFault::Memory),
-        },
-        Err(fault) => Err(BurstFault::from(fault)),
+    match tell_effect(alloc, at, command, message)? {
+        Ok(deed) => Ok(Ok(collided(alloc, at, deed)?)),
+        Err(reason) => Ok(Err(reason)),
     }
 }
 
-/// The server whose line it is, if it is one of a server.
-fn server_of(prefix: Option<&[u8]>) -> Option<ServerName>
-    ensures { result ≡ server_of (optional_now prefix.entry) }
-{
-    match prefix {
-        Some(name) => ServerName::read(name),
-        None => None,
-    }
-}
-
-/// What a line of a server means that came by a link, if it means anything.
-#[tactic(auto, using(crate::proofs::LinesRead::lines_so))]
-fn read_command(
+/// What a line of a server means.
+fn server_deeds(
     alloc: Global,
     at: Arrival<'_>,
-    command: Command,
+    command: ServerCommand,
     message: &Message<'_>,
-) -> Result<Option<BurstAct>, BurstFault>
-    ensures { IsActRead (comes_to command at.entry
-        (parsed message.now).prefix (parsed message.now).params) result }
+) -> Result<Result<Vec<Deed, Global>, CloseReason>, AllocError>
+    ensures meant { IfOk result (λ read. deeds_read read ≡ comes_to command at.entry
+        (parsed message.now).prefix (parsed message.now).params) }
+    ensures memory { OnErr result (IsOk (comes_to command at.entry
+        (parsed message.now).prefix (parsed message.now).params)) }
+{
+    match tell_server(alloc, at, command, message)? {
+        Ok(deed) => Ok(Ok(listed(alloc, deed)?)),
+        Err(reason) => Ok(Err(reason)),
+    }
+}
+
+/// What a line of a server tells that came by a link, if it tells anything.
+fn tell_server(
+    alloc: Global,
+    at: Arrival<'_>,
+    command: ServerCommand,
+    message: &Message<'_>,
+) -> Result<Result<Option<Deed>, CloseReason>, AllocError>
+    ensures told { IfOk result (λ told. told_found told ≡ comes_to command at.entry
+        (parsed message.now).prefix (parsed message.now).params) }
+    ensures memory { OnErr result (IsOk (comes_to command at.entry
+        (parsed message.now).prefix (parsed message.now).params)) }
 {
     let params = Params::new(message.params.as_slice());
     match command {
-        Command::Server => server_line(at, message.prefix, params),
-        Command::Pass => pass_line(message.prefix, params),
+        ServerCommand::Server => Ok(server_line(at, message.prefix, params)),
+        ServerCommand::Pass => Ok(pass_line(message.prefix, params)),
         _ => match message.prefix {
             Some(server) => line_of_server(alloc, at, command, server, params),
-            None => Err(BurstFault::Closes(CloseReason::Parameters)),
+            None => Ok(Err(CloseReason::Parameters)),
         },
     }
 }
 
 /// The same of a line that is from a name.
-#[tactic(auto, using(crate::proofs::LinesRead::lines_so))]
 fn line_of_server(
     alloc: Global,
     at: Arrival<'_>,
-    command: Command,
+    command: ServerCommand,
     server: &[u8],
     params: Params<'_>,
-) -> Result<Option<BurstAct>, BurstFault>
-    ensures { IsActRead (comes_to command at.entry (Some server.now) params.entry) result }
+) -> Result<Result<Option<Deed>, CloseReason>, AllocError>
+    ensures told { IfOk result (λ told.
+        told_found told ≡ comes_to command at.entry (Some server.now) params.entry) }
+    ensures memory { OnErr result
+        (IsOk (comes_to command at.entry (Some server.now) params.entry)) }
 {
     match command {
-        Command::Server => server_line(at, Some(server), params),
-        Command::Squit => squit_line(at, server, params),
-        Command::Kill => kill_line(at, server, params),
-        Command::Njoin => njoin_line(alloc, at, server, params),
-        Command::Pass => pass_line(Some(server), params),
+        ServerCommand::Server => Ok(server_line(at, Some(server), params)),
+        ServerCommand::Squit => Ok(squit_line(at, server, params)),
+        ServerCommand::Kill => Ok(kill_line(at, server, params)),
+        ServerCommand::Njoin => njoin_line(alloc, at, server, params),
+        ServerCommand::Pass => Ok(pass_line(Some(server), params)),
     }
 }

@@ -1,23 +1,21 @@
 //! Lines that speak of servers (RFC 2813 section 4.1).
 ghost use Rattle.std.specs.Prelude.{◌≡◌, is_none, Ok, Err, Some, if◌then◌else◌};
-ghost use Rattle.irc_link_words.specs.declared.fault.WireFault.TheVariants.{BadName, BadToken};
-ghost use Rattle.irc_link_words.specs.declared.fault.WireFault.TheVariants.{Parameters};
-ghost use Rattle.irc_link_words.specs.declared.fault.WireFault.TheVariants.{WrongDirection};
+ghost use Rattle.irc_batch.specs.declared.close_reason.CloseReason.TheVariants.{BadName, BadToken};
+ghost use Rattle.irc_batch.specs.declared.close_reason.CloseReason.TheVariants.{Parameters};
+ghost use Rattle.irc_batch.specs.declared.close_reason.CloseReason.TheVariants.{WrongDirection};
 ghost use Rattle.irc_line.specs.MessageViews.{optional_now};
 ghost use Rattle.irc_link_reader.specs.Loops.Readings.{reader};
 ghost use Rattle.irc_routes.specs.Info.{is_info};
 ghost use Rattle.irc_routes.specs.Known.{is_known};
-ghost use Rattle.irc_burst.specs.DeedsMeant.{first_reason, only_first, pass_line};
-ghost use Rattle.irc_burst.specs.Loops.Acts.{closes, is_next_at, is_one_further, may_be_lost};
+ghost use Rattle.irc_burst.specs.DeedsMeant.{only_first, pass_line};
+ghost use Rattle.irc_burst.specs.Loops.Acts.{is_next_at, is_one_further, may_be_lost};
 ghost use Rattle.irc_burst.specs.Loops.Acts.{server_judged_at, server_line_at, squit_line_at};
-ghost use Rattle.irc_burst.specs.Loops.Acts.{told_found, GivesTold};
+ghost use Rattle.irc_burst.specs.Loops.Acts.{GivesTold};
 
-use crate::acts::BurstAct;
-use crate::fault::BurstFault;
 use irc_batch::CloseReason;
 use irc_handshake::{not_taken, read_greeting, read_password};
-use irc_link_reader::{Arrival, expect_from, is_far, server};
-use irc_link_words::{MAX_NUMBER, Params, WireFault, read_number, read_server, read_words};
+use irc_link_reader::{Arrival, Deed, Loss, NewServer, expect_from, is_far, server};
+use irc_link_words::{MAX_NUMBER, Params, read_number, read_server, read_words};
 use irc_routes::Info;
 
 /// A server comes; the line by which one names itself stands at the beginning of a link alone.
@@ -25,7 +23,7 @@ pub(crate) fn server_line(
     at: Arrival<'_>,
     prefix: Option<&[u8]>,
     params: Params<'_>,
-) -> Result<Option<BurstAct>, BurstFault>
+) -> Result<Option<Deed>, CloseReason>
     ensures { GivesTold (server_line_at at.entry (optional_now prefix.entry) params.entry) result }
 {
     match prefix {
@@ -48,7 +46,7 @@ fn later_server(
     at: Arrival<'_>,
     uplink: &[u8],
     mut params: Params<'_>,
-) -> Result<Option<BurstAct>, BurstFault>
+) -> Result<Option<Deed>, CloseReason>
     ensures { GivesTold (server_line_at at.entry (Some uplink.now) params.entry) result }
 {
     let name = params.next()?;
@@ -70,7 +68,7 @@ fn server_told(
     at: Arrival<'_>,
     uplink: &[u8],
     words: ServerWords<'_>,
-) -> Result<Option<BurstAct>, BurstFault>
+) -> Result<Option<Deed>, CloseReason>
     ensures { GivesTold (server_judged_at at.entry uplink.now words.entry) result }
 {
     let distance = read_number(words.distance)?;
@@ -82,35 +80,35 @@ fn server_told(
     let uplink = read_server(uplink)?;
     let name = read_server(words.name)?;
     match not_taken(at.routes, words.name) {
-        Some(reason) => Err(BurstFault::Closes(reason)),
-        None => Ok(Some(BurstAct::Server {
+        Some(reason) => Err(reason),
+        None => Ok(Some(Deed::Server(NewServer {
             uplink,
             name,
             distance,
             token,
             info,
-        })),
+        }))),
     }
 }
 
 /// How a server describes itself.
-fn read_info(bytes: &[u8]) -> Result<Info, WireFault>
+fn read_info(bytes: &[u8]) -> Result<Info, CloseReason>
     ensures { result ≡ (if is_info bytes.now then Ok bytes.now else Err Parameters) }
 {
     match Info::read(bytes) {
         Some(info) => Ok(info),
-        None => Err(WireFault::Parameters),
+        None => Err(CloseReason::Parameters),
     }
 }
 
 /// Refuses a distance that is not one more than that of the server to which the new one is linked.
-fn expect_next_distance(at: Arrival<'_>, uplink: &[u8], distance: u32) -> Result<(), WireFault>
+fn expect_next_distance(at: Arrival<'_>, uplink: &[u8], distance: u32) -> Result<(), CloseReason>
     ensures { result ≡ (if is_next_at at.entry uplink.now distance then Ok tt else Err Parameters) }
 {
     if is_one_further(at, uplink, distance) && distance < MAX_NUMBER {
         Ok(())
     } else {
-        Err(WireFault::Parameters)
+        Err(CloseReason::Parameters)
     }
 }
 
@@ -125,11 +123,11 @@ fn is_one_further(at: Arrival<'_>, uplink: &[u8], distance: u32) -> bool
 }
 
 /// Refuses a number that the neighbour has given to a server already.
-fn expect_free(at: Arrival<'_>, token: u32) -> Result<(), WireFault>
+fn expect_free(at: Arrival<'_>, token: u32) -> Result<(), CloseReason>
     ensures { result ≡ (if is_none ((reader at.entry).server token) then Ok tt else Err BadToken) }
 {
     match server(at, token) {
-        Some(_) => Err(WireFault::BadToken),
+        Some(_) => Err(CloseReason::BadToken),
         None => Ok(()),
     }
 }
@@ -138,23 +136,23 @@ fn expect_free(at: Arrival<'_>, token: u32) -> Result<(), WireFault>
 pub(crate) fn pass_line(
     prefix: Option<&[u8]>,
     params: Params<'_>,
-) -> Result<Option<BurstAct>, BurstFault>
+) -> Result<Option<Deed>, CloseReason>
     ensures { GivesTold (pass_line (optional_now prefix.entry) params.entry) result }
 {
     match prefix {
-        Some(_) => Err(BurstFault::Closes(CloseReason::Parameters)),
+        Some(_) => Err(CloseReason::Parameters),
         None => only_first(read_password(params.rest()).is_some()),
     }
 }
 
 /// A line that stands at the beginning of a link alone, with these parameters or with others.
-fn only_first(are_parameters: bool) -> Result<Option<BurstAct>, BurstFault>
-    ensures { told_found result ≡ closes (first_reason (only_first are_parameters)) }
+fn only_first(are_parameters: bool) -> Result<Option<Deed>, CloseReason>
+    ensures { GivesTold (only_first are_parameters) result }
 {
     if are_parameters {
-        Err(BurstFault::Closes(CloseReason::Order))
+        Err(CloseReason::Order)
     } else {
-        Err(BurstFault::Closes(CloseReason::Parameters))
+        Err(CloseReason::Parameters)
     }
 }
 
@@ -163,7 +161,7 @@ pub(crate) fn squit_line(
     at: Arrival<'_>,
     server: &[u8],
     mut params: Params<'_>,
-) -> Result<Option<BurstAct>, BurstFault>
+) -> Result<Option<Deed>, CloseReason>
     ensures { GivesTold (squit_line_at at.entry server.now params.entry) result }
 {
     let name = params.next()?;
@@ -175,27 +173,27 @@ pub(crate) fn squit_line(
     let server = read_server(server)?;
     let name = read_server(name)?;
     expect_known(at, name.as_bytes())?;
-    Ok(Some(BurstAct::Lost { server, name, text }))
+    Ok(Some(Deed::Lost(Loss { server, name, text })))
 }
 
 /// Refuses a server that is known and not behind the link.
-fn expect_lost(at: Arrival<'_>, name: &[u8]) -> Result<(), WireFault>
+fn expect_lost(at: Arrival<'_>, name: &[u8]) -> Result<(), CloseReason>
     ensures { result ≡ (if may_be_lost at.entry name.now then Ok tt else Err WrongDirection) }
 {
     if !at.routes.is_known(name) || is_far(at, name) {
         Ok(())
     } else {
-        Err(WireFault::WrongDirection)
+        Err(CloseReason::WrongDirection)
     }
 }
 
 /// Refuses a server that is not known.
-fn expect_known(at: Arrival<'_>, name: &[u8]) -> Result<(), WireFault>
+fn expect_known(at: Arrival<'_>, name: &[u8]) -> Result<(), CloseReason>
     ensures { result ≡ (if is_known at.entry.routes.now name.now then Ok tt else Err BadName) }
 {
     if at.routes.is_known(name) {
         Ok(())
     } else {
-        Err(WireFault::BadName)
+        Err(CloseReason::BadName)
     }
 }

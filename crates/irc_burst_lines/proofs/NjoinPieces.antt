@@ -9,12 +9,12 @@ use Rattle.irc_line.specs.Messages.{text, line_text}
 use Rattle.irc_line.specs.Lemmas.CutLaws.{cut_two, cut_all}
 use Rattle.irc_link_writer.specs.Written.{from}
 use Rattle.irc_line.specs.Lemmas.CutPieces.{piece_on}
-use Rattle.irc_burst_lines.specs.declared.njoin_line.Member.{Member}
+use Rattle.irc_link_reader.specs.declared.deed.NewMember.{NewMember}
 use Rattle.irc_burst_lines.specs.DeedLines.{member_text, more_text}
 use Rattle.irc_burst_lines.specs.Loops.Telling.{told_member, told_members}
 
 -- a step of the loop over the members
-pub more_on : (line mid new whole : List ℕ) (members : List Member) (i : ℕ) (d item : Member)
+pub more_on : (line mid new whole : List ℕ) (members : List NewMember) (i : ℕ) (d item : NewMember)
     → i < length members → item ≡ get_or members i d → mid ≡ cut (line ++ codes ",")
     → new ≡ cut (mid ++ member_text (told_member item))
     → cut (line ++ more_text (told_members (drop i members))) ≡ cut whole
@@ -22,11 +22,11 @@ pub more_on : (line mid new whole : List ℕ) (members : List Member) (i : ℕ) 
 more_on line mid new whole members i d item within is comma named so_far =
     let one = cut_two line mid new (codes ",") (member_text (told_member item)) comma named in
     piece_on line new _ _ _
-    (one ∙ ap (λ (m : Member). cut (line ++ (codes "," ++ member_text (told_member m)))) is)
+    (one ∙ ap (λ (m : NewMember). cut (line ++ (codes "," ++ member_text (told_member m)))) is)
     (ap (λ ms. more_text (told_members ms)) (drop_more members i d within))
     ∙ so_far
 
-pub more_done : (line whole : List ℕ) (members : List Member) (i : ℕ) → length members ≤ i
+pub more_done : (line whole : List ℕ) (members : List NewMember) (i : ℕ) → length members ≤ i
     → length line ≤ max_line → cut (line ++ more_text (told_members (drop i members))) ≡ cut whole
     → line ≡ cut whole
 more_done line whole members i past fits so_far =
@@ -64,21 +64,23 @@ njoin_written name channel members a b d line head colon brought ended =
     ended ∙ ap (λ l. l ++ crlf) (whole ∙ ap cut (in_a_row (codes ":" ++ name) channel members))
 
 -- so many of some members
-pub members_taken : (n : ℕ) (members : List Member)
+pub members_taken : (n : ℕ) (members : List NewMember)
     → told_members (take n members) ≡ take n (told_members members)
 members_taken zero members = refl
 members_taken (suc n) [] = refl
 members_taken (suc n) (member ∷ members) =
     ap (λ more. told_member member ∷ more) (members_taken n members)
 
-pub members_left : (n : ℕ) (members : List Member)
+pub members_left : (n : ℕ) (members : List NewMember)
     → told_members (drop n members) ≡ drop n (told_members members)
 members_left zero members = refl
 members_left (suc n) [] = refl
 members_left (suc n) (member ∷ members) = members_left n members
 
-pub members_some : (members : List Member) → 0 < length members → 0 < length (told_members members)
+pub members_some : (members : List NewMember) → 0 < length members
+    → 0 < length (told_members members)
 members_some members some = let long = length-map members told_member in omega (arith, long, some)
 
-pub members_none : (members : List Member) → length members ≡ 0 → length (told_members members) ≡ 0
+pub members_none : (members : List NewMember) → length members ≡ 0
+    → length (told_members members) ≡ 0
 members_none members none = length-map members told_member ∙ none

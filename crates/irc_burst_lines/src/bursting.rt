@@ -1,28 +1,39 @@
 //! The burst: what a server writes to a neighbour that is new (RFC 2813 section 5.3.2).
 //!
 //! The neighbour has to know a server before what is linked to it and before its users, and users
-//! before the channels that they are in. So the order is:
-//! the servers that are not behind the link, the nearer first; their users; channel by channel the
-//! members, the modes, the bans and the topic.
+//! before the channels that they are in. So the order is: the servers that are not behind the link,
+//! the nearer first; their users; channel by channel the members, the modes, the bans and the
+//! topic.
 ghost use Rattle.std.specs.Prelude.{◌≡◌, IfOk, OnOk};
 ghost use Rattle.std.specs.Option.{option_map};
 ghost use Rattle.irc_line.specs.Messages.{text};
-ghost use Rattle.irc_link_writer.specs.Written.{introduction};
 ghost use Rattle.irc_burst_lines.specs.BurstLines.{burst_parts, is_near};
-ghost use Rattle.irc_burst_lines.specs.Loops.Telling.{AreLines, Gains, Tells, channels_told};
-ghost use Rattle.irc_burst_lines.specs.Loops.Telling.{near_row, near_rows, row_parts, rows_told};
-ghost use Rattle.irc_burst_lines.specs.Loops.Telling.{server_rows, told_in, told_member};
-ghost use Rattle.irc_burst_lines.specs.Loops.Telling.{told_members, user_lines, users_now};
-ghost use Rattle.irc_burst_lines.specs.Loops.Telling.{users_told};
+ghost use Rattle.irc_burst_lines.specs.Loops.Telling.{
+  channels_told,
+  near_row,
+  near_rows,
+  row_parts,
+  rows_told,
+  server_rows,
+  told_in,
+  told_member,
+  told_members,
+  user_lines,
+  users_now,
+  users_told,
+  AreLines,
+  Gains,
+  Tells,
+};
 
-use crate::njoin_line::Member;
 use crate::server_lines::server_text;
 use crate::telling::{put, tell_channel};
 use irc_channels::{Channel, Flags, Stored};
 use irc_line::Text;
-use irc_link_writer::write_effect;
+use irc_link_reader::NewMember;
+use irc_link_writer::introduction_line;
 use irc_names::ServerName;
-use irc_room::{Effect, Room};
+use irc_room::Room;
 use irc_routes::{Routes, ServerRow};
 use irc_tables::Row;
 use irc_users::User;
@@ -75,13 +86,12 @@ fn tell_users(
     ensures { OnOk result (Tells (users_told routes.now link room.now.room) lines.old lines.new) }
 {
     let users = room.users()?;
-    tell_each_user(lines, room, routes, link, users.as_slice())
+    tell_each_user(lines, routes, link, users.as_slice())
 }
 
 /// Tells of those of some users that are on this side.
 fn tell_each_user(
     lines: &mut Vec<Text, Global>,
-    room: &Room,
     routes: &Routes,
     link: u64,
     users: &[&User],
@@ -91,17 +101,10 @@ fn tell_each_user(
 {
     for user in users {
         if is_near(routes, link, &user.home) {
-            put(lines, user_text(room, routes, link, user))?;
+            put(lines, introduction_line(routes, user))?;
         }
     }
     Ok(())
-}
-
-/// The line of a user.
-fn user_text(room: &Room, routes: &Routes, link: u64, user: &User) -> Text
-    ensures { result.items ≡ text (introduction routes.now user.now) }
-{
-    write_effect(&Effect::AddUser(user.copy()), room, routes, link)
 }
 
 /// Whether a server is on this side: not behind the link.
@@ -161,13 +164,13 @@ fn tell_one_channel(
 }
 
 /// Those of some members that are on this side.
-fn near_members<'a>(
+fn near_members(
     alloc: Global,
-    room: &'a Room,
+    room: &Room,
     routes: &Routes,
     link: u64,
     rows: &[Row<Flags>],
-) -> Result<Vec<Member<'a>, Global>, AllocError>
+) -> Result<Vec<NewMember, Global>, AllocError>
     ensures { IfOk result (λ members. told_members members.items
         ≡ near_rows routes.now link room.now.room rows.now) }
 {
@@ -179,11 +182,11 @@ fn near_members<'a>(
 }
 
 /// Appends the member, if there is one.
-fn push_if<'a>(
-    members: &mut Vec<Member<'a>, Global>,
-    member: Option<Member<'a>>,
+fn push_if(
+    members: &mut Vec<NewMember, Global>,
+    member: Option<NewMember>,
 ) -> Result<(), AllocError>
-    ensures { OnOk result (Gains members.old member.entry members.new) }
+    ensures { OnOk result (Gains members.old member members.new) }
 {
     if let Some(member) = member {
         members.push(member)?;
@@ -192,17 +195,12 @@ fn push_if<'a>(
 }
 
 /// A member, if it is on this side, with its nickname as it is stored.
-fn near_member<'a>(
-    room: &'a Room,
-    routes: &Routes,
-    link: u64,
-    row: &Row<Flags>,
-) -> Option<Member<'a>>
+fn near_member(room: &Room, routes: &Routes, link: u64, row: &Row<Flags>) -> Option<NewMember>
     ensures { option_map told_member result ≡ near_row routes.now link room.now.room row.now }
 {
     match room.user(row.name.as_slice()) {
-        Some(user) if is_near(routes, link, &user.home) => Some(Member {
-            nick: user.nick.as_bytes(),
+        Some(user) if is_near(routes, link, &user.home) => Some(NewMember {
+            nick: user.nick.copy(),
             flags: row.value,
         }),
         _ => None,

@@ -12,8 +12,9 @@ mod set_modes;
 mod telling;
 
 pub use bursting::burst;
+pub use irc_link_reader::NewMember;
 pub use mode_line::mode_text;
-pub use njoin_line::{Member, njoin_text};
+pub use njoin_line::njoin_text;
 pub use server_lines::{kill_text, server_text, squit_text, topic_text};
 
 /// How many members one NJOIN brings (our own choice).

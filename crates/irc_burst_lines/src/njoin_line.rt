@@ -9,21 +9,13 @@ ghost use Rattle.irc_burst_lines.specs.Loops.Telling.{told_member, told_members,
 
 use irc_channels::Flags;
 use irc_line::{Text, push_cut};
+use irc_link_reader::NewMember;
 use irc_link_writer::push_head;
 use irc_names::{ChannelName, ServerName};
 
-/// A member of a channel, as NJOIN brings it.
-#[derive(Clone, Copy)]
-pub struct Member<'a> {
-    /// Its nickname.
-    pub nick: &'a [u8],
-    /// What it may do.
-    pub flags: Flags,
-}
-
 /// The line that brings members of a channel, each with its flags: `:a.net NJOIN #c
 /// :@al,+bo,@+cy,dee`.
-pub fn njoin_text(server: &ServerName, channel: &ChannelName, members: &[Member<'_>]) -> Text
+pub fn njoin_text(server: &ServerName, channel: &ChannelName, members: &[NewMember]) -> Text
     ensures { result.items ≡ text (njoin_parts server.now channel.now (told_members members.now)) }
 {
     let mut line = Text::new();
@@ -35,7 +27,7 @@ pub fn njoin_text(server: &ServerName, channel: &ChannelName, members: &[Member<
 }
 
 /// Appends members, each but the first after a comma.
-fn push_members(line: &mut Text, members: &[Member<'_>])
+fn push_members(line: &mut Text, members: &[NewMember])
     requires { array_vec_len line.old ≤ max_line }
     ensures pushed { line.new.items ≡ cut (line.old.items ++ told_text members.now) }
     ensures still_cut { array_vec_len line.new ≤ max_line }
@@ -50,7 +42,7 @@ fn push_members(line: &mut Text, members: &[Member<'_>])
 }
 
 /// Appends members, each after a comma.
-fn push_more(line: &mut Text, members: &[Member<'_>])
+fn push_more(line: &mut Text, members: &[NewMember])
     requires { array_vec_len line.old ≤ max_line }
     ensures pushed { line.new.items ≡ cut (line.old.items ++ more_text (told_members members.now)) }
     ensures still_cut { array_vec_len line.new ≤ max_line }
@@ -63,14 +55,14 @@ fn push_more(line: &mut Text, members: &[Member<'_>])
 }
 
 /// Appends a member: `@` before an operator, `+` before who may speak.
-fn push_member(line: &mut Text, member: &Member<'_>)
+fn push_member(line: &mut Text, member: &NewMember)
     requires { array_vec_len line.old ≤ max_line }
     ensures pushed { line.new.items ≡ cut (line.old.items ++ member_text (told_member member.now)) }
     ensures still_cut { array_vec_len line.new ≤ max_line }
 {
     push_cut(line, operator_mark(member.flags));
     push_cut(line, voice_mark(member.flags));
-    push_cut(line, member.nick);
+    push_cut(line, member.nick.as_bytes());
 }
 
 /// What stands before an operator.

@@ -5,12 +5,13 @@ ghost use Rattle.irc_burst_lines.specs.Loops.Telling.{lines_of_channel, lines_of
 ghost use Rattle.irc_burst_lines.specs.Loops.Telling.{lines_of_modes, topic_lines};
 
 use crate::mode_line::mode_text;
-use crate::njoin_line::{Member, njoin_text};
+use crate::njoin_line::njoin_text;
 use crate::server_lines::topic_text;
 use crate::set_modes::{ban_changes, set_changes};
 use crate::{BANS_A_LINE, MEMBERS_A_LINE};
 use irc_channels::{Channel, Words};
 use irc_line::Text;
+use irc_link_reader::NewMember;
 use irc_modes::ModeChange;
 use irc_names::{ChannelName, ServerName};
 use std::alloc::{AllocError, Global};
@@ -29,7 +30,7 @@ pub(crate) fn tell_channel(
     lines: &mut Vec<Text, Global>,
     server: &ServerName,
     channel: &Channel,
-    members: &[Member<'_>],
+    members: &[NewMember],
 ) -> Result<(), AllocError>
     ensures { OnOk result
         (Tells (lines_of_channel server.now channel.now members.now) lines.old lines.new) }
@@ -48,7 +49,7 @@ fn tell_members(
     lines: &mut Vec<Text, Global>,
     server: &ServerName,
     channel: &ChannelName,
-    members: &[Member<'_>],
+    members: &[NewMember],
 ) -> Result<(), AllocError>
     ensures { OnOk result
         (Tells (lines_of_members server.now channel.now members.now) lines.old lines.new) }

@@ -1,6 +1,6 @@
 //! What a line of a link is to the server.
 use irc_batch::CloseReason;
-use irc_burst::BurstAct;
+use irc_burst::Deed;
 use irc_handshake::Password;
 use irc_names::ServerName;
 use irc_routes::Info;
@@ -24,5 +24,5 @@ pub enum Heard {
         info: Info,
     },
     /// It tells of this, in order.
-    Tells(Vec<BurstAct, Global>),
+    Tells(Vec<Deed, Global>),
 }

@@ -3,13 +3,13 @@ ghost use Rattle.std.specs.Prelude.{◌≡◌};
 ghost use Rattle.irc_line.specs.MessageViews.{parsed};
 ghost use Rattle.irc_line.specs.Reading.{read_of};
 ghost use Rattle.irc_stage.specs.Loops.Stage.{view_of};
-ghost use Rattle.irc_deeds.specs.Heard.{heard, message_heard};
+ghost use Rattle.irc_burst.specs.Loops.Acts.{deeds_read};
+ghost use Rattle.irc_deeds.specs.Heard.{heard, message_heard, of_met};
 ghost use Rattle.irc_deeds.specs.Loops.Hearing.{given_of, greeted, heard_of, opened_as, IsHeard};
-ghost use Rattle.irc_deeds.specs.Loops.Hearing.{IsHeardOf};
 
 use crate::heard::Heard;
 use irc_batch::CloseReason;
-use irc_burst::{BurstAct, BurstFault, read_burst_line, read_handshake_line};
+use irc_burst::{Deed, read_handshake_line, read_line};
 use irc_handshake::{Opening, refusal};
 use irc_line::{LineFault, Message, parse};
 use irc_link_reader::Arrival;
@@ -19,8 +19,8 @@ use irc_routes::Info;
 use irc_stage::Stage;
 use std::alloc::{AllocError, Global};
 
-/// What a line is that came by a link. Before the server at the other end has named itself, its two
-/// lines of the handshake are taken; afterwards what it tells.
+/// What a line is that came by a link. Before the server at the other end has named itself, its
+/// two lines of the handshake are taken; afterwards what it tells.
 ///
 /// # Errors
 /// Where memory runs out.
@@ -50,23 +50,21 @@ fn hear_message(
         link,
     };
     if end.is_met() {
-        return told(read_burst_line(stage.alloc(), message, at.room, at.routes, link));
+        return Ok(told(read_line(stage.alloc(), at, message)?));
     }
-    match read_handshake_line(stage.alloc(), message, at, end.password().is_some()) {
+    match read_handshake_line(stage.alloc(), message, at, end.password().is_some())? {
         Ok(opening) => Ok(open(stage, end, opening)),
-        Err(BurstFault::Closes(reason)) => Ok(Heard::Closes(reason)),
-        Err(BurstFault::Memory) => Err(AllocError),
+        Err(reason) => Ok(Heard::Closes(reason)),
     }
 }
 
 /// What is read behind the handshake.
-fn told(read: Result<Vec<BurstAct, Global>, BurstFault>) -> Result<Heard, AllocError>
-    ensures { IsHeardOf read result }
+fn told(read: Result<Vec<Deed, Global>, CloseReason>) -> Heard
+    ensures { heard_of result ≡ of_met (deeds_read read) }
 {
     match read {
-        Ok(acts) => Ok(Heard::Tells(acts)),
-        Err(BurstFault::Closes(reason)) => Ok(Heard::Closes(reason)),
-        Err(BurstFault::Memory) => Err(AllocError),
+        Ok(deeds) => Heard::Tells(deeds),
+        Err(reason) => Heard::Closes(reason),
     }
 }
 

@@ -2,15 +2,18 @@
 ghost use Rattle.std.specs.Prelude.{◌≡◌, OnOk, IfOk};
 ghost use Rattle.std.specs.Option.{option_copied};
 ghost use Rattle.irc_batch.specs.Growing.{Grew};
+ghost use Rattle.irc_burst.specs.Loops.Acts.{loss_told};
+ghost use Rattle.irc_merge.specs.Deeds.{loses};
 ghost use Rattle.irc_routes.specs.Known.{names_behind};
 ghost use Rattle.irc_stage.specs.Loops.Stage.{view_of, IsServing};
 ghost use Rattle.irc_stage.specs.Loops.Linking.{IsMetAt};
 ghost use Rattle.irc_deeds.specs.DeedTold.{split_text};
 ghost use Rattle.irc_deeds.specs.Loops.Serving.{far_of, Loses, LosesAll, LosesBehind};
 
-use crate::telling::{Loss, lose};
+use crate::telling::lose;
 use arrayvec::ArrayVec;
 use irc_batch::Batch;
+use irc_burst::Loss;
 use irc_channels::Words;
 use irc_names::ServerName;
 use irc_stage::Stage;
@@ -84,14 +87,20 @@ fn lose_all(
     let text = split_text(&own, far);
     let names = names_behind(stage, link)?;
     for name in &names {
-        let loss = Loss {
-            server: &own,
-            name,
-            text: &text,
-        };
-        lose(stage, link, loss, out)?;
+        lose(stage, link, &lost(&own, name, &text), out)?;
     }
     Ok(())
+}
+
+/// A server that is lost, as a line of this one tells of it.
+fn lost(own: &ServerName, name: &ServerName, text: &Words) -> Loss
+    ensures { loss_told result ≡ loses own.now name.now text.now }
+{
+    Loss {
+        server: own.copy(),
+        name: name.copy(),
+        text: text.copy(),
+    }
 }
 
 /// The text with which the users of a lost side quit: the near end of the link, and the far one.

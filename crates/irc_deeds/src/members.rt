@@ -1,112 +1,64 @@
 //! Members of a channel, as a server brings them (RFC 2813 section 4.2.2).
 ghost use Rattle.std.specs.Prelude.{◌≡◌, Some, IfOk, OnOk};
-ghost use Rattle.std.specs.List.{flat_map};
 ghost use Rattle.irc_batch.specs.Growing.{Grew};
-ghost use Rattle.irc_burst.specs.Loops.Acts.{members_told};
-ghost use Rattle.irc_burst_lines.specs.Loops.Telling.{told_members};
-ghost use Rattle.irc_merge.specs.Deeds.{brings, member_comes};
+ghost use Rattle.irc_burst.specs.Loops.Acts.{arrivals_told};
 ghost use Rattle.irc_stage.specs.Loops.Linking.{IsMetAt};
 ghost use Rattle.irc_stage.specs.Loops.Stage.{IsServing, Keeps};
-ghost use Rattle.irc_deeds.specs.Loops.Telling.{brings_of, coming_of, flag_of, given_by};
-ghost use Rattle.irc_deeds.specs.Loops.Telling.{ChangesAll, DoesDeed};
+ghost use Rattle.irc_deeds.specs.Loops.Telling.{all_come, coming_of, flag_of, given_by, ChangesAll};
+ghost use Rattle.irc_deeds.specs.Loops.Telling.{DoesDeed};
 
 use irc_batch::Batch;
-use irc_burst::NewMember;
-use irc_burst_lines::{Member, njoin_text};
+use irc_burst::{Arrivals, NewMember};
+use irc_burst_lines::njoin_text;
 use irc_modes::{ModeChange, ModeLetter, ModeWord};
-use irc_names::{ChannelName, Nick, ServerName};
+use irc_names::{ChannelName, Nick};
 use irc_room::{By, Effect, ModeChanges};
 use irc_stage::Stage;
 use std::alloc::{AllocError, Global};
-
-/// Those who become members of a channel.
-#[derive(Clone, Copy)]
-pub(crate) struct Arrivals<'a> {
-    /// Whose line it is.
-    pub server: &'a ServerName,
-    /// The channel.
-    pub channel: &'a ChannelName,
-    /// Those who become members.
-    pub members: &'a [NewMember],
-}
-
-impl<'a> Arrivals<'a> {
-    /// These members.
-    pub(crate) fn of(
-        server: &'a ServerName,
-        channel: &'a ChannelName,
-        members: &'a [NewMember],
-    ) -> Arrivals<'a>
-        ensures { brings_of result ≡ brings server.now channel.now (members_told members.now) }
-    {
-        Arrivals {
-            server,
-            channel,
-            members,
-        }
-    }
-}
 
 /// Users become members of a channel, which takes the spelling of the line first, where that is the
 /// greater; each has its flags, and the others are told.
 ///
 /// # Errors
 /// Where memory runs out.
-pub(crate) fn bring_all(
+pub(crate) fn bring(
     stage: &mut Stage,
     link: u64,
-    arrivals: Arrivals<'_>,
+    arrivals: &Arrivals,
     out: &mut Batch,
 ) -> Result<(), AllocError>
     requires serving { IsServing stage.old }
     requires met { IsMetAt link stage.old }
     ensures ok { OnOk result
-        (DoesDeed (Some link) (brings_of arrivals.entry) stage.old out.old stage.new out.new) }
+        (DoesDeed (Some link) (arrivals_told arrivals.now) stage.old out.old stage.new out.new) }
     ensures serving { OnOk result (IsServing stage.new) }
     ensures met { OnOk result (IsMetAt link stage.new) }
     ensures grew { Grew out.old.outs out.new.outs }
 {
-    let told = as_told(stage.alloc(), arrivals.members)?;
-    let line = njoin_text(arrivals.server, arrivals.channel, told.as_slice());
-    stage.respell(arrivals.channel);
-    come_all(stage, link, arrivals, out)?;
+    let members = arrivals.members.as_slice();
+    let line = njoin_text(&arrivals.server, &arrivals.channel, members);
+    stage.respell(&arrivals.channel);
+    come_all(stage, link, &arrivals.channel, members, out)?;
     stage.tell_all(Some(link), &line, out)
-}
-
-/// The members as a line brings them.
-fn as_told<'a>(
-    alloc: Global,
-    members: &'a [NewMember],
-) -> Result<Vec<Member<'a>, Global>, AllocError>
-    ensures { IfOk result (λ told. told_members told.items ≡ members_told members.now) }
-{
-    let mut told = Vec::new(alloc);
-    for member in members {
-        told.push(Member {
-            nick: member.nick.as_bytes(),
-            flags: member.flags,
-        })?;
-    }
-    Ok(told)
 }
 
 /// Each of them becomes a member.
 fn come_all(
     stage: &mut Stage,
     link: u64,
-    arrivals: Arrivals<'_>,
+    channel: &ChannelName,
+    members: &[NewMember],
     out: &mut Batch,
 ) -> Result<(), AllocError>
     requires serving { IsServing stage.old }
     ensures ok { OnOk result
-        (ChangesAll (flat_map (member_comes arrivals.entry.channel.now)
-        (members_told arrivals.entry.members.now)) stage.old out.old stage.new out.new) }
+        (ChangesAll (all_come channel.now members.now) stage.old out.old stage.new out.new) }
     ensures serving { OnOk result (IsServing stage.new) }
     ensures keeps { Keeps stage.old stage.new }
     ensures grew { Grew out.old.outs out.new.outs }
 {
-    for member in arrivals.members {
-        come(stage, link, arrivals.channel, member, out)?;
+    for member in members {
+        come(stage, link, channel, member, out)?;
     }
     Ok(())
 }

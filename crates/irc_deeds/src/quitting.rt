@@ -1,13 +1,13 @@
 //! The users of a server that is lost quit.
 ghost use Rattle.std.specs.Prelude.{◌≡◌, [], ◌∷◌, map, IfOk, OnOk};
 ghost use Rattle.irc_batch.specs.Growing.{Grew};
-ghost use Rattle.irc_merge.specs.Quits.{quits_of, users_at};
+ghost use Rattle.irc_merge.specs.Quits.{users_at};
 ghost use Rattle.irc_room.specs.effect.Effect.TheVariants.{Quit};
-ghost use Rattle.irc_stage.specs.Loops.Stage.{view_of, IsServing, Keeps};
-ghost use Rattle.irc_deeds.specs.Loops.Telling.{ChangesAll};
+ghost use Rattle.irc_stage.specs.Loops.Stage.{IsServing, Keeps};
+ghost use Rattle.irc_deeds.specs.Loops.Telling.{quits_by, ChangesAll};
 
-use crate::telling::Loss;
 use irc_batch::Batch;
+use irc_burst::Loss;
 use irc_channels::Words;
 use irc_names::{Nick, ServerName};
 use irc_room::{Effect, Room};
@@ -21,28 +21,27 @@ use std::alloc::{AllocError, Global};
 pub(crate) fn quit_all(
     stage: &mut Stage,
     link: u64,
-    loss: Loss<'_>,
+    loss: &Loss,
     out: &mut Batch,
 ) -> Result<(), AllocError>
     requires serving { IsServing stage.old }
     ensures ok { OnOk result
-        (ChangesAll (quits_of loss.entry.text.now (users_at loss.entry.name.now
-        (view_of stage.old).room)) stage.old out.old stage.new out.new) }
+        (ChangesAll (quits_by loss.now stage.old) stage.old out.old stage.new out.new) }
     ensures serving { OnOk result (IsServing stage.new) }
     ensures keeps { Keeps stage.old stage.new }
     ensures grew { Grew out.old.outs out.new.outs }
 {
-    let nicks = nicks_at(stage.alloc(), stage.room(), loss.name)?;
+    let nicks = nicks_at(stage.alloc(), stage.room(), &loss.name)?;
     for nick in &nicks {
-        quit(stage, link, nick, loss.text, out)?;
+        quit(stage, link, nick, &loss.text, out)?;
     }
     Ok(())
 }
 
 /// The nicknames of the users of a server, in folded order.
 fn nicks_at(alloc: Global, room: &Room, home: &ServerName) -> Result<Vec<Nick, Global>, AllocError>
-    ensures { IfOk result
-        (λ nicks. nicks.items ≡ map (λ user. user.nick) (users_at home.now room.now.room)) }
+    ensures { IfOk result (λ nicks. nicks.items
+        ≡ map (λ user. user.nick) (users_at home.now room.now.room)) }
 {
     let mut nicks = Vec::new(alloc);
     let users = room.users_at(home)?;

@@ -1,5 +1,5 @@
-//! What happens by a link: it is opened, a line comes by it, it is lost (RFC 2813 sections 4.1 and
-//! 5).
+//! What happens by a link: it is opened, a line comes by it, it is lost (RFC 2813 sections 4.1
+//! and 5).
 ghost use Rattle.std.specs.Prelude.{◌≡◌, None, OnOk};
 ghost use Rattle.std.specs.FinMap.{get};
 ghost use Rattle.irc_batch.specs.Growing.{Grew};
@@ -16,13 +16,14 @@ use crate::hearing::hear;
 use crate::losing::lose_link;
 use crate::telling::{gain, tell_all};
 use irc_batch::{Batch, CloseReason};
+use irc_burst::NewServer;
 use irc_burst_lines::burst;
 use irc_handshake::{greeting_text, pass_text};
 use irc_line::Text;
 use irc_links::LinkEnd;
 use irc_names::ServerName;
 use irc_routes::Info;
-use irc_stage::{Newcomer, Stage};
+use irc_stage::Stage;
 use std::alloc::AllocError;
 
 /// A link is opened: this end calls the server of this name, and begins, or it is called, and
@@ -106,8 +107,8 @@ fn follow(stage: &mut Stage, link: u64, heard: Heard, out: &mut Batch) -> Result
             stage.take_password(link, password);
             Ok(())
         }
-        Heard::Meets { name, info } => meet(stage, link, name, &info, out),
-        Heard::Tells(acts) => tell_all(stage, link, acts.as_slice(), out),
+        Heard::Meets { name, info } => meet(stage, link, name, info, out),
+        Heard::Tells(deeds) => tell_all(stage, link, deeds.as_slice(), out),
     }
 }
 
@@ -116,27 +117,26 @@ fn meet(
     stage: &mut Stage,
     link: u64,
     name: ServerName,
-    info: &Info,
+    info: Info,
     out: &mut Batch,
 ) -> Result<(), AllocError>
     requires serving { IsServing stage.old }
     requires there { IsOpenAt link stage.old }
-    ensures ok { OnOk result (Meets link name info.now stage.old out.old stage.new out.new) }
+    ensures ok { OnOk result (Meets link name info stage.old out.old stage.new out.new) }
     ensures serving { OnOk result (IsServing stage.new) }
     ensures grew { Grew out.old.outs out.new.outs }
 {
     answer(stage, link, &name, out)?;
-    let own = stage.routes().name().copy();
+    let uplink = stage.routes().name().copy();
     stage.meet(link, name.copy());
-    let newcomer = Newcomer {
-        link,
-        uplink: &own,
-        name: &name,
+    let server = NewServer {
+        uplink,
+        name,
         distance: 1,
         token: 1,
         info,
     };
-    gain(stage, newcomer, out)
+    gain(stage, link, &server, out)
 }
 
 /// What an end owes a server that has named itself: the end that is called begins now, and both

@@ -1,3 +1,5 @@
 pub mod FarMembers
-pub mod FoundGiven
+pub mod RowsTold
+pub mod ChangesTold
+pub mod EffectsMeant
 pub mod Newcomers

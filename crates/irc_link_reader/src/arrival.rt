@@ -2,17 +2,17 @@
 ghost use Rattle.std.specs.Prelude.{◌≡◌, Ok, Err, is_some, true, if◌then◌else◌, option_to_list};
 ghost use Rattle.std.specs.List.{list_any};
 ghost use Rattle.std.specs.Option.{option_copied, option_map_or};
+ghost use Rattle.irc_batch.specs.declared.close_reason.CloseReason.TheVariants.{WrongDirection};
 ghost use Rattle.irc_names.specs.Fold.{key};
 ghost use Rattle.irc_room.specs.Readers.{channel_at};
 ghost use Rattle.irc_room.specs.Effects.{needs_users};
-ghost use Rattle.irc_link_words.specs.declared.fault.WireFault.TheVariants.{WrongDirection};
 ghost use Rattle.irc_link_reader.specs.Loops.Readings.{are_there, has_home, is_far_user};
 ghost use Rattle.irc_link_reader.specs.Loops.Readings.{is_member_far, reader};
 ghost use Rattle.irc_link_reader.specs.Means.{if_there, is_distance_of};
 ghost use Rattle.irc_link_reader.specs.Reader.{may_come};
 
+use irc_batch::CloseReason;
 use irc_channels::Flags;
-use irc_link_words::WireFault;
 use irc_names::{Nick, ServerName, is_nick, is_server};
 use irc_room::{Effect, Room};
 use irc_routes::Routes;
@@ -75,15 +75,15 @@ fn may_come(at: Arrival<'_>, name: &[u8]) -> bool
 /// Refuses a line from a name that may not come by the link.
 ///
 /// # Errors
-/// [`WireFault::WrongDirection`] where the name is that of a server that is not behind the link,
+/// [`CloseReason::WrongDirection`] where the name is that of a server that is not behind the link,
 /// or of a user that is at home on one.
-pub fn expect_from(at: Arrival<'_>, name: &[u8]) -> Result<(), WireFault>
+pub fn expect_from(at: Arrival<'_>, name: &[u8]) -> Result<(), CloseReason>
     ensures { result ≡ (if may_come (reader at.entry) name.now then Ok tt else Err WrongDirection) }
 {
     if may_come(at, name) {
         Ok(())
     } else {
-        Err(WireFault::WrongDirection)
+        Err(CloseReason::WrongDirection)
     }
 }
 

@@ -1,19 +1,20 @@
 //! Lines of a link read as effects (RFC 2813 section 4).
-ghost use Rattle.std.specs.Prelude.{Some};
+ghost use Rattle.std.specs.Prelude.{◌≡◌, IfOk, option_to_list};
+ghost use Rattle.std.specs.Option.{option_map};
 ghost use Rattle.irc_line.specs.MessageViews.{parsed};
-ghost use Rattle.irc_link_reader.specs.Loops.Readings.{IsListed, IsRead};
-ghost use Rattle.irc_link_reader.specs.Means.{IsMeantIn};
+ghost use Rattle.irc_link_reader.specs.Loops.Readings.{IsGiven, row};
+ghost use Rattle.irc_link_reader.specs.Loops.Tellings.{act_told, effect_of_told, effects_of};
+ghost use Rattle.irc_link_reader.specs.Means.{IsMeantIn, wire_row_of};
 
 use crate::arrival::Arrival;
-use crate::commands::{Command, command_of};
-use crate::reading_channels::{join_line, kick_line, part_line, topic_line};
-use crate::reading_modes::mode_line;
-use crate::reading_users::{invite_line, nick_line, quit_line, say_line};
+use crate::deed::{Deed, Setting, Topic};
+use crate::telling::tell_effect;
+use irc_batch::CloseReason;
 use irc_line::Message;
-use irc_link_words::{Params, WireFault};
-use irc_room::{Effect, Room};
+use irc_link_words::{Command, EffectCommand, WireFault, command_of};
+use irc_room::{By, Effect, Room};
 use irc_routes::Routes;
-use std::alloc::Global;
+use std::alloc::{AllocError, Global};
 
 /// What a line means that came by a link: the effects that it tells of. Where a nickname in it is
 /// nobody's, there are none.
@@ -36,69 +37,78 @@ pub fn read_effect(
     ensures { IsMeantIn room.now.room routes.now link (parsed message.now) result }
 {
     let at = Arrival { room, routes, link };
-    match command_of(message.command) {
-        Some(command) => listed(alloc, read_command(alloc, at, command, message)),
-        None => Err(WireFault::UnknownCommand),
+    let Some(command) = effect_command(message.command) else {
+        return Err(WireFault::UnknownCommand);
+    };
+    match tell_effect(alloc, at, command, message) {
+        Ok(told) => given(alloc, told),
+        Err(_) => Err(WireFault::Memory),
     }
 }
 
-/// The effect that is found alone, or none.
-fn listed(
+/// The command that a word is, if it is one of a line that tells of an effect.
+#[tactic(auto, using(crate::specs::Lemmas::EffectRows::effect_rows))]
+fn effect_command(word: &[u8]) -> Option<EffectCommand>
+    ensures { option_map row result ≡ wire_row_of word.now }
+{
+    match command_of(word) {
+        Some(Command::OfEffects(command)) => Some(command),
+        Some(Command::OfServers(_)) => None,
+        None => None,
+    }
+}
+
+/// The effect of what is told, or the fault that its reason is.
+fn given(
     alloc: Global,
-    found: Result<Option<Effect>, WireFault>,
+    told: Result<Option<Deed>, CloseReason>,
 ) -> Result<Vec<Effect, Global>, WireFault>
-    ensures { IsListed found result }
+    ensures { IsGiven told result }
+{
+    match told {
+        Ok(deed) => match listed(alloc, deed) {
+            Ok(effects) => Ok(effects),
+            Err(_) => Err(WireFault::Memory),
+        },
+        Err(reason) => Err(WireFault::from(reason)),
+    }
+}
+
+/// The effect of a deed alone, or none.
+fn listed(alloc: Global, deed: Option<Deed>) -> Result<Vec<Effect, Global>, AllocError>
+    ensures { IfOk result (λ effects. effects.items ≡ effects_of deed) }
 {
     let mut effects = Vec::new(alloc);
-    if let Some(effect) = found? {
-        if effects.push(effect).is_err() {
-            return Err(WireFault::Memory);
+    if let Some(deed) = deed {
+        if let Some(effect) = effect_of(deed) {
+            effects.push(effect)?;
         }
     }
     Ok(effects)
 }
 
-/// What a line of a command means.
-#[tactic(auto, using(crate::proofs::FoundGiven::found_so))]
-fn read_command(
-    alloc: Global,
-    at: Arrival<'_>,
-    command: Command,
-    message: &Message<'_>,
-) -> Result<Option<Effect>, WireFault>
-    ensures { IsRead command at.entry (parsed message.now).prefix
-        (parsed message.now).params result }
+/// The effect of a deed, if it is one of a line that tells of effects.
+fn effect_of(deed: Deed) -> Option<Effect>
+    ensures { option_to_list result ≡ effect_of_told (act_told deed) }
 {
-    let params = Params::new(message.params.as_slice());
-    if let Command::Nick = command {
-        return nick_line(at, message.prefix, params);
-    }
-    match message.prefix {
-        Some(name) => named_line(alloc, at, command, name, params),
-        None => Err(WireFault::Parameters),
-    }
-}
-
-/// What a line of a command means that is from a name.
-#[tactic(auto, using(crate::proofs::FoundGiven::found_so))]
-fn named_line(
-    alloc: Global,
-    at: Arrival<'_>,
-    command: Command,
-    name: &[u8],
-    params: Params<'_>,
-) -> Result<Option<Effect>, WireFault>
-    ensures { IsRead command at.entry (Some name.now) params.entry result }
-{
-    match command {
-        Command::Nick => nick_line(at, Some(name), params),
-        Command::Quit => quit_line(at, name, params),
-        Command::Join => join_line(at, name, params),
-        Command::Part => part_line(at, name, params),
-        Command::Kick => kick_line(at, name, params),
-        Command::Mode => mode_line(alloc, at, name, params),
-        Command::Topic => topic_line(at, name, params),
-        Command::Say(notice) => say_line(at, notice, name, params),
-        Command::Invite => invite_line(at, name, params),
+    match deed {
+        Deed::Does(effect) => Some(effect),
+        Deed::Modes(
+            Setting {
+                channel,
+                changes,
+                ..
+            },
+        ) => Some(Effect::ChangeModes {
+            by: By::Home,
+            channel,
+            changes,
+        }),
+        Deed::Topic(Topic { channel, text, .. }) => Some(Effect::SetTopic {
+            by: By::Home,
+            channel,
+            text,
+        }),
+        _ => None,
     }
 }

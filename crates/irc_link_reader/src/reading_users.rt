@@ -10,10 +10,10 @@ ghost use Rattle.irc_link_reader.specs.Means.{say_line};
 ghost use Rattle.irc_link_words.specs.Words.{with_i, without_i};
 
 use crate::arrival::{Arrival, expect_from, if_there, is_distance_of, server};
+use irc_batch::CloseReason;
 use irc_link_words::{
-    Params, WireFault, is_come_mode, is_real_name, is_user_name, is_with_i, is_without_i,
-    read_channel, read_host, read_line, read_nick, read_number, read_target, read_words, real_name,
-    user_name,
+    Params, is_come_mode, is_real_name, is_user_name, is_with_i, is_without_i, read_channel,
+    read_host, read_line, read_nick, read_number, read_target, read_words, real_name, user_name,
 };
 use irc_names::{ServerName, is_nick, same};
 use irc_room::Effect;
@@ -24,7 +24,7 @@ pub(crate) fn quit_line(
     at: Arrival<'_>,
     nick: &[u8],
     mut params: Params<'_>,
-) -> Result<Option<Effect>, WireFault>
+) -> Result<Option<Effect>, CloseReason>
     ensures { ReadsEffect quit_line at.entry (Some nick.now) params.entry result }
 {
     let text = params.next()?;
@@ -41,7 +41,7 @@ pub(crate) fn say_line(
     notice: bool,
     by: &[u8],
     mut params: Params<'_>,
-) -> Result<Option<Effect>, WireFault>
+) -> Result<Option<Effect>, CloseReason>
     ensures { ReadsEffect (say_line notice) at.entry (Some by.now) params.entry result }
 {
     let target = params.next()?;
@@ -67,7 +67,7 @@ pub(crate) fn invite_line(
     at: Arrival<'_>,
     by: &[u8],
     mut params: Params<'_>,
-) -> Result<Option<Effect>, WireFault>
+) -> Result<Option<Effect>, CloseReason>
     ensures { ReadsEffect invite_line at.entry (Some by.now) params.entry result }
 {
     let nick = params.next()?;
@@ -85,7 +85,7 @@ pub(crate) fn nick_line(
     at: Arrival<'_>,
     prefix: Option<&[u8]>,
     params: Params<'_>,
-) -> Result<Option<Effect>, WireFault>
+) -> Result<Option<Effect>, CloseReason>
     ensures { ReadsEffect nick_line at.entry (optional_now prefix.entry) params.entry result }
 {
     match prefix {
@@ -99,7 +99,7 @@ fn rename_line(
     at: Arrival<'_>,
     nick: &[u8],
     mut params: Params<'_>,
-) -> Result<Option<Effect>, WireFault>
+) -> Result<Option<Effect>, CloseReason>
     ensures { ReadsEffect nick_line at.entry (Some nick.now) params.entry result }
 {
     let new = params.next()?;
@@ -123,8 +123,7 @@ struct Newcomer<'a> {
 }
 
 /// The words of the line that a user comes with.
-#[tactic(auto, using(crate::proofs::Newcomers::newcomers))]
-fn words_of_newcomer(mut params: Params<'_>) -> Result<Newcomer<'_>, WireFault>
+fn words_of_newcomer(mut params: Params<'_>) -> Result<Newcomer<'_>, CloseReason>
     ensures { IsNewcomer params.entry result }
 {
     let nick = params.next()?;
@@ -147,7 +146,7 @@ fn words_of_newcomer(mut params: Params<'_>) -> Result<Newcomer<'_>, WireFault>
 }
 
 /// A user comes (RFC 2813 section 4.1.3).
-fn introduction_line(at: Arrival<'_>, params: Params<'_>) -> Result<Option<Effect>, WireFault>
+fn introduction_line(at: Arrival<'_>, params: Params<'_>) -> Result<Option<Effect>, CloseReason>
     ensures { ReadsEffect nick_line at.entry None params.entry result }
 {
     let words = words_of_newcomer(params)?;
@@ -165,7 +164,7 @@ fn introduction_line(at: Arrival<'_>, params: Params<'_>) -> Result<Option<Effec
 }
 
 /// The server that a user comes from, where the words of the line keep their rules.
-fn read_home<'a>(at: Arrival<'a>, words: Newcomer<'_>) -> Result<&'a ServerName, WireFault>
+fn read_home<'a>(at: Arrival<'a>, words: Newcomer<'_>) -> Result<&'a ServerName, CloseReason>
     ensures home { home_now result ≡ home_or_fault (reader at.entry) words.entry }
     ensures right { IsOk result → are_right words.entry ≡ true }
 {
@@ -173,9 +172,9 @@ fn read_home<'a>(at: Arrival<'a>, words: Newcomer<'_>) -> Result<&'a ServerName,
     let token = read_number(words.token)?;
     let home = server(at, token);
     if !are_right(words) || !is_distance_of(at, home, distance) {
-        return Err(WireFault::Parameters);
+        return Err(CloseReason::Parameters);
     }
-    home.ok_or(WireFault::BadToken)
+    home.ok_or(CloseReason::BadToken)
 }
 
 /// Whether the words that are neither names nor numbers keep their rules.
@@ -191,13 +190,13 @@ pub(crate) fn user_mode_line(
     nick: &[u8],
     target: &[u8],
     mut params: Params<'_>,
-) -> Result<Option<Effect>, WireFault>
+) -> Result<Option<Effect>, CloseReason>
     ensures { IsUserMode at.entry nick.now target.now params.entry result }
 {
     let mode = params.next()?;
     params.end()?;
     if !is_user_mode(mode) || !is_itself_or_none(nick, target) {
-        return Err(WireFault::Parameters);
+        return Err(CloseReason::Parameters);
     }
     expect_from(at, nick)?;
     let nick = read_nick(nick)?;

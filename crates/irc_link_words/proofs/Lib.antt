@@ -2,3 +2,4 @@ pub mod NumberFacts
 pub mod TextsRead
 pub mod KeptWords
 pub mod WordsTaken
+pub mod NamedRows

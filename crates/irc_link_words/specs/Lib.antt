@@ -1,4 +1,7 @@
+pub mod Faults
 pub mod Numbers
 pub mod Words
+pub mod Commands
 pub mod Params
 pub mod Loops
+pub mod Lemmas

@@ -7,6 +7,8 @@ use Rattle.std.specs.Char.{to_ascii_lowercase}
 use Rattle.std.specs.Cmp.Lexicographic.{pointwise}
 use Rattle.std.specs.Str.{bytes_eq}
 use Rattle.arrayvec.specs.ArrayVec.{ArrayVec}
+use Rattle.irc_batch.specs.declared.close_reason.CloseReason.{CloseReason}
+use Rattle.irc_batch.specs.declared.close_reason.CloseReason.TheVariants.{BadName}
 use Rattle.irc_line.specs.Bytes.{is_space}
 use Rattle.irc_names.specs.Names.{fits, is_channel, is_nick, starts_without_colon}
 use Rattle.irc_names.specs.UserTexts.{is_user_byte}
@@ -20,8 +22,6 @@ use Rattle.irc_mode_words.specs.ModeWritten.{changes_written}
 use Rattle.irc_mode_words.specs.Readable.{has_its_word, is_worded}
 use Rattle.irc_room.specs.effect.Target.{Target}
 use Rattle.irc_room.specs.effect.Target.TheVariants as target
-use Rattle.irc_link_words.specs.declared.fault.WireFault.{WireFault}
-use Rattle.irc_link_words.specs.declared.fault.WireFault.TheVariants.{BadName}
 
 -- whether a word is a command, in any case of letters
 abbrev pub is_command : List ℕ → List ℕ → Bool
@@ -75,7 +75,7 @@ abbrev pub target_of : List ℕ → Target
 target_of word = if is_for_channel word then target.Channel word else target.User word
 
 -- whom a text is for, or that no name is read
-abbrev pub target_or_fault : List ℕ → Result Target WireFault
+abbrev pub target_or_fault : List ℕ → Result Target CloseReason
 target_or_fault word =
     if is_for_channel word then (if is_channel word then Ok (target.Channel word) else Err BadName)
     else (if is_nick word then Ok (target.User word) else Err BadName)

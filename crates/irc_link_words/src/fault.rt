@@ -1,4 +1,8 @@
 //! Why a line of a link is refused.
+ghost use Rattle.std.specs.Prelude.{◌≡◌};
+ghost use Rattle.irc_link_words.specs.Faults.{wire_fault};
+
+use irc_batch::CloseReason;
 use thiserror::Error;
 
 /// Why a line of a link is refused, in the order in which causes are looked for.
@@ -22,4 +26,18 @@ pub enum WireFault {
     /// Memory ran out.
     #[error("out of memory")]
     Memory,
+}
+
+impl From<CloseReason> for WireFault {
+    ghost from_gives = { λ reason fault. fault ≡ wire_fault reason };
+
+    fn from(reason: CloseReason) -> Self {
+        match reason {
+            CloseReason::UnknownCommand => WireFault::UnknownCommand,
+            CloseReason::BadToken => WireFault::BadToken,
+            CloseReason::WrongDirection => WireFault::WrongDirection,
+            CloseReason::BadName => WireFault::BadName,
+            _ => WireFault::Parameters,
+        }
+    }
 }

@@ -4,6 +4,7 @@
 #![tactic(auto)]
 
 mod changes;
+mod commands;
 mod fault;
 mod mode_parameters;
 mod numbers;
@@ -11,6 +12,7 @@ mod params;
 mod words;
 
 pub use changes::read_changes;
+pub use commands::{Command, EffectCommand, ServerCommand, command_of};
 pub use fault::WireFault;
 pub use mode_parameters::expect_members;
 pub use numbers::read_number;

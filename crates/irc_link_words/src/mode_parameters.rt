@@ -2,12 +2,12 @@
 ghost use Rattle.std.specs.Prelude.{◌≡◌, Ok, Err, decimal, if◌then◌else◌};
 ghost use Rattle.std.specs.List.{list_all};
 ghost use Rattle.std.specs.Str.{bytes_eq};
+ghost use Rattle.irc_batch.specs.declared.close_reason.CloseReason.TheVariants.{BadName};
 ghost use Rattle.irc_mode_words.specs.Readable.{has_its_word, has_parameter, is_parameter};
 ghost use Rattle.irc_mode_words.specs.Readable.{is_written_limit};
-ghost use Rattle.irc_link_words.specs.declared.fault.WireFault.TheVariants.{BadName};
 ghost use Rattle.irc_link_words.specs.Words.{are_members_named, keeps_word, names_nick};
 
-use crate::WireFault;
+use irc_batch::CloseReason;
 use irc_modes::{ModeChange, ModeLetter, read_limit};
 use irc_names::{is_ban_mask, is_key, is_nick};
 use itoa::Buffer;
@@ -15,14 +15,14 @@ use itoa::Buffer;
 /// Refuses changes of which o or v has a word that is no nickname.
 ///
 /// # Errors
-/// [`WireFault::BadName`] where one has.
-pub fn expect_members(changes: &[ModeChange]) -> Result<(), WireFault>
+/// [`CloseReason::BadName`] where one has.
+pub fn expect_members(changes: &[ModeChange]) -> Result<(), CloseReason>
     ensures { result ≡ (if are_members_named changes.now then Ok tt else Err BadName) }
 {
     if are_members_named(changes) {
         Ok(())
     } else {
-        Err(WireFault::BadName)
+        Err(CloseReason::BadName)
     }
 }
 

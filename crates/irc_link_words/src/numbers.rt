@@ -1,24 +1,25 @@
 //! Numbers in lines of a link (RFC 2813 section 4.1.2).
 ghost use Rattle.std.specs.Prelude.{◌≡◌, ◌&&◌, nat_le, Ok, Err, if◌then◌else◌};
+ghost use Rattle.irc_batch.specs.declared.close_reason.CloseReason.TheVariants.{Parameters};
 ghost use Rattle.irc_names.specs.Digits.{number_of};
-ghost use Rattle.irc_link_words.specs.declared.fault.WireFault.TheVariants.{Parameters};
 ghost use Rattle.irc_link_words.specs.Numbers.{begins_with_zero, is_number};
 
-use crate::{MAX_NUMBER, MAX_NUMBER_DIGITS, WireFault};
+use crate::{MAX_NUMBER, MAX_NUMBER_DIGITS};
+use irc_batch::CloseReason;
 use irc_names::{are_digits, number_of};
 
 /// A number, as a distance or as a token: 1 to [`MAX_NUMBER`], without leading zeros.
 ///
 /// # Errors
-/// [`WireFault::Parameters`] where it is none.
+/// [`CloseReason::Parameters`] where it is none.
 #[tactic(auto, using(crate::proofs::NumberFacts::number_facts))]
-pub fn read_number(bytes: &[u8]) -> Result<u32, WireFault>
+pub fn read_number(bytes: &[u8]) -> Result<u32, CloseReason>
     ensures { result ≡ (if is_number bytes.now then Ok (number_of bytes.now) else Err Parameters) }
 {
     if is_number(bytes) {
         Ok(number_of(bytes) as u32)
     } else {
-        Err(WireFault::Parameters)
+        Err(CloseReason::Parameters)
     }
 }
 

@@ -3,7 +3,7 @@ ghost use Rattle.std.specs.Prelude.{◌≡◌, [], IfOk};
 ghost use Rattle.irc_line.specs.PartViews.{words_now};
 ghost use Rattle.irc_link_words.specs.Params.{IsNext, end_of};
 
-use crate::WireFault;
+use irc_batch::CloseReason;
 use std::marker::Model;
 
 /// The parameters of a line that are left. In a clause it is the list of these words.
@@ -39,12 +39,12 @@ impl<'a> Params<'a> {
     /// Takes the next parameter.
     ///
     /// # Errors
-    /// [`WireFault::Parameters`] where none is left.
-    pub fn next(&mut self) -> Result<&'a [u8], WireFault>
+    /// [`CloseReason::Parameters`] where none is left.
+    pub fn next(&mut self) -> Result<&'a [u8], CloseReason>
         ensures { IsNext self.old result self.new }
     {
         if self.used == self.words.len() {
-            return Err(WireFault::Parameters);
+            return Err(CloseReason::Parameters);
         }
         let word = self.words[self.used];
         self.used += 1;
@@ -54,13 +54,13 @@ impl<'a> Params<'a> {
     /// Ends the line.
     ///
     /// # Errors
-    /// [`WireFault::Parameters`] where a parameter is left.
-    pub fn end(self) -> Result<(), WireFault>
+    /// [`CloseReason::Parameters`] where a parameter is left.
+    pub fn end(self) -> Result<(), CloseReason>
         ensures done { IfOk result (λ _. self.entry ≡ []) }
         ensures left { result ≡ end_of self.entry }
     {
         match self.words[self.used..].split_first() {
-            Some(_) => Err(WireFault::Parameters),
+            Some(_) => Err(CloseReason::Parameters),
             None => Ok(()),
         }
     }

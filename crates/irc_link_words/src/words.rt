@@ -2,17 +2,18 @@
 ghost use Rattle.std.specs.Prelude.{◌≡◌, ◌&&◌, Ok, Err, true, false, not, length, if◌then◌else◌};
 ghost use Rattle.std.specs.List.{list_all};
 ghost use Rattle.std.specs.Str.{bytes_eq};
+ghost use Rattle.irc_batch.specs.declared.close_reason.CloseReason.TheVariants.{BadName};
+ghost use Rattle.irc_batch.specs.declared.close_reason.CloseReason.TheVariants.{Parameters};
 ghost use Rattle.irc_line.specs.Bytes.{is_space};
 ghost use Rattle.irc_line.specs.Limits.{max_line};
 ghost use Rattle.irc_names.specs.Limits.{max_real_name};
 ghost use Rattle.irc_names.specs.Names.{fits, is_channel, is_host, is_nick, is_server};
 ghost use Rattle.irc_names.specs.UserTexts.{is_user_byte};
-ghost use Rattle.irc_link_words.specs.declared.fault.WireFault.TheVariants.{BadName, Parameters};
 ghost use Rattle.irc_link_words.specs.Words.{are_words, as_text, is_come_mode, is_command};
 ghost use Rattle.irc_link_words.specs.Words.{is_for_channel, is_marked, is_mode_word, is_user_name};
 ghost use Rattle.irc_link_words.specs.Words.{target_or_fault, unmarked, with_i, without_i};
 
-use crate::WireFault;
+use irc_batch::CloseReason;
 use irc_channels::Words;
 use irc_line::Line;
 use irc_line::limits::MAX_LINE;
@@ -37,61 +38,61 @@ pub fn is_command(command: &[u8], word: &[u8]) -> bool
 /// A nickname.
 ///
 /// # Errors
-/// [`WireFault::BadName`] where it is none.
-pub fn read_nick(bytes: &[u8]) -> Result<Nick, WireFault>
+/// [`CloseReason::BadName`] where it is none.
+pub fn read_nick(bytes: &[u8]) -> Result<Nick, CloseReason>
     ensures { result ≡ (if is_nick bytes.now then Ok bytes.now else Err BadName) }
 {
     match Nick::read(bytes) {
         Some(nick) => Ok(nick),
-        None => Err(WireFault::BadName),
+        None => Err(CloseReason::BadName),
     }
 }
 
 /// A channel's name.
 ///
 /// # Errors
-/// [`WireFault::BadName`] where it is none.
-pub fn read_channel(bytes: &[u8]) -> Result<ChannelName, WireFault>
+/// [`CloseReason::BadName`] where it is none.
+pub fn read_channel(bytes: &[u8]) -> Result<ChannelName, CloseReason>
     ensures { result ≡ (if is_channel bytes.now then Ok bytes.now else Err BadName) }
 {
     match ChannelName::read(bytes) {
         Some(name) => Ok(name),
-        None => Err(WireFault::BadName),
+        None => Err(CloseReason::BadName),
     }
 }
 
 /// A host.
 ///
 /// # Errors
-/// [`WireFault::BadName`] where it is none.
-pub fn read_host(bytes: &[u8]) -> Result<Host, WireFault>
+/// [`CloseReason::BadName`] where it is none.
+pub fn read_host(bytes: &[u8]) -> Result<Host, CloseReason>
     ensures { result ≡ (if is_host bytes.now then Ok bytes.now else Err BadName) }
 {
     match Host::read(bytes) {
         Some(host) => Ok(host),
-        None => Err(WireFault::BadName),
+        None => Err(CloseReason::BadName),
     }
 }
 
 /// A server's name.
 ///
 /// # Errors
-/// [`WireFault::BadName`] where it is none.
-pub fn read_server(bytes: &[u8]) -> Result<ServerName, WireFault>
+/// [`CloseReason::BadName`] where it is none.
+pub fn read_server(bytes: &[u8]) -> Result<ServerName, CloseReason>
     ensures { result ≡ (if is_server bytes.now then Ok bytes.now else Err BadName) }
 {
     match ServerName::read(bytes) {
         Some(name) => Ok(name),
-        None => Err(WireFault::BadName),
+        None => Err(CloseReason::BadName),
     }
 }
 
 /// Whom a text is for.
 ///
 /// # Errors
-/// [`WireFault::BadName`] where it is neither a nickname nor, if it begins with `#`, the name of a
-/// channel.
-pub fn read_target(bytes: &[u8]) -> Result<Target, WireFault>
+/// [`CloseReason::BadName`] where it is neither a nickname nor, if it begins with `#`, the name of
+/// a channel.
+pub fn read_target(bytes: &[u8]) -> Result<Target, CloseReason>
     ensures { result ≡ target_or_fault bytes.now }
 {
     if is_for_channel(bytes) {
@@ -104,30 +105,30 @@ pub fn read_target(bytes: &[u8]) -> Result<Target, WireFault>
 /// A topic, or the text of a quit, a part or a kick.
 ///
 /// # Errors
-/// [`WireFault::Parameters`] where it is longer than [`MAX_WORDS`] bytes.
+/// [`CloseReason::Parameters`] where it is longer than [`MAX_WORDS`] bytes.
 #[tactic(auto, using(crate::proofs::TextsRead::words_whole))]
-pub fn read_words(bytes: &[u8]) -> Result<Words, WireFault>
+pub fn read_words(bytes: &[u8]) -> Result<Words, CloseReason>
     ensures { result ≡ (if are_words bytes.now then Ok bytes.now else Err Parameters) }
 {
     if bytes.len() <= MAX_WORDS {
         Ok(Words::cut(bytes))
     } else {
-        Err(WireFault::Parameters)
+        Err(CloseReason::Parameters)
     }
 }
 
 /// The text of a PRIVMSG or a NOTICE.
 ///
 /// # Errors
-/// [`WireFault::Parameters`] where it is longer than [`MAX_LINE`] bytes.
-pub fn read_line(bytes: &[u8]) -> Result<Line, WireFault>
+/// [`CloseReason::Parameters`] where it is longer than [`MAX_LINE`] bytes.
+pub fn read_line(bytes: &[u8]) -> Result<Line, CloseReason>
     ensures { result ≡ (if fits max_line bytes.now then Ok (as_text bytes.now)
         else Err Parameters) }
 {
     if bytes.len() <= MAX_LINE {
         Ok(copied(bytes))
     } else {
-        Err(WireFault::Parameters)
+        Err(CloseReason::Parameters)
     }
 }
 

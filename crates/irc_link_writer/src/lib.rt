@@ -6,4 +6,4 @@ mod mode_line;
 mod writing;
 
 pub use cutting::push_head;
-pub use writing::{next_distance, write_effect, written_token};
+pub use writing::{effect_text, introduction_line, next_distance, write_effect, written_token};

@@ -24,13 +24,20 @@ use itoa::Buffer;
 /// A channel's name, and room for what makes its first member an operator.
 type MarkedName = ArrayVec<u8, 52>;
 
-/// The line that tells the server at the other end of a link of an effect (RFC 2813 section 4). It
-/// is the same for every link. It is to be written before the effect is applied. It takes no
-/// memory.
+/// The line that tells the server at the other end of this link of an effect: that of
+/// [`effect_text`], whichever link it is.
 pub fn write_effect(effect: &Effect, room: &Room, routes: &Routes, link: u64) -> Text
     ensures { result.items ≡ text (wire room.now.room routes.now effect.now) }
 {
     let _every_link = link;
+    effect_text(effect, room, routes)
+}
+
+/// The line that tells other servers of an effect (RFC 2813 section 4). It is the same for every
+/// link. It is to be written before the effect is applied. It takes no memory.
+pub fn effect_text(effect: &Effect, room: &Room, routes: &Routes) -> Text
+    ensures { result.items ≡ text (wire room.now.room routes.now effect.now) }
+{
     match effect {
         Effect::ChangeModes {
             by,
@@ -205,8 +212,8 @@ fn user_mode_line(nick: &[u8], invisible: bool) -> Text
     line(nick, b"MODE", &[nick, mode], None)
 }
 
-/// A user is introduced (RFC 2813 section 4.1.3).
-fn introduction_line(routes: &Routes, user: &User) -> Text
+/// The line that introduces a user (RFC 2813 section 4.1.3). It takes no memory.
+pub fn introduction_line(routes: &Routes, user: &User) -> Text
     ensures { result.items ≡ text (introduction routes.now user.now) }
 {
     let mut distance = Buffer::new();

@@ -1,11 +1,13 @@
 -- An effect at a server: its line goes to those that hear it, and the room machine is the one after
 -- it.
-use Rattle.std.proofs.Common.{◌≡◌, ℕ, Bool, true, not, Option, Some, List, [], ◌∷◌, ◌++◌, refl, sym}
-use Rattle.std.proofs.Common.{◌∙◌, ap, subst, filter}
+use Rattle.std.proofs.Common.{◌≡◌, ℕ, Bool, true, false, not, ◌&&◌, if◌then◌else◌, Option, Some}
+use Rattle.std.proofs.Common.{None}
+use Rattle.std.proofs.Common.{List, [], ◌∷◌, ◌++◌, refl, sym, ◌∙◌, ap, subst, filter}
+use Rattle.std.specs.FinMap.{find, get-entries}
 use Rattle.std.specs.List.{flat_map, list_all}
 use Rattle.arrayvec.specs.ArrayVec.{ArrayVec}
 use Rattle.irc_names.specs.Fold.{key}
-use Rattle.irc_names.specs.Tables.{Table, row}
+use Rattle.irc_names.specs.Tables.{Table, fold_cmp, row}
 use Rattle.irc_users.specs.declared.user.User.{User as Person}
 use Rattle.irc_room.specs.effect.Effect.{Effect}
 use Rattle.irc_room.specs.effect.Effect.TheVariants.{AddUser, Rename, Quit, Join, Part, Kick}
@@ -25,8 +27,10 @@ use Rattle.irc_stage.specs.declared.origin.Origin.{Origin}
 use Rattle.irc_stage.specs.declared.stage.Stage.{Stage}
 use Rattle.irc_stage.specs.RoomMachine.{Clients, RoomMachine}
 use Rattle.irc_stage.specs.Handle.{clients_after, machine_after, to_viewer, with_effect}
-use Rattle.irc_stage.specs.Loops.Hearing.{hearers, line_of, sees_fold, to_each, IsLineOf, SendsTo}
-use Rattle.irc_stage.specs.Loops.Listening.{Lists, conn_as, conns_at, index_after, is_in, AreSo}
+use Rattle.irc_stage.specs.Loops.Hearing.{hearers, is_nick_of, line_of, sees_fold, to_each}
+use Rattle.irc_stage.specs.Loops.Hearing.{IsLineOf, SendsTo}
+use Rattle.irc_stage.specs.Loops.Listening.{Conns, Lists, conn_as, conn_in, conns_at, conns_in}
+use Rattle.irc_stage.specs.Loops.Listening.{index_after, is_in, AreSo}
 use Rattle.irc_stage.specs.Loops.Listening.{IsSaid, IsSaidIn, IsSaidTo}
 use Rattle.irc_stage.specs.Loops.Speaking.{conn_of, IsSpoken}
 use Rattle.irc_stage.specs.Loops.Stage.{clients_of, machine_at, so_far, IsFit, IsIndex, IsIndexed}
@@ -34,7 +38,7 @@ use Rattle.irc_stage.specs.Loops.Stage.{IsReady, IsSound}
 use Rattle.irc_stage.proofs.Conns.{but_one, nick_is}
 use Rattle.irc_stage.proofs.Followed.{so_in}
 use Rattle.irc_stage.proofs.HeardLines.{heard_out, sent}
-use Rattle.irc_stage.proofs.Hearing.{channel_heard, one_heard, other_there}
+use Rattle.irc_stage.proofs.Hearing.{channel_heard, one_heard, other_there, told_outs}
 use Rattle.irc_stage.proofs.PassedOver.{is_its_conn}
 
 -- ---- what is said
@@ -93,6 +97,33 @@ module _ (machine : RoomMachine) (by_nick : Table ℕ) (index : IsIndex machine.
       nick_is nick q (sym (ap (λ e. sees_fold machine.room e q)
       (is ∙ ap (λ target. Say by notice target words) for)) ∙ sees))
 
+  -- nobody hears what is said where nobody listens
+  pub unheard : (channel : List ℕ) → IsSaidIn channel effect → (lists : Lists)
+      → AreSo lists machine.room by_nick → conns_in (row lists (key channel)) ≡ []
+      → (q : List ℕ) (conn : ℕ) → sees_fold machine.room effect q ≡ true
+      → row by_nick q ≡ Some conn → ⊥
+  unheard channel said lists so none q conn sees at =
+      said_is (λ target. target ≡ Channel channel) effect said (λ by notice target words is for.
+      none_some conn
+      (sym (nothing_at (row lists (key channel)) q none)
+      ∙ so.at (key channel) q
+      ∙ ap (λ b. if b then row by_nick q else None)
+      (second (is_nick_of by q) (is_in machine.room q (key channel))
+      (sym (ap (λ e. sees_fold machine.room e q)
+      (is ∙ ap (λ target. Say by notice target words) for)) ∙ sees))
+      ∙ at))
+    where
+      none_some : (conn : ℕ) → None ≡ Some conn → ⊥
+      none_some conn is = cc is
+
+      second : (a b : Bool) → (not a && b) ≡ true → b ≡ true
+      second true b is = cc is
+      second false b is = is
+
+      nothing_at : (o : Option Conns) (q : List ℕ) → conns_in o ≡ [] → conn_in o q ≡ None
+      nothing_at None q none = refl
+      nothing_at (Some conns) q none = get-entries conns q ∙ ap (find fold_cmp q) none
+
   -- it is never idle, and changes nothing
   said_line : (IsFor : Target → Type 0) → IsSaid IsFor effect → (viewer : Person)
       → line_of machine.room effect viewer ≡ shown_line machine.room effect viewer
@@ -125,14 +156,10 @@ module _ (machine : RoomMachine) (by_nick : Table ℕ) (index : IsIndex machine.
 
 -- ---- what is put out
 
--- the line at hand, to these connections
-pub put_to_each : (out held after : Batch) (line line' : List ℕ) (conns : List ℕ)
-    → held ≡ record out { held = line } → line ≡ line' → SendsTo conns held after
-    → after.outs ≡ out.outs ++ to_each line' conns
-put_to_each out held after line line' conns held_is line_is after_is =
-    ap (λ (b : Batch). b.outs) after_is
-    ∙ ap (λ (b : Batch). b.outs ++ to_each b.held conns) held_is
-    ∙ ap (λ l. out.outs ++ to_each l conns) line_is
+-- a line to these connections
+pub put_to_each : (out after : Batch) (line conns : List ℕ) → SendsTo line conns out after
+    → after.outs ≡ out.outs ++ to_each line conns
+put_to_each out after line conns is = ap (λ (b : Batch). b.outs) is ∙ told_outs line conns out
 
 pub put_to_one : (out after : Batch) (conn : ℕ) (line line' : List ℕ) (conns : List ℕ)
     → after ≡ batch_of (out.outs ++ line_to conn line ∷ []) line → line ≡ line' → conns ≡ conn ∷ []

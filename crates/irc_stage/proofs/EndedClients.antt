@@ -1,8 +1,8 @@
 -- The client that is a user who was taken out is told why, and closed.
-use Rattle.std.proofs.Common.{◌≡◌, ℕ, Option, Some, None, List, [], ◌∷◌, ◌++◌, Bool, true, is_some}
+use Rattle.std.proofs.Common.{◌≡◌, ℕ, Option, Some, None, List, [], ◌∷◌, ◌++◌, true, is_some}
 use Rattle.std.proofs.Common.{sym, ◌∙◌, ap, map, append-nil, append_assoc}
 use Rattle.std.specs.BTreeMap.{BTreeMap}
-use Rattle.std.specs.FinMap.{remove, retain_keys}
+use Rattle.std.specs.FinMap.{remove}
 use Rattle.std.specs.Global.{Vec}
 use Rattle.std.specs.Borrow.{Bor}
 use Rattle.std.specs.Option.{option_copied}
@@ -13,7 +13,7 @@ use Rattle.irc_batch.specs.Batches.{Batch, Sent, batch_of, end_of, line_to}
 use Rattle.irc_links.specs.Ends.{End}
 use Rattle.irc_stage.specs.declared.peer.Peer.{Peer}
 use Rattle.irc_stage.specs.declared.stage.Stage.{Stage}
-use Rattle.irc_stage.specs.EffectTold.{Served, client_ended, ends_of, is_another}
+use Rattle.irc_stage.specs.EffectTold.{Served, client_ended, ends_of}
 use Rattle.irc_stage.specs.Handle.{to_viewer}
 use Rattle.irc_stage.specs.RoomMachine.{Clients, RoomMachine, without_client}
 use Rattle.irc_stage.specs.View.{known_peer}

@@ -1,16 +1,17 @@
 -- Whom the lists of those that listen give: the connections of the users that see an effect.
 use Rattle.std.proofs.Common.{◌≡◌, ℕ, Bool, true, false, cond, not, ◌&&◌, ◌||◌, if◌then◌else◌}
 use Rattle.std.proofs.Common.{Option, Some, None, List, [], ◌∷◌, refl, sym, ◌∙◌, ap, is_some, map}
-use Rattle.std.proofs.Common.{filter, option_to_list, append-nil, arith, ◌==◌, ◌≤◌, ◌<◌, length}
+use Rattle.std.proofs.Common.{T, ◌++◌, filter, option_to_list, append-nil, arith, ◌==◌, ◌≤◌, ◌<◌}
+use Rattle.std.proofs.Common.{length}
 use Rattle.std.proofs.Common.{slice_index_or}
 use Rattle.std.proofs.lemmas.Bool.Decides.{nat_tests}
-use Rattle.std.specs.List.{AllByRecursion, list_any}
+use Rattle.std.specs.List.{list_any}
 use Rattle.std.specs.Option.{option_map_or}
-use Rattle.std.specs.FinMap.{empty, entries, entries_sorted, get-empty, get-entries, values}
+use Rattle.std.specs.FinMap.{find, is_sorted, values}
 use Rattle.irc_names.specs.Fold.{key}
-use Rattle.irc_names.specs.Tables.{Table, fold_cmp, row, alter}
-use Rattle.irc_names.specs.TableLaws.{same_fold, same_fold-refl, one_fold, row-alter, row-keys}
-use Rattle.irc_batch.specs.Batches.{Batch, line_to, put_out_all, to_others}
+use Rattle.irc_names.specs.Tables.{Table, fold_cmp, row}
+use Rattle.irc_names.specs.TableLaws.{same_fold, same_fold-refl}
+use Rattle.irc_batch.specs.Batches.{Batch, batch_of, is_number, put_out_all, to_others}
 use Rattle.irc_tables.specs.declared.table.Row.{Row}
 use Rattle.irc_users.specs.declared.user.User.{User}
 use Rattle.irc_channels.specs.declared.channel.Channel.{Channel}
@@ -23,15 +24,18 @@ use Rattle.irc_room.specs.Effects.{has_user}
 use Rattle.irc_room.specs.Readers.{names_of}
 use Rattle.irc_room.specs.Room.{Room, IsWellFormed}
 use Rattle.irc_stage.specs.RoomMachine.{Clients}
-use Rattle.irc_stage.specs.Loops.Hearing.{conns_who, hearers, is_beside, is_nick_of, with_conns}
-use Rattle.irc_stage.specs.Loops.Hearing.{with_lists, IsUnseen, SendsTo}
-use Rattle.irc_stage.specs.Loops.Listening.{Conns, Lists, conn_as, conn_in, conns_at, conns_in}
-use Rattle.irc_stage.specs.Loops.Listening.{conns_of, folds_of, is_in, is_named, AreSo}
+use Rattle.irc_stage.specs.Loops.Hearing.{conns_who, hearers, is_beside, is_nick_of}
+use Rattle.irc_stage.specs.Loops.Hearing.{others_of, to_each, told_to, IsUnseen}
+use Rattle.irc_stage.specs.Loops.Hearing.{SendsTo}
+use Rattle.irc_stage.specs.Loops.Listening.{Lists, conn_as, conns_at, conns_in}
+use Rattle.irc_stage.specs.Loops.Listening.{conns_of, is_in, is_named, AreSo}
+use Rattle.irc_stage.specs.Loops.Merging.{Entry, merged, with_lists}
 use Rattle.irc_stage.specs.Loops.Stage.{IsIndex}
-use Rattle.irc_stage.proofs.Conns.{but_one, conns_alike, each_entry, in_list, in_order, in_table}
+use Rattle.irc_stage.proofs.Conns.{but_one, conns_alike, in_list, in_order}
 use Rattle.irc_stage.proofs.Conns.{nick_as_fold, nick_is, OnlyUsers}
 use Rattle.irc_stage.proofs.ListsKept.{named_in}
 use Rattle.irc_stage.proofs.Memberships.{joins}
+use Rattle.irc_stage.proofs.MergedLists.{either, found_lists, sorted_lists, sorted_with}
 
 -- ---- what is sent
 
@@ -40,11 +44,65 @@ all_others [] = refl
 all_others (conn ∷ conns) = ap (λ l. conn ∷ l) (all_others conns)
 
 -- to all of some connections, which are others by another word
-pub sent_to : (old new : Batch) (conns others : List ℕ) → conns ≡ others
-    → new ≡ put_out_all (to_others old.held None conns) old → SendsTo others old new
-sent_to old new conns others are is =
-    is ∙ ap (λ cs. put_out_all (map (λ conn. line_to conn old.held) cs) old)
-    (all_others conns ∙ are)
+pub sent_to : (line : List ℕ) (old new : Batch) (conns others : List ℕ) → conns ≡ others
+    → SendsTo line (others_of None conns) old new → SendsTo line others old new
+sent_to line old new conns others are is =
+    is ∙ ap (λ cs. told_to line cs old) (all_others conns ∙ are)
+
+-- what is put out then
+pub told_outs : (line : List ℕ) (conns : List ℕ) (out : Batch)
+    → (told_to line conns out).outs ≡ out.outs ++ to_each line conns
+told_outs line [] out = sym (append-nil out.outs)
+told_outs line (conn ∷ conns) out = refl
+
+-- those of which a test holds, where it holds of none, and where it holds of some
+pub told_none : (line : List ℕ) (test : ℕ → Bool) (conns : List ℕ) (out : Batch)
+    → list_any test conns ≡ false → out ≡ told_to line (filter test conns) out
+told_none line test [] out none = refl
+told_none line test (conn ∷ conns) out none =
+    by_test (test conn) none (told_none line test conns out)
+  where
+    by_test : (b : Bool) → (b || list_any test conns) ≡ false
+        → (list_any test conns ≡ false → out ≡ told_to line (filter test conns) out)
+        → out ≡ told_to line (cond b (conn ∷ filter test conns) (filter test conns)) out
+    by_test true none rest = cc none
+    by_test false none rest = rest none
+
+told_some : (line : List ℕ) (test : ℕ → Bool) (conns : List ℕ) (out : Batch)
+    → list_any test conns ≡ true
+    → batch_of (out.outs ++ to_each line (filter test conns)) line
+    ≡ told_to line (filter test conns) out
+told_some line test [] out some = cc some
+told_some line test (conn ∷ conns) out some =
+    by_test (test conn) some (told_some line test conns out)
+  where
+    by_test : (b : Bool) → (b || list_any test conns) ≡ true
+        → (list_any test conns ≡ true
+        → batch_of (out.outs ++ to_each line (filter test conns)) line
+        ≡ told_to line (filter test conns) out)
+        → batch_of (out.outs ++
+        to_each line (cond b (conn ∷ filter test conns) (filter test conns))) line
+        ≡ told_to line (cond b (conn ∷ filter test conns) (filter test conns)) out
+    by_test true some rest = refl
+    by_test false some rest = rest some
+
+-- to all others than one, where there are some, once the line is at hand
+pub told_by : (line at_hand : List ℕ) (one : Option ℕ) (conns : List ℕ) (out held new : Batch)
+    → held ≡ record out { held = at_hand } → at_hand ≡ line
+    → list_any (λ conn. not (is_number one conn)) conns ≡ true
+    → new ≡ put_out_all (to_others held.held one conns) held
+    → SendsTo line (others_of one conns) out new
+told_by line at_hand one conns out held new held_is line_is some is =
+    is
+    ∙ ap (λ (b : Batch). put_out_all (to_others b.held one conns) b) held_is
+    ∙ ap (λ l. batch_of (out.outs ++ to_each l (others_of one conns)) l) line_is
+    ∙ told_some line (λ conn. not (is_number one conn)) conns out some
+
+-- a test of connections, as they stand in rows
+pub any_mapped : {X : Type 0} (test : ℕ → Bool) (conn_of : X → ℕ) (xs : List X)
+    → list_any (λ x. test (conn_of x)) xs ≡ list_any test (map conn_of xs)
+any_mapped test conn_of [] = refl
+any_mapped test conn_of (x ∷ xs) = ap (λ b. test (conn_of x) || b) (any_mapped test conn_of xs)
 
 -- ---- how many names there are
 
@@ -54,11 +112,10 @@ one_row [] row some few is = absurd (omega (arith, some))
 one_row (r ∷ []) row some few is = ap (λ r. r ∷ []) (sym is)
 one_row (r ∷ s ∷ rows) row some few is = absurd (omega (arith, few))
 
-not_none : (row : Row (Unit {0})) (rows : List (Row (Unit {0})))
-    → (length (row ∷ rows) == 0) ≡ false
+not_none : {V : Type 0} (row : Row V) (rows : List (Row V)) → (length (row ∷ rows) == 0) ≡ false
 not_none row rows = grind (arith, nat_tests)
 
-pub no_rows : (rows : List (Row (Unit {0}))) (b : Bool) → b ≡ (length rows == 0) → b ≡ true
+pub no_rows : {V : Type 0} (rows : List (Row V)) (b : Bool) → b ≡ (length rows == 0) → b ≡ true
     → rows ≡ []
 no_rows [] b is none = refl
 no_rows (row ∷ rows) b is none = let some = not_none row rows in cc
@@ -151,11 +208,11 @@ module _ (room : Room) (well : IsWellFormed room) where
 
     pub told_in : (name channel : List ℕ) → name ≡ channel → (effect : Effect)
         → conns_who room by_nick (λ q. is_in room q (key channel)) ≡ hearers room by_nick effect
-        → (old new : Batch)
-        → new ≡ put_out_all (to_others old.held None (conns_at lists (key name))) old
-        → SendsTo (hearers room by_nick effect) old new
-    told_in name channel name_is effect hears old new is =
-        sent_to old new (conns_at lists (key name)) (hearers room by_nick effect)
+        → (line : List ℕ) (old new : Batch)
+        → SendsTo line (others_of None (conns_at lists (key name))) old new
+        → SendsTo line (hearers room by_nick effect) old new
+    told_in name channel name_is effect hears line old new is =
+        sent_to line old new (conns_at lists (key name)) (hearers room by_nick effect)
         (ap (λ n. conns_at lists (key n)) name_is ∙ channel_heard channel ∙ hears)
         is
 
@@ -172,58 +229,27 @@ module _ (room : Room) (well : IsWellFormed room) where
         or_none true = refl
         or_none false = refl
 
-    row_with : (es : List (List ℕ × ℕ)) (table : Table ℕ) (q : List ℕ)
-        → AllByRecursion (λ (e : List ℕ × ℕ). row by_nick e.0 ≡ Some e.1) es → row
-        (with_conns es table) q ≡ cond (is_named (folds_of es) q) (row by_nick q) (row table q)
-    row_with [] table q all = refl
-    row_with (e ∷ es) table q all =
-        row_with es (alter e.0 (λ _. Some e.1) table) q all.1
-        ∙ ap (cond (is_named (folds_of es) q) (row by_nick q))
-        (row-alter e.0 (λ _. Some e.1) table q)
-        ∙ by_tests (same_fold q e.0) (is_named (folds_of es) q) refl
-      where
-        by_tests : (b n : Bool) → same_fold q e.0 ≡ b → cond n (row by_nick q)
-            (cond b (Some e.1) (row table q)) ≡ cond (b || n) (row by_nick q) (row table q)
-        by_tests true true is = refl
-        by_tests true false is = sym (ap (row by_nick) (one_fold q e.0 is) ∙ all.0)
-        by_tests false true is = refl
-        by_tests false false is = refl
-
-    conn_of_it : (b : Bool) (o : Option ℕ) (conn : ℕ) → (if b then o else None) ≡ Some conn
-        → o ≡ Some conn
-    conn_of_it true o conn is = is
-    conn_of_it false o conn is = cc is
-
-    row_put : (c : List ℕ) (o : Option Conns) → row lists c ≡ o → (table : Table ℕ) (q : List ℕ)
-        → row (with_conns (conns_in o) table) q ≡ cond (is_some (conn_in o q)) (row by_nick q)
-        (row table q)
-    row_put c None at table q = refl
-    row_put c (Some conns) at table q =
-        row_with (entries conns) table q
-        (each_entry (λ q conn. row by_nick q ≡ Some conn) (entries conns) (entries_sorted conns)
-        (λ q conn is. conn_of_it (is_in room q c) (row by_nick q) conn
-        (sym (so.at c q) ∙ ap (λ o. conn_in o q) at ∙ get-entries conns q ∙ is)))
-        ∙ ap (λ b. cond b (row by_nick q) (row table q)) (row-keys conns q)
-
-    row_lists : (cs : List (List ℕ)) (table : Table ℕ) (q : List ℕ) (t : Bool)
-        → row table q ≡ (if t then row by_nick q else None) → row (with_lists lists cs table) q
+    found_beside : (q : List ℕ) (cs : List (List ℕ)) (found : List Entry) (t : Bool)
+        → T (is_sorted fold_cmp found)
+        → find fold_cmp q found ≡ (if t then row by_nick q else None)
+        → find fold_cmp q (with_lists lists cs found)
         ≡ (if t || list_any (is_in room q) cs then row by_nick q else None)
-    row_lists [] table q t is = is ∙ ap (λ b. if b then row by_nick q else None) (or_none t)
+    found_beside q [] found t rise is = is ∙ ap (λ b. if b then row by_nick q else None) (or_none t)
       where
         or_none : (b : Bool) → b ≡ (b || false)
         or_none true = refl
         or_none false = refl
-    row_lists (c ∷ cs) table q t is =
-        row_lists cs (with_conns (conns_in (row lists c)) table) q (t || is_in room q c)
-        (row_put c (row lists c) refl table q
-        ∙ ap (λ o. cond (is_some o) (row by_nick q) (row table q)) (so.at c q)
-        ∙ ap (λ o. cond (is_some (if is_in room q c then row by_nick q else None))
-        (row by_nick q) o) is
+    found_beside q (c ∷ cs) found t rise is =
+        found_beside q cs (merged (conns_in (row lists c)) found) (t || is_in room q c)
+        (sorted_with lists c found rise)
+        (found_lists lists c q found rise
+        ∙ ap (λ o. either o (find fold_cmp q found)) (so.at c q)
+        ∙ ap (either (if is_in room q c then row by_nick q else None)) is
         ∙ by_tests (is_in room q c) t (row by_nick q))
         ∙ ap (λ b. if b then row by_nick q else None)
         (or_both t (is_in room q c) (list_any (is_in room q) cs))
       where
-        by_tests : (m t : Bool) (o : Option ℕ) → cond (is_some (if m then o else None)) o
+        by_tests : (m t : Bool) (o : Option ℕ) → either (if m then o else None)
             (if t then o else None) ≡ (if t || m then o else None)
         by_tests true true None = refl
         by_tests true false None = refl
@@ -236,12 +262,12 @@ module _ (room : Room) (well : IsWellFormed room) where
         or_both true b c = refl
         or_both false b c = refl
 
-    pub beside_all : (nick : List ℕ) → values (with_lists lists (names_of room nick) empty)
-        ≡ conns_who room by_nick (is_beside room nick)
+    pub beside_all : (nick : List ℕ) → map (λ (e : Entry). e.1)
+        (with_lists lists (names_of room nick) []) ≡ conns_who room by_nick (is_beside room nick)
     beside_all nick =
-        in_table room by_nick (is_beside room nick) well (users_beside nick)
-        (with_lists lists (names_of room nick) empty)
-        (λ q. row_lists (names_of room nick) empty q false (get-empty fold_cmp q))
+        in_order room by_nick (is_beside room nick) well (users_beside nick)
+        (with_lists lists (names_of room nick) []) (sorted_lists lists (names_of room nick) [] tt)
+        (λ q. found_beside q (names_of room nick) [] false tt refl)
 
   -- ---- a user with another nickname
 
@@ -294,34 +320,32 @@ nobody : (users : List User) → filter (λ (user : User). false) users ≡ []
 nobody [] = refl
 nobody (user ∷ users) = nobody users
 
-pub unseen : (room : Room) (by_nick : Table ℕ) (effect : Effect) → IsUnseen effect → (out : Batch)
-    → SendsTo (hearers room by_nick effect) out out
-unseen room by_nick (AddUser user) none out =
-    ap (λ l. record out { outs = l }) (sym (append-nil out.outs))
-    ∙ ap (λ users. put_out_all (map (λ conn. line_to conn out.held) (conns_of by_nick
-    (map (λ (user : User). user.nick) users))) out) (sym (nobody (values room.users)))
-unseen room by_nick (Rename nick new) none out = absurd none
-unseen room by_nick (Quit nick text) none out = absurd none
-unseen room by_nick (Join nick channel op) none out = absurd none
-unseen room by_nick (Part nick channel text) none out = absurd none
-unseen room by_nick (Kick by channel nick text) none out = absurd none
-unseen room by_nick (ChangeModes by channel changes) none out = absurd none
-unseen room by_nick (SetTopic by channel text) none out = absurd none
-unseen room by_nick (Say by notice target text) none out = absurd none
-unseen room by_nick (Invite by nick channel) none out = absurd none
-unseen room by_nick (UserMode nick invisible) none out = absurd none
+pub unseen : (room : Room) (by_nick : Table ℕ) (effect : Effect) → IsUnseen effect
+    → (line : List ℕ) (out : Batch) → SendsTo line (hearers room by_nick effect) out out
+unseen room by_nick (AddUser user) none line out =
+    ap (λ users. told_to line (conns_of by_nick (map (λ (user : User). user.nick) users)) out)
+    (sym (nobody (values room.users)))
+unseen room by_nick (Rename nick new) none line out = absurd none
+unseen room by_nick (Quit nick text) none line out = absurd none
+unseen room by_nick (Join nick channel op) none line out = absurd none
+unseen room by_nick (Part nick channel text) none line out = absurd none
+unseen room by_nick (Kick by channel nick text) none line out = absurd none
+unseen room by_nick (ChangeModes by channel changes) none line out = absurd none
+unseen room by_nick (SetTopic by channel text) none line out = absurd none
+unseen room by_nick (Say by notice target text) none line out = absurd none
+unseen room by_nick (Invite by nick channel) none line out = absurd none
+unseen room by_nick (UserMode nick invisible) none line out = absurd none
 
 -- ---- who quits is not told of it
 
 pub quit_heard : (room : Room) (clients : Clients) (by_nick : Table ℕ) → IsIndex clients by_nick
-    → (nick text : List ℕ) → (old new : Batch) (one : Option ℕ) → one ≡ row by_nick (key nick)
-    → new ≡ put_out_all (to_others old.held one (conns_who room by_nick (is_beside room nick))) old
-    → SendsTo (hearers room by_nick (Quit nick text)) old new
-quit_heard room clients by_nick index nick text old new one one_is is =
+    → (nick text line : List ℕ) → (old new : Batch) (one : Option ℕ) → one ≡ row by_nick (key nick)
+    → SendsTo line (others_of one (conns_who room by_nick (is_beside room nick))) old new
+    → SendsTo line (hearers room by_nick (Quit nick text)) old new
+quit_heard room clients by_nick index nick text line old new one one_is is =
     is
-    ∙ ap (λ o. put_out_all
-    (to_others old.held o (conns_who room by_nick (is_beside room nick))) old) one_is
-    ∙ ap (λ conns. put_out_all (map (λ conn. line_to conn old.held) conns) old)
+    ∙ ap (λ o. told_to line (others_of o (conns_who room by_nick (is_beside room nick))) old) one_is
+    ∙ ap (λ conns. told_to line conns old)
     (but_one clients by_nick index nick (is_beside room nick) room)
 
 -- ---- who joins is among those that listen then

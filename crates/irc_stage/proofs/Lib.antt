@@ -3,6 +3,7 @@ pub mod Showings
 pub mod PassedOver
 pub mod Memberships
 pub mod ListsKept
+pub mod MergedLists
 pub mod Conns
 pub mod Hearing
 pub mod HeardLines

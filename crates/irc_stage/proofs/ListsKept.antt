@@ -9,7 +9,7 @@ use Rattle.std.specs.FinMap.{get-entries}
 use Rattle.std.specs.FinMap.Entries.{below_all}
 use Rattle.std.specs.Cmp.Lexicographic.{nat_list_cmp_total}
 use Rattle.irc_names.specs.Fold.{key}
-use Rattle.irc_names.specs.Tables.{Table, fold_cmp, row, put, alter, each, moved}
+use Rattle.irc_names.specs.Tables.{Table, fold_cmp, row, put, alter, moved}
 use Rattle.irc_names.specs.TableLaws.{same_fold, same_fold-refl, one_fold, row-alter, row-moved}
 use Rattle.irc_names.specs.TableLaws.{row-moved_none}
 use Rattle.irc_tables.specs.Lemmas.OrderedEntries.{above-is, find-above}

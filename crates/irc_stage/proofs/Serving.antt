@@ -8,7 +8,7 @@ use Rattle.irc_stage.specs.Matched.{IsMatched}
 use Rattle.irc_stage.specs.View.{machine_of}
 use Rattle.irc_stage.specs.Lemmas.Counting.{Holds}
 use Rattle.irc_stage.specs.Lemmas.Outcomes.{both_ok}
-use Rattle.irc_stage.specs.Loops.Stage.{served_at, view_of, IsReady, IsServing}
+use Rattle.irc_stage.specs.Loops.Stage.{served_at, IsReady, IsServing}
 
 pub holds_at : (stage : Stage) (out : List Sent) → IsServing stage → Holds (served_at stage out)
 holds_at stage out serving =

@@ -1,7 +1,7 @@
 -- What happens by a client of a server that has links. It is what it does to the room machine that
 -- the server is to its clients (in `Handle`), but that each effect also goes on the links, and
 -- invitations of other servers' users are not kept.
-use Rattle.std.specs.Prelude.{◌≡◌, ℕ, Bool, true, false, Option, Some, None, Result, Ok, Err, List}
+use Rattle.std.specs.Prelude.{ℕ, Bool, true, false, Option, Some, None, Result, Ok, Err, List}
 use Rattle.std.specs.Prelude.{[], ◌∷◌}
 use Rattle.std.specs.FinMap.{insert, remove}
 use Rattle.irc_names.specs.Fold.{key}

@@ -4,7 +4,7 @@
 -- a.net has the link 1 to b.net. `:b.net SERVER c.net 2 2 :C` by it: a.net keeps a row of c.net,
 -- behind link 1, two links away, number 2 there. A second such line, and one with number 1, which
 -- is b.net's, change nothing.
-use Rattle.std.specs.Prelude.{ℕ, Bool, ◌&&◌, is_none, Option, Some, List, ◌++◌}
+use Rattle.std.specs.Prelude.{ℕ, Bool, ◌&&◌, is_none, Option, Some, List}
 use Rattle.std.specs.Option.{option_map_or}
 use Rattle.std.specs.FinMap.{get, insert}
 use Rattle.irc_line.specs.Messages.{Written}

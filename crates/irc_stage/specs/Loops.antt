@@ -1,5 +1,6 @@
 pub mod Codes
 pub mod Listening
+pub mod Merging
 pub mod Hearing
 pub mod Stage
 pub mod Speaking

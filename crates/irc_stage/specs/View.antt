@@ -1,10 +1,9 @@
 -- What a server is, to those above: what it knows of others, its configuration, its links, its
 -- clients, its room. No index or queue is in it.
-use Rattle.std.specs.Prelude.{◌≡◌, ℕ, Bool, nat_eq, Option, None, List, [], map, find}
+use Rattle.std.specs.Prelude.{◌≡◌, ℕ, Bool, nat_eq, Option, List, [], map, find}
 use Rattle.std.specs.Option.{option_map}
 use Rattle.std.specs.Cmp.Lexicographic.{pointwise}
-use Rattle.std.specs.Ordering.{nat_cmp}
-use Rattle.std.specs.FinMap.{FinMap, empty, insert, remove}
+use Rattle.std.specs.FinMap.{empty, insert, remove}
 use Rattle.irc_routes.specs.Known.{Known, others, place_of}
 use Rattle.irc_room.specs.Room.{Room}
 use Rattle.irc_room.specs.Laws.{no_room}

@@ -1,31 +1,31 @@
 //! To whom the line of an effect goes: those that listen in its channels, or the one user that it
 //! is for.
 ghost use Rattle.std.specs.Prelude.{◌≡◌, ℕ, true, List, None, Some, ◌∷◌, [], OnErr, OnOk, IfOk};
-ghost use Rattle.std.specs.Prelude.{map, if◌then◌else◌};
-ghost use Rattle.std.specs.FinMap.{empty, values};
-ghost use Rattle.irc_batch.specs.Batches.{put_out_all, to_others};
+ghost use Rattle.std.specs.Prelude.{map, not, if◌then◌else◌};
+ghost use Rattle.std.specs.List.{list_any};
+ghost use Rattle.irc_batch.specs.Batches.{is_number, put_out_all, to_others};
 ghost use Rattle.irc_batch.specs.Growing.{Grew};
 ghost use Rattle.irc_names.specs.Fold.{key};
 ghost use Rattle.irc_names.specs.Tables.{Table};
-ghost use Rattle.irc_tables.specs.RowViews.{row_entry};
 ghost use Rattle.irc_room.specs.After.{after};
 ghost use Rattle.irc_room.specs.Effects.{has_user, is_idle, IsPossible};
 ghost use Rattle.irc_room.specs.effect.Effect.TheVariants.{Rename};
-ghost use Rattle.irc_stage.specs.Loops.Hearing.{conns_who, hearers, is_beside, with_conns};
-ghost use Rattle.irc_stage.specs.Loops.Hearing.{with_lists, IsLineOf, IsToldFirst, IsUnsaid};
-ghost use Rattle.irc_stage.specs.Loops.Hearing.{SendsTo};
+ghost use Rattle.irc_stage.specs.Loops.Hearing.{conns_who, hearers, is_beside, others_of};
+ghost use Rattle.irc_stage.specs.Loops.Hearing.{IsLineOf, IsToldFirst, IsUnsaid, SendsTo};
 ghost use Rattle.irc_stage.specs.Loops.Listening.{conn_as, conns_at, index_after, AreSo};
 ghost use Rattle.irc_stage.specs.Loops.Listening.{BringsNone};
+ghost use Rattle.irc_stage.specs.Loops.Merging.{entries_now, with_lists};
 ghost use Rattle.irc_stage.specs.Loops.Stage.{IsIndexed};
 
 use crate::clients::{ClientTable, number_of};
 use crate::listeners::Listeners;
+use crate::merging::merged;
 use irc_batch::Batch;
 use irc_line::Text;
 use irc_names::Nick;
 use irc_room::{Effect, Room};
-use irc_tables::{NameMap, Row};
-use std::alloc::AllocError;
+use irc_tables::Row;
+use std::alloc::{AllocError, Global};
 
 /// Writes the line that an effect shows, and tells whether it shows one: an effect that does
 /// nothing does not.
@@ -59,9 +59,9 @@ fn is_idle(room: &Room, effect: &Effect) -> bool
 }
 
 impl Listeners {
-    /// Puts out the line at hand to all who see an effect, and follows it. This room and these
-    /// clients are still to be changed by it. Who joins a channel is among those who see it, and
-    /// who leaves one too.
+    /// Puts out the line of an effect to all who see it, and follows the effect. This room and
+    /// these clients are still to be changed by it. Who joins a channel is among those who see it,
+    /// and who leaves one too.
     ///
     /// # Errors
     /// Where memory runs out; the line has been put out to some of them then.
@@ -70,6 +70,7 @@ impl Listeners {
         room: &Room,
         clients: &ClientTable,
         effect: &Effect,
+        line: &Text,
         out: &mut Batch,
     ) -> Result<(), AllocError>
         requires so { AreSo self.old.lists room.now.room clients.now.by_nick }
@@ -80,28 +81,30 @@ impl Listeners {
         ensures so { OnOk result (AreSo self.new.lists (after room.now.room effect.now)
             (index_after effect.now clients.now.by_nick)) }
         ensures shown { OnOk result
-            (SendsTo (hearers room.now.room clients.now.by_nick effect.now) out.old out.new) }
+            (SendsTo line.now.items (hearers room.now.room clients.now.by_nick effect.now)
+            out.old out.new) }
         ensures grew { Grew out.old.outs out.new.outs }
     {
         room.own();
         match effect {
             Effect::Join { channel, .. } => {
                 self.follow(room, clients, effect)?;
-                self.tell(channel.as_bytes(), None, out)
+                self.tell(channel.as_bytes(), None, line, out)
             }
             _ => {
-                self.tell_first(room, clients, effect, out)?;
+                self.tell_first(room, clients, effect, line, out)?;
                 self.follow(room, clients, effect)
             }
         }
     }
 
-    /// Puts out the line at hand to all who see an effect by which nobody comes into a channel.
+    /// Puts out the line of an effect, by which nobody comes into a channel, to all who see it.
     fn tell_first(
         &self,
         room: &Room,
         clients: &ClientTable,
         effect: &Effect,
+        line: &Text,
         out: &mut Batch,
     ) -> Result<(), AllocError>
         requires so { AreSo self.now.lists room.now.room clients.now.by_nick }
@@ -109,121 +112,186 @@ impl Listeners {
         requires possible { IsPossible room.now.room effect.now }
         requires first { IsToldFirst effect.now }
         ensures ok { OnOk result
-            (SendsTo (hearers room.now.room clients.now.by_nick effect.now) out.old out.new) }
+            (SendsTo line.now.items (hearers room.now.room clients.now.by_nick effect.now)
+            out.old out.new) }
         ensures grew { Grew out.old.outs out.new.outs }
     {
         room.own();
         match effect {
-            Effect::Rename { nick, .. } => self.tell_renamed(room, clients, nick, out),
+            Effect::Rename { nick, .. } => self.tell_renamed(room, clients, nick, line, out),
             Effect::Quit { nick, .. } => {
-                self.tell_beside(room, nick, number_of(clients, nick), out)
+                self.tell_beside(room, nick, number_of(clients, nick), line, out)
             }
-            Effect::Part { channel, .. } => self.tell(channel.as_bytes(), None, out),
-            Effect::Kick { channel, .. } => self.tell(channel.as_bytes(), None, out),
-            Effect::ChangeModes { channel, .. } => self.tell(channel.as_bytes(), None, out),
-            Effect::SetTopic { channel, .. } => self.tell(channel.as_bytes(), None, out),
-            Effect::Invite { nick, .. } => tell_one(clients, nick, out),
-            Effect::UserMode { nick, .. } => tell_one(clients, nick, out),
+            Effect::Part { channel, .. } => self.tell(channel.as_bytes(), None, line, out),
+            Effect::Kick { channel, .. } => self.tell(channel.as_bytes(), None, line, out),
+            Effect::ChangeModes { channel, .. } => self.tell(channel.as_bytes(), None, line, out),
+            Effect::SetTopic { channel, .. } => self.tell(channel.as_bytes(), None, line, out),
+            Effect::Invite { nick, .. } => tell_one(clients, nick, line, out),
+            Effect::UserMode { nick, .. } => tell_one(clients, nick, line, out),
             _ => Ok(()),
         }
     }
 
-    /// Puts out the line at hand to those that listen in a channel, but for one.
-    ///
-    /// # Errors
-    /// Where memory runs out; it has been put out to some of them then.
-    pub(crate) fn tell(
+    /// Puts out a line to those that listen in a channel, but for one.
+    fn tell(
         &self,
         channel: &[u8],
         one: Option<u64>,
+        line: &Text,
         out: &mut Batch,
     ) -> Result<(), AllocError>
-        ensures ok { OnOk result (out.new
-            ≡ put_out_all (to_others out.old.held one (conns_at self.now.lists (key channel.now)))
-            out.old) }
+        ensures ok { OnOk result
+            (SendsTo line.now.items (others_of one (conns_at self.now.lists (key channel.now)))
+            out.old out.new) }
         ensures grew { Grew out.old.outs out.new.outs }
     {
-        send_to_others(self.of(channel), one, out)
+        tell_others(self.of(channel), one, line, out)
     }
 
-    /// Puts out the line at hand to a user that has another nickname, and to all that are in a
+    /// Puts out a line to a user that has another nickname, and to all that are in a
     /// channel with it. In a channel it is among those that listen.
     fn tell_renamed(
         &self,
         room: &Room,
         clients: &ClientTable,
         nick: &Nick,
+        line: &Text,
         out: &mut Batch,
     ) -> Result<(), AllocError>
         requires so { AreSo self.now.lists room.now.room clients.now.by_nick }
         requires there { has_user room.now.room nick.now ≡ true }
         ensures ok { (new : List ℕ) → OnOk result
-            (SendsTo (hearers room.now.room clients.now.by_nick (Rename nick.now new))
-            out.old out.new) }
+            (SendsTo line.now.items
+            (hearers room.now.room clients.now.by_nick (Rename nick.now new)) out.old out.new) }
         ensures grew { Grew out.old.outs out.new.outs }
     {
         room.own();
         if room.names_of(nick.as_bytes()).is_empty() {
-            return tell_one(clients, nick, out);
+            return tell_one(clients, nick, line, out);
         }
-        self.tell_beside(room, nick, None, out)
+        self.tell_beside(room, nick, None, line, out)
     }
 
-    /// Puts out the line at hand to all that are in a channel with a user, but for one, each once.
+    /// Puts out a line to all that are in a channel with a user, but for one, each once.
     fn tell_beside(
         &self,
         room: &Room,
         nick: &Nick,
         one: Option<u64>,
+        line: &Text,
         out: &mut Batch,
     ) -> Result<(), AllocError>
         ensures ok { (by_nick : Table ℕ) → AreSo self.now.lists room.now.room by_nick
-            → OnOk result (out.new
-            ≡ put_out_all (to_others out.old.held one
-            (conns_who room.now.room by_nick (is_beside room.now.room nick.now))) out.old) }
+            → OnOk result (SendsTo line.now.items
+            (others_of one (conns_who room.now.room by_nick (is_beside room.now.room nick.now)))
+            out.old out.new) }
         ensures grew { Grew out.old.outs out.new.outs }
     {
         room.own();
         let names = room.names_of(nick.as_bytes());
         if let [name] = names {
-            return self.tell(name.name.as_slice(), one, out);
+            return self.tell(name.name.as_slice(), one, line, out);
         }
-        let conns = self.put_together(names)?;
-        send_to_all_others(&conns, one, out)
+        let rows = self.put_together(names)?;
+        tell_all_others(rows.as_slice(), one, line, out)
     }
 
     /// Those that listen in some channels, each once, in folded order of their nicknames.
-    fn put_together(&self, names: &[Row<()>]) -> Result<NameMap<u64>, AllocError>
-        ensures { IfOk result (λ conns. conns
-            ≡ with_lists self.now.lists (map (λ row. key row.name.items) names.now) empty) }
+    fn put_together<'a>(
+        &'a self,
+        names: &[Row<()>],
+    ) -> Result<Vec<&'a Row<u64>, Global>, AllocError>
+        ensures { IfOk result (λ rows. entries_now rows.items
+            ≡ with_lists self.now.lists (map (λ row. key row.name.items) names.now) []) }
     {
-        let mut conns = NameMap::new(self.alloc);
+        let mut found = Vec::new(self.alloc);
         for row in names {
-            put_rows(&mut conns, self.of(row.name.as_slice()))?;
+            found = merged(self.alloc, self.of(row.name.as_slice()), &found)?;
         }
-        Ok(conns)
+        Ok(found)
     }
 }
 
-/// Puts connections into a map.
-fn put_rows(conns: &mut NameMap<u64>, rows: &[Row<u64>]) -> Result<(), AllocError>
-    ensures { OnOk result (conns.new ≡ with_conns (map row_entry rows.now) conns.old) }
-{
-    for row in rows {
-        conns.insert(row.name.as_slice(), row.value)?;
-    }
-    Ok(())
-}
-
-/// Puts out the line at hand to a user, where it is a client.
-fn tell_one(clients: &ClientTable, nick: &Nick, out: &mut Batch) -> Result<(), AllocError>
+/// Puts out a line to a user, where it is a client.
+fn tell_one(
+    clients: &ClientTable,
+    nick: &Nick,
+    line: &Text,
+    out: &mut Batch,
+) -> Result<(), AllocError>
     ensures ok { OnOk result
-        (SendsTo (conn_as clients.now.by_nick nick.now) out.old out.new) }
+        (SendsTo line.now.items (conn_as clients.now.by_nick nick.now) out.old out.new) }
     ensures grew { Grew out.old.outs out.new.outs }
 {
     match number_of(clients, nick) {
-        Some(conn) => out.send(conn),
+        Some(conn) => out.put(conn, line),
         None => Ok(()),
+    }
+}
+
+/// Puts out a line to each of these connections in turn, but for one. Where there is no other it
+/// is not taken to hand.
+///
+/// # Errors
+/// Where memory runs out; it has been put out to some of them then.
+pub(crate) fn tell_others(
+    rows: &[Row<u64>],
+    one: Option<u64>,
+    line: &Text,
+    out: &mut Batch,
+) -> Result<(), AllocError>
+    ensures ok { OnOk result
+        (SendsTo line.now.items (others_of one (map (λ row. row.value) rows.now))
+        out.old out.new) }
+    ensures grew { Grew out.old.outs out.new.outs }
+{
+    if !has_other(rows, one) {
+        return Ok(());
+    }
+    out.hold(line)?;
+    send_to_others(rows, one, out)
+}
+
+/// The same of connections that were put together.
+fn tell_all_others(
+    rows: &[&Row<u64>],
+    one: Option<u64>,
+    line: &Text,
+    out: &mut Batch,
+) -> Result<(), AllocError>
+    ensures ok { OnOk result
+        (SendsTo line.now.items (others_of one (map (λ row. row.now.value) rows.now))
+        out.old out.new) }
+    ensures grew { Grew out.old.outs out.new.outs }
+{
+    if !has_any_other(rows, one) {
+        return Ok(());
+    }
+    out.hold(line)?;
+    send_to_all_others(rows, one, out)
+}
+
+/// Whether there is another among these connections than one.
+fn has_other(rows: &[Row<u64>], one: Option<u64>) -> bool
+    ensures { result ≡ list_any (λ row. not (is_number one row.value)) rows.now }
+{
+    rows.iter().any(|row| is_other(row.value, one))
+}
+
+/// The same of connections that were put together.
+fn has_any_other(rows: &[&Row<u64>], one: Option<u64>) -> bool
+    ensures { result ≡ list_any (λ row. not (is_number one row.now.value)) rows.now }
+{
+    rows.iter().any(|row| is_other(row.value, one))
+}
+
+/// Whether a connection is another than one.
+fn is_other(conn: u64, one: Option<u64>) -> bool
+    ensures { result ≡ not (is_number one conn) }
+{
+    match one {
+        Some(number) => number != conn,
+        None => true,
     }
 }
 
@@ -241,16 +309,16 @@ fn send_to_others(rows: &[Row<u64>], one: Option<u64>, out: &mut Batch) -> Resul
 
 /// The same of connections that were put together.
 fn send_to_all_others(
-    conns: &NameMap<u64>,
+    rows: &[&Row<u64>],
     one: Option<u64>,
     out: &mut Batch,
 ) -> Result<(), AllocError>
     ensures ok { OnOk result (out.new
-        ≡ put_out_all (to_others out.old.held one (values conns.now)) out.old) }
+        ≡ put_out_all (to_others out.old.held one (map (λ row. row.now.value) rows.now)) out.old) }
     ensures grew { Grew out.old.outs out.new.outs }
 {
-    for conn in conns.values() {
-        send_unless(*conn, one, out)?;
+    for row in rows {
+        send_unless(row.value, one, out)?;
     }
     Ok(())
 }

@@ -7,6 +7,7 @@ mod audience;
 mod clients;
 mod linked;
 mod listeners;
+mod merging;
 mod origin;
 mod peer;
 mod stage;

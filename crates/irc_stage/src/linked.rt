@@ -29,9 +29,6 @@ use irc_routes::{Info, RoutesFault};
 use std::alloc::{AllocError, Global};
 use std::collections::BTreeMap;
 
-/// A user quits that a collision takes out: by no link.
-const NO_LINK: u64 = 0;
-
 /// A server more, as its neighbour tells of it (RFC 2813 section 4.1.2).
 #[derive(Clone, Copy)]
 pub struct Newcomer<'a> {
@@ -283,7 +280,7 @@ impl Stage {
             nick: nick.copy(),
             text: text.copy(),
         };
-        self.change(Origin::Link(NO_LINK), &quit, out)
+        self.change(Origin::Own, &quit, out)
     }
 
     /// The client of a nickname, if it is one of the server's, is told why and closed.

@@ -20,6 +20,8 @@ pub enum Origin<'a> {
     Client(Speaker<'a>),
     /// The server at the other end of a link.
     Link(u64),
+    /// The server itself.
+    Own,
 }
 
 impl Origin<'_> {
@@ -31,6 +33,7 @@ impl Origin<'_> {
         match self {
             Origin::Client(speaker) => Some(speaker.conn),
             Origin::Link(_) => None,
+            Origin::Own => None,
         }
     }
 
@@ -41,6 +44,7 @@ impl Origin<'_> {
         match self {
             Origin::Client(_) => None,
             Origin::Link(link) => Some(link),
+            Origin::Own => None,
         }
     }
 }

@@ -20,9 +20,10 @@ ghost use Rattle.irc_stage.specs.Loops.Speaking.{arrival_of, AreSpokenAt, IsSpok
 ghost use Rattle.irc_stage.specs.Loops.Stage.{clients_of, lines_on, machine_at, view_of, Applies};
 ghost use Rattle.irc_stage.specs.Loops.Stage.{AreFitAt, CarriesOut, Changes, IsFit, IsFreeOf};
 ghost use Rattle.irc_stage.specs.Loops.Stage.{IsIndexed, IsNoUser, IsReady, IsSound, Keeps};
-ghost use Rattle.irc_stage.specs.Loops.Stage.{LeavesApart, Shows, ShowsTo, Takes, TakesAll};
+ghost use Rattle.irc_stage.specs.Loops.Stage.{LeavesApart, LeavesUnheard, Shows, ShowsTo};
+ghost use Rattle.irc_stage.specs.Loops.Stage.{Takes, TakesAll};
 
-use crate::audience::write;
+use crate::audience::{tell_others, write};
 use crate::clients::{self, Client, ClientTable, number_of};
 use crate::listeners::Listeners;
 use crate::origin::{Origin, Speaker};
@@ -30,7 +31,7 @@ use crate::peer::Peer;
 use irc_acts::{Act, Context};
 use irc_batch::Batch;
 use irc_line::Text;
-use irc_link_writer::write_effect;
+use irc_link_writer::effect_text;
 use irc_links::{Around, LinkEnd, Ways};
 use irc_names::{ChannelName, Nick};
 use irc_numerics::reply_line;
@@ -40,9 +41,6 @@ use irc_routes::Routes;
 use irc_users::User;
 use std::alloc::{AllocError, Global};
 use std::collections::BTreeMap;
-
-/// A line tells of an effect alike on every link.
-const EVERY_LINK: u64 = 0;
 
 /// What a server is made of.
 #[derive(Drop)]
@@ -57,7 +55,7 @@ pub struct Stage {
     pub(crate) clients: ClientTable,
     /// Its room.
     pub(crate) room: Room,
-    /// Which of its clients hear what is said in which channel.
+    /// Which of its clients listen in which channel.
     pub(crate) listeners: Listeners,
     /// The links on which the line at hand goes.
     pub(crate) ways: Ways,
@@ -229,7 +227,7 @@ impl Stage {
         if self.ways.links.is_empty() {
             return self.change(origin, effect, out);
         }
-        let line = write_effect(effect, &self.room, &self.routes, EVERY_LINK);
+        let line = effect_text(effect, &self.room, &self.routes);
         self.change(origin, effect, out)?;
         send_on_all(&line, self.ways.links.as_slice(), out)
     }
@@ -318,9 +316,12 @@ impl Stage {
         ensures ways { OnOk result (self.new.ways.links ≡ self.old.ways.links) }
         ensures grew { Grew out.old.outs out.new.outs }
     {
+        let rows = self.listeners.of(channel.as_bytes());
+        if rows.is_empty() {
+            return Ok(());
+        }
         if self.room.write_line(effect, &mut self.line) {
-            out.hold(&self.line)?;
-            return self.listeners.tell(channel.as_bytes(), origin.conn(), out);
+            return tell_others(rows, origin.conn(), &self.line, out);
         }
         Ok(())
     }
@@ -352,6 +353,7 @@ impl Stage {
         requires fit { IsFit (machine_at self.old) effect.now }
         requires unsaid { IsUnsaid effect.now }
         ensures shown { OnOk result (ShowsTo effect.now self.old out.old out.new) }
+        ensures unheard { OnOk result (LeavesUnheard effect.now self.old out.old out.new) }
         ensures so { OnOk result
             (AreSo self.new.listeners.lists (after self.old.room.room effect.now)
             (index_after effect.now self.old.clients.by_nick)) }
@@ -362,8 +364,8 @@ impl Stage {
         if !write(&self.room, effect, &mut self.line) {
             return self.listeners.follow(&self.room, &self.clients, effect);
         }
-        out.hold(&self.line)?;
-        self.listeners.show(&self.room, &self.clients, effect, out)
+        self.listeners
+            .show(&self.room, &self.clients, effect, &self.line, out)
     }
 
     /// An effect changes the room, and is shown to its viewers.

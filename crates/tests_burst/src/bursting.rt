@@ -2,7 +2,8 @@
 use crate::stage::{add_neighbour, channel, come, join, nick, routes, server, set, set_topic};
 use arrayvec::ArrayVec;
 use irc_burst_lines::{
-    Member, burst, kill_text, mode_text, njoin_text, server_text, squit_text, topic_text,
+    MEMBERS_A_LINE, NewMember, burst, kill_text, mode_text, njoin_text, server_text, squit_text,
+    topic_text,
 };
 use irc_channels::{Flags, Words};
 use irc_handshake::{greeting_text, pass_text};
@@ -135,9 +136,19 @@ fn are_long(lines: &[Text], rows: &[(usize, &[u8])]) -> bool {
 }
 
 /// A member with these flags.
-fn member(nick: &[u8], op: bool, voice: bool) -> Member<'_> {
+fn member(rt: &impl Abort, name: &[u8], op: bool, voice: bool) -> NewMember {
+    let nick = nick(rt, name);
     let flags = Flags { op, voice };
-    Member { nick, flags }
+    NewMember { nick, flags }
+}
+
+/// As many members as a line brings, each with a nickname that is as long as may be.
+fn longest_members(rt: &impl Abort, alloc: Global) -> Result<Vec<NewMember, Global>, Fail> {
+    let mut members = Vec::new(alloc);
+    for _ in 0..MEMBERS_A_LINE {
+        members.push(member(rt, LONG_NICK, true, true))?;
+    }
+    Ok(members)
 }
 
 /// The line of a MODE with three bans of this mask.
@@ -245,10 +256,10 @@ fn lines_of_servers_are_written(rt: HostRuntime) -> Result<(), Fail> {
             &own,
             &channel(&rt, b"#c"),
             &[
-                member(b"al", true, false),
-                member(b"bo", false, true),
-                member(b"cy", true, true),
-                member(b"dee", false, false),
+                member(&rt, b"al", true, false),
+                member(&rt, b"bo", false, true),
+                member(&rt, b"cy", true, true),
+                member(&rt, b"dee", false, false),
             ],
         ),
     ];
@@ -268,7 +279,7 @@ fn the_longest_lines_are_whole(rt: HostRuntime) -> Result<(), Fail> {
         server_text(&routes, &by, &by, &info),
         squit_text(&by, &by, &Words::cut(LONG_TEXT)),
         kill_text(&by, &nick(&rt, LONG_NICK)),
-        njoin_text(&by, &to, &[member(LONG_NICK, true, true); 10]),
+        njoin_text(&by, &to, &longest_members(&rt, alloc)?),
         three_bans(&rt, alloc, LONG_MASK),
         topic_text(&by, &to, &Words::cut(LONG_TEXT)),
     ];

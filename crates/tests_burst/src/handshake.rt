@@ -1,6 +1,6 @@
 //! The lines with which a link begins, each with what it says, or why it closes the link (RFC 2813
 //! section 4.1); and who may link.
-use crate::shown::{Shown, append, close_word, reason_word};
+use crate::shown::{Shown, append, close_word};
 use crate::stage::{add_neighbour, fill, routes, server};
 use arrayvec::ArrayVec;
 use irc_burst::read_handshake_line;
@@ -110,8 +110,9 @@ fn rows_hold(alloc: Global, at: Arrival<'_>, rows: &[Row]) -> bool {
         let mut shown: Shown = ArrayVec::new();
         if let Ok(message) = parse(line) {
             match read_handshake_line(alloc, &message, at, *has_password) {
-                Ok(opening) => show(&opening, &mut shown),
-                Err(fault) => append(&mut shown, reason_word(fault)),
+                Ok(Ok(opening)) => show(&opening, &mut shown),
+                Ok(Err(reason)) => append(&mut shown, close_word(reason)),
+                Err(_) => append(&mut shown, b"memory"),
             }
         }
         all &= shown.as_slice() == *said;

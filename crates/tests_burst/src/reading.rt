@@ -3,7 +3,9 @@
 use crate::shown::{Shown, append, reason_word};
 use crate::stage::{add_neighbour, come, fill, join, routes, server};
 use arrayvec::ArrayVec;
-use irc_burst::{BurstAct, NewMember, read_burst_line};
+use irc_burst::{
+    Arrivals, Deed, Killing, Loss, NewMember, NewServer, Setting, Topic, read_burst_line,
+};
 use irc_line::limits::MAX_LINE;
 use irc_line::{Line, parse};
 use irc_modes::ModeChange;
@@ -125,6 +127,34 @@ static WORDS: [Row; 42] = [
     (b":z.net SERVER c.net 4294967294 2 :C", b" direction"),
 ];
 
+/// Each command in small letters, and words that are none; the same users.
+static SMALL: [Row; 24] = [
+    (b"nick dd 1 u h 1 + :Dd", b" does"),
+    (b":bo nick dd", b" does"),
+    (b":bo nick BO", b" does"),
+    (b":bo quit :x", b" does"),
+    (b":bo join #n", b" does"),
+    (b":bo part #o :x", b" does"),
+    (b":bo kick #m al :x", b" does"),
+    (b":bo mode #o +t", b" does"),
+    (b":bo topic #o :x", b" does"),
+    (b":bo privmsg al :x", b" does"),
+    (b":bo notice al :x", b" does"),
+    (b":bo invite al #o", b" does"),
+    (b":b.net mode #o +n", b" modes b.net #o n"),
+    (b":b.net topic #o :x", b" topic b.net #o x"),
+    (b":b.net server c.net 2 2 :C", b" server b.net c.net 2 2 C"),
+    (b":b.net squit b.net :x", b" lost b.net b.net x"),
+    (b":b.net kill al :Nick collision", b" kill b.net al"),
+    (b":b.net njoin #c :bo", b" members b.net #c . bo"),
+    (b"pass pw 0210010001 TREE|", b" order"),
+    (b":zz quit :x", b""),
+    (b":al quit :x", b" direction"),
+    (b"quit :x", b" parameters"),
+    (b":bo qui :x", b" unknown"),
+    (b":bo quits :x", b" unknown"),
+];
+
 /// Lines of 510 bytes: what they begin with, the rest is `x`.
 static FILLED: [Row; 20] = [
     (b"FOO ", b" unknown"),
@@ -174,75 +204,70 @@ fn show_change(change: &ModeChange, shown: &mut Shown) {
     }
 }
 
-/// Shows what is done to a channel.
-fn show_on_channel(act: &BurstAct, shown: &mut Shown) {
-    match act {
-        BurstAct::Members {
-            server,
-            channel,
-            members,
-        } => {
-            append(shown, b"members");
-            append(shown, server.as_bytes());
-            append(shown, channel.as_bytes());
-            for member in members.as_slice() {
-                show_member(member, shown);
-            }
-        }
-        BurstAct::Modes {
-            server,
-            channel,
-            changes,
-        } => {
-            append(shown, b"modes");
-            append(shown, server.as_bytes());
-            append(shown, channel.as_bytes());
-            for change in changes.as_slice() {
-                show_change(change, shown);
-            }
-        }
-        BurstAct::Topic {
-            server,
-            channel,
-            text,
-        } => {
-            append(shown, b"topic");
-            append(shown, server.as_bytes());
-            append(shown, channel.as_bytes());
-            append(shown, text.as_bytes());
-        }
-        _ => append(shown, b"does"),
+fn show_words(words: &[&[u8]], shown: &mut Shown) {
+    for word in words {
+        append(shown, word);
     }
 }
 
-fn show(act: &BurstAct, shown: &mut Shown) {
-    match act {
-        BurstAct::Server {
-            uplink,
-            name,
-            distance,
-            token,
-            info,
-        } => {
-            append(shown, b"server");
-            append(shown, uplink.as_bytes());
-            append(shown, name.as_bytes());
-            append(shown, Buffer::new().format(*distance).as_bytes());
-            append(shown, Buffer::new().format(*token).as_bytes());
-            append(shown, info.as_bytes());
-        }
-        BurstAct::Lost { server, name, text } => {
-            append(shown, b"lost");
-            append(shown, server.as_bytes());
-            append(shown, name.as_bytes());
-            append(shown, text.as_bytes());
-        }
-        BurstAct::Kill { server, nick } => {
-            append(shown, b"kill");
-            append(shown, server.as_bytes());
-            append(shown, nick.as_bytes());
-        }
-        _ => show_on_channel(act, shown),
+fn show_server(server: &NewServer, shown: &mut Shown) {
+    show_words(
+        &[b"server", server.uplink.as_bytes(), server.name.as_bytes()],
+        shown,
+    );
+    append(shown, Buffer::new().format(server.distance).as_bytes());
+    append(shown, Buffer::new().format(server.token).as_bytes());
+    append(shown, server.info.as_bytes());
+}
+
+fn show_loss(loss: &Loss, shown: &mut Shown) {
+    show_words(
+        &[b"lost", loss.server.as_bytes(), loss.name.as_bytes()],
+        shown,
+    );
+    append(shown, loss.text.as_bytes());
+}
+
+fn show_killing(killing: &Killing, shown: &mut Shown) {
+    show_words(
+        &[b"kill", killing.server.as_bytes(), killing.nick.as_bytes()],
+        shown,
+    );
+}
+
+fn show_arrivals(arrivals: &Arrivals, shown: &mut Shown) {
+    let channel = arrivals.channel.as_bytes();
+    show_words(&[b"members", arrivals.server.as_bytes(), channel], shown);
+    for member in arrivals.members.as_slice() {
+        show_member(member, shown);
+    }
+}
+
+fn show_setting(setting: &Setting, shown: &mut Shown) {
+    let channel = setting.channel.as_bytes();
+    show_words(&[b"modes", setting.server.as_bytes(), channel], shown);
+    for change in setting.changes.as_slice() {
+        show_change(change, shown);
+    }
+}
+
+fn show_topic(topic: &Topic, shown: &mut Shown) {
+    show_words(
+        &[b"topic", topic.server.as_bytes(), topic.channel.as_bytes()],
+        shown,
+    );
+    append(shown, topic.text.as_bytes());
+}
+
+fn show(deed: &Deed, shown: &mut Shown) {
+    match deed {
+        Deed::Does(_) => append(shown, b"does"),
+        Deed::Server(server) => show_server(server, shown),
+        Deed::Lost(loss) => show_loss(loss, shown),
+        Deed::Kill(killing) => show_killing(killing, shown),
+        Deed::Members(arrivals) => show_arrivals(arrivals, shown),
+        Deed::Modes(setting) => show_setting(setting, shown),
+        Deed::Topic(topic) => show_topic(topic, shown),
     }
 }
 
@@ -250,9 +275,9 @@ fn show(act: &BurstAct, shown: &mut Shown) {
 fn show_read(alloc: Global, room: &Room, routes: &Routes, line: &[u8], shown: &mut Shown) {
     if let Ok(message) = parse(line) {
         match read_burst_line(alloc, &message, room, routes, 1) {
-            Ok(acts) => {
-                for act in acts.as_slice() {
-                    show(act, shown);
+            Ok(deeds) => {
+                for deed in deeds.as_slice() {
+                    show(deed, shown);
                 }
             }
             Err(fault) => append(shown, reason_word(fault)),
@@ -301,6 +326,7 @@ fn lines_of_servers_are_read(rt: HostRuntime) -> Result<(), Fail> {
     join(&rt, alloc, &mut room, b"bo", true, b"#m");
     assert!(rt; rows_hold(alloc, &room, &routes, &ROWS));
     assert!(rt; rows_hold(alloc, &room, &routes, &WORDS));
+    assert!(rt; rows_hold(alloc, &room, &routes, &SMALL));
     assert!(rt; filled_rows_hold(alloc, &room, &routes, &FILLED));
     Ok(())
 }

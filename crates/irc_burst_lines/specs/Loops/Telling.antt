@@ -22,7 +22,8 @@ use Rattle.irc_routes.specs.Known.{Known}
 use Rattle.irc_routes.specs.declared.server_row.ServerRow.{ServerRow}
 use Rattle.irc_merge.specs.Bursts.{in_lines, members_a_line, bans_a_line}
 use Rattle.irc_link_writer.specs.Written.{introduction}
-use Rattle.irc_burst_lines.specs.declared.njoin_line.Member.{Member}
+use Rattle.irc_link_reader.specs.declared.deed.NewMember.{NewMember}
+pub use Rattle.irc_link_reader.specs.Loops.Tellings.{told_member, told_members}
 use Rattle.irc_burst_lines.specs.DeedLines.{server_parts, members_text, njoin_parts, mode_parts}
 use Rattle.irc_burst_lines.specs.DeedLines.{topic_parts}
 use Rattle.irc_burst_lines.specs.BurstLines.{is_near}
@@ -42,17 +43,11 @@ Tells parts old new = Writes parts old.items new.items
 abbrev pub AreLines : List Written → Vec (ArrayVec ℕ) → Type 0
 AreLines parts lines = lines_now lines.items ≡ map text parts
 
-abbrev pub told_member : Member → List ℕ × Flags
-told_member member = (member.nick.now, member.flags)
-
-abbrev pub told_members : List Member → List (List ℕ × Flags)
-told_members members = map told_member members
-
-abbrev pub told_text : List Member → List ℕ
+abbrev pub told_text : List NewMember → List ℕ
 told_text members = members_text (told_members members)
 
 -- a list with one member more, if there is one
-abbrev pub Gains : Vec Member → Option Member → Vec Member → Type 0
+abbrev pub Gains : Vec NewMember → Option NewMember → Vec NewMember → Type 0
 Gains old member new = told_members new.items ≡ told_members old.items
     ++ option_to_list (option_map told_member member)
 
@@ -128,7 +123,7 @@ channel_told known link users channel =
 
 -- ---- the same, as the code has them
 
-abbrev pub lines_of_members : List ℕ → List ℕ → List Member → List Written
+abbrev pub lines_of_members : List ℕ → List ℕ → List NewMember → List Written
 lines_of_members server channel members = member_lines server channel (told_members members)
 
 abbrev pub lines_of_modes : List ℕ → Channel → List Written
@@ -137,7 +132,7 @@ lines_of_modes server channel = settings_lines server channel.name (set_changes 
 abbrev pub lines_of_bans : List ℕ → Channel → List Written
 lines_of_bans server channel = ban_lines server channel.name (ban_changes channel.modes.bans)
 
-abbrev pub lines_of_channel : List ℕ → Channel → List Member → List Written
+abbrev pub lines_of_channel : List ℕ → Channel → List NewMember → List Written
 lines_of_channel server channel members = channel_lines server channel (told_members members)
 
 abbrev pub near_row : Known → ℕ → Room → Row Flags → Option (List ℕ × Flags)

@@ -1,10 +1,6 @@
 -- What the code that reads lines of a link gives.
 use Rattle.std.specs.Prelude.{◌≡◌, ⊤, ℕ, Result, Ok, Err, List, [], unwrap_or}
-use Rattle.std.specs.Global.{Vec}
 use Rattle.std.specs.declared.alloc.AllocError.{AllocError}
-use Rattle.irc_burst.specs.declared.acts.BurstAct.{BurstAct}
-use Rattle.irc_burst.specs.declared.fault.BurstFault.{BurstFault}
-use Rattle.irc_burst.specs.declared.fault.BurstFault.TheVariants.{Closes, Memory}
 use Rattle.irc_burst.specs.Loops.Acts.{acts_told}
 use Rattle.irc_handshake.specs.declared.openings.Opening.{Opening}
 use Rattle.irc_handshake.specs.Peers.{refusal}
@@ -20,19 +16,12 @@ heard_of code.Nothing = ignored
 heard_of (code.Closes why) = closes why
 heard_of (code.Password word) = password word
 heard_of (code.Meets name info) = meets name info
-heard_of (code.Tells acts) = tells (acts_told acts.items)
+heard_of (code.Tells deeds) = tells (acts_told deeds.items)
 
 -- what is heard, unless memory ran out
 abbrev pub IsHeard : Result Code AllocError → Heard → Type 0
 IsHeard (Ok code) heard = heard_of code ≡ heard
 IsHeard (Err given) heard = ⊤
-
--- what comes of reading a line behind the handshake
-abbrev pub IsHeardOf : Result (Vec BurstAct) BurstFault → Result Code AllocError → Type 0
-IsHeardOf (Ok acts) result = IsHeard result (tells (acts_told acts.items))
-IsHeardOf (Err (Closes why)) result = IsHeard result (closes why)
-IsHeardOf (Err Memory) (Ok code) = ⊥
-IsHeardOf (Err Memory) (Err given) = ⊤
 
 abbrev pub given_of : End → List ℕ
 given_of end = unwrap_or end.password []

@@ -1,10 +1,9 @@
 -- What comes by a link leaves clients and users matched, and the room well formed.
 use Rattle.std.proofs.Common.{◌≡◌, ℕ, Bool, true, false, cond, not, ◌&&◌, is_none, is_some, Option}
-use Rattle.std.proofs.Common.{Some, None, List, [], ◌∷◌, ◌++◌, refl, sym, ◌∙◌, ap, subst}
+use Rattle.std.proofs.Common.{Some, None, List, ◌++◌, refl, sym, ◌∙◌, ap, subst}
 use Rattle.std.proofs.Common.{if◌then◌else◌}
 use Rattle.std.specs.List.{list_all}
 use Rattle.std.specs.Option.{option_map_or}
-use Rattle.std.specs.Ordering.{nat_cmp}
 use Rattle.std.specs.FinMap.{get, retain_keys, get-retain_keys, nat_cmp-IsAntisymmetric}
 use Rattle.std.specs.Cmp.Lexicographic.{bytes_decides}
 use Rattle.irc_names.specs.Fold.{key, same}
@@ -15,7 +14,6 @@ use Rattle.irc_users.specs.UserTable.{is_home}
 use Rattle.irc_room.specs.effect.Effect.{Effect}
 use Rattle.irc_room.specs.effect.Effect.TheVariants.{AddUser, Rename, Quit, Join, Part, Kick}
 use Rattle.irc_room.specs.effect.Effect.TheVariants.{ChangeModes, SetTopic, Say, Invite, UserMode}
-use Rattle.irc_room.specs.fault.RoomFault.{RoomFault}
 use Rattle.irc_room.specs.fault.RoomFault.TheVariants.{NoSuchUser, NoSuchChannel}
 use Rattle.irc_room.specs.After.{after}
 use Rattle.irc_room.specs.Applying.{does, missing_fault}
@@ -32,7 +30,7 @@ use Rattle.irc_stage.specs.Matched.{has_client, is_user_here, IsMatched}
 use Rattle.irc_stage.specs.View.{View, machine_of}
 use Rattle.irc_stage.specs.EffectTold.{Served, changed, changed_if, client_ended, counts}
 use Rattle.irc_stage.specs.EffectTold.{effect_came, effect_told, is_another, is_elsewhere}
-use Rattle.irc_stage.specs.EffectTold.{is_of_here, quit_by, shown_at, taken_out}
+use Rattle.irc_stage.specs.EffectTold.{is_of_here, shown_at, taken_out}
 use Rattle.irc_stage.specs.Loops.Speaking.{IsSaidElsewhere}
 use Rattle.irc_stage.specs.Lemmas.Matching.{has_from, has_to, key_by_same, named_is, nick_in}
 use Rattle.irc_stage.specs.Lemmas.Matching.{quiet_matched, same_by_key}

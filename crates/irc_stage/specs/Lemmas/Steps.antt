@@ -1,5 +1,5 @@
 -- The steps of a decision, one after another: what was put out before stays in front.
-use Rattle.std.proofs.Common.{◌≡◌, ℕ, Bool, true, false, Option, None, List, [], ◌∷◌, ◌++◌, refl}
+use Rattle.std.proofs.Common.{◌≡◌, ℕ, Bool, true, false, Option, None, List, [], ◌∷◌, refl}
 use Rattle.std.proofs.Common.{sym, ◌∙◌, ap, append-nil, append_assoc}
 use Rattle.irc_numerics.specs.Replies.{reply_text}
 use Rattle.irc_room.specs.effect.Effect.{Effect}

@@ -1,9 +1,8 @@
 -- A server with links and a room machine that does all the same: they differ in who is invited
 -- alone, for invitations of other servers' users are theirs to keep.
-use Rattle.std.proofs.Common.{◌≡◌, ℕ, Bool, true, false, cond, Option, Some, None, Result, Ok, Err}
+use Rattle.std.proofs.Common.{◌≡◌, ℕ, Bool, true, false, cond, Option, Some, None, Ok, Err}
 use Rattle.std.proofs.Common.{List, [], ◌∷◌, refl, sym, ◌∙◌, ap, subst, option_map, if◌then◌else◌}
 use Rattle.std.specs.FinMap.{get, insert, remove}
-use Rattle.irc_line.specs.declared.reading.LineFault.{LineFault}
 use Rattle.irc_line.specs.Messages.{Parsed}
 use Rattle.irc_names.specs.Fold.{key}
 use Rattle.irc_names.specs.Tables.{Table, row}
@@ -15,25 +14,24 @@ use Rattle.irc_room.specs.effect.Effect.{Effect}
 use Rattle.irc_room.specs.effect.Effect.TheVariants.{AddUser, Rename, Quit, Join, Part, Kick}
 use Rattle.irc_room.specs.effect.Effect.TheVariants.{ChangeModes, SetTopic, Say, Invite, UserMode}
 use Rattle.irc_room.specs.After.{after}
-use Rattle.irc_room.specs.InTurn.{IsSoFirst}
 use Rattle.irc_room.specs.OtherInvitations.{uninviting, AlikeStayAlike, AlikeTakeAlike, AreAlike}
 use Rattle.irc_room.specs.Room.{Room}
 use Rattle.irc_routes.specs.Known.{place_of}
 use Rattle.irc_acts.specs.declared.act.Act.{Act}
 use Rattle.irc_acts.specs.declared.act.Act.TheVariants.{Answer, Raw, Do}
 use Rattle.irc_commands.specs.Decide.{decide}
-use Rattle.irc_registering.specs.Register.{register, Registered as Given}
+use Rattle.irc_registering.specs.Register.{register}
 use Rattle.irc_stage.specs.declared.clients.Client.{Client}
 use Rattle.irc_stage.specs.declared.clients.Client.TheVariants.{Registering, Registered}
 use Rattle.irc_stage.specs.RoomMachine.{Clients, RoomMachine, client_of}
 use Rattle.irc_stage.specs.Handle.{Handled, Happening, connects, says, goes, all_stepped}
-use Rattle.irc_stage.specs.Handle.{clients_after, client_after, closing, fresh, gone, handled}
+use Rattle.irc_stage.specs.Handle.{clients_after, client_after, closing, handled}
 use Rattle.irc_stage.specs.Handle.{lost_text, machine_after, quits, said_by, stepped, unchanged}
 use Rattle.irc_stage.specs.Handle.{user_decided, user_of}
 use Rattle.irc_stage.specs.Matched.{IsMatched}
 use Rattle.irc_stage.specs.View.{View, machine_of}
 use Rattle.irc_stage.specs.EffectTold.{Served, in_silence, is_elsewhere, room_after, view_after}
-use Rattle.irc_stage.specs.ClientTold.{client_told, closed_told, gone_told, message_told, quit_told}
+use Rattle.irc_stage.specs.ClientTold.{client_told, closed_told, message_told, quit_told}
 use Rattle.irc_stage.specs.ClientTold.{step_told, steps_told, unseated, user_told}
 use Rattle.irc_stage.specs.Loops.Speaking.{AreSpoken, AreSpokenAt, IsSaidByClient}
 use Rattle.irc_stage.specs.Loops.Stage.{AreFit, AreFitAt, AreInTurn, AreInTurnAt, IsFit}

@@ -1,14 +1,14 @@
 -- To whom the line of an effect goes: the connections of the users that see it, told by the folds
 -- of their nicknames.
-use Rattle.std.specs.Prelude.{◌≡◌, ℕ, ⊤, Bool, false, not, ◌&&◌, ◌||◌, nat_eq, Option, None, Some}
-use Rattle.std.specs.Prelude.{List, [], ◌∷◌, map, filter, if◌then◌else◌}
+use Rattle.std.specs.Prelude.{◌≡◌, ℕ, ⊤, Bool, false, not, ◌&&◌, ◌||◌, nat_eq, Option, None}
+use Rattle.std.specs.Prelude.{List, [], ◌∷◌, ◌++◌, map, filter, if◌then◌else◌}
 use Rattle.std.specs.List.{list_any}
 use Rattle.std.specs.FinMap.{values}
 use Rattle.std.specs.Cmp.Lexicographic.{pointwise}
 use Rattle.irc_names.specs.Fold.{key}
-use Rattle.irc_names.specs.Tables.{Table, alter, row}
+use Rattle.irc_names.specs.Tables.{Table}
 use Rattle.irc_users.specs.declared.user.User.{User as Person}
-use Rattle.irc_batch.specs.Batches.{Batch, Sent, line_to, put_out_all}
+use Rattle.irc_batch.specs.Batches.{Batch, Sent, batch_of, is_number, line_to}
 use Rattle.irc_room.specs.effect.Effect.{Effect}
 use Rattle.irc_room.specs.effect.Effect.TheVariants.{AddUser, Rename, Quit, Join, Part, Kick}
 use Rattle.irc_room.specs.effect.Effect.TheVariants.{ChangeModes, SetTopic, Say, Invite, UserMode}
@@ -19,7 +19,7 @@ use Rattle.irc_room.specs.Effects.{is_idle}
 use Rattle.irc_room.specs.Readers.{names_of}
 use Rattle.irc_room.specs.Room.{Room}
 use Rattle.irc_room.specs.Seen.{shown_line}
-use Rattle.irc_stage.specs.Loops.Listening.{Lists, conns_in, conns_of, is_in}
+use Rattle.irc_stage.specs.Loops.Listening.{conns_of, is_in}
 
 -- ---- who sees an effect, by the folds of nicknames
 
@@ -67,8 +67,18 @@ hearers room by_nick effect = conns_who room by_nick (sees_fold room effect)
 abbrev pub to_each : List ℕ → List ℕ → List Sent
 to_each line conns = map (λ conn. line_to conn line) conns
 
-abbrev pub SendsTo : List ℕ → Batch → Batch → Type 0
-SendsTo conns old new = new ≡ put_out_all (to_each old.held conns) old
+-- those of some connections that are not this one
+abbrev pub others_of : Option ℕ → List ℕ → List ℕ
+others_of one conns = filter (λ conn. not (is_number one conn)) conns
+
+-- A line is put out to each of these connections, and is at hand then. Where there are none the
+-- batch stays as it was.
+abbrev pub told_to : List ℕ → List ℕ → Batch → Batch
+told_to line [] batch = batch
+told_to line (conn ∷ conns) batch = batch_of (batch.outs ++ to_each line (conn ∷ conns)) line
+
+abbrev pub SendsTo : List ℕ → List ℕ → Batch → Batch → Type 0
+SendsTo line conns old new = new ≡ told_to line conns old
 
 -- The line that an effect shows to each user at home who sees it, if it shows one: an idle one does
 -- not.
@@ -93,15 +103,3 @@ IsToldFirst effect = ⊤
 abbrev pub IsUnseen : Effect → Type 0
 IsUnseen (AddUser user) = ⊤
 IsUnseen effect = ⊥
-
--- ---- several lists put together
-
--- connections put into a table, each under its fold
-abbrev pub with_conns : List (List ℕ × ℕ) → Table ℕ → Table ℕ
-with_conns [] table = table
-with_conns (e ∷ es) table = with_conns es (alter e.0 (λ _. Some e.1) table)
-
--- those of the lists of some channels
-abbrev pub with_lists : Lists → List (List ℕ) → Table ℕ → Table ℕ
-with_lists lists [] table = table
-with_lists lists (c ∷ cs) table = with_lists lists cs (with_conns (conns_in (row lists c)) table)

@@ -1,12 +1,12 @@
 -- What comes and goes by links, as the code has it.
-use Rattle.std.specs.Prelude.{◌≡◌, ℕ, Bool, Option, List, ◌++◌, if◌then◌else◌}
+use Rattle.std.specs.Prelude.{◌≡◌, ℕ, Bool, Option, List, if◌then◌else◌}
 use Rattle.std.specs.FinMap.{get}
 use Rattle.irc_batch.specs.Batches.{Batch}
 use Rattle.irc_links.specs.Ways.{but, met_links, IsMetEnd}
 use Rattle.irc_stage.specs.declared.linked.Newcomer.{Newcomer}
 use Rattle.irc_stage.specs.declared.stage.Stage.{Stage}
 use Rattle.irc_stage.specs.View.{View}
-use Rattle.irc_stage.specs.EffectTold.{Served, with_sent}
+use Rattle.irc_stage.specs.EffectTold.{with_sent}
 use Rattle.irc_stage.specs.Linked.{is_taken, with_row}
 use Rattle.irc_stage.specs.Loops.Stage.{lines_on, served_at, view_of}
 

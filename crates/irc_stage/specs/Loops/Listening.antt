@@ -1,5 +1,5 @@
--- Who hears what is said, as the code keeps it: by each channel the connections of its members
--- that are clients.
+-- Who listens where, as the code keeps it: by each channel the connections of its members that are
+-- clients.
 use Rattle.std.specs.Prelude.{◌≡◌, ℕ, ⊤, Bool, true, false, ◌&&◌, Option, Some, None, List, [], map}
 use Rattle.std.specs.Prelude.{option_to_list, unwrap_or, if◌then◌else◌}
 use Rattle.std.specs.List.{flat_map, list_any}
@@ -18,7 +18,7 @@ use Rattle.irc_room.specs.Room.{Room}
 use Rattle.irc_stage.specs.declared.clients.Client.{Client}
 use Rattle.irc_stage.specs.declared.clients.Client.TheVariants.{Registered}
 
--- ---- who hears what is said in a channel
+-- ---- connections of users, and what is said to whom
 
 -- the connection of a user that is a client
 abbrev pub conn_as : Table ℕ → List ℕ → List ℕ

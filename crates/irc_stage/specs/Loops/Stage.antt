@@ -31,6 +31,7 @@ use Rattle.irc_stage.specs.Matched.{IsMatched}
 use Rattle.irc_stage.specs.EffectTold.{Served, changed, changed_if, client_ended, effect_came}
 use Rattle.irc_stage.specs.EffectTold.{effect_told, quit_by, taken_out, view_after}
 use Rattle.irc_stage.specs.ClientTold.{closed_told, step_told, steps_told}
+use Rattle.irc_stage.specs.Loops.Hearing.{hearers}
 use Rattle.irc_stage.specs.Loops.Listening.{AreSo}
 
 abbrev pub clients_of : ClientTable → Clients
@@ -107,6 +108,11 @@ ShowsTo effect old out out_after =
     out_after.outs ≡ out.outs ++ flat_map (to_viewer (clients_of old.clients))
     (seen old.room.room effect)
 
+-- and where none of them hears it the batch stays as it was, with the line that was at hand
+abbrev pub LeavesUnheard : Effect → Stage → Batch → Batch → Type 0
+LeavesUnheard effect old out out_after =
+    hearers old.room.room old.clients.by_nick effect ≡ [] → out_after ≡ out
+
 -- An effect changes the room and is shown, but that an invitation of another server's user is not
 -- kept.
 abbrev pub Changes : Effect → Stage → Batch → Stage → Batch → Type 0
@@ -165,9 +171,9 @@ pub record IsSound (kept : Kept) : Type 0 where
   pub serves : kept.failed ≡ false
   pub well_formed : IsWellFormed kept.room
 
--- The room is the server's own, and serves; it is known who of its clients hears what is said in
--- which channel; behind which links somebody does is so where it is kept; each known server is
--- behind a link that counts.
+-- The room is the server's own, and serves; it is known which of its clients listen in which
+-- channel; behind which links somebody does is so where it is kept; each known server is behind a
+-- link that counts.
 pub record IsReady (stage : Stage) : Type 0 where
   pub own_is : stage.room.own ≡ stage.routes.name
   pub sound : IsSound stage.room

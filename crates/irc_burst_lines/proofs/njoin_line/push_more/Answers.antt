@@ -13,7 +13,7 @@ pub loop-member-preserved : goal.loop-member-preserved
 loop-member-preserved c = record {
   still_cut = c.push_member.ensures.still_cut;
   pushed = more_on c.loop-member.line.items _ _ _ c.args.members.now c.loop-member.member-index _ _
-      c.loop-member-test.true refl
+      c.loop-member-test.true c.member-item.is
       c.push_cut-in-loop-member.ensures.appended c.push_member.ensures.pushed
       c.loop-member.invariant.pushed;
 }

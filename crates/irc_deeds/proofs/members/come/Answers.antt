@@ -1,5 +1,5 @@
 use Rattle.std.proofs.Common.{false, ◌∙◌, ap}
-use Rattle.irc_burst.specs.Loops.Acts.{member_told}
+use Rattle.irc_burst_lines.specs.Loops.Telling.{told_member}
 use Rattle.irc_room.specs.effect.Effect.TheVariants.{Join}
 use Rattle.irc_stage.specs.EffectTold.{changed_if}
 use Rattle.irc_stage.specs.Lemmas.Outcomes.{on_ok}
@@ -11,7 +11,7 @@ pub returns-clause-ok : goal.returns-clause-ok
 returns-clause-ok c =
     let old = served_at c.args.stage.now c.args.out.now.outs in
     on_ok c.give-2.result _ _
-    (member_came c.args.channel.now (member_told c.args.member.now) old
+    (member_came c.args.channel.now (told_member c.args.member.now) old
     (served_at c.take.new.self c.take.new.out.outs)
     (served_at c.give.new.stage c.give.new.out.outs)
     (served_at c.give-2.new.stage c.give-2.new.out.outs)

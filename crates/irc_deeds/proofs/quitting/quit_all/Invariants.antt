@@ -8,9 +8,9 @@ use Rattle.irc_deeds.proofs.quitting.quit_all.Given as goal
 -- those who still quit complete what was done so far
 abbrev pub invariant-loop-nick : goal.invariant-loop-nick
 invariant-loop-nick l = record {
-  completes : all_changed (quits_by_nick l.loss.text.now (drop l.nick-index l.nick-items))
+  completes : all_changed (quits_by_nick l.loss.text (drop l.nick-index l.nick-items))
       (served_at l.stage l.out.outs)
-      ≡ all_changed (quits_by_nick l.loss.text.now l.nick-items)
+      ≡ all_changed (quits_by_nick l.loss.text l.nick-items)
       (served_at l.initial.stage l.initial.out.outs);
   serving : IsServing l.stage;
   keeps : Keeps l.initial.stage l.stage;

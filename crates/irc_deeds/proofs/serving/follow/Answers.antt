@@ -26,9 +26,9 @@ returns-in-Tells-clause-ok c =
     let view = view_of c.args.stage.now in
     let out = c.args.out.now.outs in
     on_ok c.tell_all.result _ _
-    (λ told. told ∙ ap (λ acts. all_told c.args.link (acts_told acts)
+    (λ told. told ∙ ap (λ deeds. all_told c.args.link (acts_told deeds)
     (served_at c.args.stage.now out)) c.as_slice.ensures.value
-    ∙ told_in_front c.args.link (acts_told c.in-Tells.acts.items) view out
+    ∙ told_in_front c.args.link (acts_told c.in-Tells.deeds.items) view out
     ∙ ap (λ what. behind_sent out (after_heard view c.args.link (heard_of what)))
     (sym c.in-Tells.is))
     c.tell_all.ensures.ok

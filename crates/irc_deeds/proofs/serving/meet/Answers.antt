@@ -23,10 +23,10 @@ returns-clause-ok c =
     let view = view_of c.args.stage.now in
     let far = served_at c.meet.new.self c.answer.new.out.outs in
     on_ok c.gain.result _ _
-    (λ told. met_served c.args.link c.args.name c.args.info.now view (view_of c.meet.new.self)
+    (λ told. met_served c.args.link c.args.name c.args.info view (view_of c.meet.new.self)
     c.args.out.now.outs c.answer.new.out.outs _ c.in_ok-answer.ensures.ok
     (c.meet.ensures.ok ∙ ap (λ name. with_far c.args.link name view) c.copy.ensures)
-    (told ∙ ap (λ own. told_by c.args.link (a_server own c.args.name 1 1 c.args.info.now) far)
-    (c.copy-own.ensures ∙ c.name.ensures
+    (told ∙ ap (λ own. told_by c.args.link (a_server own c.args.name 1 1 c.args.info) far)
+    (c.copy-uplink.ensures ∙ c.name.ensures
     ∙ ap (λ (known : Known). known.name) c.routes.ensures)))
     c.gain.ensures.ok

@@ -10,17 +10,18 @@ use Rattle.irc_deeds.proofs.telling.kill.Goals.{then-is_own, else-is_own}
 
 pub returns-clause-ok : goal.returns-clause-ok
 returns-clause-ok c =
+    let killing = c.args.killing.now in
     let old = served_at c.args.stage.now c.args.out.now.outs in
     on_ok c.tell_all.result _ _
-    (λ told. kills_done c.if-is_own.arrival c.args.server.now c.args.nick.now _ old
+    (λ told. kills_done c.if-is_own.arrival killing.server killing.nick _ old
     (served_at c.remove_user.new.self c.remove_user.new.out.outs) _
-    (c.in_ok-remove_user.ensures.ok ∙ ap (λ words. taken_out c.args.nick.now words old)
+    (c.in_ok-remove_user.ensures.ok ∙ ap (λ words. taken_out killing.nick words old)
     (c.cut.ensures ∙ collision_is_whole)) c.kill_text-line.ensures told
-    ∙ kills_told c.args.link c.args.server.now c.args.nick.now old c.eq-is_own.result
+    ∙ kills_told c.args.link killing.server killing.nick old c.eq-is_own.result
     c.if-is_own.arrival
     (c.eq-is_own.ensures
     ∙ ap (λ bytes. exactly_same bytes c.as_bytes-2.result.now) c.as_bytes.ensures.value
-    ∙ ap (exactly_same c.args.server.now) (c.as_bytes-2.ensures.value ∙ c.name.ensures
+    ∙ ap (exactly_same killing.server) (c.as_bytes-2.ensures.value ∙ c.name.ensures
     ∙ ap (λ (known : Known). known.name) c.routes.ensures))
     (elim c.if-is_own.branch [
       | then-is_own w ↦ w.arrival-is

@@ -7,10 +7,10 @@ use Rattle.irc_deeds.specs.DeedTold.{all_told}
 use Rattle.irc_deeds.proofs.telling.tell_all.Given as goal
 
 -- what is still told completes what was done so far
-abbrev pub invariant-loop-act : goal.invariant-loop-act
-invariant-loop-act l = record {
-  completes : all_told l.link (acts_told (drop l.act-index l.acts)) (served_at l.stage l.out.outs)
-      ≡ all_told l.link (acts_told l.acts) (served_at l.initial.stage l.initial.out.outs);
+abbrev pub invariant-loop-deed : goal.invariant-loop-deed
+invariant-loop-deed l = record {
+  completes : all_told l.link (acts_told (drop l.deed-index l.deeds)) (served_at l.stage l.out.outs)
+      ≡ all_told l.link (acts_told l.deeds) (served_at l.initial.stage l.initial.out.outs);
   serving : IsServing l.stage;
   met : IsMetAt l.link l.stage;
   grew : Grew l.initial.out.outs l.out.outs;

@@ -1,11 +1,16 @@
 use Rattle.std.proofs.Common.{rules}
 use Rattle.irc_line.specs.MessageViews.{parsed}
-use Rattle.irc_link_reader.proofs.FoundGiven.{meant-so}
+use Rattle.irc_link_reader.proofs.EffectsMeant.{meant-so, memory-so}
 use Rattle.irc_link_reader.specs.Reader.{reader_of}
 use Rattle.irc_link_reader.proofs.reading.read_effect.Goals as goal
 
-pub returns-in-Some : goal.returns-in-Some
-returns-in-Some c =
+pub returns-in-Ok : goal.returns-in-Ok
+returns-in-Ok c =
     meant-so (reader_of c.args.room.now.room c.args.routes.now c.args.link)
-    (parsed c.args.message.now) c.in-Some.command c.read_command.result c.listed.result
-    (search rules) c.read_command.ensures c.listed.ensures
+    (parsed c.args.message.now) c.in-Some.command c.in-Ok.told c.given.result
+    (search rules) c.in-Ok.ensures.told c.given.ensures
+
+pub returns-in-Err : goal.returns-in-Err
+returns-in-Err c =
+    memory-so (reader_of c.args.room.now.room c.args.routes.now c.args.link)
+    (parsed c.args.message.now) c.in-Some.command (search rules) c.in-Err.ensures.memory

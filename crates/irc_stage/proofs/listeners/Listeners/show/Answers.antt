@@ -15,7 +15,8 @@ returns-in_ok-follow-in-Join-clause-shown c =
     let by_nick = c.args.clients.now.by_nick in
     let lists = c.follow.new.self.lists in
     ok_also c.tell.result
-    (sent_to c.args.out.now c.tell.new.out (conns_at lists (key c.as_bytes.result.now))
+    (sent_to c.args.line.now.items c.args.out.now c.tell.new.out
+    (conns_at lists (key c.as_bytes.result.now))
     (hearers room by_nick c.args.effect.now)
     (ap (λ name. conns_at lists (key name)) c.as_bytes.ensures.value
     ∙ join_heard room c.own.ensures.well_formed by_nick lists c.in-Join.nick c.in-Join.channel

@@ -1,19 +1,19 @@
-use Rattle.std.proofs.Common.{map, ap, sym, ◌∙◌}
-use Rattle.std.specs.FinMap.{empty, values}
+use Rattle.std.proofs.Common.{map, ap, sym, [], ◌∙◌}
 use Rattle.irc_names.specs.Fold.{key}
-use Rattle.irc_batch.specs.Batches.{put_out_all, to_others}
 use Rattle.irc_tables.specs.Lemmas.RowsAsTable.{ok_also}
 use Rattle.irc_room.specs.Readers.{names_of}
-use Rattle.irc_stage.specs.Loops.Hearing.{with_lists}
+use Rattle.irc_stage.specs.Loops.Hearing.{others_of, told_to}
 use Rattle.irc_stage.specs.Loops.Listening.{conns_at}
+use Rattle.irc_stage.specs.Loops.Merging.{Entry, entries_now, with_lists}
 use Rattle.irc_stage.proofs.Hearing.{beside_all, beside_one, one_row}
+use Rattle.irc_stage.proofs.MergedLists.{values_now}
 use Rattle.irc_stage.proofs.listeners.Listeners.tell_beside.Goals as goal
 
 pub returns-in-len1-clause-ok : goal.returns-in-len1-clause-ok
 returns-in-len1-clause-ok c = λ by_nick so.
     ok_also c.tell.result
     (λ is. is
-    ∙ ap (λ conns. put_out_all (to_others c.args.out.now.held c.args.one conns) c.args.out.now)
+    ∙ ap (λ conns. told_to c.args.line.now.items (others_of c.args.one conns) c.args.out.now)
     (ap (λ name. conns_at c.args.self.now.lists (key name)) c.as_slice.ensures.value
     ∙ beside_one c.args.room.now.room c.own.ensures.well_formed by_nick c.args.self.now.lists so
     c.args.nick.now (key c.name-item.result.name.items)
@@ -24,12 +24,14 @@ returns-in-len1-clause-ok c = λ by_nick so.
 
 pub returns-clause-ok : goal.returns-clause-ok
 returns-clause-ok c = λ by_nick so.
-    ok_also c.send_to_all_others.result
+    ok_also c.tell_all_others.result
     (λ is. is
-    ∙ ap (λ conns. put_out_all (to_others c.args.out.now.held c.args.one conns) c.args.out.now)
-    (ap values c.in_ok-conns.ensures
-    ∙ ap (λ names. values (with_lists c.args.self.now.lists names empty))
+    ∙ ap (λ conns. told_to c.args.line.now.items (others_of c.args.one conns) c.args.out.now)
+    (values_now c.as_slice-2.result.now
+    ∙ ap (λ rows. map (λ (e : Entry). e.1) (entries_now rows)) c.as_slice-2.ensures.value
+    ∙ ap (map (λ (e : Entry). e.1)) c.in_ok-rows.ensures
+    ∙ ap (λ names. map (λ (e : Entry). e.1) (with_lists c.args.self.now.lists names []))
     (c.names_of-names.ensures ∙ ap (names_of c.args.room.now.room) c.as_bytes.ensures.value)
     ∙ beside_all c.args.room.now.room c.own.ensures.well_formed by_nick c.args.self.now.lists so
     c.args.nick.now))
-    c.send_to_all_others.ensures.ok
+    c.tell_all_others.ensures.ok

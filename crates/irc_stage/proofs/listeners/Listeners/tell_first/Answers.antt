@@ -1,9 +1,8 @@
 use Rattle.std.proofs.Common.{rules, ap, sym, ◌∙◌}
 use Rattle.std.specs.List.{list_all}
-use Rattle.irc_batch.specs.Batches.{put_out_all}
 use Rattle.irc_tables.specs.Lemmas.RowsAsTable.{ok_also}
 use Rattle.irc_room.specs.Effects.{has_user, needs_users}
-use Rattle.irc_stage.specs.Loops.Hearing.{hearers, to_each}
+use Rattle.irc_stage.specs.Loops.Hearing.{hearers, told_to}
 use Rattle.irc_stage.proofs.Hearing.{doer_there, one_heard, other_there, quit_heard, told_in}
 use Rattle.irc_stage.proofs.Hearing.{unseen}
 use Rattle.irc_stage.proofs.listeners.Listeners.tell_first.Goals as goal
@@ -11,18 +10,18 @@ use Rattle.irc_stage.proofs.listeners.Listeners.tell_first.Goals as goal
 pub returns-in-Rename-clause-ok : goal.returns-in-Rename-clause-ok
 returns-in-Rename-clause-ok c =
     ok_also c.tell_renamed.result
-    (λ is. is ∙ ap (λ e. put_out_all (to_each c.args.out.now.held (hearers c.args.room.now.room
-    c.args.clients.now.by_nick e)) c.args.out.now) (sym c.in-Rename.is))
+    (λ is. is ∙ ap (λ e. told_to c.args.line.now.items (hearers c.args.room.now.room
+    c.args.clients.now.by_nick e) c.args.out.now) (sym c.in-Rename.is))
     (c.tell_renamed.ensures.ok c.in-Rename.new)
 
 pub returns-in-Quit-clause-ok : goal.returns-in-Quit-clause-ok
 returns-in-Quit-clause-ok c =
     ok_also c.tell_beside.result
     (λ is. quit_heard c.args.room.now.room _ c.args.clients.now.by_nick c.requires.indexed
-    c.in-Quit.nick c.in-Quit.text c.args.out.now c.tell_beside.new.out
+    c.in-Quit.nick c.in-Quit.text c.args.line.now.items c.args.out.now c.tell_beside.new.out
     c.number_of.result c.number_of.ensures is
-    ∙ ap (λ e. put_out_all (to_each c.args.out.now.held (hearers c.args.room.now.room
-    c.args.clients.now.by_nick e)) c.args.out.now) (sym c.in-Quit.is))
+    ∙ ap (λ e. told_to c.args.line.now.items (hearers c.args.room.now.room
+    c.args.clients.now.by_nick e) c.args.out.now) (sym c.in-Quit.is))
     (c.tell_beside.ensures.ok c.args.clients.now.by_nick c.requires.so)
 
 pub returns-in-Part-clause-ok : goal.returns-in-Part-clause-ok
@@ -31,7 +30,8 @@ returns-in-Part-clause-ok c =
     (told_in c.args.room.now.room c.own.ensures.well_formed c.args.clients.now.by_nick
     c.args.self.now.lists c.requires.so c.as_bytes.result.now c.in-Part.channel
     c.as_bytes.ensures.value c.args.effect.now (ap (hearers c.args.room.now.room
-    c.args.clients.now.by_nick) (sym c.in-Part.is)) c.args.out.now c.tell.new.out)
+    c.args.clients.now.by_nick)
+    (sym c.in-Part.is)) c.args.line.now.items c.args.out.now c.tell.new.out)
     c.tell.ensures.ok
 
 pub returns-in-Kick-clause-ok : goal.returns-in-Kick-clause-ok
@@ -40,7 +40,8 @@ returns-in-Kick-clause-ok c =
     (told_in c.args.room.now.room c.own.ensures.well_formed c.args.clients.now.by_nick
     c.args.self.now.lists c.requires.so c.as_bytes-in-Kick.result.now c.in-Kick.channel
     c.as_bytes-in-Kick.ensures.value c.args.effect.now (ap (hearers c.args.room.now.room
-    c.args.clients.now.by_nick) (sym c.in-Kick.is)) c.args.out.now c.tell-in-Kick.new.out)
+    c.args.clients.now.by_nick)
+    (sym c.in-Kick.is)) c.args.line.now.items c.args.out.now c.tell-in-Kick.new.out)
     c.tell-in-Kick.ensures.ok
 
 pub returns-in-ChangeModes-clause-ok : goal.returns-in-ChangeModes-clause-ok
@@ -51,7 +52,7 @@ returns-in-ChangeModes-clause-ok c =
     c.in-ChangeModes.channel
     c.as_bytes-in-ChangeModes.ensures.value c.args.effect.now
     (ap (hearers c.args.room.now.room c.args.clients.now.by_nick) (sym c.in-ChangeModes.is))
-    c.args.out.now c.tell-in-ChangeModes.new.out)
+    c.args.line.now.items c.args.out.now c.tell-in-ChangeModes.new.out)
     c.tell-in-ChangeModes.ensures.ok
 
 pub returns-in-SetTopic-clause-ok : goal.returns-in-SetTopic-clause-ok
@@ -62,14 +63,14 @@ returns-in-SetTopic-clause-ok c =
     c.in-SetTopic.channel
     c.as_bytes-in-SetTopic.ensures.value c.args.effect.now
     (ap (hearers c.args.room.now.room c.args.clients.now.by_nick) (sym c.in-SetTopic.is))
-    c.args.out.now c.tell-in-SetTopic.new.out)
+    c.args.line.now.items c.args.out.now c.tell-in-SetTopic.new.out)
     c.tell-in-SetTopic.ensures.ok
 
 pub returns-in-Invite-clause-ok : goal.returns-in-Invite-clause-ok
 returns-in-Invite-clause-ok c =
     ok_also c.tell_one.result
     (λ is. is
-    ∙ ap (λ conns. put_out_all (to_each c.args.out.now.held conns) c.args.out.now)
+    ∙ ap (λ conns. told_to c.args.line.now.items conns c.args.out.now)
     (one_heard c.args.room.now.room c.own.ensures.well_formed c.args.clients.now.by_nick
     c.in-Invite.nick
     (other_there _ _ (sym (ap (λ e. list_all (has_user c.args.room.now.room)
@@ -81,7 +82,7 @@ pub returns-in-UserMode-clause-ok : goal.returns-in-UserMode-clause-ok
 returns-in-UserMode-clause-ok c =
     ok_also c.tell_one-in-UserMode.result
     (λ is. is
-    ∙ ap (λ conns. put_out_all (to_each c.args.out.now.held conns) c.args.out.now)
+    ∙ ap (λ conns. told_to c.args.line.now.items conns c.args.out.now)
     (one_heard c.args.room.now.room c.own.ensures.well_formed c.args.clients.now.by_nick
     c.in-UserMode.nick
     (doer_there _ (sym (ap (λ e. list_all (has_user c.args.room.now.room)
@@ -92,4 +93,4 @@ returns-in-UserMode-clause-ok c =
 pub returns-in_default-clause-ok : goal.returns-in_default-clause-ok
 returns-in_default-clause-ok c =
     unseen c.args.room.now.room c.args.clients.now.by_nick c.args.effect.now
-    (search rules) c.args.out.now
+    (search rules) c.args.line.now.items c.args.out.now

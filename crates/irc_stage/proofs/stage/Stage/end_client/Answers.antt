@@ -1,11 +1,7 @@
-use Rattle.std.proofs.Common.{◌≡◌, ◌++◌, [], ◌∷◌, Some, ap, append-nil, append_assoc, sym, ◌∙◌}
-use Rattle.irc_names.specs.Fold.{key}
-use Rattle.irc_batch.specs.Batches.{Sent, end_of, line_to}
-use Rattle.irc_stage.specs.Lemmas.Outcomes.{on_ok}
+use Rattle.std.proofs.Common.{sym, ◌∙◌}
 use Rattle.irc_stage.specs.Loops.Stage.{served_at}
 use Rattle.irc_stage.proofs.EndedClients.{ended_nobody, ended_one}
 use Rattle.irc_stage.proofs.stage.Stage.end_client.Goals as goal
-use Rattle.irc_registering.specs.Closing.{error_line}
 
 pub returns-in_default-clause-ok : goal.returns-in_default-clause-ok
 returns-in_default-clause-ok c =

@@ -1,8 +1,8 @@
-use Rattle.std.proofs.Common.{◌≡◌, Some, refl, sym, ◌∙◌, ap, is_some, subst}
+use Rattle.std.proofs.Common.{Some, refl, sym, ◌∙◌, ap, is_some, subst}
 use Rattle.std.specs.BTreeMap.{BTreeMap}
 use Rattle.std.specs.FinMap.{insert}
 use Rattle.irc_links.specs.Ends.{End, Ends}
-use Rattle.irc_links.specs.Ways.{AreEnds, IsMetEnd}
+use Rattle.irc_links.specs.Ways.{AreEnds}
 use Rattle.irc_stage.specs.Lemmas.Numbers.{put-numbered}
 use Rattle.irc_stage.specs.Loops.Stage.{numbered, view_of}
 use Rattle.irc_stage.proofs.LinkEnds.{far_put, no_far, end_missing, end_there, put_met}

@@ -1,5 +1,4 @@
 use Rattle.std.proofs.Common.{sym, subst}
-use Rattle.std.specs.FinMap.{insert}
 use Rattle.irc_links.specs.Ends.{Ends}
 use Rattle.irc_links.specs.Ways.{AreEnds, IsMetEnd}
 use Rattle.irc_stage.specs.Lemmas.Outcomes.{on_ok}

@@ -1,5 +1,5 @@
 use Rattle.std.proofs.Common.{ap, ◌∙◌}
-use Rattle.irc_stage.specs.EffectTold.{Served, client_ended, taken_out}
+use Rattle.irc_stage.specs.EffectTold.{client_ended, taken_out}
 use Rattle.irc_stage.specs.Lemmas.Counting.{taken_out_stays}
 use Rattle.irc_stage.specs.Lemmas.Outcomes.{on_ok}
 use Rattle.irc_stage.specs.Loops.Stage.{served_at}

@@ -1,5 +1,5 @@
-use Rattle.std.proofs.Common.{Some, None, ◌++◌, ◌∙◌, ap, append-nil, sym, if◌then◌else◌}
-use Rattle.irc_stage.specs.Loops.Hearing.{hearers}
+use Rattle.std.proofs.Common.{Some, None, ◌++◌, ◌∙◌, ap, append-nil, refl, sym, if◌then◌else◌}
+use Rattle.irc_stage.specs.Loops.Hearing.{hearers, told_to}
 use Rattle.irc_stage.specs.Loops.Stage.{clients_of}
 use Rattle.irc_stage.specs.Lemmas.Outcomes.{on_ok}
 use Rattle.irc_stage.proofs.EffectsShown.{put_to_each, shown_to_hearers}
@@ -33,11 +33,20 @@ returns-clause-shown c =
     let conns =
     hearers c.args.self.now.room.room c.args.self.now.clients.by_nick c.args.effect.now in
     on_ok c.show.result _ _
-    (λ is. put_to_each c.args.out.now c.hold.new.self c.show.new.out _ line conns
-    c.in_ok-hold.ensures.ok c.deref.ensures.0 is
+    (λ is. put_to_each c.args.out.now c.show.new.out line conns is
     ∙ ap (λ l. c.args.out.now.outs ++ l)
     (sym (shown_to_hearers c.args.self.now c.args.effect.now c.requires.ready c.requires.fit
     (Some line)
     (λ viewer home. c.write.ensures viewer home
     ∙ ap (λ b. if b then Some line else None) c.if-not-write.false))))
+    c.show.ensures.shown
+
+pub returns-then-not-write-clause-unheard : goal.returns-then-not-write-clause-unheard
+returns-then-not-write-clause-unheard c =
+    on_ok c.follow.result _ _ (λ is none. refl) c.follow.ensures
+
+pub returns-clause-unheard : goal.returns-clause-unheard
+returns-clause-unheard c =
+    on_ok c.show.result _ _
+    (λ is none. is ∙ ap (λ conns. told_to c.write.new.line.items conns c.args.out.now) none)
     c.show.ensures.shown

@@ -1,4 +1,4 @@
-use Rattle.std.proofs.Common.{◌≡◌, Some, refl, sym, ◌∙◌, ap, is_some, subst}
+use Rattle.std.proofs.Common.{Some, sym, ◌∙◌, ap, is_some, subst}
 use Rattle.std.specs.BTreeMap.{BTreeMap}
 use Rattle.std.specs.FinMap.{insert}
 use Rattle.irc_links.specs.Ends.{End, Ends}

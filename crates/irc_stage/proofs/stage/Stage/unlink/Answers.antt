@@ -1,5 +1,4 @@
 use Rattle.std.proofs.Common.{ap, sym, subst, ◌∙◌}
-use Rattle.std.specs.FinMap.{remove}
 use Rattle.irc_links.specs.Ends.{Ends}
 use Rattle.irc_links.specs.Ways.{AreEnds}
 use Rattle.irc_routes.specs.Known.{Known, without_link}

@@ -1,0 +1,2 @@
+pub mod EffectRows
+pub mod SaidSo
