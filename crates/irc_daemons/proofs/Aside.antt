@@ -18,14 +18,14 @@ use Rattle.irc_relay.specs.Links.{Name}
 use Rattle.irc_server.specs.Served.{Occurrence, in_silence, link_up, served}
 use Rattle.irc_stage.specs.EffectTold.{with_sent}
 use Rattle.irc_stage.specs.View.{View, password_for, with_end}
-use Rattle.irc_sites.specs.Site.{Reply, line_body, reply}
+use Rattle.irc_network.specs.Site.{Reply, line_body, reply}
 use Rattle.irc_world.specs.Stepping.{Item}
 use Rattle.irc_network.specs.Network.{begun, site_asked}
 use Rattle.irc_wires.specs.Wires.{Wires, lines_by, new_wire, wire_at}
-use Rattle.irc_byte_network.specs.ByteNetwork.{ByteNetwork, byte_begun, bytes_come, completed_in}
-use Rattle.irc_byte_network.specs.ByteNetwork.{queues_written, wires_come}
-use Rattle.irc_byte_network.specs.Whole.{IsTidy, has_way}
-use Rattle.irc_byte_network.specs.Lemmas.NewFramer.{new_is_real}
+use Rattle.irc_network.specs.ByteNetwork.{ByteNetwork, byte_begun, bytes_come, completed_in}
+use Rattle.irc_network.specs.ByteNetwork.{queues_written, wires_come}
+use Rattle.irc_network.specs.Whole.{IsTidy, has_way}
+use Rattle.irc_network.specs.Lemmas.NewFramer.{new_is_real}
 use Rattle.irc_daemons.proofs.Asked.{AllStill}
 use Rattle.irc_daemons.proofs.Given.{wire_behind}
 use Rattle.irc_daemons.proofs.GoesOn.{GoesOn, asked_goes_on, bytes_go_on, come_at, come_if}

@@ -32,14 +32,14 @@ use Rattle.irc_server_laws.specs.LineEnds.{ServedLinesEnd}
 use Rattle.irc_server_laws.specs.Own.{ServedGoesToItsOwn}
 use Rattle.irc_stage.specs.Handle.{goes, says}
 use Rattle.irc_stage.specs.View.{End, View}
-use Rattle.irc_sites.specs.Site.{Reply, reply, serves_occurrence}
+use Rattle.irc_network.specs.Site.{Reply, reply, serves_occurrence}
 use Rattle.irc_network.specs.Network.{Network, Site, begun, given, home_place, item_kept}
 use Rattle.irc_network.specs.Network.{server_place, site_asked, site_asked_if, site_at, site_view}
 use Rattle.irc_network.specs.Refusing.{client_fault, fault_at_rest, has_client}
 use Rattle.irc_wires.specs.Wires.{are_still, is_still, new_wire, wire_at, wire_in, Wire, Wires}
-use Rattle.irc_byte_network.specs.ByteNetwork.{ByteNetwork, is_byte_rest, item_given}
-use Rattle.irc_byte_network.specs.ByteNetwork.{queues_written}
-use Rattle.irc_byte_network.specs.Whole.{IsTidy, has_way}
+use Rattle.irc_network.specs.ByteNetwork.{ByteNetwork, is_byte_rest, item_given}
+use Rattle.irc_network.specs.ByteNetwork.{queues_written}
+use Rattle.irc_network.specs.Whole.{IsTidy, has_way}
 use Rattle.irc_net.specs.declared.fault.NetFault.TheVariants as net_fault
 use Rattle.irc_net.specs.Faults.{fault_by, item_fault}
 use Rattle.irc_engine.specs.declared.kind.Kind.TheVariants as kinds

@@ -24,13 +24,13 @@ use Rattle.irc_world.specs.Stepping.{Item}
 use Rattle.irc_network.specs.Network.{Course, Site, begun, site_at}
 use Rattle.irc_wires.specs.Wires.{Wire, Wires, advanced, lines_by, wire_at}
 use Rattle.irc_wires.specs.Lemmas.PutWires.{IsSetAt, it, nowhere, other_from, other_to, wire_set}
-use Rattle.irc_byte_network.specs.ByteNetwork.{ByteNetwork, all_heard, byte_begun, bytes_come}
-use Rattle.irc_byte_network.specs.ByteNetwork.{completed_in, queues_written, wires_come}
-use Rattle.irc_byte_network.specs.Loops.Writing.{IsWritten}
-use Rattle.irc_byte_network.specs.Whole.{IsTidy, has_way}
-use Rattle.irc_byte_network.specs.Lemmas.NewFramer.{new_is_real}
-use Rattle.irc_byte_network.specs.Lemmas.Rows.{rows_after_lines}
-use Rattle.irc_byte_network.specs.Lemmas.RowsWritten.{is_written, lean_with}
+use Rattle.irc_network.specs.ByteNetwork.{ByteNetwork, all_heard, byte_begun, bytes_come}
+use Rattle.irc_network.specs.ByteNetwork.{completed_in, queues_written, wires_come}
+use Rattle.irc_network.specs.Loops.Writing.{IsWritten}
+use Rattle.irc_network.specs.Whole.{IsTidy, has_way}
+use Rattle.irc_network.specs.Lemmas.NewFramer.{new_is_real}
+use Rattle.irc_network.specs.Lemmas.Rows.{rows_after_lines}
+use Rattle.irc_network.specs.Lemmas.RowsWritten.{is_written, lean_with}
 use Rattle.irc_engine.specs.declared.kind.Kind.{Kind}
 use Rattle.irc_engine.specs.declared.kind.Kind.TheVariants as kinds
 use Rattle.irc_engine.specs.Carrying.{IsOfKind, is_open_at, kind_at, kind_of_connection}

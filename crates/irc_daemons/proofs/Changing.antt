@@ -21,9 +21,9 @@ use Rattle.irc_network.specs.Network.{begun, site_asked}
 use Rattle.irc_wires.specs.Wires.{new_wire, wire_at}
 use Rattle.irc_relay.specs.Laws.{LinkTakenOut}
 use Rattle.irc_world.specs.Laws.{WorldIsSound}
-use Rattle.irc_byte_network.specs.ByteNetwork.{ByteNetwork, is_byte_rest, item_given, net_in_lines}
-use Rattle.irc_byte_network.specs.ByteNetwork.{queues_written}
-use Rattle.irc_byte_network.specs.Whole.{IsTidy, RestAsLines, has_way}
+use Rattle.irc_network.specs.ByteNetwork.{ByteNetwork, is_byte_rest, item_given, net_in_lines}
+use Rattle.irc_network.specs.ByteNetwork.{queues_written}
+use Rattle.irc_network.specs.Whole.{IsTidy, RestAsLines, has_way}
 use Rattle.irc_items.specs.Laws.{RefusalsAreTheWorlds}
 use Rattle.irc_items.specs.SetUp.{settings_of}
 use Rattle.irc_net.specs.Faults.{item_fault}

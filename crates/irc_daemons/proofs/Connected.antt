@@ -9,14 +9,14 @@ use Rattle.irc_stage.specs.View.{View}
 use Rattle.irc_server.specs.declared.event.Event.{Event}
 use Rattle.irc_server.specs.declared.event.Event.TheVariants.{Connect}
 use Rattle.irc_server.specs.Served.{of_client, served}
-use Rattle.irc_sites.specs.Site.{Reply, reply, serves_occurrence}
+use Rattle.irc_network.specs.Site.{Reply, reply, serves_occurrence}
 use Rattle.irc_world.specs.Refused.{no_such_server}
 use Rattle.irc_world.specs.Stepping.{connect}
 use Rattle.irc_world.specs.World.{home_in}
 use Rattle.irc_network.specs.Network.{Network, begun, given, item_kept, next_client, server_place}
 use Rattle.irc_network.specs.Network.{site_asked, site_asked_if, with_client}
 use Rattle.irc_network.specs.Refusing.{fault_at_rest}
-use Rattle.irc_byte_network.specs.ByteNetwork.{ByteNetwork, item_given, queues_written}
+use Rattle.irc_network.specs.ByteNetwork.{ByteNetwork, item_given, queues_written}
 use Rattle.irc_daemons.specs.Receiving.{bytes_received}
 
 -- ---- one more in a list

@@ -16,7 +16,7 @@ use Rattle.irc_server_laws.specs.Connected.{WhoIsConnected}
 use Rattle.irc_server_laws.specs.LineEnds.{ServedLinesEnd}
 use Rattle.irc_server_laws.specs.Own.{ServedGoesToItsOwn}
 use Rattle.irc_network.specs.Network.{Site, site_at}
-use Rattle.irc_byte_network.specs.ByteNetwork.{ByteNetwork}
+use Rattle.irc_network.specs.ByteNetwork.{ByteNetwork}
 use Rattle.irc_wires.specs.Lemmas.StillWires.{one_of}
 use Rattle.irc_daemons.specs.AsNetwork.{HasFollowed, IsAsNetwork}
 use Rattle.irc_daemons.specs.Daemons.{Daemons, IsToldOfLinks}

@@ -16,13 +16,13 @@ use Rattle.irc_server_laws.specs.Own.{ServedGoesToItsOwn}
 use Rattle.irc_network.specs.Network.{Course, Network, Reply, Site, begun, item_kept, reply}
 use Rattle.irc_network.specs.Network.{site_asked, waiting}
 use Rattle.irc_wires.specs.Wires.{Wire, wire_at}
-use Rattle.irc_byte_network.specs.Behind.{emptied, emptied_site}
-use Rattle.irc_byte_network.specs.ByteNetwork.{ByteNetwork, all_written, queues_written, waiting_at}
-use Rattle.irc_byte_network.specs.Loops.Writing.{IsWritten}
-use Rattle.irc_byte_network.specs.Whole.{IsTidy, has_way}
-use Rattle.irc_byte_network.specs.Lemmas.Emptied.{emptied_waits, emptied_ways}
-use Rattle.irc_byte_network.specs.Lemmas.RowsWritten.{is_written}
-use Rattle.irc_byte_network.specs.Lemmas.SitesStay.{asked_stays}
+use Rattle.irc_network.specs.Behind.{emptied, emptied_site}
+use Rattle.irc_network.specs.ByteNetwork.{ByteNetwork, all_written, queues_written, waiting_at}
+use Rattle.irc_network.specs.Loops.Writing.{IsWritten}
+use Rattle.irc_network.specs.Whole.{IsTidy, has_way}
+use Rattle.irc_network.specs.Lemmas.Emptied.{emptied_waits, emptied_ways}
+use Rattle.irc_network.specs.Lemmas.RowsWritten.{is_written}
+use Rattle.irc_network.specs.Lemmas.SitesStay.{asked_stays}
 use Rattle.irc_engine.specs.Carrying.{answers, bytes_owed, is_closed_by}
 use Rattle.irc_engine.specs.Lemmas.CarryingLaws.{is_closed_by-append, owed-append}
 use Rattle.irc_daemons.specs.Alike.{AreServersAlike, AreApart, Numbers, ServeAlike, ServedAlike}

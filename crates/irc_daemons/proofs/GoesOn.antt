@@ -11,22 +11,22 @@ use Rattle.std.specs.Option.{option_and_then, option_map_or}
 use Rattle.irc_line.specs.Lines.{begun_behind, nothing_begun}
 use Rattle.irc_line.specs.Reading.{read_of}
 use Rattle.irc_server.specs.Served.{Occurrence, link_says}
-use Rattle.irc_sites.specs.Site.{Reply, reply}
+use Rattle.irc_network.specs.Site.{Reply, reply}
 use Rattle.irc_stage.specs.View.{View}
 use Rattle.irc_network.specs.Network.{Course, Network, Site, begun, heard, line_counted, site_asked}
 use Rattle.irc_network.specs.Network.{waiting}
 use Rattle.irc_wires.specs.Wires.{AreLean, Wire, Wires, advanced, new_wire, wire_at}
 use Rattle.irc_wires.specs.Lemmas.PutWires.{IsSetAt, it, nowhere, other_from, other_to, wire_set}
-use Rattle.irc_byte_network.specs.ByteNetwork.{ByteNetwork, all_heard, all_written, byte_begun}
-use Rattle.irc_byte_network.specs.ByteNetwork.{bytes_come, completed_in, queues_written, waiting_at}
-use Rattle.irc_byte_network.specs.ByteNetwork.{wires_come}
-use Rattle.irc_byte_network.specs.Loops.Writing.{IsWritten}
-use Rattle.irc_byte_network.specs.Whole.{IsTidy, has_way}
-use Rattle.irc_byte_network.specs.Lemmas.Emptied.{emptied_waits, emptied_ways}
-use Rattle.irc_byte_network.specs.Lemmas.NewFramer.{new_is_real}
-use Rattle.irc_byte_network.specs.Lemmas.Rows.{rows_after_lines}
-use Rattle.irc_byte_network.specs.Lemmas.RowsWritten.{is_written, lean_with}
-use Rattle.irc_byte_network.specs.Lemmas.SitesStay.{asked_stays}
+use Rattle.irc_network.specs.ByteNetwork.{ByteNetwork, all_heard, all_written, byte_begun}
+use Rattle.irc_network.specs.ByteNetwork.{bytes_come, completed_in, queues_written, waiting_at}
+use Rattle.irc_network.specs.ByteNetwork.{wires_come}
+use Rattle.irc_network.specs.Loops.Writing.{IsWritten}
+use Rattle.irc_network.specs.Whole.{IsTidy, has_way}
+use Rattle.irc_network.specs.Lemmas.Emptied.{emptied_waits, emptied_ways}
+use Rattle.irc_network.specs.Lemmas.NewFramer.{new_is_real}
+use Rattle.irc_network.specs.Lemmas.Rows.{rows_after_lines}
+use Rattle.irc_network.specs.Lemmas.RowsWritten.{is_written, lean_with}
+use Rattle.irc_network.specs.Lemmas.SitesStay.{asked_stays}
 use Rattle.irc_daemons.specs.Alike.{bytes_to, client_bytes}
 use Rattle.irc_daemons.specs.Receiving.{bytes_received}
 use Rattle.irc_daemons.proofs.Given.{bytes_of_sites, come_of_sites, emptied_server, wire_behind}

@@ -15,7 +15,7 @@ use Rattle.irc_network.specs.Network.{received_by}
 use Rattle.irc_items.specs.SetUp.{settings_of}
 use Rattle.irc_items.specs.Sound.{owed_now}
 use Rattle.irc_wires.specs.Wires.{Wire, Wires, are_still, is_still, wire_at, wire_in}
-use Rattle.irc_byte_network.specs.ByteNetwork.{ByteNetwork, is_byte_rest}
+use Rattle.irc_network.specs.ByteNetwork.{ByteNetwork, is_byte_rest}
 use Rattle.irc_net.specs.Laws.{KeptIsOwed, SettingsStay, StaysKept}
 use Rattle.irc_net.specs.OneRoom.{IsKeptSound}
 use Rattle.irc_daemons.specs.AsNetwork.{IsAsNetwork, LeadsTo, has_come, is_given, no_more}

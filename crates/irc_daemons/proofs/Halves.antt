@@ -9,15 +9,15 @@ use Rattle.std.specs.Option.{option_and_then, option_map_or}
 use Rattle.irc_stage.specs.View.{View}
 use Rattle.irc_server.specs.Served.{Occurrence}
 use Rattle.irc_server_laws.specs.Own.{ServedGoesToItsOwn}
-use Rattle.irc_sites.specs.Site.{reply}
+use Rattle.irc_network.specs.Site.{reply}
 use Rattle.irc_world.specs.Stepping.{Item}
 use Rattle.irc_network.specs.Network.{Course, Network, Site, begun, item_kept, site_asked, waiting}
 use Rattle.irc_wires.specs.Wires.{AreLean, Wire, Wires, wire_at, written}
-use Rattle.irc_byte_network.specs.ByteNetwork.{ByteNetwork, all_written, queues_written, waiting_at}
-use Rattle.irc_byte_network.specs.Whole.{IsTidy, has_way}
-use Rattle.irc_byte_network.specs.Lemmas.Emptied.{emptied_waits, emptied_ways}
-use Rattle.irc_byte_network.specs.Lemmas.RowsWritten.{is_written}
-use Rattle.irc_byte_network.specs.Lemmas.SitesStay.{asked_stays}
+use Rattle.irc_network.specs.ByteNetwork.{ByteNetwork, all_written, queues_written, waiting_at}
+use Rattle.irc_network.specs.Whole.{IsTidy, has_way}
+use Rattle.irc_network.specs.Lemmas.Emptied.{emptied_waits, emptied_ways}
+use Rattle.irc_network.specs.Lemmas.RowsWritten.{is_written}
+use Rattle.irc_network.specs.Lemmas.SitesStay.{asked_stays}
 use Rattle.irc_daemons.specs.Alike.{client_bytes}
 use Rattle.irc_daemons.specs.Receiving.{bytes_received, has_come}
 use Rattle.irc_daemons.proofs.Given.{bytes_of_sites, come_of_sites, emptied_server, wire_behind}

@@ -10,7 +10,7 @@ use Rattle.irc_server.specs.Happening.{IsHandled, has_failed}
 use Rattle.irc_server.specs.Served.{Occurrence, served}
 use Rattle.irc_server_laws.specs.LineEnds.{EndsInLineEnd, ServedLinesEnd}
 use Rattle.irc_stage.specs.View.{View}
-use Rattle.irc_sites.specs.Site.{Reply, reply, serves_occurrence}
+use Rattle.irc_network.specs.Site.{Reply, reply, serves_occurrence}
 use Rattle.irc_engine.specs.Carrying.{answers, bytes_owed, is_closed_by}
 use Rattle.irc_engine.specs.Running.{AreAsked, Asked}
 use Rattle.irc_engine.specs.Lemmas.CarryingLaws.{owed-append}

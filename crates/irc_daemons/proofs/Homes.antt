@@ -9,7 +9,7 @@ use Rattle.irc_stage.specs.View.{View}
 use Rattle.irc_network.specs.Network.{Course, Network, Site, all_sent_out, asked_at, has_received}
 use Rattle.irc_network.specs.Network.{has_received_at, line_queued, reply, sent_out, site_asked}
 use Rattle.irc_network.specs.Network.{site_at, site_changed_at, with_reply, with_site}
-use Rattle.irc_byte_network.specs.Lemmas.Rows.{length_set}
+use Rattle.irc_network.specs.Lemmas.Rows.{length_set}
 use Rattle.irc_daemons.proofs.Sent.{Lines}
 
 pub record KeepsHomes (old new : Network) : Type 0 where

@@ -16,7 +16,7 @@ use Rattle.irc_server.specs.declared.event.Event.TheVariants.{LinkLine, LinkUp}
 use Rattle.irc_server.specs.Served.{no_link}
 use Rattle.irc_stage.specs.View.{End, View}
 use Rattle.irc_network.specs.Network.{Site, site_at}
-use Rattle.irc_byte_network.specs.ByteNetwork.{ByteNetwork}
+use Rattle.irc_network.specs.ByteNetwork.{ByteNetwork}
 use Rattle.irc_engine.specs.declared.kind.Kind.TheVariants as kinds
 use Rattle.irc_engine.specs.Carrying.{open_kind_at}
 use Rattle.irc_engine.specs.Hearing.{Hears, begun_at, lines_by, nothing_of}

@@ -21,14 +21,14 @@ use Rattle.irc_relay.specs.Links.{Name}
 use Rattle.irc_relay.specs.Relay.{IsFront}
 use Rattle.irc_server.specs.Served.{Occurrence}
 use Rattle.irc_server_laws.specs.Own.{ServedGoesToItsOwn, ServedKeepsEnds}
-use Rattle.irc_sites.specs.Site.{Reply, reply}
+use Rattle.irc_network.specs.Site.{Reply, reply}
 use Rattle.irc_stage.specs.View.{View}
 use Rattle.irc_world.specs.World.{home_in}
 use Rattle.irc_network.specs.Network.{Network, begun, home_place, server_place, site_asked}
 use Rattle.irc_wires.specs.Wires.{Wire, Wires, advanced, lines_by, wire_at}
-use Rattle.irc_byte_network.specs.ByteNetwork.{ByteNetwork, byte_begun, bytes_come, completed_in}
-use Rattle.irc_byte_network.specs.ByteNetwork.{queues_written, wires_come}
-use Rattle.irc_byte_network.specs.Whole.{has_way}
+use Rattle.irc_network.specs.ByteNetwork.{ByteNetwork, byte_begun, bytes_come, completed_in}
+use Rattle.irc_network.specs.ByteNetwork.{queues_written, wires_come}
+use Rattle.irc_network.specs.Whole.{has_way}
 use Rattle.irc_daemons.specs.Alike.{client_bytes}
 use Rattle.irc_daemons.specs.Clients.{ClientsStay}
 use Rattle.irc_daemons.specs.Receiving.{bytes_received, has_come}

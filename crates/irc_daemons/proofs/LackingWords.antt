@@ -5,11 +5,11 @@ use Rattle.std.specs.FinMap.{get}
 use Rattle.irc_links.specs.Ways.{AreEnds}
 use Rattle.irc_stage.specs.View.{View}
 use Rattle.irc_server.specs.Served.{Occurrence}
-use Rattle.irc_sites.specs.Site.{reply}
+use Rattle.irc_network.specs.Site.{reply}
 use Rattle.irc_network.specs.Network.{Network}
 use Rattle.irc_wires.specs.Wires.{wire_at}
-use Rattle.irc_byte_network.specs.ByteNetwork.{ByteNetwork}
-use Rattle.irc_byte_network.specs.Whole.{IsTidy, has_way}
+use Rattle.irc_network.specs.ByteNetwork.{ByteNetwork}
+use Rattle.irc_network.specs.Whole.{IsTidy, has_way}
 use Rattle.irc_daemons.specs.Alike.{client_bytes}
 use Rattle.irc_daemons.specs.Receiving.{bytes_received, has_come}
 use Rattle.irc_daemons.proofs.Given.{wire_behind}

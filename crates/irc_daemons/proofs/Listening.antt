@@ -18,14 +18,14 @@ use Rattle.irc_server_laws.specs.Connected.{client_comes}
 use Rattle.irc_server_laws.specs.LineEnds.{ServedLinesEnd}
 use Rattle.irc_server_laws.specs.Own.{ServedGoesToItsOwn}
 use Rattle.irc_stage.specs.View.{View}
-use Rattle.irc_sites.specs.Site.{Reply, reply}
+use Rattle.irc_network.specs.Site.{Reply, reply}
 use Rattle.irc_network.specs.Network.{Course, Network, Site, heard, line_counted, site_at, waiting}
 use Rattle.irc_wires.specs.Wires.{wire_at}
-use Rattle.irc_byte_network.specs.ByteNetwork.{ByteNetwork, all_heard, all_written, queues_written}
-use Rattle.irc_byte_network.specs.ByteNetwork.{waiting_at}
-use Rattle.irc_byte_network.specs.Loops.Writing.{IsWritten}
-use Rattle.irc_byte_network.specs.Whole.{IsTidy, has_way}
-use Rattle.irc_byte_network.specs.Lemmas.Emptied.{emptied_waits, emptied_ways}
+use Rattle.irc_network.specs.ByteNetwork.{ByteNetwork, all_heard, all_written, queues_written}
+use Rattle.irc_network.specs.ByteNetwork.{waiting_at}
+use Rattle.irc_network.specs.Loops.Writing.{IsWritten}
+use Rattle.irc_network.specs.Whole.{IsTidy, has_way}
+use Rattle.irc_network.specs.Lemmas.Emptied.{emptied_waits, emptied_ways}
 use Rattle.irc_engine.specs.Carrying.{answers, is_closed_by}
 use Rattle.irc_engine.specs.Hearing.{line_by, lines_by}
 use Rattle.irc_engine.specs.Lemmas.CarryingLaws.{is_closed_by-append}

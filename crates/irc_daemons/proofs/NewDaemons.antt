@@ -15,8 +15,8 @@ use Rattle.irc_server.specs.Configuring.{made_view}
 use Rattle.irc_server.specs.declared.config.Config.{Config}
 use Rattle.irc_network.specs.Network.{Site, site_at}
 use Rattle.irc_wires.specs.Wires.{Wire, new_wire, wire_at}
-use Rattle.irc_byte_network.specs.ByteNetwork.{ByteNetwork}
-use Rattle.irc_byte_network.specs.Whole.{IsAsNew, NewIsWhole, has_way, no_wires}
+use Rattle.irc_network.specs.ByteNetwork.{ByteNetwork}
+use Rattle.irc_network.specs.Whole.{IsAsNew, NewIsWhole, has_way, no_wires}
 use Rattle.irc_items.specs.SetUp.{setting_at}
 use Rattle.irc_net.specs.Calls.{standing}
 use Rattle.irc_net.specs.Laws.{EveryRunIsKept}

@@ -16,7 +16,7 @@ use Rattle.irc_world.specs.Stepping.{Item}
 use Rattle.irc_world.specs.World.{Setting}
 use Rattle.irc_network.specs.Network.{site_at}
 use Rattle.irc_wires.specs.Wires.{Wire, new_wire, wire_at}
-use Rattle.irc_byte_network.specs.ByteNetwork.{ByteNetwork, byte_begun, bytes_come}
+use Rattle.irc_network.specs.ByteNetwork.{ByteNetwork, byte_begun, bytes_come}
 use Rattle.irc_net.specs.Laws.{SettingsStay, StaysKept}
 use Rattle.irc_daemons.specs.Alike.{ServedAlike}
 use Rattle.irc_daemons.specs.AsBytes.{IsServerIf, numbers_at}

@@ -9,7 +9,7 @@ use Rattle.irc_links.specs.Ways.{AreEnds}
 use Rattle.irc_server.specs.Served.{Occurrence, link_says, served}
 use Rattle.irc_server_laws.specs.Connected.{client_comes}
 use Rattle.irc_server_laws.specs.Own.{ServedGoesToItsOwn, ServedKeepsEnds}
-use Rattle.irc_sites.specs.Site.{Reply, reply, serves_occurrence}
+use Rattle.irc_network.specs.Site.{Reply, reply, serves_occurrence}
 use Rattle.irc_stage.specs.View.{View}
 use Rattle.irc_daemons.specs.Alike.{bytes_to, client_bytes}
 use Rattle.irc_daemons.specs.Clients.{ClientsStay}

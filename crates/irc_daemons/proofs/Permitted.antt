@@ -14,9 +14,9 @@ use Rattle.irc_world.specs.Refused.{link_refused, no_such_server, not_linked, re
 use Rattle.irc_world.specs.Stepping.{cut, link}
 use Rattle.irc_network.specs.Network.{Network, Site, is_at_rest, server_place, site_at}
 use Rattle.irc_network.specs.Refusing.{are_peers, fault_at_rest, link_fault, meeting_fault}
-use Rattle.irc_byte_network.specs.Behind.{Ahead, sites_behind}
-use Rattle.irc_byte_network.specs.ByteNetwork.{ByteNetwork, is_byte_rest, lines_ahead, net_in_lines}
-use Rattle.irc_byte_network.specs.Whole.{RestAsLines, has_way}
+use Rattle.irc_network.specs.Behind.{Ahead, sites_behind}
+use Rattle.irc_network.specs.ByteNetwork.{ByteNetwork, is_byte_rest, lines_ahead, net_in_lines}
+use Rattle.irc_network.specs.Whole.{RestAsLines, has_way}
 use Rattle.irc_items.specs.Laws.{RefusalsAreTheWorlds}
 use Rattle.irc_items.specs.Relayed.{way_at}
 use Rattle.irc_items.specs.SetUp.{IsSetUp, settings_of, view_at}

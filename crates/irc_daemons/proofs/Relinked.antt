@@ -18,11 +18,11 @@ use Rattle.irc_network.specs.Network.{site_asked, site_at, site_changed_at, wait
 use Rattle.irc_network.specs.Network.{with_way, without_way}
 use Rattle.irc_wires.specs.Wires.{AreLean, Wire, Wires, new_wire, wire_at, wire_in, without_wire}
 use Rattle.irc_wires.specs.Lemmas.PutWires.{get-without}
-use Rattle.irc_byte_network.specs.ByteNetwork.{ByteNetwork, item_given, lost_along, queues_written}
-use Rattle.irc_byte_network.specs.ByteNetwork.{waiting_at}
-use Rattle.irc_byte_network.specs.Whole.{IsTidy, has_way}
-use Rattle.irc_byte_network.specs.Lemmas.Rows.{length_set}
-use Rattle.irc_byte_network.specs.Lemmas.RowsWritten.{lean_along}
+use Rattle.irc_network.specs.ByteNetwork.{ByteNetwork, item_given, lost_along, queues_written}
+use Rattle.irc_network.specs.ByteNetwork.{waiting_at}
+use Rattle.irc_network.specs.Whole.{IsTidy, has_way}
+use Rattle.irc_network.specs.Lemmas.Rows.{length_set}
+use Rattle.irc_network.specs.Lemmas.RowsWritten.{lean_along}
 use Rattle.irc_daemons.proofs.Asked.{AllStill}
 use Rattle.irc_daemons.proofs.LackingWords.{AreAllEnds, AreOwn}
 use Rattle.irc_daemons.proofs.Lists.{set_elsewhere, set_here}

@@ -11,7 +11,7 @@ use Rattle.irc_server_laws.specs.Own.{ServedGoesToItsOwn, ServedKeepsEnds}
 use Rattle.irc_world.specs.Laws.{WorldIsSound}
 use Rattle.irc_world.specs.Stepping.{Item}
 use Rattle.irc_world.specs.World.{Setting}
-use Rattle.irc_byte_network.specs.Whole.{NewIsWhole, RestAsLines}
+use Rattle.irc_network.specs.Whole.{NewIsWhole, RestAsLines}
 use Rattle.irc_items.specs.Laws.{RefusalsAreTheWorlds}
 use Rattle.irc_net.specs.Laws.{EveryRunIsKept, KeptIsOwed, SettingsStay, StaysKept}
 use Rattle.irc_daemons.specs.Alike.{ServedAlike}

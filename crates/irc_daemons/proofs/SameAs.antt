@@ -8,8 +8,8 @@ use Rattle.irc_relay.specs.Relay.{IsFront}
 use Rattle.irc_world.specs.World.{home_in}
 use Rattle.irc_network.specs.Network.{Network, Site, site_at}
 use Rattle.irc_wires.specs.Wires.{wire_at}
-use Rattle.irc_byte_network.specs.ByteNetwork.{ByteNetwork}
-use Rattle.irc_byte_network.specs.Whole.{IsTidy, has_way}
+use Rattle.irc_network.specs.ByteNetwork.{ByteNetwork}
+use Rattle.irc_network.specs.Whole.{IsTidy, has_way}
 use Rattle.irc_engine.specs.Turning.{EngineView}
 use Rattle.irc_daemons.specs.Alike.{AreServersAlikeIf, Numbers}
 use Rattle.irc_daemons.specs.AsBytes.{IsAsBytes, IsServerIf, numbers_at}

@@ -13,7 +13,7 @@ use Rattle.irc_links.specs.Ways.{AreEnds}
 use Rattle.irc_stage.specs.View.{View}
 use Rattle.irc_server.specs.Served.{Occurrence, link_down, link_says, link_up, of_client, served}
 use Rattle.irc_server_laws.specs.Own.{ServedKeepsEnds}
-use Rattle.irc_sites.specs.Site.{Reply, reply, serves_occurrence}
+use Rattle.irc_network.specs.Site.{Reply, reply, serves_occurrence}
 use Rattle.irc_engine.specs.Carrying.{answers, is_closed_by}
 use Rattle.irc_numbers.specs.EndsLast.{NothingIsBehindAnEnd, ends_last}
 use Rattle.irc_numbers.specs.ServedAlike.{ArePutOutAlike, NumbersAreNothing, client_part, link_part}

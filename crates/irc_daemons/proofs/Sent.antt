@@ -16,8 +16,8 @@ use Rattle.irc_network.specs.Network.{Course, Network, Reply, Site, all_sent_out
 use Rattle.irc_network.specs.Network.{has_received, has_received_at, heard, line_body, line_counted}
 use Rattle.irc_network.specs.Network.{line_queued, reply, sent_out, site_asked, site_at}
 use Rattle.irc_network.specs.Network.{site_changed_at, waiting, with_reply, with_site}
-use Rattle.irc_byte_network.specs.ByteNetwork.{waiting_at}
-use Rattle.irc_byte_network.specs.Whole.{has_way}
+use Rattle.irc_network.specs.ByteNetwork.{waiting_at}
+use Rattle.irc_network.specs.Whole.{has_way}
 use Rattle.irc_daemons.proofs.Lists.{set_elsewhere, set_here, turned}
 use Rattle.irc_daemons.proofs.Written.{bodies, body_on}
 

@@ -22,8 +22,8 @@ use Rattle.irc_wires.specs.Wires.{Wire, Wires, are_still, are_still_in, is_still
 use Rattle.irc_wires.specs.Wires.{wire_in}
 use Rattle.irc_wires.specs.Lemmas.StillWires.{still_is_new}
 use Rattle.irc_wires.specs.Lemmas.StillWires.{one_of as one_of_all}
-use Rattle.irc_byte_network.specs.ByteNetwork.{ByteNetwork, is_byte_rest}
-use Rattle.irc_byte_network.specs.Whole.{RestAsLines, has_way}
+use Rattle.irc_network.specs.ByteNetwork.{ByteNetwork, is_byte_rest}
+use Rattle.irc_network.specs.Whole.{RestAsLines, has_way}
 use Rattle.irc_items.specs.SetUp.{settings_of}
 use Rattle.irc_items.specs.Sound.{IsPlaceOf, IsSound}
 use Rattle.irc_items.specs.Lemmas.SetUpFacts.{at_place, placed}

@@ -14,7 +14,7 @@ use Rattle.irc_stage.specs.View.{View}
 use Rattle.irc_stage.specs.Handle.{connects, goes, says}
 use Rattle.irc_server.specs.Served.{Occurrence, link_down, link_says, link_up, of_client, served}
 use Rattle.irc_server_laws.specs.Own.{ServedGoesToItsOwn, is_its_own, is_on_new}
-use Rattle.irc_sites.specs.Site.{Reply, reply, serves_occurrence}
+use Rattle.irc_network.specs.Site.{Reply, reply, serves_occurrence}
 use Rattle.irc_engine.specs.Carrying.{answers, is_closed_by}
 use Rattle.irc_daemons.specs.Alike.{AreServersAlike, AreRowsAlike, Numbers, client_bytes}
 use Rattle.irc_server_laws.specs.Connected.{client_comes, client_goes, ends_client, link_comes}

@@ -12,9 +12,9 @@ use Rattle.irc_batch.specs.Batches.{Sent}
 use Rattle.irc_stage.specs.View.{View}
 use Rattle.irc_network.specs.Network.{Network, Site, site_at, waiting}
 use Rattle.irc_wires.specs.Wires.{Wire}
-use Rattle.irc_byte_network.specs.ByteNetwork.{waiting_at}
-use Rattle.irc_byte_network.specs.Whole.{has_way}
-use Rattle.irc_byte_network.specs.Lemmas.NewFramer.{new_is_real}
+use Rattle.irc_network.specs.ByteNetwork.{waiting_at}
+use Rattle.irc_network.specs.Whole.{has_way}
+use Rattle.irc_network.specs.Lemmas.NewFramer.{new_is_real}
 use Rattle.irc_engine.specs.declared.connection_table.Connection.{Connection}
 use Rattle.irc_engine.specs.declared.kind.Kind.{Kind}
 use Rattle.irc_engine.specs.declared.kind.Kind.TheVariants as kinds

@@ -7,12 +7,12 @@ use Rattle.std.proofs.lemmas.List.{length-append}
 use Rattle.std.specs.FinMap.{get}
 use Rattle.irc_links.specs.Ways.{AreEnds}
 use Rattle.irc_server_laws.specs.Own.{ServedKeepsEnds}
-use Rattle.irc_sites.specs.Site.{Reply}
+use Rattle.irc_network.specs.Site.{Reply}
 use Rattle.irc_stage.specs.View.{View}
 use Rattle.irc_wires.specs.Wires.{Wires}
-use Rattle.irc_byte_network.specs.ByteNetwork.{ByteNetwork, byte_begun, bytes_come, completed_in}
-use Rattle.irc_byte_network.specs.ByteNetwork.{wires_come}
-use Rattle.irc_byte_network.specs.Whole.{IsTidy}
+use Rattle.irc_network.specs.ByteNetwork.{ByteNetwork, byte_begun, bytes_come, completed_in}
+use Rattle.irc_network.specs.ByteNetwork.{wires_come}
+use Rattle.irc_network.specs.Whole.{IsTidy}
 use Rattle.irc_daemons.specs.Clients.{ClientsStay}
 use Rattle.irc_daemons.proofs.GoesOn.{GoesOn, bytes_go_on}
 use Rattle.irc_daemons.proofs.LackingWords.{AreAllEnds, AreOwn}

@@ -21,13 +21,13 @@ use Rattle.irc_server_laws.specs.LineEnds.{ServedLinesEnd}
 use Rattle.irc_server_laws.specs.Own.{ServedGoesToItsOwn}
 use Rattle.irc_links.specs.Ways.{AreEnds}
 use Rattle.irc_stage.specs.View.{End, View}
-use Rattle.irc_sites.specs.Site.{Reply, reply, serves_occurrence}
+use Rattle.irc_network.specs.Site.{Reply, reply, serves_occurrence}
 use Rattle.irc_world.specs.Stepping.{Item}
 use Rattle.irc_world.specs.World.{home_in}
 use Rattle.irc_network.specs.Network.{Site, begun, item_kept, site_asked, site_at}
 use Rattle.irc_wires.specs.Wires.{Wire, new_wire, wire_at}
-use Rattle.irc_byte_network.specs.ByteNetwork.{ByteNetwork, queues_written}
-use Rattle.irc_byte_network.specs.Whole.{IsTidy, has_way}
+use Rattle.irc_network.specs.ByteNetwork.{ByteNetwork, queues_written}
+use Rattle.irc_network.specs.Whole.{IsTidy, has_way}
 use Rattle.irc_engine.specs.declared.connection_table.Connection.{Connection}
 use Rattle.irc_engine.specs.declared.kind.Kind.TheVariants as kinds
 use Rattle.irc_engine.specs.Carrying.{fresh_connection, is_open_at, open_kind_at}

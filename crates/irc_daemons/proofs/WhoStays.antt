@@ -7,7 +7,7 @@ use Rattle.irc_server.specs.Served.{Occurrence, link_down, link_says, link_up, o
 use Rattle.irc_server_laws.specs.Connected.{WhoIsConnected, client_comes, client_goes, has_client}
 use Rattle.irc_server_laws.specs.Connected.{is_client_ended}
 use Rattle.irc_server_laws.specs.Own.{IsNewLink}
-use Rattle.irc_sites.specs.Site.{serves_occurrence}
+use Rattle.irc_network.specs.Site.{serves_occurrence}
 use Rattle.irc_stage.specs.View.{End, View}
 use Rattle.irc_daemons.specs.Clients.{ClientsStay}
 

@@ -9,7 +9,7 @@ use Rattle.irc_server_laws.specs.Own.{ServedGoesToItsOwn}
 use Rattle.irc_network.specs.Network.{site_at}
 use Rattle.irc_wires.specs.Lemmas.StillWires.{still_is_new}
 use Rattle.irc_wires.specs.Wires.{Wire, new_wire}
-use Rattle.irc_byte_network.specs.ByteNetwork.{ByteNetwork}
+use Rattle.irc_network.specs.ByteNetwork.{ByteNetwork}
 use Rattle.irc_daemons.specs.Alike.{ServedAlike}
 use Rattle.irc_daemons.specs.AsBytes.{IsServerIf, numbers_at}
 use Rattle.irc_daemons.specs.AsNetwork.{HasFollowed, IsAsNetwork}

@@ -4,10 +4,10 @@ use Rattle.std.proofs.Common.{append-nil, nat_eq, refl, sym, ◌∙◌, ap, if�
 use Rattle.std.specs.List.{AllByRecursion, flat_map}
 use Rattle.irc_line.specs.Bytes.{crlf}
 use Rattle.irc_batch.specs.Batches.{Sent, end_of, end_of_link, line_on, line_to}
-use Rattle.irc_sites.specs.Site.{line_body}
+use Rattle.irc_network.specs.Site.{line_body}
 use Rattle.irc_server_laws.specs.LineEnds.{EndsInLineEnd}
 use Rattle.irc_wires.specs.Wires.{Wire, written}
-use Rattle.irc_byte_network.specs.ByteNetwork.{all_written}
+use Rattle.irc_network.specs.ByteNetwork.{all_written}
 use Rattle.irc_daemons.specs.Alike.{link_bytes}
 
 abbrev pub with_end : List ℕ → List ℕ

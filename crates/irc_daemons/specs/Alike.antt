@@ -12,7 +12,7 @@ use Rattle.irc_batch.specs.Batches.{Sent, line_on, line_to}
 use Rattle.irc_links.specs.Ways.{AreEnds}
 use Rattle.irc_stage.specs.View.{View}
 use Rattle.irc_server.specs.Served.{Occurrence, link_says}
-use Rattle.irc_sites.specs.Site.{reply}
+use Rattle.irc_network.specs.Site.{reply}
 use Rattle.irc_engine.specs.Carrying.{answers, is_closed_by}
 pub use Rattle.irc_numbers.specs.Alike.{AreAlike, AreApart, AreRowsAlike, IsAmong, Numbers}
 pub use Rattle.irc_numbers.specs.ServedAlike.{happens_at, renumbered}

@@ -4,8 +4,8 @@ use Rattle.std.specs.List.{slice_get}
 use Rattle.irc_line.specs.Lines.{Begun, HasTaken, stream_for}
 use Rattle.irc_network.specs.Network.{Site, site_at}
 use Rattle.irc_wires.specs.Wires.{wire_at}
-use Rattle.irc_byte_network.specs.ByteNetwork.{ByteNetwork}
-use Rattle.irc_byte_network.specs.Whole.{IsTidy, has_way}
+use Rattle.irc_network.specs.ByteNetwork.{ByteNetwork}
+use Rattle.irc_network.specs.Whole.{IsTidy, has_way}
 use Rattle.irc_engine.specs.Hearing.{begun_at}
 use Rattle.irc_engine.specs.Running.{IsInOrder, Moment}
 use Rattle.irc_engine.specs.Turning.{EngineView}

@@ -6,7 +6,7 @@ use Rattle.irc_outbox.specs.Calls.{Call}
 use Rattle.irc_relay.specs.Links.{Name}
 use Rattle.irc_world.specs.Stepping.{Item}
 use Rattle.irc_network.specs.Network.{server_place}
-use Rattle.irc_byte_network.specs.ByteNetwork.{ByteNetwork}
+use Rattle.irc_network.specs.ByteNetwork.{ByteNetwork}
 use Rattle.irc_daemons.specs.AsNetwork.{HasFollowed, IsAsNetwork}
 use Rattle.irc_daemons.specs.Daemons.{AreLinksOpen, Daemons, IsToldOfLinks}
 use Rattle.irc_daemons.specs.Items.{AreItems, IsApartStep, has_item}

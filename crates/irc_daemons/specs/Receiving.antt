@@ -2,7 +2,7 @@
 use Rattle.std.specs.Prelude.{◌≡◌, ℕ, zero, suc, ◌++◌, Bool, false, is_some, List}
 use Rattle.std.specs.List.{flat_map, slice_get}
 use Rattle.irc_network.specs.Network.{Network, received_by}
-use Rattle.irc_byte_network.specs.ByteNetwork.{ByteNetwork}
+use Rattle.irc_network.specs.ByteNetwork.{ByteNetwork}
 use Rattle.irc_daemons.specs.Daemons.{Daemons, connection_at, unsent}
 
 -- whether a client has come

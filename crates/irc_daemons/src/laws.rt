@@ -34,8 +34,8 @@ pub fn daemons_are_one_room<W: Wire>()
     irc_server_laws::laws::served_keeps_ends();
     irc_numbers::laws::served_alike();
     irc_numbers::laws::nothing_is_behind_an_end();
-    irc_byte_network::laws::new_is_whole();
-    irc_byte_network::laws::rest_as_lines();
+    irc_network::laws::new_is_whole();
+    irc_network::laws::rest_as_lines();
     irc_items::laws::refusals_are_the_worlds();
     irc_net::laws::networks_stay_sound();
     irc_net::laws::settings_stay();

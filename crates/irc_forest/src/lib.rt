@@ -9,3 +9,4 @@ mod places;
 mod tests;
 
 pub use forest::{Forest, MAX_SERVERS};
+pub use places::{Ends, Place};

@@ -2,7 +2,7 @@
 ghost use Rattle.std.specs.Prelude.{◌<◌, length, IfSome};
 ghost use Rattle.irc_names.specs.Names.{IsServer};
 
-use crate::Forest;
+use crate::{Forest, Place};
 use irc_names::ServerName;
 use std::alloc::{AllocError, Global};
 use std::test::Fail;
@@ -49,7 +49,7 @@ fn apart(alloc: Global) -> Result<Forest, AllocError> {
 }
 
 /// The place of a server.
-fn place(forest: &Forest, name: &[u8]) -> Option<usize>
+fn place(forest: &Forest, name: &[u8]) -> Option<Place>
     ensures { IfSome result (λ place. place < length forest.now.names) }
 {
     forest.place_of(&ServerName::read(name)?)

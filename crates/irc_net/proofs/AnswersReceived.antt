@@ -5,11 +5,11 @@ use Rattle.std.proofs.Common.{if◌then◌else◌}
 use Rattle.std.specs.Option.{option_and_then, option_map_or}
 use Rattle.irc_relay.specs.Links.{Name}
 use Rattle.irc_world.specs.Stepping.{Item}
-use Rattle.irc_byte_network.specs.Behind.{emptied}
-use Rattle.irc_byte_network.specs.ByteNetwork.{ByteCourse, ByteNetwork, all_heard, byte_begun}
-use Rattle.irc_byte_network.specs.ByteNetwork.{bytes_come, completed_in, course_without_wires}
-use Rattle.irc_byte_network.specs.ByteNetwork.{item_given}
-use Rattle.irc_byte_network.specs.Turns.{TurnsGo, none_yet, turn_first, turn_in, turn_taken}
+use Rattle.irc_network.specs.Behind.{emptied}
+use Rattle.irc_network.specs.ByteNetwork.{ByteCourse, ByteNetwork, all_heard, byte_begun}
+use Rattle.irc_network.specs.ByteNetwork.{bytes_come, completed_in, course_without_wires}
+use Rattle.irc_network.specs.ByteNetwork.{item_given}
+use Rattle.irc_network.specs.Turns.{TurnsGo, none_yet, turn_first, turn_in, turn_taken}
 use Rattle.irc_net.specs.declared.answer.Answer.{Answer}
 use Rattle.irc_net.specs.Calls.{BytesTaken, Delivers, IsDelivered, IsGiven, IsSettled, NetView}
 use Rattle.irc_net.specs.Calls.{delivers_it, given_it, line_between, piece_between, settles_it}

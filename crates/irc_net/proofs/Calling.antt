@@ -15,8 +15,8 @@ use Rattle.irc_net.specs.declared.step.Step.{Step}
 use Rattle.irc_net.specs.declared.step.StepAnswer.{StepAnswer}
 use Rattle.irc_net.specs.declared.step.StepAnswer.TheVariants.{Refused}
 use Rattle.irc_room.specs.Lemmas.Rows.{same_some}
-use Rattle.irc_byte_network.specs.ByteNetwork.{ByteCourse, ByteNetwork, byte_begun}
-use Rattle.irc_byte_network.specs.Loops.Coming.{byte_course, bytes_between, come_between}
+use Rattle.irc_network.specs.ByteNetwork.{ByteCourse, ByteNetwork, byte_begun}
+use Rattle.irc_network.specs.Loops.Coming.{byte_course, bytes_between, come_between}
 use Rattle.irc_line.specs.Bytes.{line_feed}
 use Rattle.irc_relay.specs.Links.{linked as are_linked}
 use Rattle.irc_world.specs.Refused.{Refusal, no_such_server, not_linked}
@@ -29,7 +29,7 @@ use Rattle.irc_net.specs.Loops.Coming.{AreEnds, ComesTo, HaveComeTo, IsNoWay}
 use Rattle.irc_net.specs.Calls as calls
 use Rattle.irc_net.specs.Faults.{deliver_fault, fault_by, is_refusal, item_fault}
 use Rattle.irc_net.specs.Loops.Settling.{SettlesAt}
-use Rattle.irc_network.specs.declared.network.Ends.{Ends as KeptEnds}
+use Rattle.irc_forest.specs.declared.places.Ends.{Ends as KeptEnds}
 use Rattle.irc_network.specs.Loops.Courses.{ends_now}
 use Rattle.irc_network.specs.Network.{LinkPlaces, Network, Receipt, link_places, server_place}
 use Rattle.irc_network.specs.Refusing.{way_fault}

@@ -1,7 +1,7 @@
 -- The network that configurations without a fault make is new.
 use Rattle.std.proofs.Common.{◌≡◌, ◌≤◌, ◌<◌, ◌+◌, ℕ, zero, suc, Bool, true, false, true≢false, ◌&&◌}
 use Rattle.std.proofs.Common.{◌||◌, not, cond, Option, Some, None, is_some, unwrap_or, List, []}
-use Rattle.std.proofs.Common.{◌∷◌, refl, sym, ◌∙◌, ap, subst, arith, length, map, replicate}
+use Rattle.std.proofs.Common.{◌∷◌, refl, sym, ◌∙◌, ap, subst, arith, length, map}
 use Rattle.std.proofs.Common.{count_by, if◌then◌else◌}
 use Rattle.std.proofs.lemmas.Bool.{leb-true, or_parts}
 use Rattle.std.proofs.lemmas.List.{length-map}
@@ -26,8 +26,6 @@ use Rattle.irc_server.specs.declared.config.Config.{Config}
 use Rattle.irc_server.specs.declared.config.ConfigFault.TheVariants as one
 use Rattle.irc_stage.specs.View.{View, known_peer}
 use Rattle.irc_stage.specs.declared.peer.Peer.{Peer}
-use Rattle.irc_byte_network.specs.ByteNetwork.{ByteNetwork}
-use Rattle.irc_byte_network.specs.Whole.{no_wires}
 use Rattle.irc_network.specs.Network.{Network, Site, server_place, site_at}
 use Rattle.irc_items.specs.SetUp.{named_at, no_view, view_at, HasPassword, IsConfigured, IsNew}
 use Rattle.irc_items.specs.SetUp.{IsNewServer}
@@ -239,13 +237,6 @@ made_is_new configs ordered none ones = record {
   items = refl;
   taken = refl;
 }
-
--- and nothing is on its way in it
-pub new_made : {one other : Network} (net : ByteNetwork) (count : ℕ)
-    → net ≡ record { network = one; wires = replicate count empty } → count ≡ length one.sites
-    → one ≡ other → net ≡ no_wires other
-new_made {one = one} net count is counted same =
-    is ∙ ap (λ n. record { network = one; wires = replicate n empty }) counted ∙ ap no_wires same
 
 abbrev pub made_with : Forest → List Site → Network
 made_with forest sites = record {

@@ -10,8 +10,8 @@ use Rattle.irc_world.specs.Refused.{refused}
 use Rattle.irc_world.specs.Stepping.{Item}
 use Rattle.irc_world.specs.WithinLimits.{IsItemWithin}
 use Rattle.irc_world.specs.World.{new_world}
-use Rattle.irc_byte_network.specs.ByteNetwork.{ByteNetwork, byte_begun, bytes_come, is_byte_rest}
-use Rattle.irc_byte_network.specs.Whole.{RestAsLines}
+use Rattle.irc_network.specs.ByteNetwork.{ByteNetwork, byte_begun, bytes_come, is_byte_rest}
+use Rattle.irc_network.specs.Whole.{RestAsLines}
 use Rattle.irc_items.specs.Kept.{TakenAreFew}
 use Rattle.irc_items.specs.Laws.{NewLinkIsOpen, NoLinkIsClosed, ReceivedIsFront}
 use Rattle.irc_items.specs.Laws.{RefusalsAreTheWorlds, RestIsOneRoom}

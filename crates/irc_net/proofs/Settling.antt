@@ -3,11 +3,11 @@ use Rattle.std.proofs.Common.{◌≡◌, ℕ, true, zero, suc, ◌+◌, ◌<◌,
 use Rattle.std.proofs.Common.{option_map, refl, sym, subst, ◌∙◌, ap, arith}
 use Rattle.irc_items.specs.Kept.{TurnLeavesFewer}
 use Rattle.irc_items.specs.Sound.{most_now}
-use Rattle.irc_byte_network.specs.ByteNetwork.{ByteCourse, ByteNetwork, byte_begun, course_in_lines}
-use Rattle.irc_byte_network.specs.ByteNetwork.{net_in_lines, is_byte_rest}
-use Rattle.irc_byte_network.specs.Turns.{ComesToLine, GoesToLine, TurnsGo, lines_in_turn, none_yet}
-use Rattle.irc_byte_network.specs.Turns.{turn_first, turn_in, turn_taken}
-use Rattle.irc_byte_network.specs.Whole.{ComesToSome, EachComesToLine, NoByteRests}
+use Rattle.irc_network.specs.ByteNetwork.{ByteCourse, ByteNetwork, byte_begun, course_in_lines}
+use Rattle.irc_network.specs.ByteNetwork.{net_in_lines, is_byte_rest}
+use Rattle.irc_network.specs.Turns.{ComesToLine, GoesToLine, TurnsGo, lines_in_turn, none_yet}
+use Rattle.irc_network.specs.Turns.{turn_first, turn_in, turn_taken}
+use Rattle.irc_network.specs.Whole.{ComesToSome, EachComesToLine, NoByteRests}
 use Rattle.irc_net.specs.Calls.{NetView, Settles, standing}
 use Rattle.irc_net.specs.Running.{SettlesOnce}
 use Rattle.irc_net.specs.Loops.Settling.{GoesCounted, SettlesAt}

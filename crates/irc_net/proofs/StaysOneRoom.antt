@@ -18,17 +18,17 @@ use Rattle.irc_items.specs.Laws.{RestIsOneRoom, WaitingAreLines}
 use Rattle.irc_items.specs.OneRoom.{IsOneRoom}
 use Rattle.irc_items.specs.Sound.{IsSound, most_now, most_of_last, owed_now, world_now}
 use Rattle.irc_items.specs.SetUp.{IsNew, settings_of}
-use Rattle.irc_byte_network.specs.ByteNetwork.{ByteCourse, ByteNetwork, byte_begun, bytes_come}
-use Rattle.irc_byte_network.specs.ByteNetwork.{course_in_lines, net_in_lines, is_byte_rest}
-use Rattle.irc_byte_network.specs.ByteNetwork.{item_given}
-use Rattle.irc_byte_network.specs.Turns.{TurnsGo, lines_in_turn, none_yet, turn_first, turn_taken}
-use Rattle.irc_byte_network.specs.Whole.{AreLinesWaiting, BytesComeAsLines, Delivers, GivenAsLines}
-use Rattle.irc_byte_network.specs.Whole.{NewIsWhole, RestAsLines, TurnAsLines, TurnsAsLines}
-use Rattle.irc_byte_network.specs.Whole.{no_line, no_more, no_wires, one_first, one_line}
-use Rattle.irc_byte_network.specs.Loops.Coming.{byte_course, come_between}
+use Rattle.irc_network.specs.ByteNetwork.{ByteCourse, ByteNetwork, byte_begun, bytes_come}
+use Rattle.irc_network.specs.ByteNetwork.{course_in_lines, net_in_lines, is_byte_rest}
+use Rattle.irc_network.specs.ByteNetwork.{item_given}
+use Rattle.irc_network.specs.Turns.{TurnsGo, lines_in_turn, none_yet, turn_first, turn_taken}
+use Rattle.irc_network.specs.Whole.{AreLinesWaiting, BytesComeAsLines, Delivers, GivenAsLines}
+use Rattle.irc_network.specs.Whole.{NewIsWhole, RestAsLines, TurnAsLines, TurnsAsLines}
+use Rattle.irc_network.specs.Whole.{no_line, no_more, no_wires, one_first, one_line}
+use Rattle.irc_network.specs.Loops.Coming.{byte_course, come_between}
 use Rattle.irc_net.specs.Calls.{NetView, standing}
 use Rattle.irc_net.specs.Laws.{KeptIsOwed, StaysKept}
-use Rattle.irc_network.specs.declared.network.Ends.{Ends as KeptEnds}
+use Rattle.irc_forest.specs.declared.places.Ends.{Ends as KeptEnds}
 use Rattle.irc_network.specs.declared.receipt.Receipt.{Receipt as KeptReceipt}
 use Rattle.irc_net.specs.Faults.{fault_by, item_fault}
 use Rattle.irc_net.specs.declared.fault.NetFault.TheVariants as fault

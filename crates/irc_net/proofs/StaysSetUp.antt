@@ -12,11 +12,11 @@ use Rattle.irc_server.specs.Served.{served}
 use Rattle.irc_server.specs.declared.config.Config.{Config}
 use Rattle.irc_stage.specs.View.{View}
 use Rattle.irc_world.specs.Stepping.{Item}
-use Rattle.irc_byte_network.specs.Behind.{Ahead, emptied, emptied_site, sites_behind}
-use Rattle.irc_byte_network.specs.ByteNetwork.{ByteCourse, ByteNetwork, all_heard, byte_begun}
-use Rattle.irc_byte_network.specs.ByteNetwork.{bytes_come, completed_in, course_without_wires}
-use Rattle.irc_byte_network.specs.ByteNetwork.{item_given, lines_ahead, net_in_lines}
-use Rattle.irc_byte_network.specs.Turns.{TurnsGo, none_yet, turn_first, turn_in, turn_taken}
+use Rattle.irc_network.specs.Behind.{Ahead, emptied, emptied_site, sites_behind}
+use Rattle.irc_network.specs.ByteNetwork.{ByteCourse, ByteNetwork, all_heard, byte_begun}
+use Rattle.irc_network.specs.ByteNetwork.{bytes_come, completed_in, course_without_wires}
+use Rattle.irc_network.specs.ByteNetwork.{item_given, lines_ahead, net_in_lines}
+use Rattle.irc_network.specs.Turns.{TurnsGo, none_yet, turn_first, turn_in, turn_taken}
 use Rattle.irc_items.specs.Laws.{GivenKeepsSettings}
 use Rattle.irc_items.specs.SetUp.{setting_at, setting_now, settings_of}
 use Rattle.irc_net.specs.Calls.{NetView, Settles, standing}

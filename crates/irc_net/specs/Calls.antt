@@ -19,9 +19,9 @@ use Rattle.irc_net.specs.Faults.{deliver_fault, is_refusal, item_fault}
 use Rattle.irc_network.specs.Network.{LinkPlaces, Receipt, link_places, max_count, number_given}
 use Rattle.irc_network.specs.Views.{item_of, receipts_of}
 use Rattle.irc_wires.specs.Wires.{Wire, has_byte, through_line_feed, wire_at}
-use Rattle.irc_byte_network.specs.ByteNetwork.{ByteCourse, ByteNetwork, byte_begun, bytes_come}
-use Rattle.irc_byte_network.specs.ByteNetwork.{is_byte_rest, item_given}
-use Rattle.irc_byte_network.specs.Turns.{TurnsGo}
+use Rattle.irc_network.specs.ByteNetwork.{ByteCourse, ByteNetwork, byte_begun, bytes_come}
+use Rattle.irc_network.specs.ByteNetwork.{is_byte_rest, item_given}
+use Rattle.irc_network.specs.Turns.{TurnsGo}
 
 -- a network, and whether memory ran out for it
 pub record NetView : Type 0 where

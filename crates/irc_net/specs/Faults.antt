@@ -8,7 +8,7 @@ use Rattle.irc_world.specs.Refused.{not_linked}
 use Rattle.irc_world.specs.Stepping.{Item}
 use Rattle.irc_net.specs.declared.fault.NetFault.{NetFault}
 use Rattle.irc_net.specs.declared.fault.NetFault.TheVariants as fault
-use Rattle.irc_byte_network.specs.ByteNetwork.{ByteNetwork, is_byte_rest}
+use Rattle.irc_network.specs.ByteNetwork.{ByteNetwork, is_byte_rest}
 use Rattle.irc_network.specs.Network.{Network, site_view}
 pub use Rattle.irc_network.specs.Refusing.{are_agreed, fault_at_rest, way_fault}
 

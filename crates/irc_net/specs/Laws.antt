@@ -5,8 +5,8 @@ use Rattle.irc_world.specs.Stepping.{Item}
 use Rattle.irc_world.specs.WithinLimits.{IsItemWithin}
 use Rattle.irc_items.specs.SetUp.{settings_of, IsNew}
 use Rattle.irc_server.specs.declared.config.Config.{Config}
-use Rattle.irc_byte_network.specs.ByteNetwork.{ByteNetwork, byte_begun, bytes_come, item_given}
-use Rattle.irc_byte_network.specs.Whole.{no_wires}
+use Rattle.irc_network.specs.ByteNetwork.{ByteNetwork, byte_begun, bytes_come, item_given}
+use Rattle.irc_network.specs.Whole.{no_wires}
 use Rattle.irc_net.specs.declared.answer.Answer.{Answer}
 use Rattle.irc_net.specs.Calls.{BytesTaken, IsDelivered, IsGiven, IsSettled, NetView, Settles}
 use Rattle.irc_net.specs.Calls.{standing}

@@ -1,6 +1,6 @@
-pub use Rattle.irc_byte_network.specs.ByteNetwork
-pub use Rattle.irc_byte_network.specs.Turns
-pub use Rattle.irc_byte_network.specs.Whole
+pub use Rattle.irc_network.specs.ByteNetwork
+pub use Rattle.irc_network.specs.Turns
+pub use Rattle.irc_network.specs.Whole
 pub use Rattle.irc_network.specs.Network
 pub use Rattle.irc_network.specs.Views as NetworkViews
 pub use Rattle.irc_network.specs.Refusing

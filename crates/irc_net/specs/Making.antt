@@ -17,8 +17,8 @@ use Rattle.irc_net.specs.declared.making.NetConfigFault.{NetConfigFault}
 use Rattle.irc_net.specs.declared.making.NetConfigFault.TheVariants.{BadName, DoubleName, TooMany}
 use Rattle.irc_net.specs.declared.making.NetConfigFault.TheVariants.{Memory}
 use Rattle.irc_net.specs.Calls.{NetView}
-use Rattle.irc_byte_network.specs.ByteNetwork.{ByteNetwork}
-use Rattle.irc_byte_network.specs.Whole.{no_wires}
+use Rattle.irc_network.specs.ByteNetwork.{ByteNetwork}
+use Rattle.irc_network.specs.Whole.{no_wires}
 use Rattle.irc_network.specs.Network.{Network, Site}
 
 abbrev pub config_name : Config → Name

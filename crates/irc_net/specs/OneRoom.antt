@@ -6,8 +6,8 @@ use Rattle.irc_world.specs.Refused.{refused}
 use Rattle.irc_relay.specs.Links.{Name}
 use Rattle.irc_world.specs.Stepping.{Item, link}
 use Rattle.irc_network.specs.Network.{max_count}
-use Rattle.irc_byte_network.specs.ByteNetwork.{ByteNetwork, net_in_lines, is_byte_rest}
-use Rattle.irc_byte_network.specs.Whole.{IsWholeNet}
+use Rattle.irc_network.specs.ByteNetwork.{ByteNetwork, net_in_lines, is_byte_rest}
+use Rattle.irc_network.specs.Whole.{IsWholeNet}
 use Rattle.irc_network.specs.Refusing.{fault_at_rest}
 use Rattle.irc_items.specs.Laws.{ClosesNoLink, OpensBothEnds}
 use Rattle.irc_items.specs.OneRoom.{IsOneRoom}

@@ -13,7 +13,7 @@ use Rattle.irc_world.specs.Stepping.{Item}
 use Rattle.irc_world.specs.WithinLimits.{IsItemWithin}
 use Rattle.irc_world.specs.World.{Setting, new_world}
 use Rattle.irc_network.specs.Network.{Receipt, received_by}
-use Rattle.irc_byte_network.specs.ByteNetwork.{ByteNetwork, is_byte_rest}
+use Rattle.irc_network.specs.ByteNetwork.{ByteNetwork, is_byte_rest}
 use Rattle.irc_net.specs.declared.answer.Answer.{Answer}
 use Rattle.irc_net.specs.Calls.{BytesTaken, IsDelivered, IsGiven, IsSettled, NetView, Settles}
 use Rattle.irc_net.specs.Calls.{standing}

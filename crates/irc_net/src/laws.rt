@@ -30,11 +30,11 @@ pub fn networks_stay_sound()
     irc_items::laws::given_stays_sound();
     irc_items::laws::delivery_keeps_sound();
     irc_items::laws::waiting_are_lines();
-    irc_byte_network::laws::new_is_whole();
-    irc_byte_network::laws::given_as_lines();
-    irc_byte_network::laws::bytes_come_as_lines();
-    irc_byte_network::laws::turn_as_lines();
-    irc_byte_network::laws::rest_as_lines();
+    irc_network::laws::new_is_whole();
+    irc_network::laws::given_as_lines();
+    irc_network::laws::bytes_come_as_lines();
+    irc_network::laws::turn_as_lines();
+    irc_network::laws::rest_as_lines();
 }
 
 /// Each sound network settles.
@@ -44,9 +44,9 @@ pub fn each_settles()
     irc_items::laws::delivery_keeps_sound();
     irc_items::laws::turn_leaves_fewer();
     irc_items::laws::waiting_are_lines();
-    irc_byte_network::laws::turn_as_lines();
-    irc_byte_network::laws::each_comes_to_line();
-    irc_byte_network::laws::rest_as_lines();
+    irc_network::laws::turn_as_lines();
+    irc_network::laws::each_comes_to_line();
+    irc_network::laws::rest_as_lines();
 }
 
 /// What a client of a sound network has received is a front of what it is owed, and at rest all of
@@ -56,7 +56,7 @@ pub fn kept_is_owed()
 {
     irc_items::laws::received_is_front();
     irc_items::laws::rest_is_one_room();
-    irc_byte_network::laws::rest_as_lines();
+    irc_network::laws::rest_as_lines();
 }
 
 /// Whatever a network has run to is kept sound.
@@ -81,5 +81,5 @@ pub fn every_network_is_one_room()
     irc_items::laws::refusals_are_the_worlds();
     irc_items::laws::no_link_is_closed();
     irc_items::laws::new_link_is_open();
-    irc_byte_network::laws::rest_as_lines();
+    irc_network::laws::rest_as_lines();
 }

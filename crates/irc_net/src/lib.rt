@@ -1,5 +1,5 @@
-//! Networks of servers: the servers, the lines that are on their way between them, and what each
-//! client has received. Definitions are in `specs/`.
+//! Networks of servers: the servers, what is on its way between them, and what each client has
+//! received. Definitions are in `specs/`.
 #![tactic(auto)]
 
 mod answer;
@@ -15,7 +15,6 @@ pub use answer::Answer;
 pub use fault::NetFault;
 pub use irc_network::{Forgotten, History, Item, Kept, Receipt, laws as network_laws};
 pub use irc_server::{Config, Peer};
-pub use irc_sites::LinkQueue;
 pub use making::NetConfigFault;
 pub use net::Net;
 pub use step::{Step, StepAnswer};

@@ -10,8 +10,8 @@ ghost use Rattle.irc_net.specs.Loops.Ordering.{IsServerConfig, new_forest};
 
 use irc_forest::{Forest, MAX_SERVERS};
 use irc_names::ServerName;
+use irc_network::Site;
 use irc_server::{Config, ConfigFault, Server, config_fault};
-use irc_sites::Site;
 use std::alloc::{AllocError, Global};
 use std::cmp::Ordering;
 use thiserror::Error;

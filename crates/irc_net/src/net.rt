@@ -1,7 +1,7 @@
 //! A network of servers, as those above have it.
 ghost use Rattle.std.specs.Prelude.{◌≡◌, true, false, [], ◌∷◌, ◌++◌, map, IfOk, OnOk};
 ghost use Rattle.std.specs.Option.{option_map};
-ghost use Rattle.irc_byte_network.specs.ByteNetwork.{is_byte_rest};
+ghost use Rattle.irc_network.specs.ByteNetwork.{is_byte_rest};
 ghost use Rattle.irc_net.specs.declared.step.Step.TheVariants.{Bytes, Deliver, Give, Settle};
 ghost use Rattle.irc_net.specs.Calls.{step_refused, ArePlayable, ArePlayed, BytesTaken};
 ghost use Rattle.irc_net.specs.Calls.{IsDelivered, IsGivable, IsGiven, IsPlayable, IsSettled};
@@ -15,19 +15,18 @@ ghost use Rattle.irc_net.specs.OneRoom.{IsKeptSound, IsOneRoomNet, IsOwed, Refus
 ghost use Rattle.irc_net.specs.OneRoom.{TakesFew};
 ghost use Rattle.irc_net.specs.Views.{answers_now, counted_now, delivered_now};
 ghost use Rattle.irc_network.specs.Network.{received_by};
-ghost use Rattle.irc_network.specs.Views.{item_of, items_of, refusal_of};
-ghost use Rattle.irc_sites.specs.Loops.Queues.{line_bytes};
+ghost use Rattle.irc_network.specs.Views.{item_of, items_of, line_bytes, refusal_of};
 ghost use Rattle.irc_world.specs.WithinLimits.{IsItemWithin};
 
 use crate::answer::Answer;
 use crate::fault::NetFault;
 use crate::making::{NetConfigFault, configs_fault, forest_of, in_order, sites_of};
 use crate::step::{Step, StepAnswer};
-use irc_byte_network::ByteNetwork;
+use irc_forest::Ends;
 use irc_items::laws;
 use irc_line::Text;
 use irc_names::ServerName;
-use irc_network::{Desk, Ends, History, Item, Kept, Network, Receipt, Refusal};
+use irc_network::{Desk, History, Item, Kept, Network, Receipt, Refusal};
 use irc_server::Config;
 use std::alloc::{AllocError, Global};
 use std::marker::Model;
@@ -39,7 +38,7 @@ use std::marker::Model;
 pub struct Net<H: History> {
     alloc: Global,
     failed: bool,
-    network: ByteNetwork<H>,
+    network: Network<H>,
 }
 
 /// In a clause it is the network, and whether memory ran out for it. Until then it is sound.
@@ -68,15 +67,15 @@ impl Net<Kept> {
     {
         laws::received_is_front();
         laws::rest_is_one_room();
-        irc_byte_network::laws::rest_as_lines();
-        self.network.network().received(client)
+        irc_network::laws::rest_as_lines();
+        self.network.received(client)
     }
 
     /// What was given, in turn.
     pub fn items(&self) -> &[Item]
         ensures { items_of result.now ≡ self.now.network.network.items }
     {
-        self.network.network().items()
+        self.network.items()
     }
 }
 
@@ -96,11 +95,10 @@ impl<H: History> Net<H> {
         let ordered = in_order(configs);
         let forest = forest_of(alloc, &ordered)?;
         let sites = sites_of(alloc, ordered)?;
-        let count = sites.len();
         Ok(Net {
             alloc,
             failed: false,
-            network: ByteNetwork::new(alloc, Network::new(alloc, forest, sites), count)?,
+            network: Network::new(alloc, forest, sites)?,
         })
     }
 
@@ -118,7 +116,7 @@ impl<H: History> Net<H> {
         ensures few { TakesFew self.now result }
     {
         laws::taken_are_few();
-        self.network.network().lines_taken()
+        self.network.lines_taken()
     }
 
     /// Whether two servers agree on all channels that both would have if they were linked; false
@@ -127,7 +125,7 @@ impl<H: History> Net<H> {
     pub fn agrees(&self, one: &ServerName, other: &ServerName) -> bool
         ensures { result ≡ do_agree self.now.network.network one.now other.now }
     {
-        self.network.network().agrees(one, other)
+        self.network.agrees(one, other)
     }
 
     /// An item is given. At rest just that is refused which the network as its people know it
@@ -142,7 +140,7 @@ impl<H: History> Net<H> {
     {
         crate::laws::networks_stay_sound();
         laws::refusals_are_the_worlds();
-        irc_byte_network::laws::rest_as_lines();
+        irc_network::laws::rest_as_lines();
         keeps_limits(&item);
         if self.failed {
             return Err(NetFault::Failed);
@@ -150,7 +148,7 @@ impl<H: History> Net<H> {
         if let Some(fault) = item_fault(&self.network, &item) {
             return Err(fault);
         }
-        let client = self.network.network().number_given(&item);
+        let client = self.network.number_given(&item);
         let mut desk = Desk::new(self.alloc);
         self.failed = true;
         self.network.give(item, &mut desk)?;
@@ -176,7 +174,7 @@ impl<H: History> Net<H> {
         ensures { IsDelivered self.old from.now to.now (delivered_now result) self.new }
     {
         let ends = self.ends_linked(from, to)?;
-        let count = self.network.through_line_feed(ends);
+        let count = self.network.through_line_feed(ends.near, ends.far);
         if count == 0 {
             return Ok((false, Vec::new(self.alloc)));
         }
@@ -216,7 +214,7 @@ impl<H: History> Net<H> {
         if let Some(fault) = deliver_fault(&self.network, from, to) {
             return Err(fault);
         }
-        match self.network.network().ends_of(from, to) {
+        match self.network.ends_of(from, to) {
             Some(ends) => Ok(ends),
             None => Err(NetFault::NoSuchServer),
         }
@@ -271,7 +269,7 @@ impl<H: History> Net<H> {
         laws::rest_is_one_room();
         laws::no_link_is_closed();
         laws::new_link_is_open();
-        irc_byte_network::laws::rest_as_lines();
+        irc_network::laws::rest_as_lines();
         let _ = &self.network;
     }
 
@@ -376,15 +374,15 @@ impl<H: History> Net<H> {
 
 /// Lets bytes of a sound network come in turn until nothing is on its way, and counts the lines
 /// that they complete. They come to an end since each of those leaves fewer.
-fn take_all<H: History>(network: &mut ByteNetwork<H>, desk: &mut Desk) -> Result<u64, AllocError>
+fn take_all<H: History>(network: &mut Network<H>, desk: &mut Desk) -> Result<u64, AllocError>
     requires sound { IsKeptSound network.old }
     ensures { IfOk result (λ count. HasComeToRest count network.old desk.old network.new desk.new) }
 {
     laws::delivery_keeps_sound();
     laws::turn_leaves_fewer();
     laws::waiting_are_lines();
-    irc_byte_network::laws::turn_as_lines();
-    irc_byte_network::laws::rest_as_lines();
+    irc_network::laws::turn_as_lines();
+    irc_network::laws::rest_as_lines();
     let mut count: u64 = 0;
     while let Some(lines) = network.come_to_line(desk)? {
         count = count.saturating_add(lines as u64);
@@ -404,25 +402,25 @@ fn keeps_limits(item: &Item)
 
 /// Why an item is not taken, if it is not.
 #[tactic(auto, unfolding(crate::specs::Faults::item_fault))]
-fn item_fault<H: History>(network: &ByteNetwork<H>, item: &Item) -> Option<NetFault>
+fn item_fault<H: History>(network: &Network<H>, item: &Item) -> Option<NetFault>
     ensures { result ≡ item_fault network.now (item_of item.now) }
 {
     if !network.is_at_rest() {
         return Some(NetFault::NotAtRest);
     }
-    fault_of(network.network().refusal(item))
+    fault_of(network.refusal(item))
 }
 
 /// Why nothing comes from one server to another, if it does not.
 #[tactic(auto, unfolding(crate::specs::Faults::deliver_fault))]
 fn deliver_fault<H: History>(
-    network: &ByteNetwork<H>,
+    network: &Network<H>,
     from: &ServerName,
     to: &ServerName,
 ) -> Option<NetFault>
     ensures { result ≡ deliver_fault network.now from.now to.now }
 {
-    fault_of(network.network().way_refusal(from, to))
+    fault_of(network.way_refusal(from, to))
 }
 
 /// A refusal of the network as one of those above.

@@ -1,19 +1,20 @@
 -- What stands at a place, and what is put there.
-use Rattle.std.proofs.Common.{◌≡◌, ◌≤◌, ◌<◌, ◌-◌, ℕ, zero, suc, Option, Some, None, Result, Ok, Err}
+use Rattle.std.proofs.Common.{◌≡◌, ◌≤◌, ◌<◌, ℕ, zero, suc, Option, Some, None, Result, Ok, Err}
 use Rattle.std.proofs.Common.{OnErr, OnOk, List, [], ◌∷◌, ◌++◌, refl, sym, ◌∙◌, ap, arith, length}
-use Rattle.std.proofs.Common.{subst}
+use Rattle.std.proofs.Common.{is_some}
+use Rattle.std.specs.Borrow.{Bor}
 use Rattle.std.proofs.lemmas.List.{map-append}
 use Rattle.std.specs.List.{slice_get, slice_set}
-use Rattle.std.specs.Option.{option_map_or}
-use Rattle.arrayvec.specs.ArrayVec.{ArrayVec}
+use Rattle.std.specs.Option.{option_copied, option_map_or}
 use Rattle.irc_forest.specs.Forests.{Forest}
 use Rattle.irc_relay.specs.Links.{Name}
 use Rattle.irc_network.specs.declared.receipt.Receipt.{Receipt as KeptReceipt}
 use Rattle.irc_network.specs.Histories.{Becomes, Past, line_behind, with_line}
-use Rattle.irc_network.specs.Loops.Courses.{IsEmptyAt, IsLineTaken, course}
-use Rattle.irc_sites.specs.Loops.Sites.{IsTaken}
-use Rattle.irc_network.specs.Network.{Network, Receipt, Site, site_changed_at, has_received}
-use Rattle.irc_network.specs.Network.{has_received_at, receipt, with_site}
+use Rattle.irc_network.specs.Loops.Courses.{course}
+use Rattle.irc_wires.specs.Wires.{Wires}
+use Rattle.irc_network.specs.ByteNetwork.{ByteNetwork}
+use Rattle.irc_network.specs.Network.{Network, Receipt, Site, has_received}
+use Rattle.irc_network.specs.Network.{has_received_at, receipt}
 use Rattle.irc_network.specs.Views.{receipt_of, receipts_of}
 
 -- a network as its code has it
@@ -28,18 +29,23 @@ seen forest sites homes past taken = record {
   taken = taken;
 }
 
+abbrev pub whole : Forest → List Site → Wires → List Name → Past → ℕ → ByteNetwork
+whole forest sites wires homes past taken =
+    record { network = seen forest sites homes past taken; wires = wires }
+
 pub none_here : {X : Type 0} (xs : List X) (i : ℕ) → length xs ≤ i → slice_get xs i ≡ None
 none_here [] i behind = refl
 none_here (y ∷ xs) zero behind = absurd (omega (arith, behind))
 none_here (y ∷ xs) (suc i) behind = none_here xs i (omega (arith, behind))
 
+pub some_copied : {X : Type 0} (o : Option (Bor X)) → is_some o ≡ is_some (option_copied o)
+some_copied None = refl
+some_copied (Some x) = refl
+
 not_none : {X : Type 0} (xs : List X) (i : ℕ) → slice_get xs i ≡ None → i < length xs → ⊥
 not_none [] i none within = omega (arith, within)
 not_none (y ∷ xs) zero none within = cc none
 not_none (y ∷ xs) (suc i) none within = not_none xs i none (omega (arith, within))
-
-pub number_behind : (client earlier : ℕ) → 1 ≤ client → earlier ≡ client - 1 → client ≡ suc earlier
-number_behind client earlier some is = omega (arith, some, is)
 
 -- what is put where it was changes nothing
 pub set_again : {X : Type 0} (xs : List X) (i : ℕ) (x : X) → slice_get xs i ≡ Some x
@@ -50,21 +56,6 @@ set_again (y ∷ xs) zero x is = ap (λ z. z ∷ xs) (sym (given_some y x is))
     given_some : {X : Type 0} (y x : X) → Some y ≡ Some x → y ≡ x
     given_some y x is = cc is
 set_again (y ∷ xs) (suc i) x is = ap (λ zs. y ∷ zs) (set_again xs i x is)
-
--- ---- a site is changed
-
-pub changed_there : (net : Network) (place : ℕ) (change : Site → Site)
-    (site new : Site) (sites : List Site) → slice_get net.sites place ≡ Some site
-    → new ≡ change site → sites ≡ slice_set net.sites place new
-    → record net { sites = sites } ≡ site_changed_at place change net
-changed_there net place change site new sites is so set =
-    ap (λ (ss : List Site). record net { sites = ss }) (set ∙ ap (slice_set net.sites place) so)
-    ∙ sym (ap (λ o. option_map_or (λ (s : Site). with_site place (change s) net) o net) is)
-
-pub changed_nowhere : (net : Network) (place : ℕ) (change : Site → Site)
-    → slice_get net.sites place ≡ None → net ≡ site_changed_at place change net
-changed_nowhere net place change is =
-    sym (ap (λ o. option_map_or (λ (s : Site). with_site place (change s) net) o net) is)
 
 -- ---- a line is received
 
@@ -114,26 +105,3 @@ put_behind (Ok _) past earlier text lines new is put want =
 put_behind (Err _) past earlier text lines new is put want =
     ap (λ (inboxes : List (List (List ℕ))). record past { received = inboxes })
     (ap (slice_set past.received earlier) want ∙ set_again past.received earlier lines is)
-
--- ---- a line is taken
-
-pub line_taken : (net : Network) (from to : ℕ) (site new : Site) (result : Option (ArrayVec ℕ))
-    (sites : List Site) → slice_get net.sites from ≡ Some site → IsTaken to result site new → sites
-    ≡ slice_set net.sites from new → IsLineTaken from to result net (record net { sites = sites })
-line_taken net from to site new None sites is taken set = (
-  subst (IsEmptyAt to) (sym is) taken.0,
-  ap (λ (ss : List Site). record net { sites = ss }) (set ∙ ap (slice_set net.sites from) taken.1
-      ∙ set_again net.sites from site is),
-)
-line_taken net from to site new (Some line) sites is taken set = record {
-  site = site;
-  is_site = is;
-  rest = taken.rest;
-  waited = taken.waited;
-  new_is = ap (λ (ss : List Site). record net { sites = ss })
-      (set ∙ ap (slice_set net.sites from) taken.new_is);
-}
-
-pub nothing_taken : (net : Network) (from to : ℕ) → slice_get net.sites from ≡ None
-    → IsLineTaken from to None net net
-nothing_taken net from to is = (subst (IsEmptyAt to) (sym is) tt, refl)

@@ -5,7 +5,7 @@ use Rattle.std.specs.List.{slice_get}
 use Rattle.std.specs.Option.{option_map_or}
 use Rattle.irc_server.specs.Served.{Occurrence}
 use Rattle.irc_stage.specs.View.{View}
-use Rattle.irc_sites.specs.Site.{Replies}
+use Rattle.irc_network.specs.Site.{Replies}
 use Rattle.irc_network.specs.Network.{Course, Site, all_sent_out, site_asked, asked_at, reply}
 use Rattle.irc_network.specs.Network.{sent_out, with_reply, with_site}
 use Rattle.irc_network.specs.Loops.Courses.{sent_at}

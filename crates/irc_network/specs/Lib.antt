@@ -1,5 +1,10 @@
 pub mod Histories
+pub mod Site
 pub mod Network
+pub mod ByteNetwork
+pub mod Behind
+pub mod Turns
+pub mod Whole
 pub mod Refusing
 pub mod Views
 pub mod Calls

@@ -21,9 +21,9 @@ use Rattle.irc_stage.specs.View.{View}
 use Rattle.irc_server.specs.Served.{Occurrence, of_client, link_up, link_says, link_down}
 use Rattle.irc_world.specs.Stepping.{Item, connect, line, gone, link, cut}
 use Rattle.irc_world.specs.World.{home_in}
-pub use Rattle.irc_sites.specs.Site.{Reply, Site, line_body, first_way, is_nothing, is_quiet}
-pub use Rattle.irc_sites.specs.Site.{serves_occurrence, left, line_queued, reply, waiting, waits}
-pub use Rattle.irc_sites.specs.Site.{with_way, without_way}
+pub use Rattle.irc_network.specs.Site.{Reply, Site, line_body, first_way, is_nothing, is_quiet}
+pub use Rattle.irc_network.specs.Site.{serves_occurrence, left, line_queued, reply, waiting, waits}
+pub use Rattle.irc_network.specs.Site.{with_way, without_way}
 
 -- The servers' names in order, and the servers in the order of their names; the links, the newest
 -- first; the home of each client, in the order of their numbers, which begin with 1, and what it

@@ -1,5 +1,6 @@
 -- What the code's items, receipts and refusals say.
-use Rattle.std.specs.Prelude.{List, map}
+use Rattle.std.specs.Prelude.{ℕ, List, map}
+use Rattle.arrayvec.specs.ArrayVec.{ArrayVec}
 use Rattle.irc_world.specs.Refused.{Refusal, link_refused, no_such_client, no_such_server}
 use Rattle.irc_world.specs.Refused.{not_linked}
 use Rattle.irc_world.specs.Stepping.{Item, connect, line, gone, link, cut}
@@ -35,3 +36,7 @@ refusal_of NoSuchServer = no_such_server
 refusal_of NoSuchClient = no_such_client
 refusal_of NotLinked = not_linked
 refusal_of LinkRefused = link_refused
+
+-- a line is its bytes, whatever holds them
+abbrev pub line_bytes : ArrayVec ℕ → List ℕ
+line_bytes held = held.items

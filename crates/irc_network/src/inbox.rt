@@ -1,7 +1,7 @@
 //! What a client has received.
 ghost use Rattle.std.specs.Prelude.{◌≡◌, ◌≤◌, [], ◌∷◌, ◌++◌, length, map, OnErr, OnOk};
 ghost use Rattle.irc_line.specs.Limits.{max_text};
-ghost use Rattle.irc_sites.specs.Loops.Queues.{line_bytes};
+ghost use Rattle.irc_network.specs.Views.{line_bytes};
 
 use irc_line::Text;
 use irc_names::copied;
@@ -17,7 +17,7 @@ pub(crate) struct Inbox {
 /// In a clause it is the bytes of its lines, the oldest first.
 impl Model for Inbox {
     ghost use Rattle.std.specs.Prelude.{ℕ, List, map};
-    ghost use Rattle.irc_sites.specs.Loops.Queues.{line_bytes};
+    ghost use Rattle.irc_network.specs.Views.{line_bytes};
 
     ghost Value = { List (List ℕ) };
 

@@ -12,10 +12,11 @@ use crate::history::History;
 use crate::item::Item;
 use crate::network::Network;
 use crate::refusal::Refusal;
+use crate::site::Site;
 use irc_agreement::agree;
+use irc_forest::Place;
 use irc_names::ServerName;
 use irc_room::Room;
-use irc_sites::Site;
 
 /// A server that is to be an end of a link.
 #[derive(Clone, Copy, Drop)]
@@ -30,7 +31,7 @@ impl<H: History> Network<H> {
     /// Why an item is not taken where no line is on its way, if it is not: the first cause that
     /// there is.
     pub fn refusal(&self, item: &Item) -> Option<Refusal>
-        ensures { option_map refusal_of result ≡ fault_at_rest self.now (item_of item.now) }
+        ensures { option_map refusal_of result ≡ fault_at_rest self.now.network (item_of item.now) }
     {
         match item {
             Item::Connect(server, _) => self.server_fault(server),
@@ -42,7 +43,7 @@ impl<H: History> Network<H> {
 
     /// No server has this name.
     fn server_fault(&self, server: &ServerName) -> Option<Refusal>
-        ensures { option_map refusal_of result ≡ server_fault self.now server.now }
+        ensures { option_map refusal_of result ≡ server_fault self.now.network server.now }
     {
         match self.forest.place_of(server) {
             Some(_) => None,
@@ -52,7 +53,7 @@ impl<H: History> Network<H> {
 
     /// No client of this number is connected.
     fn client_fault(&self, client: u64) -> Option<Refusal>
-        ensures { option_map refusal_of result ≡ client_fault self.now client }
+        ensures { option_map refusal_of result ≡ client_fault self.now.network client }
     {
         if self.is_there(client) {
             None
@@ -63,7 +64,7 @@ impl<H: History> Network<H> {
 
     /// Whether a client of this number is connected.
     pub(crate) fn is_there(&self, client: u64) -> bool
-        ensures { result ≡ is_there self.now client }
+        ensures { result ≡ is_there self.now.network client }
     {
         match self.home_site(client) {
             Some(site) => site.has_client(client),
@@ -73,15 +74,15 @@ impl<H: History> Network<H> {
 
     /// The server that a client has connected to.
     fn home_site(&self, client: u64) -> Option<&Site>
-        ensures { option_copied result ≡ home_site self.now client }
+        ensures { option_copied result ≡ home_site self.now.network client }
     {
-        self.sites.get(self.home_place(client)?)
+        self.sites.get(self.home_place(client)?.index())
     }
 
     /// Why no line goes from one server to another, if none does: one of them is not there, or no
     /// link is between them.
     pub fn way_refusal(&self, from: &ServerName, to: &ServerName) -> Option<Refusal>
-        ensures { option_map refusal_of result ≡ way_fault self.now from.now to.now }
+        ensures { option_map refusal_of result ≡ way_fault self.now.network from.now to.now }
     {
         match self.ends_of(from, to) {
             Some(ends) if self.forest.are_linked(ends.near, ends.far) => None,
@@ -92,7 +93,7 @@ impl<H: History> Network<H> {
 
     /// Two servers are not there, or are not to be linked.
     fn link_fault(&self, near: &ServerName, far: &ServerName) -> Option<Refusal>
-        ensures { option_map refusal_of result ≡ linking_fault self.now near.now far.now }
+        ensures { option_map refusal_of result ≡ linking_fault self.now.network near.now far.now }
     {
         match self.party(near) {
             Some(one) => match self.party(far) {
@@ -105,11 +106,13 @@ impl<H: History> Network<H> {
 
     /// Two servers are in one part, or are no peers.
     fn meeting_fault(&self, one: Party<'_>, other: Party<'_>) -> Option<Refusal>
-        requires one { IsPartyOf self.now one.name.now one }
-        requires other { IsPartyOf self.now other.name.now other }
-        ensures { option_map refusal_of result ≡ parties_fault self.now one.entry other.entry }
+        requires one { IsPartyOf self.now.network one.name.now one }
+        requires other { IsPartyOf self.now.network other.name.now other }
+        ensures { option_map refusal_of result
+            ≡ parties_fault self.now.network one.entry other.entry }
     {
-        if self.forest.are_joined(one.place, other.place) || !are_peers(one, other) {
+        let (near, far) = (Place::at(one.place), Place::at(other.place));
+        if self.forest.are_joined(near, far) || !are_peers(one, other) {
             Some(Refusal::LinkRefused)
         } else {
             None
@@ -119,7 +122,8 @@ impl<H: History> Network<H> {
     /// Whether two servers are there, and agree on all channels that both would have if they were
     /// linked. Nothing is refused for it.
     pub fn agrees(&self, one: &ServerName, other: &ServerName) -> bool
-        ensures { result ≡ are_agreed (site_view self.now one.now) (site_view self.now other.now) }
+        ensures { result ≡ are_agreed (site_view self.now.network one.now)
+            (site_view self.now.network other.now) }
     {
         match self.party(one) {
             Some(one) => match self.party(other) {
@@ -132,14 +136,14 @@ impl<H: History> Network<H> {
 
     /// A server that is there, with its room.
     fn party<'a>(&'a self, name: &'a ServerName) -> Option<Party<'a>>
-        ensures { IsParty self.now name.now result }
+        ensures { IsParty self.now.network name.now result }
     {
         let place = self.place_of(name)?;
         let site = self.site_at(place)?;
         let room = site.room()?;
         Some(Party {
             name,
-            place,
+            place: place.index(),
             site,
             room,
         })

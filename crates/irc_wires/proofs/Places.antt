@@ -25,6 +25,12 @@ pub wire_nowhere : (wires : Wires) (from to : ℕ) → slice_get wires from ≡ 
     → wire_at wires from to ≡ new_wire
 wire_nowhere wires from to is = ap (λ o. option_map_or (wire_in to) o new_wire) is
 
+-- the same of numbers that are the places
+pub wire_by : (wires : Wires) (from to near far : ℕ) (row : Row) → near ≡ from → far ≡ to
+    → slice_get wires near ≡ Some row → wire_in far row ≡ wire_at wires from to
+wire_by wires from to near far row from_is to_is is =
+    sym (wire_there wires near far row is) ∙ (λ i. wire_at wires (from_is i) (to_is i))
+
 -- a wire is changed in the row at the place
 pub changed_in : (wires : Wires) (from to : ℕ) (change : Wire → Wire) (row new : Row)
     → slice_get wires from ≡ Some row → new ≡ put_in to (change (wire_in to row)) row

@@ -9,6 +9,7 @@ ghost use Rattle.irc_wires.specs.Wires.{written_at};
 ghost use Rattle.irc_wires.specs.Loops.Rows.{direction_of};
 
 use crate::row::Row;
+use irc_forest::{Ends, Place};
 use irc_line::Line;
 use std::alloc::{AllocError, Global};
 use std::marker::Model;
@@ -64,15 +65,15 @@ impl Wires {
     ///
     /// # Errors
     /// Where memory runs out.
-    pub fn write(&mut self, from: usize, to: u64, line: &[u8]) -> Result<(), AllocError>
+    pub fn write(&mut self, from: Place, to: Place, line: &[u8]) -> Result<(), AllocError>
         requires fits { length line.now ≤ max_line }
         ensures { OnOk result (self.new ≡ written_at from to line.now self.old) }
     {
         let alloc = self.alloc;
-        let Some(row) = self.rows.get_mut(from) else {
+        let Some(row) = self.rows.get_mut(from.index()) else {
             return Ok(());
         };
-        let done = row.write(alloc, to, line);
+        let done = row.write(alloc, to.link(), line);
         row.is_lean();
         done
     }
@@ -85,8 +86,8 @@ impl Wires {
     /// Where memory runs out.
     pub fn take(
         &mut self,
-        from: usize,
-        to: u64,
+        from: Place,
+        to: Place,
         count: usize,
         lines: &mut Vec<Line, Global>,
     ) -> Result<usize, AllocError>
@@ -94,31 +95,31 @@ impl Wires {
         ensures lines { OnOk result (Yields count (wire_at self.old from to) lines.old lines.new) }
         ensures wires { OnOk result (self.new ≡ advanced_at from to count self.old) }
     {
-        let Some(row) = self.rows.get_mut(from) else {
+        let Some(row) = self.rows.get_mut(from.index()) else {
             return Ok(0);
         };
-        let taken = row.take(to, count, lines);
+        let taken = row.take(to.link(), count, lines);
         row.is_lean();
         taken
     }
 
     /// How many bytes are on their way from one server to another up to and with the next LF; none
     /// where no byte is.
-    pub fn through_line_feed(&self, from: usize, to: u64) -> usize
+    pub fn through_line_feed(&self, from: Place, to: Place) -> usize
         ensures { result ≡ through_line_feed (wire_at self.now from to).bytes }
     {
-        match self.rows.get(from) {
-            Some(row) => row.through_line_feed(to),
+        match self.rows.get(from.index()) {
+            Some(row) => row.through_line_feed(to.link()),
             None => 0,
         }
     }
 
     /// Nothing is on its way any more from one server to another, and the framer there begins anew.
-    pub fn close(&mut self, from: usize, to: u64)
+    pub fn close(&mut self, from: Place, to: Place)
         ensures { self.new ≡ without_wire from to self.old }
     {
-        if let Some(row) = self.rows.get_mut(from) {
-            row.close(to);
+        if let Some(row) = self.rows.get_mut(from.index()) {
+            row.close(to.link());
             row.is_lean();
         }
     }
@@ -137,14 +138,17 @@ impl Wires {
 
     /// The first direction in which a byte is on its way, by the place that it is from and then the
     /// one where it goes.
-    pub fn first_direction(&self) -> Option<(usize, u64)>
+    pub fn first_direction(&self) -> Option<Ends>
         ensures { option_map direction_of result ≡ first_direction self.now }
     {
         let mut from = 0;
         let mut rest = self.rows.as_slice();
         while let Some((row, more)) = rest.split_first() {
             if let Some(to) = row.first() {
-                return Some((from, to));
+                return Some(Ends {
+                    near: Place::at(from),
+                    far: Place::of_link(to),
+                });
             }
             from += 1;
             rest = more;

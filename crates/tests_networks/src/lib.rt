@@ -6,8 +6,7 @@ ghost use Rattle.std.specs.Prelude.{◌≡◌, true, map, OnOk};
 ghost use Rattle.irc_net.specs.ByteNetwork.{is_byte_rest};
 ghost use Rattle.irc_net.specs.Calls.{IsGivable};
 ghost use Rattle.irc_net.specs.Faults.{is_refusal};
-ghost use Rattle.irc_net.specs.NetworkViews.{item_of};
-ghost use Rattle.irc_sites.specs.Loops.Queues.{line_bytes};
+ghost use Rattle.irc_net.specs.NetworkViews.{item_of, line_bytes};
 ghost use Rattle.tests_networks.specs.Played.{AnswersAsOwed, Begins, GoesOn, IsWhole, PlaysOn};
 ghost use Rattle.tests_networks.specs.Played.{ReadsOwed, RunsAreOwed, TookFew};
 

@@ -2,8 +2,8 @@
 use Rattle.std.specs.Prelude.{Bool, refl}
 use Rattle.std.specs.Coded.{Coded, code_by, coded×, coded_bool}
 use Rattle.irc_net.specs.Calls.{NetView}
-use Rattle.irc_byte_network.specs.ByteNetwork.{ByteNetwork}
-use Rattle.irc_byte_network.specs.Loops.Codes.{byte_network_code}
+use Rattle.irc_network.specs.ByteNetwork.{ByteNetwork}
+use Rattle.irc_network.specs.Loops.Codes.{byte_network_code}
 
 abbrev pub net_code : Coded NetView
 net_code =

@@ -5,7 +5,7 @@ use Rattle.irc_net.specs.declared.fault.NetFault.{NetFault}
 use Rattle.irc_net.specs.declared.fault.NetFault.TheVariants.{Failed, Memory}
 use Rattle.irc_net.specs.Calls.{NetView, count_between, piece_between, standing}
 use Rattle.irc_net.specs.Faults.{deliver_fault}
-use Rattle.irc_network.specs.declared.network.Ends.{Ends as KeptEnds}
+use Rattle.irc_forest.specs.declared.places.Ends.{Ends as KeptEnds}
 use Rattle.irc_network.specs.Loops.Courses.{ends_now}
 use Rattle.irc_network.specs.Network.{Receipt, link_places}
 

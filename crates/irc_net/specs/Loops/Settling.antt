@@ -2,9 +2,9 @@
 use Rattle.std.specs.Prelude.{◌≡◌, ℕ, min, true}
 use Rattle.irc_network.specs.Network.{max_count}
 use Rattle.irc_network.specs.declared.desk.Desk.{Desk}
-use Rattle.irc_byte_network.specs.ByteNetwork.{ByteCourse, ByteNetwork, is_byte_rest}
-use Rattle.irc_byte_network.specs.Calls.{byte_course_at}
-use Rattle.irc_byte_network.specs.Turns.{TurnsGo}
+use Rattle.irc_network.specs.ByteNetwork.{ByteCourse, ByteNetwork, is_byte_rest}
+use Rattle.irc_network.specs.Calls.{byte_course_at}
+use Rattle.irc_network.specs.Turns.{TurnsGo}
 
 -- some lines were completed, and counted up to 2^64 - 1
 pub record GoesCounted (counted : ℕ) (old new : ByteCourse) : Type 0 where

@@ -3,11 +3,14 @@ use Rattle.std.specs.Prelude.{◌≡◌, ◌⊎◌, ℕ, List, refl}
 use Rattle.std.proofs.Common.{inl, inr}
 use Rattle.std.specs.Coded.{Coded, code_by, coded×, coded⊎, coded_ℕ, coded_list}
 use Rattle.irc_relay.specs.Links.{Name, Link}
-use Rattle.irc_sites.specs.Loops.Codes.{text_code}
-use Rattle.irc_sites.specs.contracts.site.Site.{the_row as site_row}
+use Rattle.irc_network.specs.Loops.SiteCodes.{text_code}
+use Rattle.irc_network.specs.contracts.site.Site.{the_row as site_row}
 use Rattle.irc_world.specs.Stepping.{Item, connect, line, gone, link, cut}
 use Rattle.irc_network.specs.Histories.{Past}
 use Rattle.irc_network.specs.Network.{Network, Site}
+use Rattle.irc_network.specs.ByteNetwork.{ByteNetwork}
+use Rattle.irc_wires.specs.Wires.{Wires}
+use Rattle.irc_wires.specs.contracts.wires.Wires.{the_row as wires_row}
 
 abbrev pub link_code : Coded Link
 link_code = code_by (Name × Name) (coded× text_code text_code) (λ l. (l.near, l.far))
@@ -71,3 +74,8 @@ network_code =
       taken = p.1.1.1.1.1.1;
     })
     (λ _. refl)
+
+abbrev pub byte_network_code : Coded ByteNetwork
+byte_network_code =
+    code_by (Network × Wires) (coded× network_code wires_row.coded) (λ n. (n.network, n.wires))
+    (λ p. record { network = p.0; wires = p.1 }) (λ _. refl)

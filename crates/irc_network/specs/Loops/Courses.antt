@@ -1,24 +1,32 @@
 -- A network as its code has it while something is done to it.
-use Rattle.std.specs.Prelude.{◌≡◌, ◌<◌, ℕ, zero, suc, true, Option, Some, None, List, [], ◌∷◌}
-use Rattle.std.specs.Prelude.{length, Vec}
+use Rattle.std.specs.Prelude.{◌≡◌, ◌<◌, ℕ, zero, suc, Option, Some, None, List, [], ◌∷◌}
+use Rattle.std.specs.Prelude.{length, if◌then◌else◌, Vec}
 use Rattle.std.specs.List.{slice_get}
 use Rattle.std.specs.declared.alloc.Global.{Global}
-use Rattle.arrayvec.specs.ArrayVec.{ArrayVec}
-use Rattle.irc_batch.specs.Batches.{Sent}
+use Rattle.irc_batch.specs.Batches.{Sent, line_to, end_of, line_on, end_of_link}
+use Rattle.irc_line.specs.Reading.{read_of}
 use Rattle.irc_server.specs.Happening.{occurrence_of}
+use Rattle.irc_server.specs.Served.{Occurrence, link_says}
 use Rattle.irc_server.specs.declared.event.Event.{Event}
 use Rattle.irc_relay.specs.Links.{Name}
+use Rattle.irc_wires.specs.Wires.{Wires, without_wire, written_at}
 use Rattle.irc_world.specs.Stepping.{Item}
 use Rattle.irc_forest.specs.Forests.{name_at}
 use Rattle.irc_network.specs.declared.receipt.Receipt.{Receipt as KeptReceipt}
-use Rattle.irc_network.specs.declared.network.Ends.{Ends as KeptEnds}
-use Rattle.irc_network.specs.declared.put_out.PutOut.{PutOut}
+use Rattle.irc_forest.specs.declared.places.Ends.{Ends as KeptEnds}
 use Rattle.irc_network.specs.declared.desk.Desk.{Desk}
-use Rattle.irc_network.specs.Calls.{course_at}
-use Rattle.irc_network.specs.Network.{Course, Direction, LinkPlaces, Network, Site, all_sent_out}
-use Rattle.irc_network.specs.Network.{site_asked, site_asked_if, done_by, has_received, home_place}
-use Rattle.irc_network.specs.Network.{is_at_rest, left, sent_out, waiting, with_site}
+use Rattle.irc_network.specs.ByteNetwork.{ByteCourse, ByteNetwork, course_without_wires}
+use Rattle.irc_network.specs.ByteNetwork.{course_written, wires_after}
+use Rattle.irc_network.specs.Calls.{byte_course_at}
+use Rattle.irc_network.specs.Network.{Course, LinkPlaces, Network, all_sent_out, done_by}
+use Rattle.irc_network.specs.Network.{has_received, home_place, line_body, line_counted, sent_out}
+use Rattle.irc_network.specs.Network.{site_asked, site_asked_if, site_changed_at, with_way}
+use Rattle.irc_network.specs.Network.{without_way}
 use Rattle.irc_network.specs.Views.{receipts_of}
+use Rattle.irc_network.specs.Whole.{has_way}
+
+abbrev pub byte_course : ByteNetwork → List KeptReceipt → ByteCourse
+byte_course net lines = record { net = net; receipts = receipts_of lines }
 
 abbrev pub course : Network → List KeptReceipt → Course
 course net lines = record { net = net; receipts = receipts_of lines }
@@ -36,12 +44,14 @@ pub record AreNamed (net : Network) (ends : KeptEnds) (near far : Name) : Type 0
   pub near_named : name_at net.names ends.near ≡ near
   pub far_named : name_at net.names ends.far ≡ far
 
+-- how many clients have connected before one; nobody has the number 0
+abbrev pub IsEarlier : ℕ → Option ℕ → Type 0
+IsEarlier client None = client ≡ 0
+IsEarlier client (Some earlier) = client ≡ suc earlier
+
 abbrev pub inbox_of : Network → ℕ → Option (List (List ℕ))
 inbox_of net zero = None
 inbox_of net (suc earlier) = slice_get net.received earlier
-
-abbrev pub direction_now : ℕ × ℕ → Direction
-direction_now pair = record { from = pair.0; to = pair.1 }
 
 -- ---- what goes its way
 
@@ -50,57 +60,104 @@ abbrev pub sent_at : ℕ → Option Sent → Course → Course
 sent_at place None course = course
 sent_at place (Some sent) course = sent_out place sent course
 
+-- what a server puts out is written while it is put out: a line on a link where a way goes
+abbrev pub line_sent : ℕ → ℕ → List ℕ → ByteNetwork → ByteNetwork
+line_sent from to text net =
+    if has_way net.network from to
+    then record net { wires = written_at from to (line_body text) net.wires } else net
+
+-- with these wires, whatever was done beside them
+abbrev pub with_wires : Wires → Course → ByteCourse
+with_wires wires course =
+    record { net = record { network = course.net; wires = wires }; receipts = course.receipts }
+
+abbrev pub byte_sent : ℕ → Sent → ByteCourse → ByteCourse
+byte_sent place (line_to client text) course =
+    with_wires course.net.wires (has_received client text (course_without_wires course))
+byte_sent place (end_of client) course = course
+byte_sent place (line_on to text) course =
+    record course { net = line_sent place to text course.net }
+byte_sent place (end_of_link to reason) course = course
+
+abbrev pub byte_sent_at : ℕ → Option Sent → ByteCourse → ByteCourse
+byte_sent_at place None course = course
+byte_sent_at place (Some sent) course = byte_sent place sent course
+
+-- ---- what servers are asked for
+
+-- what a server that is asked puts out is written at once
+abbrev pub asked_out : ℕ → Occurrence → ByteCourse → ByteCourse
+asked_out place occurrence course =
+    course_written (site_asked place occurrence (course_without_wires course)) course.net.wires
+
+abbrev pub byte_counted : ByteNetwork → ByteNetwork
+byte_counted net = record net { network = line_counted net.network }
+
+-- a server is asked for a line that has come from another, and the line is counted
+abbrev pub heard_out : ℕ → ℕ → ByteCourse → List ℕ → ByteCourse
+heard_out from to course line =
+    asked_out to (link_says from (read_of line)) (record course { net = byte_counted course.net })
+
+abbrev pub all_heard_out : ℕ → ℕ → ByteCourse → List (List ℕ) → ByteCourse
+all_heard_out from to course [] = course
+all_heard_out from to course (line ∷ lines) =
+    all_heard_out from to (heard_out from to course line) lines
+
+-- ---- ways
+
+abbrev pub way_opened : ℕ → ℕ → ByteNetwork → ByteNetwork
+way_opened from to net =
+    record net { network = site_changed_at from (with_way to) net.network }
+
+abbrev pub way_closed : ℕ → ℕ → ByteNetwork → ByteNetwork
+way_closed from to net = record {
+  network = site_changed_at from (without_way to) net.network;
+  wires = without_wire from to net.wires;
+}
+
 -- ---- what a network and the desk of a call were, and what they became
 
--- a server was asked for an event, and so was the one that a client has connected to
-abbrev pub IsAsked : ℕ → Event → Network → Desk → Network → Desk → Type 0
-IsAsked place event old before new after =
-    course_at new after ≡ site_asked place (occurrence_of event) (course_at old before)
+-- a server was asked for an event, one that may be there, and the one that a client has connected
+-- to
+abbrev pub IsAskedOut : ℕ → Event → ByteNetwork → Desk → ByteNetwork → Desk → Type 0
+IsAskedOut place event old before new after =
+    byte_course_at new after ≡ asked_out place (occurrence_of event) (byte_course_at old before)
 
-abbrev pub IsHomeAsked : ℕ → Event → Network → Desk → Network → Desk → Type 0
+abbrev pub IsAskedIf : Option ℕ → Event → ByteNetwork → Desk → ByteNetwork → Desk → Type 0
+IsAskedIf place event old before new after =
+    byte_course_at new after ≡ course_written (site_asked_if place (occurrence_of event)
+    (course_without_wires (byte_course_at old before))) old.wires
+
+abbrev pub IsHomeAsked : ℕ → Event → ByteNetwork → Desk → ByteNetwork → Desk → Type 0
 IsHomeAsked client event old before new after =
-    course_at new after ≡ site_asked_if (home_place old client) (occurrence_of event)
-    (course_at old before)
+    IsAskedIf (home_place old.network client) event old before new after
 
 -- all that was put out on the desk went its way
-abbrev pub AreSentOut : ℕ → Network → Desk → Network → Desk → Type 0
+abbrev pub AreSentOut : ℕ → ByteNetwork → Desk → ByteNetwork → Desk → Type 0
 AreSentOut place old before new after =
-    course_at new after ≡ all_sent_out place before.out.outs (course_at old before)
+    byte_course_at new after ≡ course_written (all_sent_out place before.out.outs
+    (course_without_wires (byte_course_at old before))) old.wires
 
 -- what was put out at one place there went its way
-abbrev pub IsSentAt : ℕ → ℕ → Network → Desk → Network → Desk → Type 0
+abbrev pub IsSentAt : ℕ → ℕ → ByteNetwork → Desk → ByteNetwork → Desk → Type 0
 IsSentAt place at old before new after =
-    course_at new after ≡ sent_at place (slice_get before.out.outs at) (course_at old before)
+    byte_course_at new after ≡ byte_sent_at place (slice_get before.out.outs at)
+    (byte_course_at old before)
 
 -- a client received a line, which is among the lines of the call
-abbrev pub IsReceived : ℕ → List ℕ → Network → Vec KeptReceipt Global → Network
+abbrev pub IsReceived : ℕ → List ℕ → ByteNetwork → Vec KeptReceipt Global → ByteNetwork
     → Vec KeptReceipt Global → Type 0
 IsReceived client text old before new after =
-    course new after.items ≡ has_received client text (course old before.items)
+    byte_course new after.items ≡ with_wires old.wires
+    (has_received client text (course old.network before.items))
 
 -- an item was done, and nothing was on the desk before
-abbrev pub IsDone : Item → Network → Network → Desk → Type 0
-IsDone item old new after = course_at new after ≡ done_by item old
+abbrev pub IsDone : Item → ByteNetwork → ByteNetwork → Desk → Type 0
+IsDone item old new after =
+    byte_course_at new after ≡ course_written (done_by item old.network)
+    (wires_after old.network item old.wires)
 
--- ---- a line is taken
-
-pub record TakesLine (from to : ℕ) (line : List ℕ) (old new : Network) : Type 0 where
-  pub site : Site
-  pub is_site : slice_get old.sites from ≡ Some site
-  pub rest : List (List ℕ)
-  pub waited : waiting site to ≡ line ∷ rest
-  pub new_is : new ≡ with_site from (left to rest site) old
-
--- no line waits there
-abbrev pub IsEmptyAt : ℕ → Option Site → Type 0
-IsEmptyAt to None = Unit {0}
-IsEmptyAt to (Some site) = waiting site to ≡ []
-
-abbrev pub IsLineTaken : ℕ → ℕ → Option (ArrayVec ℕ) → Network → Network → Type 0
-IsLineTaken from to None old new = IsEmptyAt to (slice_get old.sites from) × (new ≡ old)
-IsLineTaken from to (Some line) old new = TakesLine from to line.items old new
-
--- the oldest line of the first way on which one waits is taken; none waits anywhere
-abbrev pub IsFirstTaken : Option PutOut → Network → Network → Type 0
-IsFirstTaken None old new = (is_at_rest old ≡ true) × (new ≡ old)
-IsFirstTaken (Some put) old new = TakesLine put.from put.to put.line.items old new
+-- a server was asked for a line that has come from another, and the line was counted
+abbrev pub IsLineHeard : ℕ → ℕ → List ℕ → ByteNetwork → Desk → ByteNetwork → Desk → Type 0
+IsLineHeard from to bytes old before new after =
+    byte_course_at new after ≡ heard_out from to (byte_course_at old before) bytes

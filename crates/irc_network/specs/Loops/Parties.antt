@@ -3,7 +3,7 @@ use Rattle.std.specs.Prelude.{◌≡◌, ◌<◌, ℕ, Bool, Option, Some, None,
 use Rattle.std.specs.Option.{option_and_then}
 use Rattle.irc_forest.specs.Forests.{name_at}
 use Rattle.irc_relay.specs.Links.{Name}
-use Rattle.irc_sites.specs.Site.{kept_for}
+use Rattle.irc_network.specs.Site.{kept_for}
 use Rattle.irc_stage.specs.View.{View}
 use Rattle.irc_network.specs.declared.refusing.Party.{Party}
 use Rattle.irc_world.specs.Refused.{Refusal, are_equal}

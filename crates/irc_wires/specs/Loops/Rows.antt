@@ -2,6 +2,7 @@
 use Rattle.std.specs.Prelude.{ℕ, List}
 use Rattle.std.specs.FinMap.{FinMap}
 use Rattle.std.specs.Ordering.{nat_cmp}
+use Rattle.irc_forest.specs.declared.places.Ends.{Ends}
 use Rattle.irc_wires.specs.Wires.{Direction, Wire, advanced, put_in, wire_in, written}
 
 abbrev pub Row : Type 0
@@ -19,5 +20,5 @@ advanced_in to count row = put_in to (advanced count (wire_in to row)) row
 abbrev pub without_still : ℕ → Row → Row
 without_still to row = put_in to (wire_in to row) row
 
-abbrev pub direction_of : (ℕ × ℕ) → Direction
-direction_of places = record { from = places.0; to = places.1 }
+abbrev pub direction_of : Ends → Direction
+direction_of ends = record { from = ends.near; to = ends.far }

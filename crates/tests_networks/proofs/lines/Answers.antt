@@ -1,5 +1,5 @@
 use Rattle.std.proofs.Common.{map}
-use Rattle.irc_sites.specs.Loops.Queues.{line_bytes}
+use Rattle.irc_net.specs.NetworkViews.{line_bytes}
 use Rattle.tests_networks.proofs.OfRuns.{reads_owed}
 use Rattle.tests_networks.proofs.lines.Goals as goal
 

@@ -1,6 +1,6 @@
 use Rattle.std.proofs.Common.{subst}
-use Rattle.irc_byte_network.specs.Loops.Coming.{byte_course}
-use Rattle.irc_byte_network.specs.Turns.{ComesToLine}
+use Rattle.irc_network.specs.Loops.Coming.{byte_course}
+use Rattle.irc_network.specs.Turns.{ComesToLine}
 use Rattle.irc_net.proofs.Settling.{counted_fewer, counted_kept, lines_counted, none_counted}
 use Rattle.irc_net.proofs.Settling.{settles_at}
 use Rattle.irc_net.proofs.net.take_all.Goals as goal

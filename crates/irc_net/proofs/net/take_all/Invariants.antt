@@ -1,6 +1,6 @@
 use Rattle.irc_items.specs.Sound.{most_now}
-use Rattle.irc_byte_network.specs.ByteNetwork.{course_in_lines, net_in_lines}
-use Rattle.irc_byte_network.specs.Loops.Coming.{byte_course}
+use Rattle.irc_network.specs.ByteNetwork.{course_in_lines, net_in_lines}
+use Rattle.irc_network.specs.Loops.Coming.{byte_course}
 use Rattle.irc_net.specs.Loops.Settling.{GoesCounted}
 use Rattle.irc_network.specs.Network.{lines_left}
 use Rattle.irc_net.proofs.net.take_all.Given as goal

@@ -1,6 +1,5 @@
-use Rattle.std.proofs.Common.{◌∙◌, ap, map, subst}
-use Rattle.irc_network.specs.Network.{Network, received_by}
-use Rattle.irc_sites.specs.Loops.Queues.{line_bytes}
+use Rattle.std.proofs.Common.{map, subst}
+use Rattle.irc_network.specs.Views.{line_bytes}
 use Rattle.irc_net.specs.Calls.{NetView}
 use Rattle.irc_net.specs.OneRoom.{IsOwed}
 use Rattle.irc_net.proofs.StaysOneRoom.{owed}
@@ -13,4 +12,4 @@ returns-clause-owed c =
     (owed c.received_is_front.ensures c.rest_is_one_room.ensures c.rest_as_lines.ensures.lines
     (record { failed = c.self.inside.failed; network = c.self.inside.network }) c.args.client
     (map line_bytes c.received.result.now) c.self.invariant
-    (c.received.ensures ∙ ap (λ (net : Network). received_by net c.args.client) c.network.ensures))
+    c.received.ensures)

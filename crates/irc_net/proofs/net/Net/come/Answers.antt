@@ -6,8 +6,8 @@ use Rattle.irc_net.proofs.net.Net.come.Goals as goal
 
 pub come-requires : goal.come-requires
 come-requires g c = record {
-  rows = (c.self.invariant (ap (λ (n : NetView). n.failed) c.self.view_is
-      ∙ c.requires.stands)).whole.tidy.rows;
+  tidy = (c.self.invariant (ap (λ (n : NetView). n.failed) c.self.view_is
+      ∙ c.requires.stands)).whole.tidy;
 }
 
 pub returns-in_err-came : goal.returns-in_err-came

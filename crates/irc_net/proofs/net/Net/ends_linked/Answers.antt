@@ -2,7 +2,7 @@ use Rattle.std.proofs.Common.{◌∙◌, ap, sym, inl, inr, refl}
 use Rattle.irc_net.specs.Calls.{NetView}
 use Rattle.irc_net.specs.Faults.{deliver_fault}
 use Rattle.irc_net.proofs.Calling.{are_placed}
-use Rattle.irc_network.specs.Network.{Network, link_places}
+use Rattle.irc_network.specs.Network.{link_places}
 use Rattle.irc_net.proofs.net.Net.ends_linked.Goals as goal
 
 pub returns-then-self : goal.returns-then-self
@@ -24,12 +24,10 @@ returns-in-Some-ends_of g c = record {
       (sym c.self.view_is) ∙ sym c.in_default.ensures;
   ends_are = ap (λ (n : NetView). link_places n.network.network c.args.from.now c.args.to.now)
       (sym c.self.view_is)
-      ∙ sym (c.in-Some-ends_of.ensures.ends
-      ∙ ap (λ (n : Network). link_places n c.args.from.now c.args.to.now) c.network.ensures);
+      ∙ sym c.in-Some-ends_of.ensures.ends;
 }
 
 pub returns-in-None : goal.returns-in-None
 returns-in-None g c = absurd
     (are_placed c.self.inside.network c.args.from.now c.args.to.now (sym c.in_default.ensures)
-    (sym (c.in-None.ensures.ends
-    ∙ ap (λ (n : Network). link_places n c.args.from.now c.args.to.now) c.network.ensures)))
+    (sym c.in-None.ensures.ends))

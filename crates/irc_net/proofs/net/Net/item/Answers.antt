@@ -3,9 +3,8 @@ use Rattle.irc_net.specs.declared.answer.Answer.{Answer}
 use Rattle.irc_net.specs.Calls.{IsGiven, NetView, given_it, given_refused, given_to_failed}
 use Rattle.irc_net.specs.Calls.{standing}
 use Rattle.irc_net.specs.Faults.{item_fault}
-use Rattle.irc_byte_network.specs.ByteNetwork.{ByteCourse}
+use Rattle.irc_network.specs.ByteNetwork.{ByteCourse}
 use Rattle.irc_network.specs.Views.{item_of}
-use Rattle.irc_network.specs.Network.{Network, number_given}
 use Rattle.irc_net.proofs.Calling.{given_wants}
 use Rattle.irc_net.proofs.StaysOneRoom.{kept_item, refuses}
 use Rattle.irc_net.proofs.net.Net.item.Goals as goal
@@ -49,8 +48,8 @@ returns-in_err-give-clause-given g c =
     (ap (λ (n : NetView). item_fault n.network (item_of c.args.item)) (sym c.self.view_is)
     ∙ sym c.in_default.ensures) refl
 
-pub give-requires-clause-rows : goal.give-requires-clause-rows
-give-requires-clause-rows g c = (c.self.invariant c.if-self.false).whole.tidy.rows
+pub give-requires-clause-tidy : goal.give-requires-clause-tidy
+give-requires-clause-tidy g c = (c.self.invariant c.if-self.false).whole.tidy
 
 pub invariant_of-self-2 : goal.invariant_of-self-2
 invariant_of-self-2 g c = λ _.
@@ -76,7 +75,6 @@ returns-clause-given g c =
     (given_it c.if-self.false (record {
       none = sym c.in_default.ensures;
       after = ap (λ (last : ByteCourse). standing last.net) c.in_ok-give.ensures;
-      client = c.number_given-client.ensures
-          ∙ ap (λ (net : Network). number_given net item) c.network.ensures;
+      client = c.number_given-client.ensures;
       receipts = ap (λ (last : ByteCourse). last.receipts) c.in_ok-give.ensures;
     }))

@@ -1,5 +1,4 @@
-use Rattle.std.proofs.Common.{◌∙◌, ap, subst}
-use Rattle.irc_network.specs.Network.{Network}
+use Rattle.std.proofs.Common.{subst}
 use Rattle.irc_net.specs.Calls.{NetView}
 use Rattle.irc_net.specs.OneRoom.{TakesFew}
 use Rattle.irc_net.proofs.StaysOneRoom.{takes_few}
@@ -12,4 +11,4 @@ returns-clause-few g c =
       failed = c.self.inside.failed;
       network = c.self.inside.network;
     }) c.lines_taken.result c.self.invariant
-    (c.lines_taken.ensures ∙ ap (λ (net : Network). net.taken) c.network.ensures))
+    c.lines_taken.ensures)

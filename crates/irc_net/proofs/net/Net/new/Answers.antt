@@ -1,11 +1,11 @@
-use Rattle.std.proofs.Common.{◌≡◌, ◌≤◌, ◌∙◌, None, ap, arith, length, subst, sym, vec_len}
+use Rattle.std.proofs.Common.{◌≡◌, ◌≤◌, ◌∙◌, None, ap, length, subst, sym}
 use Rattle.std.specs.List.{AllByRecursion}
 use Rattle.irc_net.specs.Loops.Ordering.{IsServerConfig}
 use Rattle.irc_net.specs.Making.{configs_fault, made_of}
 use Rattle.irc_net.specs.OneRoom.{IsKeptSound}
-use Rattle.irc_network.specs.Network.{Network}
+use Rattle.irc_network.specs.Whole.{no_wires}
 use Rattle.irc_net.proofs.Named.{ordered_few, ordered_named}
-use Rattle.irc_net.proofs.NewNet.{made_is_new, network_made, new_made}
+use Rattle.irc_net.proofs.NewNet.{made_is_new, network_made}
 use Rattle.irc_net.proofs.net.Net.new.Goals as goal
 
 pub forest_of-requires-clause-named : goal.forest_of-requires-clause-named
@@ -29,11 +29,9 @@ invariant_of-result g c =
     let none : configs_fault c.args.configs.items ≡ None =
     sym (c.configs_fault.ensures ∙ ap configs_fault c.deref.ensures.value) ∙ c.in_default.is in
     let ordered = c.in_order-ordered.result.items in
-    let counted : vec_len c.in_ok-sites.sites ≡ length c.in_ok-sites.sites.items = omega arith in
     λ _. subst IsKeptSound
-    (sym (new_made c.in_ok-new.field-0 _ c.in_ok-new.ensures (c.len-count.ensures ∙ counted
-    ∙ sym (ap (λ (n : Network). length n.sites) c.new.ensures))
-    (c.new.ensures ∙ network_made ordered c.deref-2.result.now c.in_ok-forest.forest
+    (sym (c.in_ok-new.ensures
+    ∙ ap no_wires (network_made ordered c.deref-2.result.now c.in_ok-forest.forest
     c.in_ok-sites.sites.items c.deref-2.ensures.value c.in_ok-forest.ensures
     c.in_ok-sites.ensures)))
     (c.networks_stay_sound.ensures.new (made_of ordered)

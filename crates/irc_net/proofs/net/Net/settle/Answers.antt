@@ -1,5 +1,5 @@
 use Rattle.std.proofs.Common.{◌∙◌, Ok, ap, sym, subst, refl}
-use Rattle.irc_byte_network.specs.Loops.Coming.{byte_course}
+use Rattle.irc_network.specs.Loops.Coming.{byte_course}
 use Rattle.irc_net.specs.Calls.{IsSettled, NetView, settles_it, settling_by_failed, standing}
 use Rattle.irc_net.specs.Loops.Settling.{SettlesAt}
 use Rattle.irc_network.specs.Views.{receipts_of}

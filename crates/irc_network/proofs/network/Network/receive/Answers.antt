@@ -1,7 +1,8 @@
 use Rattle.std.proofs.Common.{◌≡◌, ap, arith, subst}
-use Rattle.irc_network.specs.Loops.Courses.{course}
-use Rattle.irc_network.specs.Network.{Network, has_received, receipt}
-use Rattle.irc_network.proofs.Places.{number_behind, received_one, seen, with_past}
+use Rattle.irc_network.specs.ByteNetwork.{ByteNetwork}
+use Rattle.irc_network.specs.Loops.Courses.{byte_course, course, with_wires}
+use Rattle.irc_network.specs.Network.{has_received, receipt}
+use Rattle.irc_network.proofs.Places.{received_one, seen, whole}
 use Rattle.irc_network.proofs.network.Network.receive.Goals as goal
 
 pub returns : goal.returns
@@ -9,13 +10,15 @@ returns g c =
     let i = c.self.inside in
     let old = seen i.forest i.sites.items i.homes.items (g.H.History.past i.history) i.taken in
     let past = g.H.History.past c.add_line.new.self in
-    subst (λ (net : Network). course (with_past past old) c.push.new.self.items
-    ≡ has_received c.args.client c.args.text.now
-    (course net c.args.lines.now.items)) c.self.view_is
+    subst (λ (net : ByteNetwork). byte_course
+    (whole i.forest i.sites.items i.wires i.homes.items past i.taken) c.push.new.self.items
+    ≡ with_wires net.wires (has_received c.args.client c.args.text.now
+    (course net.network c.args.lines.now.items))) c.self.view_is
+    (ap (with_wires i.wires)
     (received_one old c.args.lines.now.items c.push.new.self.items c.args.client c.in-Some.earlier
     c.args.text.now past
     (record { client = c.args.client; text = c.copied.result }) c.self.invariant
-    (number_behind c.args.client c.in-Some.earlier c.in-Some.ensures.0 c.in-Some.ensures.1)
+    c.in-Some.ensures
     (omega (arith, c.if-earlier-len.false, c.len.ensures))
     c.in_ok-add_line.ensures c.in_ok-push.ensures.items
-    (ap (receipt c.args.client) c.copied.ensures))
+    (ap (receipt c.args.client) c.copied.ensures)))

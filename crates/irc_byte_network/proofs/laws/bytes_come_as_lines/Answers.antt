@@ -1,8 +1,0 @@
-use Rattle.irc_byte_network.proofs.Coming.{bytes_come_as_lines}
-use Rattle.irc_byte_network.proofs.laws.bytes_come_as_lines.Goals as goal
-
-pub returns : goal.returns
-returns c = bytes_come_as_lines (record {
-  pieces = c.pieces_complete_the_same.ensures.pieces;
-  lines = c.pieces_complete_the_same.ensures.lines;
-})

@@ -1,5 +1,0 @@
--- Words of this crate's code alone. No rule stands here.
-pub mod Codes
-pub mod Coming
-pub mod Turning
-pub mod Writing

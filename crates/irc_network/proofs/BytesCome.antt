@@ -1,0 +1,316 @@
+-- Bytes that come deliver the lines that they complete, where links carry lines.
+use Rattle.std.proofs.Common.{◌≡◌, ◌≢◌, ℕ, Bool, true, false, cond, is_some, Option, Some, None}
+use Rattle.std.proofs.Common.{List, [], ◌∷◌, ◌++◌, length, nat_eq, refl, sym, ◌∙◌, ap, subst}
+use Rattle.std.proofs.Common.{option_map, unwrap_or}
+use Rattle.std.proofs.lemmas.Bool.{eq-eqb, eqb-true}
+use Rattle.std.specs.FinMap.{get}
+use Rattle.std.specs.List.{AllByRecursion}
+use Rattle.std.specs.Option.{option_and_then, option_map_or}
+use Rattle.irc_line.specs.Lines.{IsLine}
+use Rattle.irc_network.specs.Network.{Course, Network, Receipt, Site, site_at, waiting, heard}
+use Rattle.irc_wires.specs.Wires.{Wire, Wires, advanced, lines_to_come, wire_at, with_wire}
+use Rattle.irc_wires.specs.Lemmas.PutWires.{IsSetAt, it, nowhere, other_from, other_to, wire_set}
+use Rattle.irc_network.specs.Behind.{Ahead, net_behind, course_behind, emptied, site_behind}
+use Rattle.irc_network.specs.ByteNetwork.{ByteNetwork, all_heard, all_written, bytes_come}
+use Rattle.irc_network.specs.ByteNetwork.{completed_in, net_in_lines, lines_ahead, waiting_at}
+use Rattle.irc_network.specs.ByteNetwork.{queues_written}
+use Rattle.irc_network.specs.Loops.Writing.{IsWritten}
+use Rattle.irc_network.specs.Whole.{AreLinesWaiting, BytesComeAsLines, ComeAsLines, Delivers}
+use Rattle.irc_network.specs.Whole.{IsWhole, IsWholeNet, has_way, no_more, one_first}
+use Rattle.irc_network.proofs.Behind.{at-behind}
+use Rattle.irc_network.specs.Lemmas.Rows.{rows_after_lines}
+use Rattle.irc_network.proofs.Delivered.{IsLeftOn, one_delivered, same_sites}
+use Rattle.irc_network.proofs.GivenLines.{none_there, with_net}
+use Rattle.irc_network.proofs.Refilled.{refilled}
+use Rattle.irc_network.specs.Lemmas.Emptied.{emptied_waits, emptied_ways}
+use Rattle.irc_network.specs.Lemmas.RowsWritten.{is_written, lean_with}
+use Rattle.irc_network.specs.Lemmas.Ways.{waiting_behind}
+use Rattle.irc_network.proofs.WaysStay.{heard_ways}
+use Rattle.irc_network.proofs.WireLines.{AreWritten, IsKnownOfStreams, advanced_is_whole}
+use Rattle.irc_network.proofs.WireLines.{all_are_written, lines_parted, new_has_none}
+use Rattle.irc_network.proofs.WireLines.{new_is_whole}
+use Rattle.irc_network.specs.Lemmas.NewFramer.{new_is_real}
+
+-- ---- lines that are ahead on one way
+
+abbrev pub if_both : Bool → Bool → List (List ℕ) → List (List ℕ) → List (List ℕ)
+if_both a b lines other = cond a (cond b lines other) other
+
+abbrev pub ahead_on : ℕ → ℕ → List (List ℕ) → Ahead → Ahead
+ahead_on from to lines ahead x y = if_both (nat_eq x from) (nat_eq y to) lines (ahead x y)
+
+on_it : (from to : ℕ) (lines : List (List ℕ)) (ahead : Ahead)
+    → ahead_on from to lines ahead from to ≡ lines
+on_it from to lines ahead =
+    ap (λ a. if_both a (nat_eq to to) lines (ahead from to)) (eq-eqb from from refl)
+    ∙ ap (λ b. cond b lines (ahead from to)) (eq-eqb to to refl)
+
+unlike : (x y : ℕ) → x ≢ y → nat_eq x y ≡ false
+unlike x y two = by (nat_eq x y) refl
+  where
+    by : (b : Bool) → nat_eq x y ≡ b → b ≡ false
+    by true is = absurd (two (eqb-true x y is))
+    by false is = refl
+
+not_to : (a : Bool) (lines other : List (List ℕ)) → if_both a false lines other ≡ other
+not_to true lines other = refl
+not_to false lines other = refl
+
+left_on : (from to : ℕ) (some rest : List (List ℕ)) (ahead : Ahead)
+    → IsLeftOn from to rest (ahead_on from to some ahead) (ahead_on from to rest ahead)
+left_on from to some rest ahead = record {
+  there = on_it from to rest ahead;
+  same_from = λ x two.
+      ap (λ b. if_both (nat_eq from from) b rest (ahead from x)) (unlike x to two)
+      ∙ not_to (nat_eq from from) rest (ahead from x)
+      ∙ sym (ap (λ b. if_both (nat_eq from from) b some (ahead from x)) (unlike x to two)
+      ∙ not_to (nat_eq from from) some (ahead from x));
+  others = λ place two x.
+      ap (λ a. if_both a (nat_eq x to) rest (ahead place x)) (unlike place from two) ∙ sym
+      (ap (λ a. if_both a (nat_eq x to) some (ahead place x)) (unlike place from two));
+}
+
+-- ---- all that are heard are delivered
+
+-- a way, and the lines that wait on it
+pub record HasWay (net : Network) (from to : ℕ) : Type 0 where
+  pub site : Site
+  pub at : site_at net from ≡ Some site
+  pub lines : List (List ℕ)
+  pub way : get site.queues to ≡ Some lines
+
+way_of : (net : Network) (from to : ℕ) → has_way net from to ≡ true → HasWay net from to
+way_of net from to is = by_site (site_at net from) refl is
+  where
+    by_way : (site : Site) → site_at net from ≡ Some site → (o : Option (List (List ℕ)))
+        → get site.queues to ≡ o → is_some o ≡ true → HasWay net from to
+    by_way site at None way none = cc none
+    by_way site at (Some lines) way some = record { site = site; at = at; lines = lines; way = way }
+
+    by_site : (o : Option Site) → site_at net from ≡ o → is_some
+        (option_and_then (λ (site : Site). get site.queues to) o) ≡ true → HasWay net from to
+    by_site None at none = cc none
+    by_site (Some site) at some = by_way site at (get site.queues to) refl some
+
+module _ (from to : ℕ) (ahead : Ahead) (rest : List (List ℕ)) where
+  all_delivered : (lines : List (List ℕ)) (course : Course)
+      → has_way course.net from to ≡ true → Delivers from to (length lines)
+      (course_behind (ahead_on from to (lines ++ rest) ahead) course)
+      (course_behind (ahead_on from to rest ahead) (all_heard from to course lines))
+  all_delivered [] course way = no_more
+  all_delivered (line ∷ lines) course way =
+      let there = way_of course.net from to way in
+      one_first
+      (one_delivered from to line (lines ++ rest) (ahead_on from to (line ∷ (lines ++ rest)) ahead)
+      (ahead_on from to (lines ++ rest) ahead)
+      (on_it from to (line ∷ (lines ++ rest)) ahead) (left_on from to (line ∷ (lines ++ rest))
+      (lines ++ rest) ahead) course there.site there.at there.lines
+      there.way)
+      (all_delivered lines (heard from to course line)
+      (heard_ways from to course line from to ∙ way))
+
+-- ---- bytes
+
+module _ (known : IsKnownOfStreams) (old : ByteNetwork) (from to count : ℕ) (before : List Receipt)
+    (whole : IsWholeNet old) where
+  abbrev wire : Wire
+  wire = wire_at old.wires from to
+
+  abbrev lines : List (List ℕ)
+  lines = completed_in old from to count
+
+  abbrev rest : List (List ℕ)
+  rest = lines_to_come (advanced count wire)
+
+  abbrev ahead : Ahead
+  ahead = lines_ahead old.wires
+
+  abbrev start : Course
+  start = record { net = old.network; receipts = before }
+
+  -- the wires once they have come
+  abbrev between : Wires
+  between = with_wire from to (advanced count wire) old.wires
+
+  -- what is ahead then
+  abbrev now : Ahead
+  now = ahead_on from to rest ahead
+
+  abbrev last : Course
+  last = all_heard from to start lines
+
+  parted : ahead from to ≡ lines ++ rest
+  parted = lines_parted known wire (whole.whole from to) count
+
+  front_is : (x y : ℕ) → ahead_on from to (lines ++ rest) ahead x y ≡ ahead x y
+  front_is x y = by (nat_eq x from) (nat_eq y to) refl refl
+    where
+      by : (a b : Bool) → nat_eq x from ≡ a → nat_eq y to ≡ b
+          → if_both a b (lines ++ rest) (ahead x y) ≡ ahead x y
+      by true true one two = sym parted ∙ ap (λ n. ahead n to) (sym (eqb-true x from one))
+          ∙ ap (ahead x) (sym (eqb-true y to two))
+      by true false one two = refl
+      by false b one two = refl
+
+  none_of_both : (xs ys : List (List ℕ)) → xs ++ ys ≡ [] → (xs ≡ []) × (ys ≡ [])
+  none_of_both [] ys none = (refl, none)
+  none_of_both (x ∷ xs) ys none = cc none
+
+  -- ---- what is delivered
+
+  delivers : Delivers from to (length lines) (course_behind ahead start) (course_behind now last)
+  delivers =
+      subst (λ net. Delivers from to (length lines) (record start { net = net })
+      (course_behind now last))
+      (ap (λ sites. record old.network { sites = sites })
+      (same_sites (ahead_on from to (lines ++ rest) ahead) ahead old.network.sites front_is))
+      (by (has_way old.network from to) refl)
+    where
+      by : (b : Bool) → has_way old.network from to ≡ b → Delivers from to (length lines)
+          (course_behind (ahead_on from to (lines ++ rest) ahead) start) (course_behind now last)
+      by true way = all_delivered from to ahead rest lines start way
+      by false none =
+          subst (λ ls. Delivers from to (length ls)
+          (course_behind (ahead_on from to (ls ++ rest) ahead) start)
+          (course_behind (ahead_on from to rest ahead) (all_heard from to start ls)))
+          (sym (none_of_both lines rest (sym parted ∙ whole.ways from to none)).0) no_more
+
+  -- ---- the wires before what is put out is written
+
+  pub record IsAhead (x y : ℕ) (w : Wire) : Type 0 where
+    pub lines_come : lines_to_come w ≡ now x y
+    pub ends_lines : IsWhole w
+
+  there_now : (x y : ℕ) → x ≡ from → y ≡ to → now x y ≡ rest
+  there_now x y one two = ap (λ n. now n y) one ∙ ap (now from) two ∙ on_it from to rest ahead
+
+  old_wire : (x y : ℕ) (w : Wire) → w ≡ wire_at old.wires x y → now x y ≡ ahead x y → IsAhead x y w
+  old_wire x y w is alike =
+      subst (IsAhead x y) (sym is) (record { lines_come = sym alike; ends_lines = whole.whole x y })
+
+  wire_ahead : (x y : ℕ) → IsAhead x y (wire_at between x y)
+  wire_ahead x y = by (wire_set from to (advanced count wire) old.wires x y)
+    where
+      by : IsSetAt from to (advanced count wire) old.wires x y
+          → IsAhead x y (wire_at (with_wire from to (advanced count wire) old.wires) x y)
+      by (it one two is) = record {
+        lines_come = ap lines_to_come is ∙ sym (there_now x y one two);
+        ends_lines =
+            subst IsWhole (sym is) (advanced_is_whole known wire (whole.whole from to) count);
+      }
+      by (nowhere one two is was) = record {
+        lines_come =
+            let none = ap lines_to_come (ap (λ n. wire_at old.wires n to) (sym one)
+            ∙ ap (wire_at old.wires x) (sym two) ∙ was)
+            ∙ new_has_none known new_is_real in
+            ap lines_to_come is ∙ new_has_none known new_is_real
+            ∙ sym (there_now x y one two ∙ (none_of_both lines rest (sym parted ∙ none)).1);
+        ends_lines = subst IsWhole (sym is) (new_is_whole known new_is_real);
+      }
+      by (other_from apart is) =
+          old_wire x y _ is (ap (λ a. if_both a (nat_eq y to) rest (ahead x y)) apart)
+      by (other_to apart is) =
+          old_wire x y _ is (ap (λ b. if_both (nat_eq x from) b rest (ahead x y)) apart
+          ∙ not_to (nat_eq x from) rest (ahead x y))
+
+  -- ---- what is put out is lines
+
+  all_behind : (xs ys : List (List ℕ)) → AllByRecursion IsLine (xs ++ ys) → AllByRecursion IsLine ys
+  all_behind [] ys all = all
+  all_behind (x ∷ xs) ys all = all_behind xs ys all.1
+
+  put_out_are : AreLinesWaiting (net_behind now last.net) → (x y : ℕ)
+      → AllByRecursion IsLine (waiting_at last.net x y)
+  put_out_are are x y = by_site (site_at last.net x) refl
+    where
+      by_way : (site : Site) → site_at last.net x ≡ Some site → (o : Option (List (List ℕ)))
+          → get site.queues y ≡ o → AllByRecursion IsLine (unwrap_or o [])
+      by_way site at None way = tt
+      by_way site at (Some lines) way =
+          all_behind (now x y) lines
+          (subst (AllByRecursion IsLine) (waiting_behind (now x) site y lines way)
+          (are x y (site_behind (now x) site) (at-behind now last.net x
+          ∙ ap (option_map (site_behind (now x))) at)))
+
+      by_site : (o : Option Site) → site_at last.net x ≡ o
+          → AllByRecursion IsLine (option_map_or (λ site. waiting site y) o [])
+      by_site None at = tt
+      by_site (Some site) at = by_way site at (get site.queues y) refl
+
+  module _ (new : ByteNetwork) (written : IsWritten last.net between new)
+      (are : AreLinesWaiting (net_behind now last.net)) where
+    wire_is : (x y : ℕ)
+        → wire_at new.wires x y ≡ all_written (waiting_at last.net x y) (wire_at between x y)
+    wire_is x y = written.wires_are x y
+
+    are_written : (x y : ℕ) → AreWritten known (wire_at between x y) (waiting_at last.net x y)
+    are_written x y = all_are_written known (wire_at between x y) (waiting_at last.net x y)
+        (wire_ahead x y).ends_lines (put_out_are are x y)
+
+    lines_are : (x y : ℕ) → lines_ahead new.wires x y ≡ now x y ++ waiting_at last.net x y
+    lines_are x y = ap lines_to_come (wire_is x y) ∙ (are_written x y).lines_are
+        ∙ ap (λ front. front ++ waiting_at last.net x y) (wire_ahead x y).lines_come
+
+    network_is : new.network ≡ emptied last.net
+    network_is = written.network_is
+
+    after_is : net_in_lines new ≡ net_behind now last.net
+    after_is = ap (net_behind (lines_ahead new.wires)) network_is
+        ∙ refilled now (lines_ahead new.wires) last.net lines_are
+
+    all_ways : (ls : List (List ℕ)) (course : Course) (x y : ℕ)
+        → has_way (all_heard from to course ls).net x y ≡ has_way course.net x y
+    all_ways [] course x y = refl
+    all_ways (line ∷ ls) course x y =
+        all_ways ls (heard from to course line) x y ∙ heard_ways from to course line x y
+
+    same_ways_now : (x y : ℕ) → has_way new.network x y ≡ has_way old.network x y
+    same_ways_now x y =
+        ap (λ n. has_way n x y) network_is ∙ emptied_ways last.net x y ∙ all_ways lines start x y
+
+    none_now : (x y : ℕ) → has_way old.network x y ≡ false → now x y ≡ []
+    none_now x y none = by (nat_eq x from) (nat_eq y to) refl refl
+      where
+        by : (a b : Bool) → nat_eq x from ≡ a → nat_eq y to ≡ b → if_both a b rest (ahead x y) ≡ []
+        by true true one two =
+            (none_of_both lines rest
+            (sym parted ∙ whole.ways from to
+            (sym (ap (λ n. has_way old.network n y) (eqb-true x from one)
+            ∙ ap (has_way old.network from) (eqb-true y to two)) ∙ none))).1
+        by true false one two = whole.ways x y none
+        by false b one two = whole.ways x y none
+
+    whole_now : IsWholeNet new
+    whole_now = record {
+      tidy = record {
+        quiet =
+            λ x y. subst (λ n. waiting_at n x y ≡ []) (sym network_is) (emptied_waits last.net x y);
+        rows = written.rows;
+        lean = written.lean;
+      };
+      whole = λ x y. subst IsWhole (sym (wire_is x y)) (are_written x y).whole;
+      ways = λ x y none.
+          let before = sym (same_ways_now x y) ∙ none in
+          lines_are x y ∙ ap (λ front. front ++ waiting_at last.net x y) (none_now x y before)
+          ∙ none_there last.net x y (all_ways lines start x y ∙ before);
+    }
+
+  all_is_written : IsWritten last.net between (queues_written last.net between)
+  all_is_written =
+      is_written last.net between
+      (lean_with from to (advanced count wire) old.wires whole.tidy.lean)
+      (rows_after_lines old from to count lines before last between whole.tidy.rows refl refl)
+
+  as_lines : ComeAsLines from to count (record { net = old; receipts = before })
+  unfolding bytes_come
+  as_lines = record {
+    last = course_behind now last;
+    delivers = delivers;
+    as_lines =
+        λ are. ap (with_net last) (after_is (queues_written last.net between) all_is_written are);
+    whole = whole_now (queues_written last.net between) all_is_written;
+  }
+
+pub bytes_come_as_lines : IsKnownOfStreams → BytesComeAsLines
+bytes_come_as_lines known from to count old whole =
+    as_lines known old.net from to count old.receipts whole

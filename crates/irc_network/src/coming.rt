@@ -1,0 +1,122 @@
+//! What comes along the links of a network.
+ghost use Rattle.std.specs.Prelude.{◌≡◌, min, IfOk, OnOk};
+ghost use Rattle.std.specs.Option.{option_map};
+ghost use Rattle.irc_wires.specs.Loops.Rows.{direction_of};
+ghost use Rattle.irc_wires.specs.Wires.{first_direction, through_line_feed, wire_at};
+ghost use Rattle.irc_network.specs.ByteNetwork.{is_byte_rest};
+ghost use Rattle.irc_network.specs.Calls.{HaveCome, HaveComeToLine, IsTurn};
+ghost use Rattle.irc_network.specs.Loops.Coming.{HaveHeard, bytes_between, lines_between};
+ghost use Rattle.irc_network.specs.Whole.{IsTidy};
+
+use crate::came::Came;
+use crate::desk::Desk;
+use crate::history::History;
+use crate::network::Network;
+use irc_forest::{Ends, Place};
+use irc_line::Line;
+use std::alloc::{AllocError, Global};
+
+impl<H: History> Network<H> {
+    /// Whether no byte is on its way, and no part of a line has come anywhere.
+    pub fn is_at_rest(&self) -> bool
+        ensures { result ≡ is_byte_rest self.now }
+    {
+        self.wires.are_still()
+    }
+
+    /// How many bytes are on their way from one server to another up to and with the next LF; all
+    /// where there is none.
+    pub fn through_line_feed(&self, from: Place, to: Place) -> usize
+        ensures { result ≡ through_line_feed (wire_at self.now.wires from to).bytes }
+    {
+        self.wires.through_line_feed(from, to)
+    }
+
+    /// The first direction in which a byte is on its way, by the place that it is from and then
+    /// that where it goes.
+    pub fn first_direction(&self) -> Option<Ends>
+        ensures { option_map direction_of result ≡ first_direction self.now.wires }
+    {
+        self.wires.first_direction()
+    }
+
+    /// So many bytes come from one server to another, or all that are on their way where there are
+    /// fewer. The server that they come to is asked for each line that they complete, in turn. What
+    /// clients receive by them is on the desk, behind what was there.
+    ///
+    /// # Errors
+    /// Where memory runs out: nothing is promised of the network then, and nothing more is to be
+    /// asked of it.
+    pub fn come(&mut self, ends: Ends, count: usize, desk: &mut Desk) -> Result<Came, AllocError>
+        requires tidy { IsTidy self.old }
+        ensures bytes { IfOk result (λ came. came.bytes ≡ min count (bytes_between self.old ends)) }
+        ensures lines { IfOk result (λ came. came.lines ≡ lines_between self.old ends count) }
+        ensures come { OnOk result (HaveCome ends count self.old desk.old self.new desk.new) }
+    {
+        irc_wires::laws::same_wires();
+        let mut lines = Vec::new(self.alloc);
+        let bytes = self.wires.take(ends.near, ends.far, count, &mut lines)?;
+        let came = Came {
+            bytes,
+            lines: lines.len(),
+        };
+        self.hear_all(ends.near, ends.far, lines, desk)?;
+        Ok(came)
+    }
+
+    /// A server is asked for lines that have come from another, in turn.
+    fn hear_all(
+        &mut self,
+        from: Place,
+        to: Place,
+        lines: Vec<Line, Global>,
+        desk: &mut Desk,
+    ) -> Result<(), AllocError>
+        requires tidy { IsTidy self.old }
+        ensures { OnOk result (HaveHeard from to lines.items self.old desk.old self.new desk.new) }
+    {
+        let mut rest = lines.into_iter();
+        while let Some(line) = rest.next() {
+            self.hear(from, to, line, desk)?;
+        }
+        Ok(())
+    }
+
+    /// The bytes through the next LF come in the first direction in which a byte is on its way. The
+    /// number is how many lines they complete; none where no byte is on its way. What clients
+    /// receive by them is on the desk, behind what was there.
+    ///
+    /// # Errors
+    /// Where memory runs out: nothing is promised of the network then, and nothing more is to be
+    /// asked of it.
+    pub fn come_in_turn(&mut self, desk: &mut Desk) -> Result<Option<usize>, AllocError>
+        requires tidy { IsTidy self.old }
+        ensures { IfOk result (λ lines. IsTurn lines self.old desk.old self.new desk.new) }
+    {
+        let Some(ends) = self.first_direction() else {
+            return Ok(None);
+        };
+        let count = self.through_line_feed(ends.near, ends.far);
+        let came = self.come(ends, count, desk)?;
+        Ok(Some(came.lines))
+    }
+
+    /// Bytes come in turn until they complete a line. The number is how many lines they complete;
+    /// none where none is on its way, and then no byte is any more. What clients receive is on the
+    /// desk, behind what was there.
+    ///
+    /// # Errors
+    /// Where memory runs out: nothing is promised of the network then, and nothing more is to be
+    /// asked of it.
+    pub fn come_to_line(&mut self, desk: &mut Desk) -> Result<Option<usize>, AllocError>
+        requires tidy { IsTidy self.old }
+        ensures { IfOk result (λ lines. HaveComeToLine lines self.old desk.old self.new desk.new) }
+    {
+        while let Some(lines) = self.come_in_turn(desk)? {
+            if lines > 0 {
+                return Ok(Some(lines));
+            }
+        }
+        Ok(None)
+    }
+}

@@ -1,3 +1,0 @@
--- Lemmas, with their proofs, that the crates above cite too. No rule stands here.
-pub mod Outcomes
-pub mod Ways

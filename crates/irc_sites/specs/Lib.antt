@@ -1,3 +1,0 @@
-pub mod Site
-pub mod Loops
-pub mod Lemmas
