@@ -96,7 +96,6 @@ def main():
                     seen.add(l); out.append(l)
                 s = "\n".join(out)
             if s != old: write(f, s)
-        # in the upper crate itself, its own name in paths of code is `crate`
         lines = read("crates.txt").split("\n")
         da_line = next(l for l in lines if l.startswith(A + ":"))
         out = []
@@ -111,6 +110,6 @@ def main():
                 l = f"{name}: {' '.join(deps)}".rstrip()
                 if not deps: l = f"{name}:"
             out.append(l)
-        write("crates.txt", "\n".join(out)) if False else open("crates.txt", "w").write("\n".join(out))
+        write("./crates.txt", "\n".join(out))
         print("moved", A, "into", B)
 main()
