@@ -4,7 +4,7 @@
 In specs/ and proofs/ (*.antt): signatures before an arrow, terms before an operator or an argument,
 comments between words, and lists of names that are brought in as several `use` lines. In src/
 (*.rt): `ghost use`, clauses and comments. Code is `rt fmt`'s. No break falls into an `old:` text of
-a wrong body of the crate, and nothing but white space changes. `columns.py --tell CRATE..` only
+a wrong body of the crate. Beside `use` lines and comments only white space changes. `columns.py --tell CRATE..` only
 lists what is too long.
 """
 import os
