@@ -9,7 +9,7 @@ trap 'rm -rf "$made"' EXIT
 
 # build_room_program FILE: $program of a file in Rattle, in a repository of irc_room and the crates that it stands on
 build_room_program() {
-    local crates=(irc_line irc_rules irc_names irc_tables irc_users irc_modes irc_mode_words irc_channels irc_effects irc_room_tables irc_shown irc_room) crate part
+    local crates=(irc_line irc_names irc_tables irc_users irc_modes irc_channels irc_effects irc_room) crate part
     git init -q "$made"
     mkdir -p "$made/crates/room_bench/src"
     for crate in "${crates[@]}"; do

@@ -1,5 +1,5 @@
 #!/usr/bin/env python3
-"""Compares `irc_rules::mask_matches` with a model's `matches` on generated pairs of a mask and a text.
+"""Compares `irc_names::mask_matches` with a model's `matches` on generated pairs of a mask and a text.
 
 Not part of the gate. It builds a small program over a copy of the crate in a temporary folder outside the repository, feeds it
 the pairs, and compares each answer with the model's, which is model.py beside this file, or that of a folder named as an argument
@@ -26,7 +26,7 @@ PROGRAM = """\
 // Reads lines of a mask, a tab and a text, and writes for each whether the mask matches the text.
 #![tactic(auto)]
 
-use irc_rules::mask_matches;
+use irc_names::mask_matches;
 use std::io::{self, BufRead, BufReader, BufWriter, Write};
 
 fn is_match(line: &[u8]) -> bool {
@@ -108,9 +108,9 @@ def answers(pairs):
     """What the crate's code answers, by a program in a temporary folder."""
     with tempfile.TemporaryDirectory() as folder:
         top = pathlib.Path(folder)
-        shutil.copytree(REPOSITORY / "crates" / "irc_rules", top / "crates" / "irc_rules",
+        shutil.copytree(REPOSITORY / "crates" / "irc_names", top / "crates" / "irc_names",
                         ignore=shutil.ignore_patterns("out", "must-fail"))
-        (top / "crates.txt").write_text("irc_rules: arrayvec\ncompare_masks: irc_rules\n")
+        (top / "crates.txt").write_text("irc_names: arrayvec\ncompare_masks: irc_names\n")
         crate = top / "crates" / "compare_masks"
         (crate / "src").mkdir(parents=True)
         (crate / "src" / "main.rt").write_text(PROGRAM)

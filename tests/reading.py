@@ -9,7 +9,7 @@ A variable that is named like a word in scope counts as that word, so there may 
     python3 tests/reading.py [--words] [--check] [FUNCTION..]
 
 It prints crate by crate, from the network down to bytes, each file, its number of lines, and how many words of it are read; with --words which ones. What one
-server does, to which the word `site_asked` leads, comes apart, behind all others. Other functions of `Net`, or laws, may be named. With --check it prints what
+server does, to which the word `node_asked` leads, comes apart, behind all others. Other functions of `Net`, or laws, may be named. With --check it prints what
 docs/THEOREM.md has wrong of the list, and then its status is 1: a file that is not there or is not read, one that is left out, another number of lines.
 """
 
@@ -28,7 +28,7 @@ USE = re.compile(r"^ *(?:ghost |pub )?use Rattle\.(?P<crate>\w+)\.specs\.(?P<mod
 HEAD = re.compile(r"(?:(?:abbrev|unfoldable|pub|record|data) )*([A-Za-z_][\w-]*)(?=[ :])")
 WORD = re.compile(r"(?<![\w.])[A-Za-z_][\w-]*(?:\.[A-Za-z_]\w*)?")
 # what one server does, and what it has
-SERVER = ("site_asked", "IsOneRoomNet")
+SERVER = ("node_asked", "IsOneRoomNet")
 # a file and its number of lines, with its folder or behind one of the same folder
 NAMED = re.compile(r"(irc_\w+/(?:specs|src)/)?(\w+(?:/\w+)*\.(?:antt|rt))(?: (\d+))?")
 

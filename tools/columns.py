@@ -1,11 +1,12 @@
 #!/usr/bin/env python3
 """columns.py CRATE..: breaks what is longer than 100 columns in a crate's folder, before `rt fmt`.
 
-In specs/ and proofs/ (*.antt): signatures before an arrow, terms before an operator or an argument,
-comments between words, and lists of names that are brought in as several `use` lines. In src/
-(*.rt): `ghost use`, clauses and comments. Code is `rt fmt`'s. No break falls into an `old:` text of
-a wrong body of the crate. Beside `use` lines and comments only white space changes. `columns.py --tell CRATE..` only
-lists what is too long.
+In specs/ and proofs/ (*.antt): signatures before an arrow, terms before an operator or an
+argument, comments between words, and lists of names that are brought in as several `use` lines. In
+src/ (*.rt): `ghost use`, clauses and comments. Code is `rt fmt`'s. No break falls into an `old:`
+text of a wrong body of the crate. Beside `use` lines and comments only white space changes. A
+comment that is indented behind its mark is a row of columns, and stays as it is: who is told of
+one breaks it by hand. `columns.py --tell CRATE..` only lists what is too long.
 """
 import os
 import re
@@ -111,14 +112,19 @@ def laid(text, indent, kept_whole):
 
 
 def wrapped(indent, mark, words):
-    """A comment of these words."""
-    lines, now = [], indent + mark
+    """A comment of these words; one that begins with `-` is an item of a list."""
+    lines, now, further = [], indent + mark, "  " if words[0] == "-" else ""
     for word in words:
         if len(now) + 1 + len(word) > WIDTH and now != indent + mark:
             lines.append(now)
-            now = indent + mark
+            now = indent + mark + further
         now += " " + word
     return [*lines, now]
+
+
+def is_row(comment):
+    """Whether a comment is indented behind its mark: a row of columns, or more of a list's item."""
+    return re.match(r"(--|///|//!|//)  +\S", comment) is not None
 
 
 def parts_of(line):
@@ -136,7 +142,7 @@ def parts_of(line):
 
 def in_several_uses(line):
     """A long list of names that are brought in, as several of the same path, or None."""
-    found = re.match(r"( *)((?:pub |ghost )*use \S*?)\.?\{(.*)\}(;?)$", line)
+    found = re.match(r"( *)((?:pub |ghost )*use [^\s:]*?)\.?\{(.*)\}(;?)$", line)
     if not found or "{" in found[3]:
         return None
     indent, head, names, end = found.groups()
@@ -178,7 +184,9 @@ def broken_antt(text, kept_whole):
             at += 1
             continue
         code, comment = parts_of(line)
-        if in_several_uses(line):
+        if is_row(comment) and not code.strip():
+            out.append(line)
+        elif in_several_uses(line):
             out += in_several_uses(line)
         elif comment and not code.strip():
             words, mark = comment.lstrip("-").split(), re.match("-+", comment)[0]
@@ -211,11 +219,14 @@ def broken_rt(text, kept_whole):
             out.append(line)
         elif in_several_uses(line):
             out += in_several_uses(line)
+        elif comment and is_row(body):
+            out.append(line)
         elif comment:
             mark, words = comment[1], comment[2].split()
+            more = r"   \S" if words[0] == "-" else r" [\w`(\[]"
             while (
                 at + 1 < len(lines)
-                and re.match(" " * indent + re.escape(mark) + r" [\w`(\[]", lines[at + 1])
+                and re.match(" " * indent + re.escape(mark) + more, lines[at + 1])
                 and not words[-1].endswith((".", ":"))
             ):
                 at += 1

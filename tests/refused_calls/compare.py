@@ -12,7 +12,7 @@ What holds of a refused call, by its kind:
   closes    likewise, for a line that closes its link
   grew      likewise, but that a batch may have more behind what it had, of what it has with ample memory
   open      want of memory is told
-  stage     want of memory is told, and a batch has what it had, and maybe more
+  stage     want of memory is told, the server is gone, and a batch is as it was
   room      want of memory is told once, and that the room has failed from then on; nobody is shown anything
   server    likewise, nothing is put out, and the server tells neither its room nor its servers; `server all`: but what the events before put out stands
   net       likewise, and what each client has received is a front; `net new` is `same`; `net play`: or only the answers were refused, and the net goes on
@@ -139,9 +139,10 @@ def is_played(ample, got):
 
 
 def is_kept_out(_, got):
-    """Of a stage: a batch has what it had."""
+    """Of a stage: it is gone, and a batch is as it was."""
     before, = texts(got, "before")
-    return texts(got, "answer")[0] == "memory" and texts(got, "after")[0].startswith(before.partition("room a.net")[0].rstrip())
+    kept = before.partition("room a.net")[0]
+    return texts(got, "answer") == ["memory"] and texts(got, "after") == [f"{kept}gone"]
 
 
 def is_told(_, got):

@@ -63,7 +63,7 @@ def of_tables():
 HALL = [
     "add_server 1 a.net b.net 1 1", "add_server 1 b.net c.net 2 2", "add_server 2 a.net d.net 1 1", "apply user al a.net", "apply user bo a.net",
     "apply user ce b.net", "apply user de d.net", "apply user ee a.net", "apply join al #c op", "apply join bo #c", "apply join ce #c", "apply join de #d op",
-    "apply join ce #f op", "apply mode al #c +ntb x!*@*", "apply topic al #c :a topic", "apply invite al de #c", "end 1 b.net", "end 2 d.net",
+    "apply join ce #f op", "apply mode al #c +ntb x!*@*", "apply topic al #c :a topic", "apply invite al de #c",
 ]
 
 EFFECTS = [
@@ -95,9 +95,6 @@ def of_rooms():
         rows.append(("same", "hall", HALL, call))
     rows += [("same", "hall", HALL, f"audience {effect}") for effect in EFFECTS[1:]]
     rows += [("none", "hall", HALL, f"write_line {effect}") for effect in EFFECTS if "mode" in effect and "umode" not in effect]
-    told = [effect for effect in EFFECTS if "al bo" not in effect and "al ee" not in effect]
-    rows += [("open", "hall", HALL, f"ways {effect}") for effect in [*told, "say al ce :hi", "invite al ce #c"]]
-    rows.append(("open", "hall", HALL, "ways_met 1"))
     return rows
 
 
@@ -143,30 +140,34 @@ def of_questions():
     return rows
 
 
-LINKED = ["opens 2", "hears 2 :PASS pw 0210010001 TREE|", "hears 2 :SERVER b.net 1 1 :B"]
+LINKED = ["open_link 2", "meet 2 b.net", "add_server 2 a.net b.net 1 1"]
 
 STAGE = [
     "apply 1 user al a.net", "seat 1 al", "apply 3 user bo a.net", "seat 3 bo", "apply 1 join al #c op", "apply 3 join bo #c", "apply 1 mode al #c +nb x!*@*",
-    "apply 1 topic al #c :a topic", *LINKED, "hears 2 :NICK ce 1 u h 1 + :Ce", "hears 2 ::b.net SERVER e.net 2 2 :E", "hears 2 :NICK fe 2 u h 2 + :Fe",
-    "hears 2 ::b.net NJOIN #c :ce", "hears 2 ::e.net NJOIN #f :@fe", "opens 4", "hears 4 :PASS pq 0210010001 TREE|", "hears 4 :SERVER c.net 1 1 :C",
+    "apply 1 topic al #c :a topic", *LINKED, "come 2 user ce b.net", "add_server 2 b.net e.net 2 2", "come 2 user fe e.net", "come 2 join ce #c",
+    "come 2 join fe #f op", "open_link 4", "meet 4 c.net", "add_server 4 a.net c.net 1 1",
+]
+
+# what a link brings, and goes on to the other
+BROUGHT = [
+    "user ge b.net", "rename ce cy", "umode ce +", "join ce #e op", "part ce #c :x", "kick ce #c bo :out", "mode ce #c +ob bo q!*@*", "topic ce #c :x",
+    "say ce #c :x", "say ce al :x", "quit ce :x",
 ]
 
 
 def of_stages():
-    calls = [f"hears 2 :{line}" for line in LINK_LINES[1:] + BURST_LINES]
-    calls += ["hears 2 :NICK ge 1 u h 1 + :Ge", "hears 2 ::b.net NJOIN #new :@ce", "loses 2", "loses 4", "opens 5 d.net", "waiting 7"]
-    calls += ["hear 2 :NICK ge 1 u h 1 + :Ge", "hear 2 ::b.net NJOIN #c :@ce", "remove_user al", "tell_all 2 ::a.net SQUIT x.net :x"]
-    calls += ["come 2 quit ce :x", "take 2 quit ce :x", "carry_out 1 quit al :bye"]
+    calls = [f"come 2 {effect}" for effect in BROUGHT]
+    calls += ["take 2 quit ce :x", "take 2 join fe #c", "take 2 topic ce #c :x", "carry_out 1 quit al :bye", "remove_user al"]
+    calls += ["tell_all 2 ::a.net SQUIT x.net :x", "tell_on 2 ::a.net SQUIT x.net :x", "close_link 2", "waiting 7"]
     calls += [f"apply 1 {effect}" for effect in EFFECTS if "ee" not in effect and " de " not in effect]
     calls += ["apply 1 invite al ce #c", "apply 1 say al ce :hi"]
-    rows = [("stage", "stage", STAGE + fresh, call) for call in calls for fresh in ([], ["fresh"])]
+    # (what is put out goes into an empty batch as it stands, and the server goes on with that: so a fresh one is the server's behind the next step)
+    rows = [("stage", "stage", STAGE + fresh, call) for call in calls for fresh in ([], ["fresh", "nothing"])]
     for size in range(13):
         rows.append(("stage", "stage", [f"open_link {at}" for at in range(size)], "open_link 99"))
-        rows.append(("stage", "stage", [f"opens {at}" for at in range(size)], "opens 99"))
         rows.append(("stage", "stage", [f"waiting {at}" for at in range(size)], "waiting 99"))
         rows.append(("stage", "stage", [f"seat {at} n{LETTERS[at]}" for at in range(size)], "seat 99 new"))
         rows.append(("stage", "stage", LINKED + [f"add_server 2 b.net s{at}.net 2 {at + 2}" for at in range(size)], "add_server 2 b.net z.net 2 99"))
-    rows += [("stage", "stage", before + ["fresh"], LINKED[2]) for before in (LINKED[:2], STAGE[:8] + LINKED[:2])]
     return rows
 
 
@@ -176,25 +177,33 @@ def client(number, name, *lines):
 
 UP = ["up 2", "hear 2 :PASS pw 0210010001 TREE|", "hear 2 :SERVER b.net 1 1 :B"]
 
+OTHER = ["up 4", "hear 4 :PASS pq 0210010001 TREE|", "hear 4 :SERVER c.net 1 1 :C"]
+
 ALONE = [*client(1, "al", "JOIN #c", "MODE #c +nb x!*@*", "TOPIC #c :a topic"), *client(3, "bo", "JOIN #c")]
 
 SERVER = [
     *ALONE, *UP, "hear 2 :NICK ce 1 u h 1 + :Ce", "hear 2 ::b.net NJOIN #c :ce", "hear 2 ::b.net SERVER e.net 2 2 :E", "hear 2 :NICK fe 2 u h 2 + :Fe",
-    "hear 2 ::e.net NJOIN #f :@fe", "connect 5",
+    "hear 2 ::e.net NJOIN #f :@fe", *OTHER, "connect 5",
 ]
+
+
+# a fresh batch is handed over, and what is put out next goes into it
+FRESH = ["fresh", "connect 9"]
 
 
 def of_servers():
     said = [f"say 1 :{line}" for line in ASKED + DECIDED + ["LIST", "WHO #c", "PRIVMSG ce :hi", "INVITE ce #c"] if "ee" not in line and "PONG" not in line]
-    heard = [f"hear 2 :{line}" for line in LINK_LINES[1:] + BURST_LINES + ["NICK ge 1 u h 1 + :Ge", "XYZZY"]]
-    calls = said + heard + ["connect 7", "gone 1", "down 2", "call 7 d.net"]
-    rows = [("server", "server", SERVER + fresh, call) for call in calls for fresh in ([], ["fresh"])]
-    rows += [("server", "server", SERVER + ["say 5 :NICK zz", *fresh], "say 5 :USER u 0 * :Z") for fresh in ([], ["fresh"])]
-    rows += [("server", "server", ALONE + ["fresh"], "say 1 :PRIVMSG #c :hi"), ("server", "server", ALONE, "up 2")]
-    rows += [("server", "server", before + UP[:2] + ["fresh"], UP[2]) for before in ([], ALONE)]
+    more = ["NICK ge 1 u h 1 + :Ge", ":b.net NJOIN #new :@ce", "XYZZY"]
+    heard = [f"hear 2 :{line}" for line in LINK_LINES[1:] + BURST_LINES + more]
+    calls = said + heard + ["connect 7", "gone 1", "down 2", "down 4", "call 7 d.net"]
+    rows = [("server", "server", SERVER + fresh, call) for call in calls for fresh in ([], FRESH)]
+    rows += [("server", "server", SERVER + ["say 5 :NICK zz", *fresh], "say 5 :USER u 0 * :Z") for fresh in ([], FRESH)]
+    rows += [("server", "server", ALONE + FRESH, "say 1 :PRIVMSG #c :hi"), ("server", "server", ALONE, "up 2")]
+    rows += [("server", "server", before + UP[:2] + FRESH, UP[2]) for before in ([], ALONE)]
     for size in range(13):
         many = [line for at in range(size) for line in client(at + 1, f"n{LETTERS[at]}", "JOIN #c")]
         rows += [("server", "server", many, "connect 99"), ("server", "server", many + ["connect 99", "say 99 :NICK new"], "say 99 :USER u 0 * :New")]
+        rows.append(("server", "server", [f"up {at}" for at in range(size)], "up 99"))
         rows += [("server", "server", many, call) for call in ("say 1 :PRIVMSG #c :hi", "say 1 :NICK new", "gone 1") if size > 1]
     rows += [("server all", "server", [], "all"), ("none", "server", [], "new")]
     return rows

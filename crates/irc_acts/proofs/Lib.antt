@@ -1,3 +1,4 @@
+pub mod JoinersPlace
 pub mod EntriesFromTheFront
 pub mod CountedRows
 pub mod MovesAhead

@@ -1,3 +1,6 @@
+pub mod Names
+pub mod Laws
+pub mod Lemmas
 pub mod ByTest
 pub mod Marks
 pub mod Acts

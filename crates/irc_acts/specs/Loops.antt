@@ -1,1 +1,3 @@
+pub mod FilledLines
+pub mod NameLines
 pub mod Moving

@@ -6,16 +6,16 @@ use Rattle.irc_acts.specs.declared.act.Act.{Act}
 use Rattle.irc_acts.specs.declared.act.Act.TheVariants.{Answer}
 
 -- whether a condition holds, and what is answered where it does
-pub record Refusal : Type 0 where
+pub record RefusalRow : Type 0 where
   pub applies : Bool
   pub reply : Reply
 
 -- a row of such a table
-abbrev pub where_so : Bool → Reply → Refusal
+abbrev pub where_so : Bool → Reply → RefusalRow
 where_so applies reply = record { applies = applies; reply = reply }
 
 -- what is answered, if any condition holds
-abbrev pub first_refusal : List Refusal → Option Reply
+abbrev pub first_refusal : List RefusalRow → Option Reply
 first_refusal [] = None
 first_refusal (row ∷ rows) = if row.applies then Some row.reply else first_refusal rows
 

@@ -1,11 +1,15 @@
 //! What all commands stand on: steps, the room ahead, comma lists, how a user stands to a channel,
 //! and words of a client.
+//!
+//! Commands that only answer.
 #![tactic(auto)]
 
 mod act;
 pub mod ahead;
 pub mod comma_lists;
 mod context;
+mod name_lines;
+pub mod names;
 pub mod refusals;
 pub mod standing;
 pub mod words;

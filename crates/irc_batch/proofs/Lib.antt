@@ -1,1 +1,2 @@
 pub mod KeptLines
+pub mod Following

@@ -1,5 +1,6 @@
 //! A batch: lines to connections and on links, and ends of these, in order.
-ghost use Rattle.std.specs.Prelude.{◌≡◌, ◌≤◌, Some, [], ◌∷◌, ◌++◌, length, take, OnOk, OnErr};
+ghost use Rattle.std.specs.Prelude.{◌≡◌, ◌≤◌, ◌<◌, ◌+◌, Some, [], ◌∷◌, ◌++◌, drop, length, take};
+ghost use Rattle.std.specs.Prelude.{OnErr, OnOk};
 ghost use Rattle.std.specs.Option.{option_map};
 ghost use Rattle.std.specs.List.{slice_get};
 ghost use Rattle.irc_line.specs.Limits.{max_text};
@@ -12,6 +13,7 @@ ghost use Rattle.irc_batch.specs.declared.batch.Out.{Out as AnOut};
 use crate::close_reason::CloseReason;
 use std::alloc::{AllocError, Global};
 use std::marker::Model;
+use std::mem::swap;
 
 /// One thing that is put out.
 #[derive(Clone, Copy)]
@@ -245,6 +247,69 @@ impl Batch {
         ensures { self.new ≡ record self.old { outs = take count self.old.outs } }
     {
         self.marks.truncate(count);
+    }
+
+    /// Puts out what another batch has put out, and takes it out there. Where nothing was put out
+    /// here before, nothing is copied.
+    ///
+    /// # Errors
+    /// Where memory runs out; nothing more is put out then.
+    pub fn append(&mut self, more: &mut Batch) -> Result<(), AllocError>
+        ensures ok { OnOk result (self.new.outs ≡ self.old.outs ++ more.old.outs) }
+        ensures refused { OnErr result (self.new.outs ≡ self.old.outs) }
+        ensures taken { more.new ≡ nothing }
+    {
+        let before = self.len();
+        if before == 0 {
+            swap(self, more);
+            more.clear();
+            return Ok(());
+        }
+        let result = self.put_all(more);
+        if result.is_err() {
+            self.truncate(before);
+        }
+        more.clear();
+        result
+    }
+
+    /// Puts out all that another batch has put out.
+    fn put_all(&mut self, more: &Batch) -> Result<(), AllocError>
+        ensures ok { OnOk result (self.new.outs ≡ self.old.outs ++ more.now.outs) }
+        ensures grew { Grew self.old.outs self.new.outs }
+    {
+        for place in 0..more.len() {
+            self.put_at(more, place)?;
+        }
+        Ok(())
+    }
+
+    /// Puts out what another batch has put out at a place.
+    fn put_at(&mut self, more: &Batch, place: usize) -> Result<(), AllocError>
+        requires there { place < length more.now.outs }
+        ensures ok { OnOk result (self.new.outs ++ drop (place + 1) more.now.outs
+            ≡ self.old.outs ++ drop place more.now.outs) }
+        ensures refused { OnErr result (self.new.outs ≡ self.old.outs) }
+        ensures grew { Grew self.old.outs self.new.outs }
+    {
+        match more.get(place) {
+            Some(out) => self.put_one(out),
+            None => Ok(()),
+        }
+    }
+
+    /// Puts out one thing more, as [`Batch::get`] tells it.
+    fn put_one(&mut self, out: Out<'_>) -> Result<(), AllocError>
+        requires fits { IsText (sent_of out) }
+        ensures ok { OnOk result (self.new.outs ≡ self.old.outs ++ sent_of out.entry ∷ []) }
+        ensures refused { OnErr result (self.new.outs ≡ self.old.outs) }
+    {
+        match out {
+            Out::Line(conn, line) => self.put(conn, line),
+            Out::Close(conn) => self.close(conn),
+            Out::LinkLine(link, line) => self.put_on(link, line),
+            Out::LinkClose(link, reason) => self.close_link(link, reason),
+        }
     }
 
     /// Takes out everything; its memory is kept for what comes next.

@@ -1,5 +1,5 @@
 -- What is read of a line is what it means.
-use Rattle.std.proofs.Common.{◌≡◌, ◌⊎◌, inl, inr, ℕ, true, Option, Some, None, Result, Ok, Err}
+use Rattle.std.proofs.Common.{◌≡◌, inl, inr, ℕ, true, Option, Some, None, Result, Ok, Err}
 use Rattle.std.proofs.Common.{IsOk, List, [], ◌∷◌, ◌++◌, codes, map, refl, subst, sym}
 use Rattle.std.proofs.Common.{◌∙◌, ap, append-nil}
 use Rattle.std.proofs.lemmas.List.{map-append}
@@ -16,7 +16,7 @@ use Rattle.irc_room.specs.effect.By.TheVariants as by
 use Rattle.irc_room.specs.effect.Effect.{Effect}
 use Rattle.irc_room.specs.effect.Effect.TheVariants as effect
 use Rattle.irc_room.specs.Room.{Room}
-use Rattle.irc_link_words.specs.declared.commands.Command.TheVariants.{OfEffects, OfServers}
+use Rattle.irc_link_words.specs.declared.commands.LinkCommand.TheVariants.{OfEffects, OfServers}
 use Rattle.irc_link_words.specs.declared.commands.EffectCommand.{EffectCommand}
 use Rattle.irc_link_words.specs.declared.commands.EffectCommand.TheVariants as command
 use Rattle.irc_link_words.specs.declared.commands.ServerCommand.{ServerCommand}
@@ -33,10 +33,10 @@ use Rattle.irc_link_reader.specs.Means.{read_row}
 use Rattle.irc_link_reader.specs.Told.{judged, told_of}
 use Rattle.irc_burst.specs.DeedsMeant.{Told, a_deed, collided, deeds_meant, effects_told}
 use Rattle.irc_burst.specs.DeedsMeant.{first_reason, kept_prefix, read_burst_row, server_of}
-use Rattle.irc_burst.specs.Loops.Acts.{MayWant, MayWantOf, acts_told, collide, collided_if}
-use Rattle.irc_burst.specs.Loops.Acts.{act_told, deeds_read, effect_line_at, meant_at}
-use Rattle.irc_burst.specs.Loops.Acts.{members_found}
-use Rattle.irc_burst.specs.Loops.Acts.{njoin_line_at, told_found, told_if}
+use Rattle.irc_burst.specs.Loops.Deeds.{MayWant, MayWantOf, told_of_deeds, collide, collided_if}
+use Rattle.irc_burst.specs.Loops.Deeds.{told_of_deed, deeds_read, effect_line_at, meant_at}
+use Rattle.irc_burst.specs.Loops.Deeds.{members_found}
+use Rattle.irc_burst.specs.Loops.Deeds.{njoin_line_at, told_found, told_if}
 use Rattle.irc_burst.specs.declared.njoin_line.MemberWords.{MemberWords}
 use Rattle.irc_burst.specs.Loops.Commands.{comes_to}
 use Rattle.irc_burst.proofs.ServerRows.{no_burst_row, no_server_row, server_row}
@@ -110,13 +110,14 @@ module _ (at : Arrival) (message : Parsed) (command : EffectCommand) where
       → collided_if at deed
       ≡ flat_map (collide at.routes.now.name at.room.now.room) (told_if deed)
   alone None = refl
-  alone (Some deed) = sym (append-nil (collide at.routes.now.name at.room.now.room (act_told deed)))
+  alone (Some deed) =
+      sym (append-nil (collide at.routes.now.name at.room.now.room (told_of_deed deed)))
 
   pub effect-ok : (deed : Option Code) (deeds : Vec Code)
       → told_found (Ok deed)
       ≡ first_reason (judged message.prefix
       (check_of command (reader at) message.prefix message.params))
-      → acts_told deeds.items ≡ collided_if at deed
+      → told_of_deeds deeds.items ≡ collided_if at deed
       → deeds_read (Ok deeds) ≡ effect_line_at command at message
   effect-ok deed deeds tells come = ap Ok (come ∙ alone deed) ∙ line_so (Ok deed) tells
 

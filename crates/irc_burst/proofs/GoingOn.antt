@@ -11,7 +11,7 @@ use Rattle.std.specs.Cmp.Lexicographic.{pointwise_decides}
 use Rattle.irc_batch.specs.declared.close_reason.CloseReason.{CloseReason}
 use Rattle.irc_line.specs.Messages.{Parsed, message_of}
 use Rattle.irc_channels.specs.declared.flags.Flags.{Flags}
-use Rattle.irc_mode_words.specs.ModeWritten.{changes_written}
+use Rattle.irc_modes.specs.ModeWritten.{changes_written}
 use Rattle.irc_names.specs.Names.{is_channel, is_nick, is_server}
 use Rattle.irc_room.specs.effect.By.{By}
 use Rattle.irc_room.specs.effect.By.TheVariants as by

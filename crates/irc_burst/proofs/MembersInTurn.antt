@@ -31,7 +31,7 @@ use Rattle.irc_room.specs.Seen.{stored_nick}
 use Rattle.irc_link_reader.specs.declared.deed.NewMember.{NewMember}
 use Rattle.irc_burst.specs.DeedsMeant.{as_stored}
 use Rattle.irc_link_reader.specs.Loops.Tellings.{told_members}
-use Rattle.irc_burst.specs.Loops.Acts.{is_member_among, taken_as_stored}
+use Rattle.irc_burst.specs.Loops.Deeds.{is_member_among, taken_as_stored}
 
 pub among-told : (nick : List ℕ) (members : List NewMember) → is_member_among
     (told_members members) nick ≡ list_any (λ (member : NewMember). same member.nick nick) members

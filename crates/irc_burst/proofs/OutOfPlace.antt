@@ -5,8 +5,8 @@ use Rattle.irc_batch.specs.declared.close_reason.CloseReason.{CloseReason}
 use Rattle.irc_line.specs.Messages.{Parsed}
 use Rattle.irc_room.specs.Room.{Room}
 use Rattle.irc_routes.specs.Known.{Known}
-use Rattle.irc_handshake.specs.Openings.{opening_of}
-use Rattle.irc_handshake.specs.declared.openings.Opening.{Opening}
+use Rattle.irc_link_words.specs.Openings.{opening_of}
+use Rattle.irc_link_words.specs.declared.openings.Opening.{Opening}
 use Rattle.irc_burst.specs.DeedsMeant.{deeds_meant}
 use Rattle.irc_burst.specs.HandshakeMeant.{handshake_meant, out_of_place}
 

@@ -4,7 +4,7 @@ use Rattle.std.proofs.Common.{ap, ◌∙◌}
 use Rattle.std.specs.Char.{to_ascii_lowercase}
 use Rattle.std.specs.List.{find}
 use Rattle.std.specs.Str.{bytes_eq}
-use Rattle.irc_link_words.specs.declared.commands.Command.TheVariants.{OfEffects, OfServers}
+use Rattle.irc_link_words.specs.declared.commands.LinkCommand.TheVariants.{OfEffects, OfServers}
 use Rattle.irc_link_words.specs.declared.commands.EffectCommand.{EffectCommand}
 use Rattle.irc_link_words.specs.declared.commands.EffectCommand.TheVariants as effect
 use Rattle.irc_link_words.specs.declared.commands.ServerCommand.{ServerCommand}

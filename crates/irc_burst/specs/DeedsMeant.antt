@@ -4,21 +4,20 @@
 --
 -- Lines by the link to b.net, as a.net reads them; bo is a user of b.net, al one of a.net, and
 -- c.net is unknown.
--- `:b.net SERVER c.net 2 2 :C` c.net is behind the link, two links away, and has number 2 there
---   `:b.net SERVER c.net 3 2 :C`           Parameters: a server linked to b.net is two links away
---   `:b.net SERVER c.net 2 1 :C`           BadToken: number 1 is b.net's
---   `:b.net SERVER a.net 2 2 :A`           AlreadyKnown
--- `:b.net SQUIT c.net :b.net c.net` BadName, as c.net is unknown; of a.net it would be
--- WrongDirection
--- `:b.net KILL al :Nick collision` al quits; with another text Parameters; of a nickname that
--- nobody has it means nothing
--- `:b.net NJOIN #c :@bo,+zz` bo becomes a member, and an operator, if it is none; zz is nobody, and
--- left out
--- `:b.net TOPIC #c :hello` counts where #c is there and has a member behind the link, else it means
--- nothing
--- `NICK al 1 u h 1 + :Al` al is killed in the name of a.net, and the newcomer is not taken
--- `:bo NICK al` both are killed, al first: the nicknames are in folded order
---   `PASS pw 0210010001 TREE|`             Order: it begins a link
+--   `:b.net SERVER c.net 2 2 :C`         c.net is behind the link, two links away, number 2 there
+--   `:b.net SERVER c.net 3 2 :C`         Parameters: a server linked to b.net is two links away
+--   `:b.net SERVER c.net 2 1 :C`         BadToken: number 1 is b.net's
+--   `:b.net SERVER a.net 2 2 :A`         AlreadyKnown
+--   `:b.net SQUIT c.net :b.net c.net`    BadName, as c.net is unknown; of a.net WrongDirection
+--   `:b.net KILL al :Nick collision`     al quits; with another text Parameters; of a nickname
+--                                        that nobody has it means nothing
+--   `:b.net NJOIN #c :@bo,+zz`           bo becomes a member, and an operator, if it is none; zz
+--                                        is nobody, and left out
+--   `:b.net TOPIC #c :hello`             counts where #c is there and has a member behind the
+--                                        link, else it means nothing
+--   `NICK al 1 u h 1 + :Al`              al is killed in the name of a.net, the newcomer not taken
+--   `:bo NICK al`                        both are killed, al first: in folded order
+--   `PASS pw 0210010001 TREE|`           Order: it begins a link
 use Rattle.std.specs.Prelude.{ℕ, ◌+◌, Bool, true, false, not, ◌&&◌, ◌||◌, is_some, is_none, Option}
 use Rattle.std.specs.Prelude.{Some, None, Result, Ok, Err, List, [], ◌∷◌, codes, length, map}
 use Rattle.std.specs.Prelude.{nat_eq, nat_lt, nat_le, if◌then◌else◌}
@@ -51,8 +50,8 @@ use Rattle.irc_link_reader.specs.Means.{means}
 use Rattle.irc_link_reader.specs.Reader.{Reader, reader_of, may_come}
 pub use Rattle.irc_link_reader.specs.Told.{Told, a_deed, a_server, Judged, unless_late}
 pub use Rattle.irc_link_reader.specs.Told.{first_reason, server_of, kept_prefix, wire_reason}
-use Rattle.irc_handshake.specs.Openings.{password_of, greeting_of}
-use Rattle.irc_handshake.specs.Peers.{not_taken}
+use Rattle.irc_link_words.specs.Openings.{password_of, greeting_of}
+use Rattle.irc_link_words.specs.Peers.{not_taken}
 
 -- a line with too few or too many parameters, or not from a name where it has to be
 abbrev pub malformed_burst : Judged

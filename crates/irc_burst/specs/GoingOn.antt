@@ -1,10 +1,10 @@
 -- What goes on as it came (RFC 2813 section 4): what is read of a MODE, a TOPIC or an NJOIN of a
 -- server is written again as that line, whatever the room of the writer and whichever servers it
 -- knows. So a server needs to keep the line of nothing that it passes on.
--- `:b.net MODE #c +ol BO 5` goes on with the words that it came with, where to clients it would be
--- shown with `bo`, as that user is stored
--- `:b.net NJOIN #c :@bo,+cy` goes on so where both become members, and are spelled as they are
--- stored; who does not become one is left out
+--   `:b.net MODE #c +ol BO 5`   goes on with the words that it came with, where to clients it would
+--                               be shown with `bo`, as that user is stored
+--   `:b.net NJOIN #c :@bo,+cy`  goes on so where both become members, and are spelled as they are
+--                               stored; who does not become one is left out
 use Rattle.std.specs.Prelude.{◌≡◌, ℕ, true, Some, Ok, List, [], ◌∷◌, codes, map}
 use Rattle.std.specs.List.{AllByRecursion}
 use Rattle.irc_line.specs.Messages.{Parsed, message_of}

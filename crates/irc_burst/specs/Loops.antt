@@ -1,4 +1,4 @@
 -- Words of this crate's code alone. No rule stands here.
-pub mod Acts
+pub mod Deeds
 pub mod Commands
 pub mod Handshakes

@@ -1,8 +1,8 @@
-//! Why a line of a server is not read.
+//! Why a line behind the handshake is not read.
 use irc_batch::CloseReason;
 use thiserror::Error;
 
-/// Why a line of a server is not read.
+/// Why a line behind the handshake, of a user or of a server, is not read.
 #[derive(Clone, Copy, Debug, Drop, PartialEq, Eq, Error)]
 pub enum BurstFault {
     /// The line closes the link.

@@ -3,22 +3,21 @@ ghost use Rattle.std.specs.Prelude.{◌≡◌, true, IfOk, OnErr};
 ghost use Rattle.irc_line.specs.MessageViews.{parsed};
 ghost use Rattle.irc_link_reader.specs.Means.{is_mode_line};
 ghost use Rattle.irc_burst.specs.HandshakeMeant.{out_of_place};
-ghost use Rattle.irc_burst.specs.Loops.Acts.{meant_at};
+ghost use Rattle.irc_burst.specs.Loops.Deeds.{meant_at};
 ghost use Rattle.irc_burst.specs.Loops.Handshakes.{opening_at};
 
 use crate::reading::read_line;
 use irc_batch::CloseReason;
-use irc_handshake::{Opening, read_opening, told_first};
 use irc_line::Message;
 use irc_link_reader::Arrival;
-use irc_link_words::is_command;
+use irc_link_words::{Opening, is_command, read_opening, told_first};
 use std::alloc::{AllocError, Global};
 
 /// What a line says that came by a link before the neighbour named itself, or why it closes the
 /// link. `has_password` is whether the neighbour has given a password. Reasons are looked for in
 /// this order: UnknownCommand, Parameters, Order, UnknownPeer where the neighbour gives itself a
 /// name that is no server's. Whether it is a peer, and gave its password, is not looked at: that is
-/// [`irc_handshake::refusal`].
+/// [`irc_link_words::refusal`].
 ///
 /// # Errors
 /// Where memory runs out, which takes a MODE.

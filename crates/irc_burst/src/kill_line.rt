@@ -2,14 +2,15 @@
 ghost use Rattle.std.specs.Prelude.{◌≡◌, Ok, Err, codes, if◌then◌else◌};
 ghost use Rattle.std.specs.Str.{bytes_eq};
 ghost use Rattle.irc_batch.specs.declared.close_reason.CloseReason.TheVariants.{Parameters};
-ghost use Rattle.irc_burst.specs.Loops.Acts.{GivesTold, kill_line_at, killed_at, told_if};
+ghost use Rattle.irc_burst.specs.Loops.Deeds.{GivesTold, kill_line_at, killed_at, told_if};
 
 use irc_batch::CloseReason;
 use irc_link_reader::{Arrival, Deed, Killing, expect_from};
 use irc_link_words::{Params, read_nick, read_server};
 use irc_names::ServerName;
 
-/// The holder of a nickname is killed; nothing is done where nobody has it.
+/// Reads a KILL from `server`: the holder of the nickname who is killed, or the first reason against
+/// the line. It tells nothing where nobody has the nickname.
 pub(crate) fn kill_line(
     at: Arrival<'_>,
     server: &[u8],
@@ -39,7 +40,7 @@ fn expect_collision(text: &[u8]) -> Result<(), CloseReason>
     }
 }
 
-/// The holder of a nickname is killed, if there is one.
+/// What tells that the holder of a nickname is killed, if there is one.
 fn killed(at: Arrival<'_>, server: ServerName, nick: &[u8]) -> Option<Deed>
     ensures { told_if result ≡ killed_at at.entry server nick.now }
 {

@@ -2,7 +2,7 @@
 //! have, members and modes and topics of a burst. Definitions are in `specs/`.
 #![tactic(auto)]
 
-mod effect_acts;
+mod effect_deeds;
 mod fault;
 mod handshake;
 mod kill_line;
@@ -15,6 +15,6 @@ mod server_lines;
 pub use fault::BurstFault;
 pub use handshake::read_handshake_line;
 pub use irc_link_reader::{
-    Arrivals, Deed, Deed as BurstAct, Killing, Loss, NewMember, NewServer, Setting, Topic,
+    Deed, Killing, Loss, ModeSetting, NewMember, NewMembers, NewServer, Topic,
 };
 pub use reading::{read_burst_line, read_line};

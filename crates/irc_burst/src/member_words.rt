@@ -6,7 +6,7 @@ ghost use Rattle.irc_channels.specs.declared.flags.Flags.{Flags};
 ghost use Rattle.irc_batch.specs.declared.close_reason.CloseReason.TheVariants.{BadName};
 ghost use Rattle.irc_batch.specs.declared.close_reason.CloseReason.TheVariants.{Parameters};
 ghost use Rattle.irc_burst.specs.DeedsMeant.{has_mark, is_comma, member_of, without_mark};
-ghost use Rattle.irc_burst.specs.Loops.Acts.{are_few, are_named, has_member_nick};
+ghost use Rattle.irc_burst.specs.Loops.Deeds.{are_few, are_named, has_member_nick};
 
 use irc_batch::CloseReason;
 use irc_burst_lines::MEMBERS_A_LINE;

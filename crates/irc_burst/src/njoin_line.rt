@@ -7,7 +7,7 @@ ghost use Rattle.irc_room.specs.Room.{IsWellFormed};
 ghost use Rattle.irc_link_reader.specs.Loops.Tellings.{told_members};
 ghost use Rattle.irc_link_reader.specs.Loops.Readings.{reader};
 ghost use Rattle.irc_burst.specs.DeedsMeant.{first_reason, is_comma, member_of};
-ghost use Rattle.irc_burst.specs.Loops.Acts.{
+ghost use Rattle.irc_burst.specs.Loops.Deeds.{
   is_member_among,
   members_brought,
   members_found,
@@ -21,12 +21,13 @@ ghost use Rattle.irc_burst.specs.Loops.Acts.{
 
 use crate::member_words::{expect_few, expect_nicks, flags_of, nick_of};
 use irc_batch::CloseReason;
-use irc_link_reader::{Arrival, Arrivals, Deed, NewMember, expect_from, is_far};
+use irc_link_reader::{Arrival, Deed, NewMember, NewMembers, expect_from, is_far};
 use irc_link_words::{Params, read_channel, read_server};
 use irc_names::{ChannelName, Nick, ServerName, same};
 use std::alloc::{AllocError, Global};
 
-/// Users become members of a channel; nothing is done where nobody does.
+/// Reads an NJOIN from `server`: who becomes a member, or the first reason against the line. It
+/// tells nothing where nobody does.
 pub(crate) fn njoin_line(
     alloc: Global,
     at: Arrival<'_>,
@@ -46,7 +47,7 @@ pub(crate) fn njoin_line(
     Ok(Ok(brought(words.server, words.channel, members)))
 }
 
-/// Members are brought, if there are any.
+/// What tells of these members of a channel, if there are any.
 fn brought(
     server: ServerName,
     channel: ChannelName,
@@ -57,7 +58,7 @@ fn brought(
     if members.is_empty() {
         None
     } else {
-        Some(Deed::Members(Arrivals {
+        Some(Deed::Members(NewMembers {
             server,
             channel,
             members,
@@ -118,7 +119,7 @@ fn new_members(
     members_in_turn(alloc, at, channel, words.as_slice())
 }
 
-/// The same, by the words between commas.
+/// Those who become members by these words, one word a user, in order.
 fn members_in_turn(
     alloc: Global,
     at: Arrival<'_>,

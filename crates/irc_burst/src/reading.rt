@@ -1,7 +1,7 @@
 //! Lines of a link, read as what they mean (RFC 2813 section 4, RFC 2812 section 3.7.1).
 ghost use Rattle.std.specs.Prelude.{◌≡◌, Some, IfOk, IsOk, OnErr};
 ghost use Rattle.irc_line.specs.MessageViews.{parsed};
-ghost use Rattle.irc_burst.specs.Loops.Acts.{
+ghost use Rattle.irc_burst.specs.Loops.Deeds.{
   deeds_read,
   effect_line_at,
   meant_at,
@@ -12,7 +12,7 @@ ghost use Rattle.irc_burst.specs.Loops.Acts.{
 };
 ghost use Rattle.irc_burst.specs.Loops.Commands.{comes_to};
 
-use crate::effect_acts::{collided, listed};
+use crate::effect_deeds::{collided, listed};
 use crate::fault::BurstFault;
 use crate::kill_line::kill_line;
 use crate::njoin_line::njoin_line;
@@ -20,7 +20,7 @@ use crate::server_lines::{pass_line, server_line, squit_line};
 use irc_batch::CloseReason;
 use irc_line::Message;
 use irc_link_reader::{Arrival, Deed, tell_effect};
-use irc_link_words::{Command, EffectCommand, Params, ServerCommand, command_of};
+use irc_link_words::{EffectCommand, LinkCommand, Params, ServerCommand, command_of};
 use irc_room::Room;
 use irc_routes::Routes;
 use std::alloc::{AllocError, Global};
@@ -67,8 +67,8 @@ pub fn read_line(
         (meant_at at.entry (parsed message.now))) }
 {
     match command_of(message.command) {
-        Some(Command::OfEffects(command)) => effect_line(alloc, at, command, message),
-        Some(Command::OfServers(command)) => server_deeds(alloc, at, command, message),
+        Some(LinkCommand::OfEffects(command)) => effect_line(alloc, at, command, message),
+        Some(LinkCommand::OfServers(command)) => server_deeds(alloc, at, command, message),
         None => Ok(Err(CloseReason::UnknownCommand)),
     }
 }
@@ -91,7 +91,7 @@ fn effect_line(
     }
 }
 
-/// What a line of a server means.
+/// The deeds that a line of a server tells of: one, or none.
 fn server_deeds(
     alloc: Global,
     at: Arrival<'_>,
@@ -109,7 +109,8 @@ fn server_deeds(
     }
 }
 
-/// What a line of a server tells that came by a link, if it tells anything.
+/// What a line of a server tells, if it tells anything. Only SERVER and PASS may be without a name
+/// in front.
 fn tell_server(
     alloc: Global,
     at: Arrival<'_>,
@@ -132,7 +133,7 @@ fn tell_server(
     }
 }
 
-/// The same of a line that is from a name.
+/// The same of a line that is from `server`.
 fn line_of_server(
     alloc: Global,
     at: Arrival<'_>,

@@ -8,17 +8,20 @@ ghost use Rattle.irc_link_reader.specs.Loops.Readings.{reader};
 ghost use Rattle.irc_routes.specs.Info.{is_info};
 ghost use Rattle.irc_routes.specs.Known.{is_known};
 ghost use Rattle.irc_burst.specs.DeedsMeant.{only_first, pass_line};
-ghost use Rattle.irc_burst.specs.Loops.Acts.{is_next_at, is_one_further, may_be_lost};
-ghost use Rattle.irc_burst.specs.Loops.Acts.{server_judged_at, server_line_at, squit_line_at};
-ghost use Rattle.irc_burst.specs.Loops.Acts.{GivesTold};
+ghost use Rattle.irc_burst.specs.Loops.Deeds.{is_next_at, is_one_further, may_be_lost};
+ghost use Rattle.irc_burst.specs.Loops.Deeds.{server_judged_at, server_line_at, squit_line_at};
+ghost use Rattle.irc_burst.specs.Loops.Deeds.{GivesTold};
 
 use irc_batch::CloseReason;
-use irc_handshake::{not_taken, read_greeting, read_password};
 use irc_link_reader::{Arrival, Deed, Loss, NewServer, expect_from, is_far, server};
-use irc_link_words::{MAX_NUMBER, Params, read_number, read_server, read_words};
+use irc_link_words::{
+    MAX_NUMBER, Params, not_taken, read_greeting, read_number, read_password, read_server,
+    read_words,
+};
 use irc_routes::Info;
 
-/// A server comes; the line by which one names itself stands at the beginning of a link alone.
+/// What a SERVER tells: a server that came, where the line is from a name. Without one it is the
+/// line by which a neighbour names itself, which stands at the beginning of a link alone.
 pub(crate) fn server_line(
     at: Arrival<'_>,
     prefix: Option<&[u8]>,
@@ -41,7 +44,8 @@ struct ServerWords<'a> {
     info: &'a [u8],
 }
 
-/// A server comes.
+/// Reads the words of a SERVER from `uplink`, the server to which the new one is linked, and judges
+/// them.
 fn later_server(
     at: Arrival<'_>,
     uplink: &[u8],
@@ -63,7 +67,8 @@ fn later_server(
     server_told(at, uplink, words)
 }
 
-/// A server comes, of which the line has these words.
+/// Judges these words of a SERVER from `uplink`: the server that came, or the first reason against
+/// it.
 fn server_told(
     at: Arrival<'_>,
     uplink: &[u8],
@@ -132,7 +137,7 @@ fn expect_free(at: Arrival<'_>, token: u32) -> Result<(), CloseReason>
     }
 }
 
-/// A password comes, but the link has begun.
+/// Refuses a PASS, for the link has begun: by its words alone, or by its place.
 pub(crate) fn pass_line(
     prefix: Option<&[u8]>,
     params: Params<'_>,
@@ -145,7 +150,8 @@ pub(crate) fn pass_line(
     }
 }
 
-/// A line that stands at the beginning of a link alone, with these parameters or with others.
+/// Refuses a line that stands at the beginning of a link alone: by its place where its parameters
+/// are such a line's, else by them. It is never read as anything.
 fn only_first(are_parameters: bool) -> Result<Option<Deed>, CloseReason>
     ensures { GivesTold (only_first are_parameters) result }
 {
@@ -156,7 +162,8 @@ fn only_first(are_parameters: bool) -> Result<Option<Deed>, CloseReason>
     }
 }
 
-/// A server is lost.
+/// Reads a SQUIT from `server`, and judges it: the server that is lost, or the first reason against
+/// the line.
 pub(crate) fn squit_line(
     at: Arrival<'_>,
     server: &[u8],

@@ -12,7 +12,7 @@ use Rattle.std.specs.List.{flat_map}
 use Rattle.irc_line.specs.Messages.{Written}
 use Rattle.irc_channels.specs.declared.flags.Flags.{Flags}
 use Rattle.irc_modes.specs.declared.modes.ModeChange.{ModeChange}
-use Rattle.irc_mode_words.specs.ModeWritten.{changes_written}
+use Rattle.irc_modes.specs.ModeWritten.{changes_written}
 use Rattle.irc_room.specs.Room.{Room}
 use Rattle.irc_routes.specs.Known.{Known}
 use Rattle.irc_merge.specs.Deeds.{Deed, does, gains, loses, kills, brings, sets, tops}

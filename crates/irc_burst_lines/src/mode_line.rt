@@ -10,8 +10,7 @@ ghost use Rattle.irc_burst_lines.specs.DeedLines.{mode_parts};
 
 use irc_line::{Text, push_cut};
 use irc_link_writer::push_head;
-use irc_mode_words::{push_letters, push_parameter};
-use irc_modes::ModeChange;
+use irc_modes::{ModeChange, push_letters, push_parameter};
 use irc_names::{ChannelName, ServerName};
 
 /// The line in which a server tells of modes of a channel, with the words that the changes have:

@@ -29,8 +29,8 @@ use Rattle.irc_membership.specs.Laws.PartDoes.{part_looks_at_no_invitation}
 use Rattle.irc_moderation.specs.Laws.InvitationsLaw.{mode_looks_at_no_invitations}
 use Rattle.irc_commands.specs.declared.say.Verb.{Verb}
 use Rattle.irc_commands.specs.declared.say.Verb.TheVariants as verb
-use Rattle.irc_registering.specs.declared.command_names.Command.{Command}
-use Rattle.irc_registering.specs.declared.command_names.Command.TheVariants as command
+use Rattle.irc_commands.specs.declared.command_names.Command.{Command}
+use Rattle.irc_commands.specs.declared.command_names.Command.TheVariants as command
 use Rattle.irc_commands.specs.Limits.{max_targets}
 use Rattle.irc_commands.specs.Decisions.{nothing, does}
 use Rattle.irc_commands.specs.Decide.{decide_for, decide}
@@ -41,8 +41,8 @@ use Rattle.irc_commands.specs.Table.{decided_by, command_row, too_few}
 use Rattle.irc_commands.specs.Topic.{topic_set, topic_known, topic_of, topic_steps}
 use Rattle.irc_commands.proofs.QueriesAlike.{names_alike, list_alike, lusers_alike, ison_alike}
 use Rattle.irc_commands.proofs.QueriesAlike.{whois_alike, who_alike}
-use Rattle.irc_registering.specs.CommandNames.{CommandRow, row_named}
-use Rattle.irc_registering.specs.OwnLines.{is_from}
+use Rattle.irc_commands.specs.CommandNames.{CommandRow, row_named}
+use Rattle.irc_commands.specs.OwnLines.{is_from}
 
 -- PRIVMSG and NOTICE
 

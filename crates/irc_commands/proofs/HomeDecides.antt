@@ -17,14 +17,14 @@ use Rattle.irc_acts.specs.Acts.{client_words}
 use Rattle.irc_commands.specs.AtHome.{HomeIsAlikeForItsOwn, DecidedAtHome, RegisteringByUsers}
 use Rattle.irc_commands.specs.AtHome.{RegisteringAtHome}
 use Rattle.irc_commands.specs.OwnInvitations.{DecidedByOwnInvitations}
-use Rattle.irc_registering.specs.Register.{replies, user_of, welcomed, completed, complete}
-use Rattle.irc_registering.specs.Register.{nick_chosen, nick_row, user_row, pending_row_of}
-use Rattle.irc_registering.specs.Register.{register}
-use Rattle.irc_registering.specs.declared.pending.Pending.{Pending}
-use Rattle.irc_registering.specs.declared.command_names.Command.{Command}
-use Rattle.irc_registering.specs.declared.command_names.Command.TheVariants as command
-use Rattle.irc_registering.specs.CommandNames.{command_of}
-use Rattle.irc_registering.specs.OwnLines.{is_from}
+use Rattle.irc_commands.specs.Register.{replies, user_of, welcomed, completed, complete}
+use Rattle.irc_commands.specs.Register.{nick_chosen, nick_row, user_row, pending_row_of}
+use Rattle.irc_commands.specs.Register.{register}
+use Rattle.irc_commands.specs.declared.pending.Pending.{Pending}
+use Rattle.irc_commands.specs.declared.command_names.Command.{Command}
+use Rattle.irc_commands.specs.declared.command_names.Command.TheVariants as command
+use Rattle.irc_commands.specs.CommandNames.{command_of}
+use Rattle.irc_commands.specs.OwnLines.{is_from}
 
 pub home_is_alike_for_its_own : HomeIsAlike → HomeKnowsItsInvited → HomeIsAlikeForItsOwn
 home_is_alike_for_its_own alike invited home room who own = record {

@@ -21,17 +21,17 @@ use Rattle.irc_acts.specs.Acts.{client_words}
 use Rattle.irc_acts.specs.ByTest.{by_test}
 use Rattle.irc_acts.specs.CarriedWords.{front_carried}
 use Rattle.irc_acts.specs.Sendable.{AreSendable}
-use Rattle.irc_registering.specs.declared.pending.Pending.{Pending}
-use Rattle.irc_registering.specs.declared.command_names.Command.{Command}
-use Rattle.irc_registering.specs.declared.command_names.Command.TheVariants as command
-use Rattle.irc_registering.specs.Ping.{ping_steps}
-use Rattle.irc_registering.specs.Register.{replies, user_of, welcomed, completed, complete}
-use Rattle.irc_registering.specs.Register.{nick_chosen, nick_row, user_row, pending_row_of}
-use Rattle.irc_registering.specs.Register.{register, Registered}
+use Rattle.irc_commands.specs.declared.pending.Pending.{Pending}
+use Rattle.irc_commands.specs.declared.command_names.Command.{Command}
+use Rattle.irc_commands.specs.declared.command_names.Command.TheVariants as command
+use Rattle.irc_commands.specs.Ping.{ping_steps}
+use Rattle.irc_commands.specs.Register.{replies, user_of, welcomed, completed, complete}
+use Rattle.irc_commands.specs.Register.{nick_chosen, nick_row, user_row, pending_row_of}
+use Rattle.irc_commands.specs.Register.{register, Registered}
 use Rattle.irc_commands.specs.Sendable.{IsNamed, IsPendingWithin, RegisteringIsSendable}
 use Rattle.irc_commands.proofs.SendableLaws.{all_words}
-use Rattle.irc_registering.specs.CommandNames.{command_of}
-use Rattle.irc_registering.specs.OwnLines.{is_from}
+use Rattle.irc_commands.specs.CommandNames.{command_of}
+use Rattle.irc_commands.specs.OwnLines.{is_from}
 
 -- what is given now keeps to the limits, and what is done can be sent
 abbrev IsGood : Room → Registered → Type 0

@@ -31,8 +31,8 @@ use Rattle.irc_acts.specs.Marks.{asterisk}
 use Rattle.irc_acts.specs.OtherInvitations.{uninviting, AreAlike}
 use Rattle.irc_acts.specs.Standing.{is_listed, is_known, is_seen, is_seen_from}
 use Rattle.irc_acts.specs.Words.{names_channel}
-use Rattle.irc_answers.specs.Names.{in_lines, names_of, known_names, end_of_names, one_names}
-use Rattle.irc_answers.specs.Names.{names_steps}
+use Rattle.irc_acts.specs.Names.{in_lines, names_of, known_names, end_of_names, one_names}
+use Rattle.irc_acts.specs.Names.{names_steps}
 use Rattle.irc_queries.specs.Ison.{users_on, ison_steps}
 use Rattle.irc_queries.specs.Lusers.{channels_formed, lusers_steps}
 use Rattle.irc_queries.specs.List.{channel_entry, listed_entries, known_entry, asked_entry}

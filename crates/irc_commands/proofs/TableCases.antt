@@ -17,8 +17,8 @@ use Rattle.irc_room.specs.InTurn.{EachInTurn}
 use Rattle.irc_routes.specs.Place.{Place}
 use Rattle.irc_acts.specs.declared.act.Act.{Act}
 use Rattle.irc_acts.specs.declared.act.Act.TheVariants.{Answer, Raw, Do}
-use Rattle.irc_registering.specs.declared.command_names.Command.{Command}
-use Rattle.irc_registering.specs.declared.command_names.Command.TheVariants as command
+use Rattle.irc_commands.specs.declared.command_names.Command.{Command}
+use Rattle.irc_commands.specs.declared.command_names.Command.TheVariants as command
 use Rattle.irc_commands.specs.Table.{decided_by, command_row, too_few}
 use Rattle.irc_acts.specs.Acts.{client_words, effects_among}
 use Rattle.irc_commands.specs.Decisions.{Decided, nothing, does}
@@ -36,8 +36,8 @@ use Rattle.irc_moderation.specs.Laws.ModeLaw.{mode_is_own}
 use Rattle.irc_membership.specs.Laws.JoinLaw.{join_is_own_or_leaves}
 use Rattle.irc_membership.specs.Laws.KickLaw.{kick_is_own}
 use Rattle.irc_membership.specs.Laws.PartLaw.{part_is_own}
-use Rattle.irc_answers.specs.Names.{names_steps}
-use Rattle.irc_answers.specs.Laws.NamesLaw.{names_only_answers}
+use Rattle.irc_acts.specs.Names.{names_steps}
+use Rattle.irc_acts.specs.Laws.NamesLaw.{names_only_answers}
 use Rattle.irc_queries.specs.Ison.{ison_steps}
 use Rattle.irc_queries.specs.Laws.IsonLaw.{ison_only_answers}
 use Rattle.irc_queries.specs.Lusers.{lusers_steps}
@@ -50,7 +50,7 @@ use Rattle.irc_queries.specs.Who.{who_steps}
 use Rattle.irc_queries.specs.Laws.WhoLaw.{who_only_answers}
 use Rattle.irc_commands.specs.Nick.{is_anothers, nick_taken, nick_steps}
 use Rattle.irc_membership.specs.Part.{part_steps}
-use Rattle.irc_registering.specs.Ping.{ping_steps}
+use Rattle.irc_commands.specs.Ping.{ping_steps}
 use Rattle.irc_commands.specs.Say.{say_steps}
 use Rattle.irc_commands.specs.Topic.{topic_steps}
 use Rattle.irc_acts.specs.ByTest.{by_test}
@@ -61,12 +61,12 @@ use Rattle.irc_commands.proofs.CarriedCommands.{topic_given, kick_given, invite_
 use Rattle.irc_names.specs.UserTexts.{clean_user, cut_real}
 use Rattle.irc_numerics.specs.declared.replies.Reply.{Reply}
 use Rattle.irc_room.specs.Effects.{has_user}
-use Rattle.irc_registering.specs.declared.pending.Pending.{Pending}
-use Rattle.irc_registering.specs.Register.{replies, user_of, welcomed, completed, complete}
-use Rattle.irc_registering.specs.Register.{nick_chosen, nick_row, user_row, pending_row_of}
-use Rattle.irc_registering.specs.Register.{register, Registered}
-use Rattle.irc_registering.specs.CommandNames.{CommandRow, row_named, command_of}
-use Rattle.irc_registering.specs.OwnLines.{is_from}
+use Rattle.irc_commands.specs.declared.pending.Pending.{Pending}
+use Rattle.irc_commands.specs.Register.{replies, user_of, welcomed, completed, complete}
+use Rattle.irc_commands.specs.Register.{nick_chosen, nick_row, user_row, pending_row_of}
+use Rattle.irc_commands.specs.Register.{register, Registered}
+use Rattle.irc_commands.specs.CommandNames.{CommandRow, row_named, command_of}
+use Rattle.irc_commands.specs.OwnLines.{is_from}
 
 -- so it is in each case
 pub record IsSoDecided (room : Room) (who : List ℕ) (message : Parsed)

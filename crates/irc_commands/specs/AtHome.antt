@@ -7,9 +7,9 @@ use Rattle.irc_room.specs.Room.{Room, IsWellFormed}
 use Rattle.irc_room.specs.Invitations.{is_at, of_home}
 use Rattle.irc_routes.specs.Place.{Place}
 use Rattle.irc_acts.specs.OtherInvitations.{AreAlikeFor}
-use Rattle.irc_registering.specs.declared.pending.Pending.{Pending}
+use Rattle.irc_commands.specs.declared.pending.Pending.{Pending}
 use Rattle.irc_commands.specs.Decide.{decide}
-use Rattle.irc_registering.specs.Register.{register}
+use Rattle.irc_commands.specs.Register.{register}
 
 -- a room, and what a server has of it, are alike for who is connected to that server
 abbrev pub HomeIsAlikeForItsOwn : Type 0

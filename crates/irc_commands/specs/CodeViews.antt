@@ -17,7 +17,7 @@ use Rattle.irc_commands.specs.Decide.{decide}
 use Rattle.irc_commands.specs.Decisions.{Decided, does}
 use Rattle.irc_commands.specs.Nick.{nick_steps}
 use Rattle.irc_commands.specs.Say.{say_steps, say_to}
-use Rattle.irc_registering.specs.declared.command_names.Command.{Command}
+use Rattle.irc_commands.specs.declared.command_names.Command.{Command}
 use Rattle.irc_commands.specs.Table.{row_for, command_row}
 use Rattle.irc_commands.specs.Topic.{topic_steps}
 

@@ -11,9 +11,9 @@ use Rattle.irc_room.specs.Room.{Room, IsWellFormed}
 use Rattle.irc_routes.specs.Place.{Place}
 use Rattle.irc_acts.specs.declared.act.Act.{Act}
 use Rattle.irc_acts.specs.declared.act.Act.TheVariants.{Do}
-use Rattle.irc_registering.specs.declared.pending.Pending.{Pending}
+use Rattle.irc_commands.specs.declared.pending.Pending.{Pending}
 use Rattle.irc_commands.specs.Decide.{decide}
-use Rattle.irc_registering.specs.Register.{register}
+use Rattle.irc_commands.specs.Register.{register}
 
 -- whether a step makes somebody a user
 abbrev pub adds_user : Act → Bool

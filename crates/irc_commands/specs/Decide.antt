@@ -8,7 +8,7 @@ use Rattle.irc_room.specs.Room.{Room}
 use Rattle.irc_routes.specs.Place.{Place}
 use Rattle.irc_commands.specs.Decisions.{Decided, nothing}
 use Rattle.irc_commands.specs.Table.{row_for}
-use Rattle.irc_registering.specs.OwnLines.{is_from}
+use Rattle.irc_commands.specs.OwnLines.{is_from}
 
 -- who is a user of the room
 abbrev pub decide_for : Room → Place → Parsed → Option User → Decided

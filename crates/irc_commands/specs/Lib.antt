@@ -1,3 +1,10 @@
+pub mod Lines
+pub mod Ping
+pub mod Register
+pub mod CommandNames
+pub mod OwnLines
+pub mod Closing
+pub mod RegisteringViews
 pub mod Limits
 pub mod Decisions
 pub mod Quit

@@ -6,7 +6,7 @@ use Rattle.irc_acts.specs.declared.act.Act.TheVariants.{Raw, Do}
 use Rattle.irc_acts.specs.Words.{reason_given}
 use Rattle.irc_acts.specs.Acts.{bytes_kept}
 use Rattle.irc_commands.specs.Decisions.{Decided}
-use Rattle.irc_registering.specs.Closing.{error_line}
+use Rattle.irc_commands.specs.Closing.{error_line}
 
 -- what a QUIT does (RFC 2812 section 3.1.7): those who share a channel see it first, then the
 -- client is told and closed

@@ -9,9 +9,9 @@ use Rattle.irc_room.specs.Limits.{IsWithinLimits}
 use Rattle.irc_room.specs.Room.{Room, IsWellFormed}
 use Rattle.irc_routes.specs.Place.{Place}
 use Rattle.irc_acts.specs.Sendable.{AreSendable}
-use Rattle.irc_registering.specs.declared.pending.Pending.{Pending}
+use Rattle.irc_commands.specs.declared.pending.Pending.{Pending}
 use Rattle.irc_commands.specs.Decide.{decide}
-use Rattle.irc_registering.specs.Register.{register}
+use Rattle.irc_commands.specs.Register.{register}
 
 -- whatever message was read from a line, each effect of it can be sent when its turn comes
 abbrev pub DecidedIsSendable : Type 0

@@ -2,8 +2,8 @@
 -- and what it does for a registered user (RFC 2812 section 3).
 use Rattle.std.specs.Prelude.{ℕ, Option, Some, None, List, [], ◌∷◌, drop, length, nat_lt}
 use Rattle.std.specs.Prelude.{if◌then◌else◌}
-use Rattle.irc_registering.specs.declared.command_names.Command.{Command}
-use Rattle.irc_registering.specs.declared.command_names.Command.TheVariants as command
+use Rattle.irc_commands.specs.declared.command_names.Command.{Command}
+use Rattle.irc_commands.specs.declared.command_names.Command.TheVariants as command
 use Rattle.irc_line.specs.Messages.{Parsed}
 use Rattle.irc_users.specs.declared.user.User.{User}
 use Rattle.irc_numerics.specs.declared.replies.Reply.TheVariants.{AlreadyRegistered, NeedMoreParams}
@@ -15,13 +15,13 @@ use Rattle.irc_commands.specs.declared.say.Verb.TheVariants as verb
 use Rattle.irc_acts.specs.Acts.{client_words}
 use Rattle.irc_acts.specs.Words.{word_at}
 use Rattle.irc_commands.specs.Decisions.{Decided, nothing, does}
-use Rattle.irc_registering.specs.Ping.{ping_steps}
+use Rattle.irc_commands.specs.Ping.{ping_steps}
 use Rattle.irc_commands.specs.Quit.{quit_decided}
 use Rattle.irc_membership.specs.Invite.{invite_steps}
 use Rattle.irc_moderation.specs.Mode.{mode_steps}
 use Rattle.irc_membership.specs.Join.{join_steps}
 use Rattle.irc_membership.specs.Kick.{kick_steps}
-use Rattle.irc_answers.specs.Names.{names_steps}
+use Rattle.irc_acts.specs.Names.{names_steps}
 use Rattle.irc_queries.specs.Ison.{ison_steps}
 use Rattle.irc_queries.specs.Lusers.{lusers_steps}
 use Rattle.irc_queries.specs.List.{list_steps}
@@ -31,7 +31,7 @@ use Rattle.irc_commands.specs.Nick.{nick_steps}
 use Rattle.irc_membership.specs.Part.{part_steps}
 use Rattle.irc_commands.specs.Say.{say_steps}
 use Rattle.irc_commands.specs.Topic.{topic_steps}
-use Rattle.irc_registering.specs.CommandNames.{CommandRow, row_named}
+use Rattle.irc_commands.specs.CommandNames.{CommandRow, row_named}
 
 -- what a word that names no command is answered
 abbrev pub unknown : List ℕ → Decided

@@ -5,11 +5,11 @@ ghost use Rattle.irc_routes.specs.Known.{place_of};
 ghost use Rattle.irc_commands.specs.CodeViews.{IsDecision};
 
 use crate::decision::Decision;
+use crate::is_own;
 use crate::table::{decide_for, nothing};
 use irc_acts::Context;
 use irc_line::Message;
 use irc_names::Nick;
-use irc_registering::is_own;
 use irc_room::Room;
 use irc_routes::Routes;
 use std::alloc::{AllocError, Global};

@@ -3,7 +3,7 @@ ghost use Rattle.std.specs.Prelude.{◌≡◌, IfOk, option_to_list};
 ghost use Rattle.irc_line.specs.PartViews.{words_now};
 ghost use Rattle.irc_commands.specs.Nick.{is_anothers, nick_steps, nick_taken};
 ghost use Rattle.irc_commands.specs.CodeViews.{nick_here};
-ghost use Rattle.irc_registering.specs.RegisteringViews.{AreDecided};
+ghost use Rattle.irc_commands.specs.RegisteringViews.{AreDecided};
 
 use irc_acts::words::client_words;
 use irc_acts::{Act, Context, put};

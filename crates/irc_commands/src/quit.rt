@@ -4,10 +4,10 @@ ghost use Rattle.irc_line.specs.PartViews.{words_now};
 ghost use Rattle.irc_commands.specs.CodeViews.{IsDecidedIn};
 ghost use Rattle.irc_commands.specs.Quit.{quit_decided};
 
+use crate::closing::error;
 use crate::decision::Decision;
 use irc_acts::words::reason_given;
 use irc_acts::{Act, Context, only, put};
-use irc_registering::closing::error;
 use irc_room::Effect;
 use std::alloc::AllocError;
 

@@ -17,7 +17,7 @@ ghost use Rattle.irc_commands.specs.Say.{
   to_user,
   unless_notice,
 };
-ghost use Rattle.irc_registering.specs.RegisteringViews.{AreDecided};
+ghost use Rattle.irc_commands.specs.RegisteringViews.{AreDecided};
 
 use crate::MAX_TARGETS;
 use irc_acts::comma_lists::next_entry;

@@ -8,21 +8,19 @@ ghost use Rattle.irc_commands.specs.CodeViews.{GivesWithoutQuery, IsAsking, IsRo
 ghost use Rattle.irc_commands.specs.CodeViews.{IsWithoutQuery};
 ghost use Rattle.irc_commands.specs.Decisions.{does, nothing};
 ghost use Rattle.irc_commands.specs.Table.{too_few, unknown};
-ghost use Rattle.irc_registering.specs.RegisteringViews.{AreDecided};
+ghost use Rattle.irc_commands.specs.RegisteringViews.{AreDecided};
 
 use crate::decision::Decision;
 use crate::say::Verb;
-use crate::{nick, quit, say, topic};
+use crate::{Command, nick, ping, quit, say, topic};
 use irc_acts::refusals::need_more_params;
 use irc_acts::words::{client_words, word_at, words_behind};
-use irc_acts::{Act, Context, only};
-use irc_answers::names;
+use irc_acts::{Act, Context, names, only};
 use irc_line::Message;
 use irc_membership::{invite, join, kick, part};
 use irc_moderation::mode;
 use irc_numerics::Reply;
 use irc_queries::{Query, ison, lusers, whois};
-use irc_registering::{Command, ping};
 use std::alloc::{AllocError, Global};
 
 /// What a line of a user does, by the row of its command. Too few parameters are answered here,

@@ -4,7 +4,7 @@ ghost use Rattle.std.specs.Option.{option_copied};
 ghost use Rattle.irc_line.specs.PartViews.{words_now};
 ghost use Rattle.irc_commands.specs.Topic.{topic_of, topic_set, topic_told};
 ghost use Rattle.irc_commands.specs.CodeViews.{topic_here};
-ghost use Rattle.irc_registering.specs.RegisteringViews.{AreDecided};
+ghost use Rattle.irc_commands.specs.RegisteringViews.{AreDecided};
 
 use irc_acts::refusals::{no_such_channel, not_on_channel};
 use irc_acts::standing::is_known;

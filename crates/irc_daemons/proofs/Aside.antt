@@ -13,14 +13,14 @@ use Rattle.irc_line.specs.Lines.{begun_behind, completed, lines, nothing_begun}
 use Rattle.irc_line.specs.Messages.{Written, text}
 use Rattle.irc_batch.specs.declared.close_reason.CloseReason.TheVariants as reason
 use Rattle.irc_batch.specs.Batches.{end_of_link}
-use Rattle.irc_deeds.specs.LinkServed.{on_link, opening_parts}
+use Rattle.irc_server.specs.LinkServed.{on_link, opening_parts}
 use Rattle.irc_relay.specs.Links.{Name}
 use Rattle.irc_server.specs.Served.{Occurrence, in_silence, link_up, served}
 use Rattle.irc_stage.specs.EffectTold.{with_sent}
 use Rattle.irc_stage.specs.View.{View, password_for, with_end}
-use Rattle.irc_network.specs.Site.{Reply, line_body, reply}
+use Rattle.irc_network.specs.Node.{Served, line_body, reply}
 use Rattle.irc_world.specs.Stepping.{Item}
-use Rattle.irc_network.specs.Network.{begun, site_asked}
+use Rattle.irc_network.specs.Network.{begun, node_asked}
 use Rattle.irc_wires.specs.Wires.{Wires, lines_by, new_wire, wire_at}
 use Rattle.irc_network.specs.ByteNetwork.{ByteNetwork, byte_begun, bytes_come, completed_in}
 use Rattle.irc_network.specs.ByteNetwork.{queues_written, wires_come}
@@ -54,7 +54,7 @@ nothing_comes side net aside to there from = by (has_way net.network from to) re
 -- ---- a server puts something out
 
 -- one that is on the other side puts out nothing
-module _ (side : ℕ → Bool) (place : ℕ) (next : Reply) (along : Wires) (old new : ByteNetwork)
+module _ (side : ℕ → Bool) (place : ℕ) (next : Served) (along : Wires) (old new : ByteNetwork)
     (goes : GoesOn place next along old new)
     (stays : (x y : ℕ) → has_way old.network x y ≡ true → side x ≡ side y)
     (still : (x y : ℕ) → side x ≡ false → wire_at along x y ≡ new_wire)
@@ -97,7 +97,7 @@ module _ (side : ℕ → Bool) (place : ℕ) (next : Reply) (along : Wires) (old
 
 abbrev written_out : ℕ → Occurrence → ByteNetwork → ByteNetwork
 written_out place occurrence base =
-    queues_written (site_asked place occurrence (begun base.network)).net base.wires
+    queues_written (node_asked place occurrence (begun base.network)).net base.wires
 
 module _ (item : Item) (n : ℕ) (occurrence : Occurrence) (base : ByteNetwork) (view : View)
     (tidy : IsTidy base) (all : AllStill base)
@@ -198,7 +198,7 @@ module _ (view : View) (f y : ℕ) (two : nat_eq y f ≡ false) where
       by true = refl
       by false = none_else (opening_parts view name)
 
-  abbrev replied : Bool → Option Name → Reply
+  abbrev replied : Bool → Option Name → Served
   replied b called =
       if b then record {
         view = (served view (link_up f called)).view;

@@ -28,29 +28,29 @@ use Rattle.irc_server.specs.Happening.{IsHandled, occurrence_of, refuses_it, tak
 use Rattle.irc_stage.specs.declared.clients.Client.{Client}
 use Rattle.irc_server.specs.Served.{Occurrence, fault_of, link_there, no_link, not_there, of_client}
 use Rattle.irc_server.specs.Served.{served, there as not_new}
-use Rattle.irc_server_laws.specs.LineEnds.{ServedLinesEnd}
-use Rattle.irc_server_laws.specs.Own.{ServedGoesToItsOwn}
+use Rattle.irc_server.specs.LineEnds.{ServedLinesEnd}
+use Rattle.irc_server.specs.Own.{ServedGoesToItsOwn}
 use Rattle.irc_stage.specs.Handle.{goes, says}
 use Rattle.irc_stage.specs.View.{End, View}
-use Rattle.irc_network.specs.Site.{Reply, reply, serves_occurrence}
-use Rattle.irc_network.specs.Network.{Network, Site, begun, given, home_place, item_kept}
-use Rattle.irc_network.specs.Network.{server_place, site_asked, site_asked_if, site_at, site_view}
+use Rattle.irc_network.specs.Node.{Served, reply, serves_occurrence}
+use Rattle.irc_network.specs.Network.{Network, Node, begun, given, home_place, item_kept}
+use Rattle.irc_network.specs.Network.{server_place, node_asked, node_asked_if, node_at, node_view}
 use Rattle.irc_network.specs.Refusing.{client_fault, fault_at_rest, has_client}
-use Rattle.irc_wires.specs.Wires.{are_still, is_still, new_wire, wire_at, wire_in, Wire, Wires}
+use Rattle.irc_wires.specs.Wires.{are_still, is_still, new_wire, wire_at, wire_in, LinkWire, Wires}
 use Rattle.irc_network.specs.ByteNetwork.{ByteNetwork, is_byte_rest, item_given}
 use Rattle.irc_network.specs.ByteNetwork.{queues_written}
 use Rattle.irc_network.specs.Whole.{IsTidy, has_way}
 use Rattle.irc_net.specs.declared.fault.NetFault.TheVariants as net_fault
 use Rattle.irc_net.specs.Faults.{fault_by, item_fault}
-use Rattle.irc_engine.specs.declared.kind.Kind.TheVariants as kinds
+use Rattle.irc_engine.specs.declared.kind.ConnectionKind.TheVariants as kinds
 use Rattle.irc_engine.specs.Carrying.{answers, bytes_owed, is_closed_by}
 use Rattle.irc_engine.specs.Hearing.{line_by, lines_by}
 use Rattle.irc_engine.specs.Lemmas.CarryingLaws.{is_closed_by-append, nothing_owed, owed-append}
-use Rattle.irc_engine.specs.Running.{AreAsked, Asked}
+use Rattle.irc_engine.specs.Running.{AreAsked, ServerAsked}
 use Rattle.irc_daemons.specs.Alike.{AreServersAlike, AreApart, Numbers, ServedAlike, happens_at}
 use Rattle.irc_daemons.specs.Alike.{renumbered}
 use Rattle.irc_daemons.specs.AsNetwork.{LeadsTo, has_come, is_given, no_more}
-use Rattle.irc_server_laws.specs.Connected.{client_comes, client_goes, link_comes}
+use Rattle.irc_server.specs.Connected.{client_comes, client_goes, link_comes}
 use Rattle.irc_daemons.specs.Clients.{ClientsStay}
 use Rattle.irc_daemons.specs.Daemons.{Daemons}
 use Rattle.irc_daemons.specs.Items.{AreItems, AreSpaced, IsItem, has_item, is_connect, is_gone}
@@ -81,8 +81,8 @@ leads_both old mid new before items one (has_come front from to count between fi
 abbrev pub AllStill : ByteNetwork → Type 0
 AllStill net = (x y : ℕ) → wire_at net.wires x y ≡ new_wire
 
-still_row : (row : FinMap nat_cmp Wire) (numbers : List ℕ) → ((to : ℕ) → wire_in to row ≡ new_wire)
-    → list_all (λ to. is_still (wire_in to row)) numbers ≡ true
+still_row : (row : FinMap nat_cmp LinkWire) (numbers : List ℕ) → ((to : ℕ)
+    → wire_in to row ≡ new_wire) → list_all (λ to. is_still (wire_in to row)) numbers ≡ true
 still_row row [] all = refl
 still_row row (to ∷ numbers) all =
     ap (λ wire. is_still wire && list_all (λ q. is_still (wire_in q row)) numbers) (all to)
@@ -108,28 +108,28 @@ none_refused net item rest none =
 
 pub given_line : (net : ByteNetwork) (place client : ℕ) (text : List ℕ)
     → home_place net.network client ≡ Some place → (item_given (line client text) net).net
-    ≡ queues_written (item_kept (line client text) (site_asked place
+    ≡ queues_written (item_kept (line client text) (node_asked place
     (of_client (says client (read_of text))) (begun net.network))).net net.wires
 unfolding item_given given
 given_line net place client text home =
     ap
     (λ o. queues_written
-    (item_kept (line client text) (site_asked_if o (of_client (says client (read_of text)))
+    (item_kept (line client text) (node_asked_if o (of_client (says client (read_of text)))
     (begun net.network))).net net.wires) home
 
 pub given_gone : (net : ByteNetwork) (place client : ℕ) → home_place net.network client ≡ Some place
     → (item_given (gone client) net).net
     ≡ queues_written (item_kept (gone client)
-    (site_asked place (of_client (goes client)) (begun net.network))).net net.wires
+    (node_asked place (of_client (goes client)) (begun net.network))).net net.wires
 unfolding item_given given
 given_gone net place client home =
     ap (λ o. queues_written (item_kept (gone client)
-    (site_asked_if o (of_client (goes client)) (begun net.network))).net net.wires) home
+    (node_asked_if o (of_client (goes client)) (begun net.network))).net net.wires) home
 
-view_there : (o : Option Site) (view : View) → option_map (λ (s : Site). s.server) o
-    ≡ Some (Some view) → option_and_then (λ (s : Site). s.server) o ≡ Some view
+view_there : (o : Option Node) (view : View) → option_map (λ (s : Node). s.server) o
+    ≡ Some (Some view) → option_and_then (λ (s : Node). s.server) o ≡ Some view
 view_there None view none = cc none
-view_there (Some site) view some = inside site.server (Some view) some
+view_there (Some node) view some = inside node.server (Some view) some
 
 -- a client that its home has is not refused
 pub not_refused : (net : Network) (place client : ℕ) (view : View)
@@ -140,11 +140,11 @@ not_refused net place client view home at there = by (home_in net.homes client) 
     by_name : (name : Name) → home_in net.homes client ≡ Some name
         → server_place net name ≡ Some place → client_fault net client ≡ None
     by_name name is where_it_is =
-        let found : site_view net name ≡ Some view =
-        ap (λ o. option_and_then (λ (s : Site). s.server) (option_and_then (site_at net) o))
-        where_it_is ∙ view_there (site_at net place) view at in
+        let found : node_view net name ≡ Some view =
+        ap (λ o. option_and_then (λ (s : Node). s.server) (option_and_then (node_at net) o))
+        where_it_is ∙ view_there (node_at net place) view at in
         ap (λ b. if b then None else Some no_such_client)
-        (ap (λ o. option_map_or (has_client client) (option_and_then (site_view net) o) false) is
+        (ap (λ o. option_map_or (has_client client) (option_and_then (node_view net) o) false) is
         ∙ ap (λ o. option_map_or (has_client client) o false) found ∙ there)
 
     by : (o : Option Name) → home_in net.homes client ≡ o → client_fault net client ≡ None
@@ -186,7 +186,7 @@ serves view (LinkLine link text) none = some_end (get view.ends link) none
 serves view (LinkDown link) none = some_end (get view.ends link) none
 
 module _ (own : View) (event : Event) where
-  abbrev replied : Bool → Reply
+  abbrev replied : Bool → Served
   replied b =
       if b then record {
         view = (served own (occurrence_of event)).view;
@@ -201,8 +201,8 @@ module _ (own : View) (event : Event) where
       let by_it : reply own (occurrence_of event) ≡ replied true =
       ap replied (serves own event none) in record {
         none = none;
-        server_is = ap Some (does.view_is ∙ ap (λ (r : Reply). r.view) (sym by_it));
-        first_is = does.out_is ∙ ap (λ (r : Reply). r.out) (sym by_it);
+        server_is = ap Some (does.view_is ∙ ap (λ (r : Served). r.view) (sym by_it));
+        first_is = does.out_is ∙ ap (λ (r : Served). r.out) (sym by_it);
       }
   took_by result server first (refuses_it some) ok = cc ok
   took_by result server first (wants_memory none) ok = cc ok
@@ -384,7 +384,7 @@ module _ (lines_end : ServedLinesEnd) (own_law : ServedGoesToItsOwn) (stay : Cli
         (no_link_comes : (q : ℕ) → link_comes q (occurrence_of event) ≡ false) (net : ByteNetwork)
         (at : IsAt place numbers own net)
       where
-        abbrev mine : Reply
+        abbrev mine : Served
         mine = reply own (occurrence_of event)
 
         pub one_serves : ServesClients numbers own mine.view (event ∷ []) mine.out
@@ -414,12 +414,12 @@ module _ (lines_end : ServedLinesEnd) (own_law : ServedGoesToItsOwn) (stay : Cli
                 (client_comes q (occurrence_of event)) (connects_none q) is
 
         pub one_went : (item : Item) → Went place numbers mine.view mine.out net (queues_written
-            (item_kept item (site_asked place occurrence (begun net.network))).net net.wires)
+            (item_kept item (node_asked place occurrence (begun net.network))).net net.wires)
         one_went item =
             subst
             (λ (o : Occurrence). Went place numbers (reply own o).view (reply own o).out net
             (queues_written
-            (item_kept item (site_asked place occurrence (begun net.network))).net net.wires))
+            (item_kept item (node_asked place occurrence (begun net.network))).net net.wires))
             (sym is_it)
             (item_went lines_end own_law alike_law place numbers apart own at.other occurrence conn
             happens at.alike net at.tidy at.server at.ways item)
@@ -449,7 +449,7 @@ module _ (lines_end : ServedLinesEnd) (own_law : ServedGoesToItsOwn) (stay : Cli
             (item : Item) (items : List Item) (later rest : Bool) → first ≡ mine.out
             → AllStill net → fault_at_rest net.network item ≡ None
             → IsItemWithin item → (item_given item net).net ≡ queues_written
-            (item_kept item (site_asked place occurrence (begun net.network))).net net.wires
+            (item_kept item (node_asked place occurrence (begun net.network))).net net.wires
             → ((y q : ℕ) → numbers.link y ≡ Some q → is_closed_by q (first ++ more) ≡ false)
             → (rest ≡ true → list_any is_on_link first ≡ false) → ((after : ByteNetwork)
             → IsAt place numbers mine.view after → (rest ≡ true → AllStill after)
@@ -508,7 +508,7 @@ module _ (lines_end : ServedLinesEnd) (own_law : ServedGoesToItsOwn) (stay : Cli
 
     -- ---- one event, and then the others
 
-    module _ (later : Bool) (event : Event) (events : List Event) (old new : Asked)
+    module _ (later : Bool) (event : Event) (events : List Event) (old new : ServerAsked)
         (outs : List Sent) (own last : View) (net : ByteNetwork)
         (asked : AreAsked old (event ∷ events) outs new) (is_last : new.server ≡ Some last)
         (spaced : AreSpaced later (event ∷ events) old new outs asked)
@@ -547,7 +547,7 @@ module _ (lines_end : ServedLinesEnd) (own_law : ServedGoesToItsOwn) (stay : Cli
             → asked.first ≡ (reply own (occurrence_of event)).out
             → AllStill net → fault_at_rest net.network item ≡ None
             → IsItemWithin item → (item_given item net).net ≡ queues_written
-            (item_kept item (site_asked place occurrence (begun net.network))).net net.wires
+            (item_kept item (node_asked place occurrence (begun net.network))).net net.wires
             → AreItems names daemons place events more → Others
             → Goes place numbers own last (event ∷ events) outs (item ∷ more) later net
         item_goes occurrence conn item more is_it happens connects_none no_link_comes server_is
@@ -642,7 +642,7 @@ module _ (lines_end : ServedLinesEnd) (own_law : ServedGoesToItsOwn) (stay : Cli
 
     -- ---- all of them
 
-    pub all_go : (later : Bool) (events : List Event) (items : List Item) (old new : Asked)
+    pub all_go : (later : Bool) (events : List Event) (items : List Item) (old new : ServerAsked)
         (outs : List Sent) (own last : View) (net : ByteNetwork)
         (asked : AreAsked old events outs new) → old.server ≡ Some own → new.server ≡ Some last
         → AreItems names daemons place events items → AreSpaced later events old new outs asked
@@ -655,7 +655,7 @@ module _ (lines_end : ServedLinesEnd) (own_law : ServedGoesToItsOwn) (stay : Cli
     all_go later [] items old new outs own last net asked was is no_item spaced connects carried
         heard opened at still =
         let same : own ≡ last =
-        inside own last (sym was ∙ ap (λ (a : Asked). a.server) (sym asked.1) ∙ is) in
+        inside own last (sym was ∙ ap (λ (a : ServerAsked). a.server) (sym asked.1) ∙ is) in
         subst (λ os. Goes place numbers own last [] os [] later net) (sym asked.0)
         (subst (λ v. Goes place numbers own v [] [] [] later net) same (record {
           after = net;

@@ -22,22 +22,22 @@ use Rattle.irc_names.specs.Names.{IsHost}
 use Rattle.irc_world.specs.Stepping.{Item, connect}
 use Rattle.irc_server.specs.declared.event.Event.TheVariants.{Connect, LinkUp}
 use Rattle.irc_server.specs.Served.{Occurrence, of_client}
-use Rattle.irc_server_laws.specs.LineEnds.{ServedLinesEnd}
-use Rattle.irc_server_laws.specs.Own.{ServedGoesToItsOwn}
+use Rattle.irc_server.specs.LineEnds.{ServedLinesEnd}
+use Rattle.irc_server.specs.Own.{ServedGoesToItsOwn}
 use Rattle.irc_stage.specs.declared.clients.Client.{Client}
 use Rattle.irc_stage.specs.Handle.{connects}
-use Rattle.irc_network.specs.Site.{Reply, reply, serves_occurrence}
+use Rattle.irc_network.specs.Node.{Served, reply, serves_occurrence}
 use Rattle.irc_stage.specs.View.{View}
 use Rattle.irc_world.specs.World.{home_in}
-use Rattle.irc_network.specs.Network.{Network, Site, begun, home_place, item_kept, server_place}
-use Rattle.irc_network.specs.Network.{site_asked, site_at}
+use Rattle.irc_network.specs.Network.{Network, Node, begun, home_place, item_kept, server_place}
+use Rattle.irc_network.specs.Network.{node_asked, node_at}
 use Rattle.irc_wires.specs.Wires.{new_wire, wire_at}
 use Rattle.irc_network.specs.ByteNetwork.{ByteNetwork, item_given, queues_written}
 use Rattle.irc_network.specs.Whole.{IsTidy, has_way}
 use Rattle.irc_network.specs.Lemmas.NewFramer.{new_is_real}
 use Rattle.irc_engine.specs.declared.connection_table.Connection.{Connection}
-use Rattle.irc_engine.specs.declared.kind.Kind.{Kind}
-use Rattle.irc_engine.specs.declared.kind.Kind.TheVariants as kinds
+use Rattle.irc_engine.specs.declared.kind.ConnectionKind.{ConnectionKind}
+use Rattle.irc_engine.specs.declared.kind.ConnectionKind.TheVariants as kinds
 use Rattle.irc_engine.specs.Carrying.{Fate, answers, bytes_owed, fresh_connection, is_closed_by}
 use Rattle.irc_engine.specs.Carrying.{is_open_at, kind_at, open_kind_at}
 use Rattle.irc_engine.specs.Hearing.{Hears, begun_at, lines_by, nothing_of}
@@ -172,14 +172,14 @@ module _ {W : Type 0} (is_after : W → List Call → Type 0) (pieces : PiecesCo
 
     abbrev pub newcomer : Option ℕ
     newcomer =
-        newcomer_in is_after engine.rooms step.turn.report start mid_moment step.turn.does.answers
+        newcomer_in is_after engine.sizes step.turn.report start mid_moment step.turn.does.answers
 
     abbrev pub part : FirstPart is_after start mid_moment
-        (answers_did is_after engine.rooms step.turn.report start mid_moment step.turn.does.answers)
+        (answers_did is_after engine.sizes step.turn.report start mid_moment step.turn.does.answers)
         newcomer
-        (λ later. AnswersSpaced is_after later engine.rooms step.turn.report start mid_moment
+        (λ later. AnswersSpaced is_after later engine.sizes step.turn.report start mid_moment
         step.turn.does.answers)
-    part = first_part is_after engine.rooms step.turn.report start mid_moment step.turn.does.answers
+    part = first_part is_after engine.sizes step.turn.report start mid_moment step.turn.does.answers
 
     abbrev pub begin : Moment W
     begin = part.begin
@@ -215,9 +215,11 @@ module _ {W : Type 0} (is_after : W → List Call → Type 0) (pieces : PiecesCo
         by : BeginsWith start begin part.given newcomer → begin.lost q ≡ None
         by (nobody_comes same given none) =
             ap (λ (m : Moment W). m.lost q) same ∙ order_start.all_told q
-        by (client_comes room conn host made given is) = ap (λ (f : ℕ → Option Kind). f q) made.lost
+        by (client_comes room conn host made given is) =
+            ap (λ (f : ℕ → Option ConnectionKind). f q) made.lost
             ∙ order_start.all_told q
-        by (link_comes room conn called made given is) = ap (λ (f : ℕ → Option Kind). f q) made.lost
+        by (link_comes room conn called made given is) =
+            ap (λ (f : ℕ → Option ConnectionKind). f q) made.lost
             ∙ order_start.all_told q
 
     abbrev pub all_did : Doings
@@ -235,8 +237,8 @@ module _ {W : Type 0} (is_after : W → List Call → Type 0) (pieces : PiecesCo
 
     -- ---- who was there at the start
 
-    there_still : (room conn : ℕ) (kind : Kind) → IsMade kind room conn start begin → (q : ℕ)
-        → is_some (start.connections q) ≡ true → begin.connections q ≡ start.connections q
+    there_still : (room conn : ℕ) (kind : ConnectionKind) → IsMade kind room conn start begin
+        → (q : ℕ) → is_some (start.connections q) ≡ true → begin.connections q ≡ start.connections q
     there_still room conn kind made q there = made.connections q ∙ by (nat_eq conn q) refl
       where
         by : (b : Bool) → nat_eq conn q ≡ b → (if b then Some (fresh_connection kind room)
@@ -260,8 +262,8 @@ module _ {W : Type 0} (is_after : W → List Call → Type 0) (pieces : PiecesCo
     real_start : (q : ℕ) → IsRealIf (begun_at (start.connections q))
     real_start q = framers q
 
-    real_made : (room conn : ℕ) (kind : Kind) → IsMade kind room conn start begin → (q : ℕ)
-        → IsRealIf (begun_at (begin.connections q))
+    real_made : (room conn : ℕ) (kind : ConnectionKind) → IsMade kind room conn start begin
+        → (q : ℕ) → IsRealIf (begun_at (begin.connections q))
     real_made room conn kind made q =
         subst (λ o. IsRealIf (begun_at o)) (sym (made.connections q)) (by (nat_eq conn q))
       where
@@ -462,7 +464,7 @@ module _ {W : Type 0} (is_after : W → List Call → Type 0) (pieces : PiecesCo
           (own_open : (q : ℕ) → is_some (get own.clients q) ≡ true
           → open_kind_at (begin.connections q) ≡ Some kinds.Client)
           (servers_mid : (x : ℕ) → nat_eq x place ≡ false
-          → IsServerIf (numbers_at old x) (slice_get old.engines x) (site_at mid.network x))
+          → IsServerIf (numbers_at old x) (slice_get old.engines x) (node_at mid.network x))
           (ways_mid : (x y : ℕ) → has_way mid.network x y ≡ old.ways x y)
           (outgoing : (y : ℕ) → wire_at mid.wires place y ≡ wire_between old place y)
           (elsewhere : (x y : ℕ) → nat_eq x place ≡ false → nat_eq y place ≡ false
@@ -554,31 +556,31 @@ module _ {W : Type 0} (is_after : W → List Call → Type 0) (pieces : PiecesCo
 
           -- ---- servers
 
-          site_server : (o : Option Site) → option_map (λ (s : Site). s.server) o
+          node_server : (o : Option Node) → option_map (λ (s : Node). s.server) o
               ≡ Some (Some went.view) → IsServerIf numbers (Some step.after) o
-          site_server None is = cc is
-          site_server (Some site) is = record {
+          node_server None is = cc is
+          node_server (Some node) is = record {
             in_order = (step.turn.does.in_order order_start).1;
             framers = λ q begun at. real_end q begun at;
             servers =
-                subst (λ o. AreServersAlikeIf numbers o site.server) (sym is_last)
+                subst (λ o. AreServersAlikeIf numbers o node.server) (sym is_last)
                 (subst (λ o. AreServersAlikeIf numbers (Some last) o)
-                (sym (inside site.server (Some went.view) is)) went.alike);
+                (sym (inside node.server (Some went.view) is)) went.alike);
           }
 
-          other_server : (o : Option (EngineView W)) (was now : Option Site)
-              → option_map (λ (s : Site). s.server) now ≡ option_map (λ (s : Site). s.server) was
+          other_server : (o : Option (EngineView W)) (was now : Option Node)
+              → option_map (λ (s : Node). s.server) now ≡ option_map (λ (s : Node). s.server) was
               → (n : Numbers) → IsServerIf n o was → IsServerIf n o now
           other_server None None None same n is = is
-          other_server None None (Some site) same n is = cc same
-          other_server None (Some site) now same n is = absurd is
+          other_server None None (Some node) same n is = cc same
+          other_server None (Some node) now same n is = absurd is
           other_server (Some e) None now same n is = absurd is
-          other_server (Some e) (Some site) None same n is = cc same
-          other_server (Some e) (Some site) (Some now) same n is = record {
+          other_server (Some e) (Some node) None same n is = cc same
+          other_server (Some e) (Some node) (Some now) same n is = record {
             in_order = is.in_order;
             framers = is.framers;
             servers = subst (λ o. AreServersAlikeIf n e.now.server o)
-                (sym (inside now.server site.server same)) is.servers;
+                (sym (inside now.server node.server same)) is.servers;
           }
 
           numbers_there : (x : ℕ) → nat_eq x place ≡ false → numbers_at old x ≡ numbers_at new x
@@ -588,23 +590,23 @@ module _ {W : Type 0} (is_after : W → List Call → Type 0) (pieces : PiecesCo
               λ i. record { link = sym step.same_ends i x; client = clients i }
 
           all_servers : (x : ℕ)
-              → IsServerIf (numbers_at new x) (slice_get new.engines x) (site_at after.network x)
+              → IsServerIf (numbers_at new x) (slice_get new.engines x) (node_at after.network x)
           all_servers x = by (nat_eq x place) refl
             where
               by : (b : Bool) → nat_eq x place ≡ b → IsServerIf (numbers_at new x)
-                  (slice_get new.engines x) (site_at after.network x)
+                  (slice_get new.engines x) (node_at after.network x)
               by true one =
                   subst (λ n. IsServerIf (numbers_at new n) (slice_get new.engines n)
-                  (site_at after.network n)) (sym (eqb-true x place one))
-                  (subst (λ o. IsServerIf numbers o (site_at after.network place)) (sym after_here)
-                  (site_server (site_at after.network place) went.server))
+                  (node_at after.network n)) (sym (eqb-true x place one))
+                  (subst (λ o. IsServerIf numbers o (node_at after.network place)) (sym after_here)
+                  (node_server (node_at after.network place) went.server))
               by false two =
-                  subst (λ n. IsServerIf n (slice_get new.engines x) (site_at after.network x))
+                  subst (λ n. IsServerIf n (slice_get new.engines x) (node_at after.network x))
                   (numbers_there x two)
-                  (subst (λ o. IsServerIf (numbers_at old x) o (site_at after.network x))
+                  (subst (λ o. IsServerIf (numbers_at old x) o (node_at after.network x))
                   (sym (engine_there x two))
-                  (other_server (slice_get old.engines x) (site_at mid.network x)
-                  (site_at after.network x) (went.others x two) (numbers_at old x)
+                  (other_server (slice_get old.engines x) (node_at mid.network x)
+                  (node_at after.network x) (went.others x two) (numbers_at old x)
                   (servers_mid x two)))
 
           as_bytes : IsAsBytes new after
@@ -900,10 +902,10 @@ module _ {W : Type 0} (is_after : W → List Call → Type 0) (pieces : PiecesCo
 
         -- ---- servers at the start, between and at the end
 
-        server_here : HasServer (numbers_at old place) engine (site_at net.network place)
+        server_here : HasServer (numbers_at old place) engine (node_at net.network place)
         server_here =
-            has_server (numbers_at old place) engine (site_at net.network place)
-            (subst (λ o. IsServerIf (numbers_at old place) o (site_at net.network place)) step.at
+            has_server (numbers_at old place) engine (node_at net.network place)
+            (subst (λ o. IsServerIf (numbers_at old place) o (node_at net.network place)) step.at
             (same.as_bytes.servers place))
 
         abbrev last : HasView end.server
@@ -937,12 +939,12 @@ module _ {W : Type 0} (is_after : W → List Call → Type 0) (pieces : PiecesCo
             by (client_comes room conn host made given is) = sym made.server ∙ own.is
             by (link_comes room conn called made given is) = sym made.server ∙ own.is
 
-        views : HaveViews (numbers_at old place) start.server server_here.site.server own.view
-        views = have_views (numbers_at old place) start.server server_here.site.server own.view
+        views : HaveViews (numbers_at old place) start.server server_here.node.server own.view
+        views = have_views (numbers_at old place) start.server server_here.node.server own.view
             own_start server_here.of.servers
 
         server_at_place : server_at net.network place ≡ Some (Some views.theirs)
-        server_at_place = ap (option_map (λ (s : Site). s.server)) server_here.at ∙ ap Some views.is
+        server_at_place = ap (option_map (λ (s : Node). s.server)) server_here.at ∙ ap Some views.is
 
         -- who is a client of it is an open connection at the start
         own_clients : (q : ℕ) → is_some (get own.view.clients q) ≡ true
@@ -1011,7 +1013,7 @@ module _ {W : Type 0} (is_after : W → List Call → Type 0) (pieces : PiecesCo
             (leads : LeadsTo net parts.front first_after)
             (own_open : (q : ℕ) → is_some (get base_own.clients q) ≡ true
             → open_kind_at (begin.connections q) ≡ Some kinds.Client)
-            (sites_same : base.network.sites ≡ net.network.sites)
+            (nodes_same : base.network.nodes ≡ net.network.nodes)
             (wires_same : base.wires ≡ net.wires)
             (seats_there : (x client : ℕ) → nat_eq x place ≡ false
             → new.seats x client ≡ old.seats x client)
@@ -1063,8 +1065,8 @@ module _ {W : Type 0} (is_after : W → List Call → Type 0) (pieces : PiecesCo
                 (part.given ++ first.events) second.events first.outs second.outs first_serves
                 second_goes.clients
 
-            sites_at : (x : ℕ) → site_at base.network x ≡ site_at net.network x
-            sites_at x = ap (λ (sites : List Site). slice_get sites x) sites_same
+            nodes_at : (x : ℕ) → node_at base.network x ≡ node_at net.network x
+            nodes_at x = ap (λ (nodes : List Node). slice_get nodes x) nodes_same
 
             base_wire : (x y : ℕ) → wire_at base.wires x y ≡ wire_between old x y
             base_wire x y = ap (λ ws. wire_at ws x y) wires_same ∙ same.as_bytes.wires x y
@@ -1080,9 +1082,9 @@ module _ {W : Type 0} (is_after : W → List Call → Type 0) (pieces : PiecesCo
                   assembled joined_now ends_begin base second_goes.after base_own last.view all_went
                   last.is all_serves own_open
                   (λ x two. subst (IsServerIf (numbers_at old x) (slice_get old.engines x))
-                  (sym (sites_at x)) (same.as_bytes.servers x))
-                  (λ x y. ap (λ o. is_some (option_and_then (λ (site : Site). get site.queues y) o))
-                  (sites_at x) ∙ same.as_bytes.ways x y)
+                  (sym (nodes_at x)) (same.as_bytes.servers x))
+                  (λ x y. ap (λ o. is_some (option_and_then (λ (node : Node). get node.queues y) o))
+                  (nodes_at x) ∙ same.as_bytes.ways x y)
                   (λ y. base_wire place y) (λ x y two other. base_wire x y)
                   (λ x two. base_wire x place ∙ incoming_stays joined_now ends_begin unread x two)
                   once seats_there seats_here seated received;
@@ -1278,7 +1280,7 @@ module _ {W : Type 0} (is_after : W → List Call → Type 0) (pieces : PiecesCo
             abbrev occurrence : Occurrence
             occurrence = of_client (connects (suc old.came) host)
 
-            abbrev mine : Reply
+            abbrev mine : Served
             mine = reply own.view (of_client (connects conn host))
 
             served_first_is : Took own.view (Connect conn host) f.asked.between.server f.asked.first
@@ -1390,7 +1392,7 @@ module _ {W : Type 0} (is_after : W → List Call → Type 0) (pieces : PiecesCo
             given_net = (item_given item net).net
 
             given_so : given_net ≡ queues_written
-                (item_kept item (site_asked place occurrence (begun base.network))).net base.wires
+                (item_kept item (node_asked place occurrence (begun base.network))).net base.wires
             given_so = given_connect net place (suc old.came) name host at_name
                 (next_is net.network.homes old.came came_is)
 

@@ -17,12 +17,12 @@ use Rattle.irc_batch.specs.Batches.{Sent}
 use Rattle.irc_relay.specs.Links.{Name}
 use Rattle.irc_server.specs.declared.event.Event.{Event}
 use Rattle.irc_server.specs.declared.event.Event.TheVariants.{LinkLine}
-use Rattle.irc_server_laws.specs.LineEnds.{ServedLinesEnd}
-use Rattle.irc_server_laws.specs.Own.{ServedGoesToItsOwn}
+use Rattle.irc_server.specs.LineEnds.{ServedLinesEnd}
+use Rattle.irc_server.specs.Own.{ServedGoesToItsOwn}
 use Rattle.irc_stage.specs.View.{View}
 use Rattle.irc_world.specs.Stepping.{Item}
-use Rattle.irc_network.specs.Network.{Course, Site, begun, site_at}
-use Rattle.irc_wires.specs.Wires.{Wire, Wires, advanced, lines_by, wire_at}
+use Rattle.irc_network.specs.Network.{Progress, Node, begun, node_at}
+use Rattle.irc_wires.specs.Wires.{LinkWire, Wires, advanced, lines_by, wire_at}
 use Rattle.irc_wires.specs.Lemmas.PutWires.{IsSetAt, it, nowhere, other_from, other_to, wire_set}
 use Rattle.irc_network.specs.ByteNetwork.{ByteNetwork, all_heard, byte_begun, bytes_come}
 use Rattle.irc_network.specs.ByteNetwork.{completed_in, queues_written, wires_come}
@@ -31,8 +31,8 @@ use Rattle.irc_network.specs.Whole.{IsTidy, has_way}
 use Rattle.irc_network.specs.Lemmas.NewFramer.{new_is_real}
 use Rattle.irc_network.specs.Lemmas.Rows.{rows_after_lines}
 use Rattle.irc_network.specs.Lemmas.RowsWritten.{is_written, lean_with}
-use Rattle.irc_engine.specs.declared.kind.Kind.{Kind}
-use Rattle.irc_engine.specs.declared.kind.Kind.TheVariants as kinds
+use Rattle.irc_engine.specs.declared.kind.ConnectionKind.{ConnectionKind}
+use Rattle.irc_engine.specs.declared.kind.ConnectionKind.TheVariants as kinds
 use Rattle.irc_engine.specs.Carrying.{IsOfKind, is_open_at, kind_at, kind_of_connection}
 use Rattle.irc_engine.specs.Carrying.{kind_of_loss, open_kind_at}
 use Rattle.irc_engine.specs.Hearing.{Hears, begun_at, line_by, line_event_of}
@@ -86,7 +86,7 @@ module _ {W : Type 0} (now : Moment W) (told : AllTold now) (conn : ℕ)
   told_of event events (a_line kind which line is_of is) others =
       by kind which line (nat_eq conn which) refl is_of is
     where
-      by : (kind : Kind) (which : ℕ) (line : ArrayVec ℕ) (b : Bool)
+      by : (kind : ConnectionKind) (which : ℕ) (line : ArrayVec ℕ) (b : Bool)
           → nat_eq conn which ≡ b → IsOfKind kind (now.connections which) (now.lost which)
           → event ≡ line_event_of kind which line → IsToldOf conn event
       by kind which line false two is_of is =
@@ -185,20 +185,20 @@ module _ {W : Type 0} (is_after : W → List Call → Type 0) (pieces : PiecesCo
     }
 
     abbrev first_did : Doings
-    first_did = answers_did is_after engine.rooms step.turn.report start mid step.turn.does.answers
+    first_did = answers_did is_after engine.sizes step.turn.report start mid step.turn.does.answers
 
     abbrev comes : Option ℕ
-    comes = newcomer_in is_after engine.rooms step.turn.report start mid step.turn.does.answers
+    comes = newcomer_in is_after engine.sizes step.turn.report start mid step.turn.does.answers
 
     abbrev IsSpaced : Bool → Type 0
     IsSpaced later =
-        AnswersSpaced is_after later engine.rooms step.turn.report start mid step.turn.does.answers
+        AnswersSpaced is_after later engine.sizes step.turn.report start mid step.turn.does.answers
 
     abbrev part : FirstPart is_after start mid first_did comes IsSpaced
-    part = first_part is_after engine.rooms step.turn.report start mid step.turn.does.answers
+    part = first_part is_after engine.sizes step.turn.report start mid step.turn.does.answers
 
     reading : IsReading is_after conn start mid first_did comes IsSpaced part
-    reading = part_reads is_after engine.rooms step.turn.report start mid step.turn.does.answers
+    reading = part_reads is_after engine.sizes step.turn.report start mid step.turn.does.answers
         conn reads.is_read
 
     abbrev first : Ran is_after part.exchanges part.given part.came part.begin mid
@@ -218,10 +218,10 @@ module _ {W : Type 0} (is_after : W → List Call → Type 0) (pieces : PiecesCo
 
     -- ---- where it begins
 
-    server_here : HasServer numbers engine (site_at net.network to)
+    server_here : HasServer numbers engine (node_at net.network to)
     server_here =
-        has_server numbers engine (site_at net.network to)
-        (subst (λ o. IsServerIf numbers o (site_at net.network to)) step.at
+        has_server numbers engine (node_at net.network to)
+        (subst (λ o. IsServerIf numbers o (node_at net.network to)) step.at
         (same.as_bytes.servers to))
 
     order_start : IsInOrder start
@@ -312,18 +312,18 @@ module _ {W : Type 0} (is_after : W → List Call → Type 0) (pieces : PiecesCo
             (asked_at mid) first.outs is first.are_asked)
         by (Some view) is = record { view = view; is = is }
 
-    views : HaveViews numbers start.server server_here.site.server begin_view.view
+    views : HaveViews numbers start.server server_here.node.server begin_view.view
     views =
-        have_views numbers start.server server_here.site.server begin_view.view
+        have_views numbers start.server server_here.node.server begin_view.view
         (ap (λ (m : Moment W). m.server) (sym reading.begin_is)
         ∙ begin_view.is) server_here.of.servers
 
     at : server_at net.network to ≡ Some (Some views.theirs)
-    at = ap (option_map (λ (s : Site). s.server)) server_here.at ∙ ap Some views.is
+    at = ap (option_map (λ (s : Node). s.server)) server_here.at ∙ ap Some views.is
 
     -- ---- what they hear
 
-    abbrev came_first : Course
+    abbrev came_first : Progress
     came_first = all_heard from to (begun net.network) (lines_told conn events)
 
     hears_first : Listens to numbers begin_view.view mid_view.view events first.outs net.network
@@ -595,7 +595,7 @@ module _ {W : Type 0} (is_after : W → List Call → Type 0) (pieces : PiecesCo
     elsewhere x y two other = wire_elsewhere x y (λ one there. cc (sym (eq-eqb y to there) ∙ other))
         ∙ same.as_bytes.wires x y
 
-    off_rows : length wires_now ≡ length net.network.sites
+    off_rows : length wires_now ≡ length net.network.nodes
     off_rows = rows_after_lines net from to count [] []
         (begun net.network) wires_now same.as_bytes.tidy.rows refl refl
 
@@ -717,7 +717,7 @@ module _ {W : Type 0} (is_after : W → List Call → Type 0) (pieces : PiecesCo
       bytes_came = record {
         front = bytes;
         rest = behind;
-        bytes_are = ap (λ (w : Wire). w.bytes) old_wire_is;
+        bytes_are = ap (λ (w : LinkWire). w.bytes) old_wire_is;
         way = same.as_bytes.ways from to ∙ same.are_joined.both_ways from to ∙ told_of_links from
             ∙ ap is_some reads.is_end;
         view = views.theirs;

@@ -8,16 +8,16 @@ use Rattle.irc_forest.specs.Forests.{place_in}
 use Rattle.irc_line.specs.Laws.{PiecesCompleteTheSame}
 use Rattle.irc_outbox.specs.Calls.{Call}
 use Rattle.irc_relay.specs.Links.{Name}
-use Rattle.irc_server_laws.specs.Connected.{WhoIsConnected}
-use Rattle.irc_server_laws.specs.LineEnds.{ServedLinesEnd}
-use Rattle.irc_server_laws.specs.Own.{ServedGoesToItsOwn}
+use Rattle.irc_server.specs.Connected.{WhoIsConnected}
+use Rattle.irc_server.specs.LineEnds.{ServedLinesEnd}
+use Rattle.irc_server.specs.Own.{ServedGoesToItsOwn}
 use Rattle.irc_server.specs.Served.{link_down, link_up}
 use Rattle.irc_world.specs.Owed.{world_of}
 use Rattle.irc_world.specs.Refused.{refused}
 use Rattle.irc_world.specs.Stepping.{Item, cut, link}
 use Rattle.irc_world.specs.WithinLimits.{IsItemWithin}
 use Rattle.irc_world.specs.World.{Setting}
-use Rattle.irc_network.specs.Network.{begun, site_asked}
+use Rattle.irc_network.specs.Network.{begun, node_asked}
 use Rattle.irc_wires.specs.Wires.{new_wire, wire_at}
 use Rattle.irc_relay.specs.Laws.{LinkTakenOut}
 use Rattle.irc_world.specs.Laws.{WorldIsSound}
@@ -35,12 +35,12 @@ use Rattle.irc_daemons.specs.Daemons.{Daemons, IsToldOfLinks}
 use Rattle.irc_daemons.specs.EachStep.{ArePlaced}
 use Rattle.irc_daemons.specs.Items.{IsQuiet}
 use Rattle.irc_daemons.specs.Runs.{MayBe}
-use Rattle.irc_daemons.specs.Tellings.{IsOfItem, Owing, TellsEnd, Tidings, end_before, end_by}
+use Rattle.irc_daemons.specs.Tellings.{IsOfItem, Owing, TellsEnd, LinkTidings, end_before, end_by}
 use Rattle.irc_daemons.specs.Tellings.{end_set, has_called, has_lost, is_lost, is_up, is_way_by}
 use Rattle.irc_daemons.specs.Tellings.{occurrence_by, was_called, way_set}
 use Rattle.irc_daemons.proofs.Aside.{aside_first, link_alone, nothing_comes, still_but_one}
 use Rattle.irc_daemons.proofs.Asked.{AllStill}
-use Rattle.irc_daemons.proofs.Given.{bytes_of_sites, come_of_sites}
+use Rattle.irc_daemons.proofs.Given.{bytes_of_nodes, come_of_nodes}
 use Rattle.irc_daemons.proofs.Going.{IsGoing, goes_on, quiet_rests}
 use Rattle.irc_daemons.proofs.Halves.{both_asked, half_lacks, one_asked}
 use Rattle.irc_daemons.proofs.Homes.{asked_keeps}
@@ -119,11 +119,11 @@ module _ {W : Type 0} (old : Daemons W) (place other : ℕ) (two : nat_eq place 
           ∙ ap (λ n. old.ends n y) (sym (eqb-true x place one))
       by false away = end_elsewhere old place other end x y away
 
-is_end_by : (t : Tidings) (conn : ℕ) → is_some (end_by t conn) ≡ is_way_by t
+is_end_by : (t : LinkTidings) (conn : ℕ) → is_some (end_by t conn) ≡ is_way_by t
 is_end_by (is_up called) conn = refl
 is_end_by is_lost conn = refl
 
-was_end_by : (t : Tidings) (conn : ℕ) → is_some (end_before t conn) ≡ not (is_way_by t)
+was_end_by : (t : LinkTidings) (conn : ℕ) → is_some (end_before t conn) ≡ not (is_way_by t)
 was_end_by (is_up called) conn = refl
 was_end_by is_lost conn = refl
 
@@ -184,7 +184,7 @@ module _ {W : Type 0} (is_after : W → List Call → Type 0) (pieces : PiecesCo
         ends_here = all_ends names old net whole.same
 
         -- what comes of it, whichever end is told first
-        module _ (mine theirs : Tidings) (item : Item)
+        module _ (mine theirs : LinkTidings) (item : Item)
             (telling : TellsEnd is_after mine place other old new)
             (two : nat_eq place other ≡ false)
             (both : is_way_by theirs ≡ is_way_by mine) (base full : ByteNetwork)
@@ -414,7 +414,7 @@ module _ {W : Type 0} (is_after : W → List Call → Type 0) (pieces : PiecesCo
                   ∙ still x y) (is.servers place ∙ one.at) sides.side sides.stays
                   sides.near_side))
 
-          back : (item : Item) (theirs : Tidings) (its : Item) (tidings : Tidings)
+          back : (item : Item) (theirs : LinkTidings) (its : Item) (tidings : LinkTidings)
               → item ≡ its → theirs ≡ tidings → IsHalf settings names (items ++ its ∷ [])
               (record { place = other; other = place; tidings = tidings }) new
               → IsHalf settings names (items ++ item ∷ [])
@@ -429,7 +429,7 @@ module _ {W : Type 0} (is_after : W → List Call → Type 0) (pieces : PiecesCo
               }) new) (sym theirs_is) half)
 
           -- whichever it is
-          pub first_half : (mine theirs : Tidings) (item : Item)
+          pub first_half : (mine theirs : LinkTidings) (item : Item)
               → IsOfItem names place other item mine theirs → MayBe settings items item
               → TellsEnd is_after mine place other old new → IsHalf settings names
               (items ++ item ∷ []) (record { place = other; other = place; tidings = theirs }) new
@@ -522,7 +522,7 @@ module _ {W : Type 0} (is_after : W → List Call → Type 0) (pieces : PiecesCo
         asked_then = one_asked nothing of_place (occurrence_by owing.tidings of_other) half.less
 
         abbrev asked_alone : ByteNetwork
-        asked_alone = queues_written (site_asked of_place (occurrence_by owing.tidings of_other)
+        asked_alone = queues_written (node_asked of_place (occurrence_by owing.tidings of_other)
             (begun half.less.network)).net half.less.wires
 
         same_asked : IsAsNetwork names new asked_then
@@ -542,9 +542,9 @@ module _ {W : Type 0} (is_after : W → List Call → Type 0) (pieces : PiecesCo
           wires = λ x y. refl;
           names = refl;
           homes = refl;
-          come = λ client. come_of_sites asked_then.network asked_alone.network refl client;
+          come = λ client. come_of_nodes asked_then.network asked_alone.network refl client;
           inboxes = refl;
-          bytes = λ client. bytes_of_sites asked_then.network asked_alone.network refl client;
+          bytes = λ client. bytes_of_nodes asked_then.network asked_alone.network refl client;
           tidy = record {
             quiet = same_asked.as_bytes.tidy.quiet;
             rows = same_asked.as_bytes.tidy.rows;

@@ -9,12 +9,12 @@ use Rattle.irc_stage.specs.View.{View}
 use Rattle.irc_server.specs.declared.event.Event.{Event}
 use Rattle.irc_server.specs.declared.event.Event.TheVariants.{Connect}
 use Rattle.irc_server.specs.Served.{of_client, served}
-use Rattle.irc_network.specs.Site.{Reply, reply, serves_occurrence}
+use Rattle.irc_network.specs.Node.{Served, reply, serves_occurrence}
 use Rattle.irc_world.specs.Refused.{no_such_server}
 use Rattle.irc_world.specs.Stepping.{connect}
 use Rattle.irc_world.specs.World.{home_in}
 use Rattle.irc_network.specs.Network.{Network, begun, given, item_kept, next_client, server_place}
-use Rattle.irc_network.specs.Network.{site_asked, site_asked_if, with_client}
+use Rattle.irc_network.specs.Network.{node_asked, node_asked_if, with_client}
 use Rattle.irc_network.specs.Refusing.{fault_at_rest}
 use Rattle.irc_network.specs.ByteNetwork.{ByteNetwork, item_given, queues_written}
 use Rattle.irc_daemons.specs.Receiving.{bytes_received}
@@ -70,18 +70,18 @@ home_kept homes name (suc earlier) there = get_front homes name earlier there
 pub given_connect : (net : ByteNetwork) (place client : ℕ) (name host : List ℕ)
     → server_place net.network name ≡ Some place → next_client net.network ≡ client
     → (item_given (connect name host) net).net
-    ≡ queues_written (item_kept (connect name host) (site_asked place (of_client
+    ≡ queues_written (item_kept (connect name host) (node_asked place (of_client
     (connects client host)) (begun (with_client name net.network)))).net net.wires
 unfolding item_given given
 given_connect net place client name host at next =
     ap
     (λ o. queues_written
-    (item_kept (connect name host) (site_asked_if o (of_client (connects (next_client net.network)
+    (item_kept (connect name host) (node_asked_if o (of_client (connects (next_client net.network)
     host)) (begun (with_client name net.network)))).net net.wires)
     at
     ∙ ap
     (λ n. queues_written
-    (item_kept (connect name host) (site_asked place (of_client (connects n host))
+    (item_kept (connect name host) (node_asked place (of_client (connects n host))
     (begun (with_client name net.network)))).net net.wires) next
 
 pub not_refused_here : (net : Network) (place : ℕ) (name host : List ℕ)
@@ -100,7 +100,7 @@ unfolding served client_told
 silent_connect view conn host = refl
 
 module _ (view : View) (conn : ℕ) (host : List ℕ) where
-  abbrev said : Bool → Reply
+  abbrev said : Bool → Served
   said b =
       if b then record {
         view = (served view (of_client (connects conn host))).view;

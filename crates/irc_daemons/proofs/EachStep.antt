@@ -12,10 +12,10 @@ use Rattle.irc_outbox.specs.declared.wire.Ready.TheVariants.{Writable}
 use Rattle.irc_outbox.specs.Calls.{Call}
 use Rattle.irc_line.specs.Laws.{PiecesCompleteTheSame}
 use Rattle.irc_relay.specs.Links.{Name}
-use Rattle.irc_server_laws.specs.Connected.{WhoIsConnected}
-use Rattle.irc_server_laws.specs.LineEnds.{ServedLinesEnd}
-use Rattle.irc_server_laws.specs.Own.{ServedGoesToItsOwn}
-use Rattle.irc_network.specs.Network.{Site, site_at}
+use Rattle.irc_server.specs.Connected.{WhoIsConnected}
+use Rattle.irc_server.specs.LineEnds.{ServedLinesEnd}
+use Rattle.irc_server.specs.Own.{ServedGoesToItsOwn}
+use Rattle.irc_network.specs.Network.{Node, node_at}
 use Rattle.irc_network.specs.ByteNetwork.{ByteNetwork}
 use Rattle.irc_wires.specs.Lemmas.StillWires.{one_of}
 use Rattle.irc_daemons.specs.AsNetwork.{HasFollowed, IsAsNetwork}
@@ -70,24 +70,24 @@ search conn ends (y ∷ numbers) = by (is_not conn (ends y)) refl (search conn e
     by true is (inr none) =
         inr (ap (λ b. b && list_all (λ y. is_not conn (ends y)) numbers) is ∙ none)
 
--- one of the ways of a site, or none
-find_way : (site : Site) (conn : ℕ) (ends : ℕ → Option ℕ) → ((y : ℕ) → is_some (ends y) ≡ true
-    → is_some (get site.queues y) ≡ true) → Found conn ends ⊎ ((y : ℕ) → ends y ≡ Some conn → ⊥)
-find_way site conn ends ways = by (search conn ends (keys site.queues))
+-- one of the ways of a node, or none
+find_way : (node : Node) (conn : ℕ) (ends : ℕ → Option ℕ) → ((y : ℕ) → is_some (ends y) ≡ true
+    → is_some (get node.queues y) ≡ true) → Found conn ends ⊎ ((y : ℕ) → ends y ≡ Some conn → ⊥)
+find_way node conn ends ways = by (search conn ends (keys node.queues))
   where
-    by : Found conn ends ⊎ (list_all (λ y. is_not conn (ends y)) (keys site.queues) ≡ true)
+    by : Found conn ends ⊎ (list_all (λ y. is_not conn (ends y)) (keys node.queues) ≡ true)
         → Found conn ends ⊎ ((y : ℕ) → ends y ≡ Some conn → ⊥)
     by (inl found) = inl found
     by (inr none) =
         inr (λ y is. not_it conn (ends y)
-        (one_of (λ y. is_not conn (ends y)) y (keys site.queues) none
-        (sym (contains_key-keys site.queues y) ∙ ways y (ap is_some is))) is)
+        (one_of (λ y. is_not conn (ends y)) y (keys node.queues) none
+        (sym (contains_key-keys node.queues y) ∙ ways y (ap is_some is))) is)
 
-some_way : (o : Option Site) (conn : ℕ) (ends : ℕ → Option ℕ) → ((y : ℕ)
-    → is_some (option_and_then (λ (site : Site). get site.queues y) o) ≡ is_some (ends y))
+some_way : (o : Option Node) (conn : ℕ) (ends : ℕ → Option ℕ) → ((y : ℕ)
+    → is_some (option_and_then (λ (node : Node). get node.queues y) o) ≡ is_some (ends y))
     → Found conn ends ⊎ ((y : ℕ) → ends y ≡ Some conn → ⊥)
 some_way None conn ends ways = inr (λ y is. cc (ways y ∙ ap is_some is))
-some_way (Some site) conn ends ways = find_way site conn ends (λ y there. ways y ∙ there)
+some_way (Some node) conn ends ways = find_way node conn ends (λ y there. ways y ∙ there)
 
 module _ {W : Type 0} (is_after : W → List Call → Type 0) (names : List Name) (place : ℕ)
     (old new : Daemons W) (net : ByteNetwork)
@@ -102,7 +102,7 @@ module _ {W : Type 0} (is_after : W → List Call → Type 0) (names : List Name
     one_read (Writable conn) = conn
 
     of_one : (conn : ℕ) → step.turn.report ≡ Readable conn → ReadsLink step ⊎ (¬ (ReadsLink step))
-    of_one conn report = by (some_way (site_at net.network place) conn (old.ends place)
+    of_one conn report = by (some_way (node_at net.network place) conn (old.ends place)
         (λ y. same.as_bytes.ways place y ∙ told y))
       where
         by : Found conn (old.ends place) ⊎ ((y : ℕ) → old.ends place y ≡ Some conn → ⊥)

@@ -11,18 +11,18 @@ use Rattle.irc_batch.specs.Batches.{Sent}
 use Rattle.irc_world.specs.Stepping.{Item}
 use Rattle.irc_stage.specs.View.{View}
 use Rattle.irc_server.specs.Served.{Occurrence}
-use Rattle.irc_server_laws.specs.LineEnds.{ServedLinesEnd}
-use Rattle.irc_server_laws.specs.Own.{ServedGoesToItsOwn}
-use Rattle.irc_network.specs.Network.{Course, Network, Reply, Site, begun, item_kept, reply}
-use Rattle.irc_network.specs.Network.{site_asked, waiting}
-use Rattle.irc_wires.specs.Wires.{Wire, wire_at}
-use Rattle.irc_network.specs.Behind.{emptied, emptied_site}
+use Rattle.irc_server.specs.LineEnds.{ServedLinesEnd}
+use Rattle.irc_server.specs.Own.{ServedGoesToItsOwn}
+use Rattle.irc_network.specs.Network.{Progress, Network, Served, Node, begun, item_kept, reply}
+use Rattle.irc_network.specs.Network.{node_asked, waiting}
+use Rattle.irc_wires.specs.Wires.{LinkWire, wire_at}
+use Rattle.irc_network.specs.Behind.{emptied, emptied_node}
 use Rattle.irc_network.specs.ByteNetwork.{ByteNetwork, all_written, queues_written, waiting_at}
 use Rattle.irc_network.specs.Loops.Writing.{IsWritten}
 use Rattle.irc_network.specs.Whole.{IsTidy, has_way}
 use Rattle.irc_network.specs.Lemmas.Emptied.{emptied_waits, emptied_ways}
 use Rattle.irc_network.specs.Lemmas.RowsWritten.{is_written}
-use Rattle.irc_network.specs.Lemmas.SitesStay.{asked_stays}
+use Rattle.irc_network.specs.Lemmas.NodesStay.{asked_stays}
 use Rattle.irc_engine.specs.Carrying.{answers, bytes_owed, is_closed_by}
 use Rattle.irc_engine.specs.Lemmas.CarryingLaws.{is_closed_by-append, owed-append}
 use Rattle.irc_daemons.specs.Alike.{AreServersAlike, AreApart, Numbers, ServeAlike, ServedAlike}
@@ -40,30 +40,30 @@ use Rattle.irc_daemons.proofs.Written.{bodies, bodies_are, written_all}
 -- ---- what was emptied
 
 pub emptied_server : (net : Network) (x : ℕ) → server_at (emptied net) x ≡ server_at net x
-emptied_server net x = ap (option_map (λ (s : Site). s.server)) (get_map emptied_site net.sites x)
-    ∙ by (slice_get net.sites x)
+emptied_server net x = ap (option_map (λ (s : Node). s.server)) (get_map emptied_node net.nodes x)
+    ∙ by (slice_get net.nodes x)
   where
-    by : (o : Option Site) → option_map (λ (s : Site). s.server) (option_map emptied_site o)
-        ≡ option_map (λ (s : Site). s.server) o
+    by : (o : Option Node) → option_map (λ (s : Node). s.server) (option_map emptied_node o)
+        ≡ option_map (λ (s : Node). s.server) o
     by None = refl
-    by (Some site) = refl
+    by (Some node) = refl
 
-pub come_of_sites : (old new : Network) → new.received ≡ old.received → (client : ℕ)
+pub come_of_nodes : (old new : Network) → new.received ≡ old.received → (client : ℕ)
     → has_come new client ≡ has_come old client
-come_of_sites old new same zero = refl
-come_of_sites old new same (suc earlier) =
+come_of_nodes old new same zero = refl
+come_of_nodes old new same (suc earlier) =
     ap (λ (lines : List (List (List ℕ))). is_some (slice_get lines earlier)) same
 
-pub bytes_of_sites : (old new : Network) → new.received ≡ old.received → (client : ℕ)
+pub bytes_of_nodes : (old new : Network) → new.received ≡ old.received → (client : ℕ)
     → bytes_received new client ≡ bytes_received old client
-bytes_of_sites old new same zero = refl
-bytes_of_sites old new same (suc earlier) = ap (λ (lines : List (List (List ℕ))). bytes_received
+bytes_of_nodes old new same zero = refl
+bytes_of_nodes old new same (suc earlier) = ap (λ (lines : List (List (List ℕ))). bytes_received
     (record old { received = lines }) (suc earlier)) same
 
 -- ---- where a network has come to by what one server put out
 
 -- bytes behind those that are on their way
-abbrev pub wire_behind : List ℕ → Wire → Wire
+abbrev pub wire_behind : List ℕ → LinkWire → LinkWire
 wire_behind bytes wire = record { begun = wire.begun; bytes = wire.bytes ++ bytes }
 
 pub record Went (place : ℕ) (numbers : Numbers) (last : View) (outs : List Sent)
@@ -177,14 +177,14 @@ module _ (lines_end : ServedLinesEnd) (own_law : ServedGoesToItsOwn) (alike_law 
     (then_are : AreThen place before (reply own (renumbered conn occurrence)).view
     (reply other occurrence).view old numbers) (item : Item)
   where
-    abbrev mine : Reply
+    abbrev mine : Served
     mine = reply own (renumbered conn occurrence)
 
-    abbrev theirs : Reply
+    abbrev theirs : Served
     theirs = reply other occurrence
 
-    abbrev asked : Course
-    asked = site_asked place occurrence (begun old.network)
+    abbrev asked : Progress
+    asked = node_asked place occurrence (begun old.network)
 
     abbrev kept : Network
     kept = (item_kept item asked).net
@@ -206,7 +206,7 @@ module _ (lines_end : ServedLinesEnd) (own_law : ServedGoesToItsOwn) (alike_law 
         (tidy.rows ∙ sym (asked_stays place occurrence (begun old.network)))
 
     waits_there : (x y : ℕ) → nat_eq x place ≡ false → waiting_at kept x y ≡ []
-    waits_there x y two = ap (λ o. option_map_or (λ (site : Site). waiting site y) o [])
+    waits_there x y two = ap (λ o. option_map_or (λ (node : Node). waiting node y) o [])
         (here.others x two) ∙ tidy.quiet x y
 
     waits_here : (y q : ℕ) → numbers.link y ≡ Some q → waiting_at kept place y ≡ bodies y theirs.out
@@ -219,7 +219,7 @@ module _ (lines_end : ServedLinesEnd) (own_law : ServedGoesToItsOwn) (alike_law 
         ap (λ n. has_way kept n y) (eqb-true x place one) ∙ here.ways y
         ∙ ap (λ n. has_way old.network n y) (sym (eqb-true x place one))
     ways_at x y false two = ap
-        (λ o. is_some (option_and_then (λ (site : Site). get site.queues y) o)) (here.others x two)
+        (λ o. is_some (option_and_then (λ (node : Node). get node.queues y) o)) (here.others x two)
 
     wire_now : (y q : ℕ) → numbers.link y ≡ Some q → is_closed_by q mine.out ≡ false
         → wire_at now.wires place y ≡ wire_behind (answers q mine.out) (wire_at old.wires place y)
@@ -232,12 +232,12 @@ module _ (lines_end : ServedLinesEnd) (own_law : ServedGoesToItsOwn) (alike_law 
         ∙ sym (said.say.on_links y q (then_are.links y q link) opened))
 
     come_now : (client : ℕ) → has_come now.network client ≡ has_come old.network client
-    come_now client = come_of_sites asked.net now.network refl client ∙ gets.come client
+    come_now client = come_of_nodes asked.net now.network refl client ∙ gets.come client
 
     bytes_now : (client : ℕ) → has_come old.network client ≡ true
         → bytes_received now.network client ≡ bytes_received old.network client
         ++ client_bytes client theirs.out
-    bytes_now client has = bytes_of_sites asked.net now.network refl client ∙ gets.more client has
+    bytes_now client has = bytes_of_nodes asked.net now.network refl client ∙ gets.more client has
 
     keeps_now : KeepsHomes old.network now.network
     keeps_now =
@@ -259,7 +259,7 @@ module _ (lines_end : ServedLinesEnd) (own_law : ServedGoesToItsOwn) (alike_law 
       alike = then_are.alike said.views;
       server = emptied_server kept place ∙ here.server;
       others = λ x two. emptied_server kept x
-          ∙ ap (option_map (λ (s : Site). s.server)) (here.others x two);
+          ∙ ap (option_map (λ (s : Node). s.server)) (here.others x two);
       ways = λ x y. emptied_ways kept x y ∙ ways_at x y (nat_eq x place) refl;
       wires_there = λ x y two. is_so.wires_are x y
           ∙ ap (λ ls. all_written ls (wire_at old.wires x y)) (waits_there x y two);
@@ -303,7 +303,7 @@ module _ (lines_end : ServedLinesEnd) (own_law : ServedGoesToItsOwn) (alike_law 
     pub item_went : Went place numbers (reply own (renumbered conn occurrence)).view
         (reply own (renumbered conn occurrence)).out old
         (queues_written
-        (item_kept item (site_asked place occurrence (begun old.network))).net old.wires)
+        (item_kept item (node_asked place occurrence (begun old.network))).net old.wires)
     item_went =
         asked_went lines_end own_law alike_law place numbers apart own other occurrence conn happens
         alike old tidy at numbers same_then item

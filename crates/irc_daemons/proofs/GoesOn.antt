@@ -11,11 +11,12 @@ use Rattle.std.specs.Option.{option_and_then, option_map_or}
 use Rattle.irc_line.specs.Lines.{begun_behind, nothing_begun}
 use Rattle.irc_line.specs.Reading.{read_of}
 use Rattle.irc_server.specs.Served.{Occurrence, link_says}
-use Rattle.irc_network.specs.Site.{Reply, reply}
+use Rattle.irc_network.specs.Node.{Served, reply}
 use Rattle.irc_stage.specs.View.{View}
-use Rattle.irc_network.specs.Network.{Course, Network, Site, begun, heard, line_counted, site_asked}
+use Rattle.irc_network.specs.Network.{Progress, Network, Node, begun, heard, line_counted}
+use Rattle.irc_network.specs.Network.{node_asked}
 use Rattle.irc_network.specs.Network.{waiting}
-use Rattle.irc_wires.specs.Wires.{AreLean, Wire, Wires, advanced, new_wire, wire_at}
+use Rattle.irc_wires.specs.Wires.{AreLean, LinkWire, Wires, advanced, new_wire, wire_at}
 use Rattle.irc_wires.specs.Lemmas.PutWires.{IsSetAt, it, nowhere, other_from, other_to, wire_set}
 use Rattle.irc_network.specs.ByteNetwork.{ByteNetwork, all_heard, all_written, byte_begun}
 use Rattle.irc_network.specs.ByteNetwork.{bytes_come, completed_in, queues_written, waiting_at}
@@ -26,10 +27,10 @@ use Rattle.irc_network.specs.Lemmas.Emptied.{emptied_waits, emptied_ways}
 use Rattle.irc_network.specs.Lemmas.NewFramer.{new_is_real}
 use Rattle.irc_network.specs.Lemmas.Rows.{rows_after_lines}
 use Rattle.irc_network.specs.Lemmas.RowsWritten.{is_written, lean_with}
-use Rattle.irc_network.specs.Lemmas.SitesStay.{asked_stays}
+use Rattle.irc_network.specs.Lemmas.NodesStay.{asked_stays}
 use Rattle.irc_daemons.specs.Alike.{bytes_to, client_bytes}
 use Rattle.irc_daemons.specs.Receiving.{bytes_received}
-use Rattle.irc_daemons.proofs.Given.{bytes_of_sites, come_of_sites, emptied_server, wire_behind}
+use Rattle.irc_daemons.proofs.Given.{bytes_of_nodes, come_of_nodes, emptied_server, wire_behind}
 use Rattle.irc_daemons.proofs.Homes.{KeepsHomes, asked_keeps, keeps_both, keeps_same}
 use Rattle.irc_daemons.proofs.OwnClients.{all_replies, then_reply}
 use Rattle.irc_daemons.proofs.Single.{no_way_waits}
@@ -40,7 +41,7 @@ use Rattle.irc_daemons.proofs.Written.{bodies, body_on, with_ends, written_all}
 -- ---- before what was put out is written
 
 -- the server at a place is as this reply has it, and what it put out waits, or has come to clients
-pub record HasReplied (place : ℕ) (next : Reply) (old new : Network) : Type 0 where
+pub record HasReplied (place : ℕ) (next : Served) (old new : Network) : Type 0 where
   pub replies : Replies place next.view (λ y. bodies y next.out) old new
   pub gets : Gets (λ q. client_bytes q next.out) old new
   pub keeps : KeepsHomes old new
@@ -58,7 +59,7 @@ nothing_replied place view net at = record {
   keeps = keeps_same net;
 }
 
-both_replied : (place : ℕ) (first rest : Reply) (old mid new : Network)
+both_replied : (place : ℕ) (first rest : Served) (old mid new : Network)
     → HasReplied place first old mid → HasReplied place rest mid new
     → HasReplied place (then_reply first rest) old new
 both_replied place first rest old mid new one two = record {
@@ -85,43 +86,43 @@ both_replied place first rest old mid new one two = record {
   keeps = keeps_both old mid new one.keeps two.keeps;
 }
 
-asked_replied : (place : ℕ) (occurrence : Occurrence) (view : View) (course : Course)
-    → server_at course.net place ≡ Some (Some view)
-    → HasReplied place (reply view occurrence) course.net (site_asked place occurrence course).net
-asked_replied place occurrence view course at = record {
-  replies = asked_replies place occurrence view course at;
-  gets = asked_gets place occurrence view course at;
-  keeps = asked_keeps place occurrence course;
+asked_replied : (place : ℕ) (occurrence : Occurrence) (view : View) (progress : Progress)
+    → server_at progress.net place ≡ Some (Some view) → HasReplied place
+    (reply view occurrence) progress.net (node_asked place occurrence progress).net
+asked_replied place occurrence view progress at = record {
+  replies = asked_replies place occurrence view progress at;
+  gets = asked_gets place occurrence view progress at;
+  keeps = asked_keeps place occurrence progress;
 }
 
-line_replied : (from to : ℕ) (line : List ℕ) (view : View) (course : Course)
-    → server_at course.net to ≡ Some (Some view) → HasReplied to
-    (reply view (link_says from (read_of line))) course.net (heard from to course line).net
-line_replied from to line view course at =
+line_replied : (from to : ℕ) (line : List ℕ) (view : View) (progress : Progress)
+    → server_at progress.net to ≡ Some (Some view) → HasReplied to
+    (reply view (link_says from (read_of line))) progress.net (heard from to progress line).net
+line_replied from to line view progress at =
     let keeps = asked_keeps to (link_says from (read_of line))
-    (record course { net = line_counted course.net }) in record {
-      replies = heard_replies from to line view course at;
-      gets = heard_gets from to line view course at;
+    (record progress { net = line_counted progress.net }) in record {
+      replies = heard_replies from to line view progress at;
+      gets = heard_gets from to line view progress at;
       keeps = record { names = keeps.names; homes = keeps.homes; inboxes = keeps.inboxes };
     }
 
-lines_replied : (from to : ℕ) (lines : List (List ℕ)) (view : View) (course : Course)
-    → server_at course.net to ≡ Some (Some view)
-    → HasReplied to (all_replies from view lines) course.net (all_heard from to course lines).net
-lines_replied from to [] view course at = nothing_replied to view course.net at
-lines_replied from to (line ∷ lines) view course at =
-    let first : Reply = reply view (link_says from (read_of line)) in
-    let one = line_replied from to line view course at in
-    both_replied to first (all_replies from first.view lines) course.net
-    (heard from to course line).net
-    (all_heard from to (heard from to course line) lines).net one
-    (lines_replied from to lines first.view (heard from to course line) one.replies.server)
+lines_replied : (from to : ℕ) (lines : List (List ℕ)) (view : View) (progress : Progress)
+    → server_at progress.net to ≡ Some (Some view) → HasReplied to
+    (all_replies from view lines) progress.net (all_heard from to progress lines).net
+lines_replied from to [] view progress at = nothing_replied to view progress.net at
+lines_replied from to (line ∷ lines) view progress at =
+    let first : Served = reply view (link_says from (read_of line)) in
+    let one = line_replied from to line view progress at in
+    both_replied to first (all_replies from first.view lines) progress.net
+    (heard from to progress line).net
+    (all_heard from to (heard from to progress line) lines).net one
+    (lines_replied from to lines first.view (heard from to progress line) one.replies.server)
 
 -- ---- once it is written
 
 -- The server at a place is as this reply has it, and what it put out is on these wires, or has come
 -- to clients; all else is as it was.
-pub record GoesOn (place : ℕ) (next : Reply) (along : Wires) (old new : ByteNetwork) : Type 0 where
+pub record GoesOn (place : ℕ) (next : Served) (along : Wires) (old new : ByteNetwork) : Type 0 where
   pub server : server_at new.network place ≡ Some (Some next.view)
   pub others : (x : ℕ) → nat_eq x place ≡ false → server_at new.network x ≡ server_at old.network x
   pub ways : (x y : ℕ) → has_way new.network x y ≡ has_way old.network x y
@@ -134,9 +135,9 @@ pub record GoesOn (place : ℕ) (next : Reply) (along : Wires) (old new : ByteNe
   pub gets : Gets (λ q. client_bytes q next.out) old.network new.network
   pub tidy : IsTidy new
 
-module _ (place : ℕ) (next : Reply) (along : Wires) (old : ByteNetwork) (mid : Network)
+module _ (place : ℕ) (next : Served) (along : Wires) (old : ByteNetwork) (mid : Network)
     (tidy : IsTidy old) (lean : AreLean along)
-    (rows : length along ≡ length mid.sites) (done : HasReplied place next old.network mid)
+    (rows : length along ≡ length mid.nodes) (done : HasReplied place next old.network mid)
   where
     abbrev now : ByteNetwork
     now = queues_written mid along
@@ -145,7 +146,7 @@ module _ (place : ℕ) (next : Reply) (along : Wires) (old : ByteNetwork) (mid :
     is_so = is_written mid along lean rows
 
     waits_there : (x y : ℕ) → nat_eq x place ≡ false → waiting_at mid x y ≡ []
-    waits_there x y two = ap (λ o. option_map_or (λ (site : Site). waiting site y) o [])
+    waits_there x y two = ap (λ o. option_map_or (λ (node : Node). waiting node y) o [])
         (done.replies.others x two) ∙ tidy.quiet x y
 
     waits_here : (y : ℕ) → has_way old.network place y ≡ true
@@ -158,14 +159,14 @@ module _ (place : ℕ) (next : Reply) (along : Wires) (old : ByteNetwork) (mid :
         ap (λ n. has_way mid n y) (eqb-true x place one) ∙ done.replies.ways y
         ∙ ap (λ n. has_way old.network n y) (sym (eqb-true x place one))
     ways_at x y false two =
-        ap (λ o. is_some (option_and_then (λ (site : Site). get site.queues y) o))
+        ap (λ o. is_some (option_and_then (λ (node : Node). get node.queues y) o))
         (done.replies.others x two)
 
     goes_on : GoesOn place next along old now
     goes_on = record {
       server = emptied_server mid place ∙ done.replies.server;
       others = λ x two. emptied_server mid x
-          ∙ ap (option_map (λ (s : Site). s.server)) (done.replies.others x two);
+          ∙ ap (option_map (λ (s : Node). s.server)) (done.replies.others x two);
       ways = λ x y. emptied_ways mid x y ∙ ways_at x y (nat_eq x place) refl;
       wires_there = λ x y two. is_so.wires_are x y
           ∙ ap (λ ls. all_written ls (wire_at along x y)) (waits_there x y two);
@@ -182,8 +183,8 @@ module _ (place : ℕ) (next : Reply) (along : Wires) (old : ByteNetwork) (mid :
         inboxes = done.keeps.inboxes;
       };
       gets = record {
-        come = λ q. come_of_sites mid now.network refl q ∙ done.gets.come q;
-        more = λ q has. bytes_of_sites mid now.network refl q ∙ done.gets.more q has;
+        come = λ q. come_of_nodes mid now.network refl q ∙ done.gets.come q;
+        more = λ q has. bytes_of_nodes mid now.network refl q ∙ done.gets.more q has;
       };
       tidy = record { quiet = emptied_waits mid; rows = is_so.rows; lean = is_so.lean };
     }
@@ -193,16 +194,16 @@ module _ (place : ℕ) (next : Reply) (along : Wires) (old : ByteNetwork) (mid :
 pub asked_goes_on : (place : ℕ) (occurrence : Occurrence) (view : View) (net : ByteNetwork)
     → IsTidy net → server_at net.network place ≡ Some (Some view)
     → GoesOn place (reply view occurrence) net.wires net
-    (queues_written (site_asked place occurrence (begun net.network)).net net.wires)
+    (queues_written (node_asked place occurrence (begun net.network)).net net.wires)
 asked_goes_on place occurrence view net tidy at =
     goes_on place (reply view occurrence) net.wires net
-    (site_asked place occurrence (begun net.network)).net tidy tidy.lean
+    (node_asked place occurrence (begun net.network)).net tidy tidy.lean
     (tidy.rows ∙ sym (asked_stays place occurrence (begun net.network)))
     (asked_replied place occurrence view (begun net.network) at)
 
 -- ---- bytes come
 
-abbrev pub come_if : ℕ → Bool → Wire → Wire
+abbrev pub come_if : ℕ → Bool → LinkWire → LinkWire
 come_if count b wire = if b then advanced count wire else wire
 
 no_byte_comes : (count : ℕ) → new_wire ≡ advanced count new_wire
@@ -252,7 +253,7 @@ module _ (from to count : ℕ) (net : ByteNetwork) where
       (wires_come net from to count) net (bytes_come from to count (byte_begun net)).net
   bytes_go_on view tidy at =
       let lines : List (List ℕ) = completed_in net from to count in
-      let last : Course = all_heard from to (begun net.network) lines in
+      let last : Progress = all_heard from to (begun net.network) lines in
       subst (GoesOn to (all_replies from view lines) (wires_come net from to count) net)
       (sym come_is)
       (goes_on to (all_replies from view lines) (wires_come net from to count) net last.net tidy

@@ -14,7 +14,7 @@ use Rattle.irc_world.specs.World.{Setting}
 use Rattle.irc_network.specs.Network.{received_by}
 use Rattle.irc_items.specs.SetUp.{settings_of}
 use Rattle.irc_items.specs.Sound.{owed_now}
-use Rattle.irc_wires.specs.Wires.{Wire, Wires, are_still, is_still, wire_at, wire_in}
+use Rattle.irc_wires.specs.Wires.{LinkWire, Wires, are_still, is_still, wire_at, wire_in}
 use Rattle.irc_network.specs.ByteNetwork.{ByteNetwork, is_byte_rest}
 use Rattle.irc_net.specs.Laws.{KeptIsOwed, SettingsStay, StaysKept}
 use Rattle.irc_net.specs.OneRoom.{IsKeptSound}
@@ -57,7 +57,7 @@ module _ (stays : StaysKept) (set_up : SettingsStay) (settings : List Setting)
 
 -- ---- at rest
 
-still_row : (row : FinMap nat_cmp Wire) (numbers : List ℕ)
+still_row : (row : FinMap nat_cmp LinkWire) (numbers : List ℕ)
     → ((to : ℕ) → is_still (wire_in to row) ≡ true)
     → list_all (λ to. is_still (wire_in to row)) numbers ≡ true
 still_row row [] all = refl

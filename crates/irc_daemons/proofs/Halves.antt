@@ -8,19 +8,20 @@ use Rattle.std.specs.FinMap.{get}
 use Rattle.std.specs.Option.{option_and_then, option_map_or}
 use Rattle.irc_stage.specs.View.{View}
 use Rattle.irc_server.specs.Served.{Occurrence}
-use Rattle.irc_server_laws.specs.Own.{ServedGoesToItsOwn}
-use Rattle.irc_network.specs.Site.{reply}
+use Rattle.irc_server.specs.Own.{ServedGoesToItsOwn}
+use Rattle.irc_network.specs.Node.{reply}
 use Rattle.irc_world.specs.Stepping.{Item}
-use Rattle.irc_network.specs.Network.{Course, Network, Site, begun, item_kept, site_asked, waiting}
-use Rattle.irc_wires.specs.Wires.{AreLean, Wire, Wires, wire_at, written}
+use Rattle.irc_network.specs.Network.{Progress, Network, Node, begun, item_kept, node_asked}
+use Rattle.irc_network.specs.Network.{waiting}
+use Rattle.irc_wires.specs.Wires.{AreLean, LinkWire, Wires, wire_at, written}
 use Rattle.irc_network.specs.ByteNetwork.{ByteNetwork, all_written, queues_written, waiting_at}
 use Rattle.irc_network.specs.Whole.{IsTidy, has_way}
 use Rattle.irc_network.specs.Lemmas.Emptied.{emptied_waits, emptied_ways}
 use Rattle.irc_network.specs.Lemmas.RowsWritten.{is_written}
-use Rattle.irc_network.specs.Lemmas.SitesStay.{asked_stays}
+use Rattle.irc_network.specs.Lemmas.NodesStay.{asked_stays}
 use Rattle.irc_daemons.specs.Alike.{client_bytes}
 use Rattle.irc_daemons.specs.Receiving.{bytes_received, has_come}
-use Rattle.irc_daemons.proofs.Given.{bytes_of_sites, come_of_sites, emptied_server, wire_behind}
+use Rattle.irc_daemons.proofs.Given.{bytes_of_nodes, come_of_nodes, emptied_server, wire_behind}
 use Rattle.irc_daemons.proofs.Homes.{KeepsHomes, asked_keeps}
 use Rattle.irc_daemons.proofs.LackingWords.{AreAllEnds, AreOwn, LacksOne}
 use Rattle.irc_daemons.proofs.Lists.{turned}
@@ -46,11 +47,11 @@ record IsOut (net : Network) (wires : Wires) (out : ByteNetwork) : Type 0 where
   pub received : out.network.received ≡ net.received
   pub tidy : IsTidy out
 
-is_out : (item : Item) (course : Course) (wires : Wires)
-    → AreLean wires → length wires ≡ length course.net.sites
-    → IsOut course.net wires (queues_written (item_kept item course).net wires)
-is_out item course wires lean long =
-    let kept : Network = (item_kept item course).net in
+is_out : (item : Item) (progress : Progress) (wires : Wires)
+    → AreLean wires → length wires ≡ length progress.net.nodes
+    → IsOut progress.net wires (queues_written (item_kept item progress).net wires)
+is_out item progress wires lean long =
+    let kept : Network = (item_kept item progress).net in
     let is_so = is_written kept wires lean long in record {
       servers = λ x. emptied_server kept x;
       ways = λ x y. emptied_ways kept x y;
@@ -73,7 +74,7 @@ out_at_once net tidy = record {
   tidy = tidy;
 }
 
-both_written : (one other : Lines) (wire : Wire)
+both_written : (one other : Lines) (wire : LinkWire)
     → all_written (one ++ other) wire ≡ wire_behind (with_ends other) (all_written one wire)
 both_written [] other wire = written_all other wire
 both_written (line ∷ one) other wire = both_written one other (written line wire)
@@ -93,31 +94,31 @@ record IsAsked (place : ℕ) (occurrence : Occurrence) (view : View)
   pub keeps : KeepsHomes old new
   pub gets : Gets (λ client. client_bytes client (reply view occurrence).out) old new
 
-is_asked : (place : ℕ) (occurrence : Occurrence) (view : View) (course : Course)
-    → server_at course.net place ≡ Some (Some view)
-    → IsAsked place occurrence view course.net (site_asked place occurrence course).net
-is_asked place occurrence view course at =
-    let replies = asked_replies place occurrence view course at in record {
+is_asked : (place : ℕ) (occurrence : Occurrence) (view : View) (progress : Progress)
+    → server_at progress.net place ≡ Some (Some view)
+    → IsAsked place occurrence view progress.net (node_asked place occurrence progress).net
+is_asked place occurrence view progress at =
+    let replies = asked_replies place occurrence view progress at in record {
       here = at;
       here_then = replies.server;
-      others = λ x two. ap (option_map (λ (s : Site). s.server)) (replies.others x two);
+      others = λ x two. ap (option_map (λ (s : Node). s.server)) (replies.others x two);
       ways = λ x y. way_at x y (nat_eq x place) refl;
-      waits_there = λ x y two. ap (λ o. option_map_or (λ (site : Site). waiting site y) o [])
+      waits_there = λ x y two. ap (λ o. option_map_or (λ (node : Node). waiting node y) o [])
           (replies.others x two);
       waits_here = replies.waits;
-      keeps = asked_keeps place occurrence course;
-      gets = asked_gets place occurrence view course at;
+      keeps = asked_keeps place occurrence progress;
+      gets = asked_gets place occurrence view progress at;
     }
   where
     way_at : (x y : ℕ) (b : Bool) → nat_eq x place ≡ b
-        → has_way (site_asked place occurrence course).net x y ≡ has_way course.net x y
+        → has_way (node_asked place occurrence progress).net x y ≡ has_way progress.net x y
     way_at x y true one =
-        ap (λ v. has_way (site_asked place occurrence course).net v y) (eqb-true x place one)
-        ∙ (asked_replies place occurrence view course at).ways y
-        ∙ ap (λ v. has_way course.net v y) (sym (eqb-true x place one))
+        ap (λ v. has_way (node_asked place occurrence progress).net v y) (eqb-true x place one)
+        ∙ (asked_replies place occurrence view progress at).ways y
+        ∙ ap (λ v. has_way progress.net v y) (sym (eqb-true x place one))
     way_at x y false two =
-        ap (λ o. is_some (option_and_then (λ (site : Site). get site.queues y) o))
-        ((asked_replies place occurrence view course at).others x two)
+        ap (λ o. is_some (option_and_then (λ (node : Node). get node.queues y) o))
+        ((asked_replies place occurrence view progress at).others x two)
 
 -- and once all is written, just that is more
 lacks_one : (place : ℕ) (occurrence : Occurrence) (view : View) (old new : Network) (wires : Wires)
@@ -150,15 +151,15 @@ lacks_one place occurrence view old new wires less more asked first second = rec
   names = second.names ∙ asked.keeps.names ∙ sym first.names;
   homes = second.homes ∙ asked.keeps.homes ∙ sym first.homes;
   come = λ client.
-      come_of_sites new more.network second.received client ∙ asked.gets.come client
-      ∙ sym (come_of_sites old less.network first.received client);
+      come_of_nodes new more.network second.received client ∙ asked.gets.come client
+      ∙ sym (come_of_nodes old less.network first.received client);
   inboxes = ap (λ (xs : List Lines). length xs) second.received ∙ asked.keeps.inboxes
       ∙ sym (ap (λ (xs : List Lines). length xs) first.received);
   received = λ client has.
-      bytes_of_sites new more.network second.received client
-      ∙ asked.gets.more client (sym (come_of_sites old less.network first.received client) ∙ has)
+      bytes_of_nodes new more.network second.received client
+      ∙ asked.gets.more client (sym (come_of_nodes old less.network first.received client) ∙ has)
       ∙ ap (λ bs. bs ++ client_bytes client (reply view occurrence).out)
-      (sym (bytes_of_sites old less.network first.received client));
+      (sym (bytes_of_nodes old less.network first.received client));
   tidy_less = first.tidy;
   tidy_more = second.tidy;
 }
@@ -251,47 +252,47 @@ pub record AreHalves (n f : ℕ) (on off : Occurrence)
 -- only the one of n was asked, only that of f, or both
 abbrev pub one_asked : Item → ℕ → Occurrence → ByteNetwork → ByteNetwork
 one_asked item place occurrence base = queues_written
-    (item_kept item (site_asked place occurrence (begun base.network))).net base.wires
+    (item_kept item (node_asked place occurrence (begun base.network))).net base.wires
 
 abbrev pub both_asked : Item → ℕ → ℕ → Occurrence → Occurrence → ByteNetwork → ByteNetwork
 both_asked item n f on off base = queues_written
-    (item_kept item (site_asked f off (site_asked n on (begun base.network)))).net base.wires
+    (item_kept item (node_asked f off (node_asked n on (begun base.network)))).net base.wires
 
 module _ (own_law : ServedGoesToItsOwn) (item : Item) (n f : ℕ) (on off : Occurrence)
     (base : ByteNetwork) (tidy : IsTidy base) (vn vf : View)
     (two : nat_eq n f ≡ false) (near_there : server_at base.network n ≡ Some (Some vn))
     (far_there : server_at base.network f ≡ Some (Some vf))
   where
-    abbrev near_course : Course
-    near_course = site_asked n on (begun base.network)
+    abbrev near_progress : Progress
+    near_progress = node_asked n on (begun base.network)
 
-    abbrev far_course : Course
-    far_course = site_asked f off (begun base.network)
+    abbrev far_progress : Progress
+    far_progress = node_asked f off (begun base.network)
 
-    abbrev last_course : Course
-    last_course = site_asked f off near_course
+    abbrev last_progress : Progress
+    last_progress = node_asked f off near_progress
 
-    near_asked : IsAsked n on vn base.network near_course.net
+    near_asked : IsAsked n on vn base.network near_progress.net
     near_asked = is_asked n on vn (begun base.network) near_there
 
-    far_asked : IsAsked f off vf base.network far_course.net
+    far_asked : IsAsked f off vf base.network far_progress.net
     far_asked = is_asked f off vf (begun base.network) far_there
 
-    far_after : IsAsked f off vf near_course.net last_course.net
-    far_after = is_asked f off vf near_course (near_asked.others f (turned f n ∙ two) ∙ far_there)
+    far_after : IsAsked f off vf near_progress.net last_progress.net
+    far_after = is_asked f off vf near_progress (near_asked.others f (turned f n ∙ two) ∙ far_there)
 
-    near_out : IsOut near_course.net base.wires (one_asked item n on base)
-    near_out = is_out item near_course base.wires tidy.lean
+    near_out : IsOut near_progress.net base.wires (one_asked item n on base)
+    near_out = is_out item near_progress base.wires tidy.lean
         (tidy.rows ∙ sym (asked_stays n on (begun base.network)))
 
-    far_out : IsOut far_course.net base.wires (one_asked item f off base)
-    far_out = is_out item far_course base.wires tidy.lean
+    far_out : IsOut far_progress.net base.wires (one_asked item f off base)
+    far_out = is_out item far_progress base.wires tidy.lean
         (tidy.rows ∙ sym (asked_stays f off (begun base.network)))
 
-    last_out : IsOut last_course.net base.wires (both_asked item n f on off base)
+    last_out : IsOut last_progress.net base.wires (both_asked item n f on off base)
     last_out =
-        is_out item last_course base.wires tidy.lean (tidy.rows
-        ∙ sym (asked_stays f off near_course ∙ asked_stays n on (begun base.network)))
+        is_out item last_progress base.wires tidy.lean (tidy.rows
+        ∙ sym (asked_stays f off near_progress ∙ asked_stays n on (begun base.network)))
 
     -- a client is of one of them at most
     module _ (own : AreOwn base.network) (ends : AreAllEnds base.network) where
@@ -331,19 +332,22 @@ module _ (own_law : ServedGoesToItsOwn) (item : Item) (n f : ℕ) (on off : Occu
           (one_asked item f off base) (both_asked item n f on off base)
       half_lacks = record {
         near_last =
-            lacks_one n on vn far_course.net last_course.net base.wires (one_asked item f off base)
+            lacks_one n on vn far_progress.net last_progress.net base.wires
+            (one_asked item f off base)
             (both_asked item n f on off base)
-            (asked_last n f on off vn vf base.network near_course.net last_course.net far_course.net
+            (asked_last n f on off vn vf base.network near_progress.net last_progress.net
+            far_progress.net
             two near_asked far_after far_asked either_first)
             far_out last_out;
         far_last =
-            lacks_one f off vf near_course.net last_course.net base.wires (one_asked item n on base)
+            lacks_one f off vf near_progress.net last_progress.net base.wires
+            (one_asked item n on base)
             (both_asked item n f on off base)
             far_after near_out last_out;
         near_alone =
-            lacks_one n on vn base.network near_course.net base.wires base
+            lacks_one n on vn base.network near_progress.net base.wires base
             (one_asked item n on base) near_asked (out_at_once base tidy) near_out;
         far_alone =
-            lacks_one f off vf base.network far_course.net base.wires base
+            lacks_one f off vf base.network far_progress.net base.wires base
             (one_asked item f off base) far_asked (out_at_once base tidy) far_out;
       }

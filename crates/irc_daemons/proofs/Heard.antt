@@ -8,14 +8,14 @@ use Rattle.irc_server.specs.declared.event.Event.{Event}
 use Rattle.irc_server.specs.declared.event.ServerFault.{ServerFault}
 use Rattle.irc_server.specs.Happening.{IsHandled, has_failed}
 use Rattle.irc_server.specs.Served.{Occurrence, served}
-use Rattle.irc_server_laws.specs.LineEnds.{EndsInLineEnd, ServedLinesEnd}
+use Rattle.irc_server.specs.LineEnds.{EndsInLineEnd, ServedLinesEnd}
 use Rattle.irc_stage.specs.View.{View}
-use Rattle.irc_network.specs.Site.{Reply, reply, serves_occurrence}
+use Rattle.irc_network.specs.Node.{Served, reply, serves_occurrence}
 use Rattle.irc_engine.specs.Carrying.{answers, bytes_owed, is_closed_by}
-use Rattle.irc_engine.specs.Running.{AreAsked, Asked}
+use Rattle.irc_engine.specs.Running.{AreAsked, ServerAsked}
 use Rattle.irc_engine.specs.Lemmas.CarryingLaws.{owed-append}
 
-abbrev replied : Bool → View → Occurrence → Reply
+abbrev replied : Bool → View → Occurrence → Served
 replied b view occurrence =
     if b then record { view = (served view occurrence).view; out = (served view occurrence).out }
     else record { view = view; out = [] }
@@ -26,9 +26,9 @@ failed_stays : (event : Event) (result : Result (Unit {0}) ServerFault) (server 
     (outs : List Sent) → IsHandled None event [] result server outs → server ≡ None
 failed_stays event result server outs has_failed = refl
 
-pub none_stays : (events : List Event) (old new : Asked) (outs : List Sent) → old.server ≡ None
-    → AreAsked old events outs new → new.server ≡ None
-none_stays [] old new outs none asked = ap (λ (a : Asked). a.server) asked.1 ∙ none
+pub none_stays : (events : List Event) (old new : ServerAsked) (outs : List Sent)
+    → old.server ≡ None → AreAsked old events outs new → new.server ≡ None
+none_stays [] old new outs none asked = ap (λ (a : ServerAsked). a.server) asked.1 ∙ none
 none_stays (event ∷ events) old new outs none asked =
     none_stays events asked.between new asked.more
     (failed_stays event (Ok tt) asked.between.server asked.first

@@ -6,9 +6,9 @@ use Rattle.std.specs.Option.{option_map_or}
 use Rattle.irc_batch.specs.Batches.{Sent, end_of, end_of_link, line_on, line_to}
 use Rattle.irc_server.specs.Served.{Occurrence}
 use Rattle.irc_stage.specs.View.{View}
-use Rattle.irc_network.specs.Network.{Course, Network, Site, all_sent_out, asked_at, has_received}
-use Rattle.irc_network.specs.Network.{has_received_at, line_queued, reply, sent_out, site_asked}
-use Rattle.irc_network.specs.Network.{site_at, site_changed_at, with_reply, with_site}
+use Rattle.irc_network.specs.Network.{Progress, Network, Node, all_sent_out, asked_at, has_received}
+use Rattle.irc_network.specs.Network.{has_received_at, line_queued, reply, sent_out, node_asked}
+use Rattle.irc_network.specs.Network.{node_at, node_changed_at, with_reply, with_node}
 use Rattle.irc_network.specs.Lemmas.Rows.{length_set}
 use Rattle.irc_daemons.proofs.Sent.{Lines}
 
@@ -28,66 +28,66 @@ keeps_both old mid new first second = record {
   inboxes = second.inboxes ∙ first.inboxes;
 }
 
-keeps_received : (client : ℕ) (text : List ℕ) (course : Course)
-    → KeepsHomes course.net (has_received client text course).net
-keeps_received zero text course = keeps_same course.net
-keeps_received (suc earlier) text course = by (slice_get course.net.received earlier)
+keeps_received : (client : ℕ) (text : List ℕ) (progress : Progress)
+    → KeepsHomes progress.net (has_received client text progress).net
+keeps_received zero text progress = keeps_same progress.net
+keeps_received (suc earlier) text progress = by (slice_get progress.net.received earlier)
   where
-    by : (o : Option Lines)
-        → KeepsHomes course.net (option_map_or (has_received_at earlier text course) o course).net
-    by None = keeps_same course.net
+    by : (o : Option Lines) → KeepsHomes progress.net
+        (option_map_or (has_received_at earlier text progress) o progress).net
+    by None = keeps_same progress.net
     by (Some lines) = record {
       names = refl;
       homes = refl;
-      inboxes = length_set course.net.received earlier (lines ++ text ∷ []);
+      inboxes = length_set progress.net.received earlier (lines ++ text ∷ []);
     }
 
 keeps_queued : (place to : ℕ) (text : List ℕ) (net : Network)
-    → KeepsHomes net (site_changed_at place (line_queued to text) net)
-keeps_queued place to text net = by (site_at net place)
+    → KeepsHomes net (node_changed_at place (line_queued to text) net)
+keeps_queued place to text net = by (node_at net place)
   where
-    by : (o : Option Site) → KeepsHomes net
-        (option_map_or (λ site. with_site place (line_queued to text site) net) o net)
+    by : (o : Option Node) → KeepsHomes net
+        (option_map_or (λ node. with_node place (line_queued to text node) net) o net)
     by None = keeps_same net
-    by (Some site) = record { names = refl; homes = refl; inboxes = refl }
+    by (Some node) = record { names = refl; homes = refl; inboxes = refl }
 
-keeps_one : (place : ℕ) (sent : Sent) (course : Course)
-    → KeepsHomes course.net (sent_out place sent course).net
-keeps_one place (line_to client text) course = keeps_received client text course
-keeps_one place (end_of client) course = keeps_same course.net
-keeps_one place (line_on link text) course = keeps_queued place link text course.net
-keeps_one place (end_of_link link reason) course = keeps_same course.net
+keeps_one : (place : ℕ) (sent : Sent) (progress : Progress)
+    → KeepsHomes progress.net (sent_out place sent progress).net
+keeps_one place (line_to client text) progress = keeps_received client text progress
+keeps_one place (end_of client) progress = keeps_same progress.net
+keeps_one place (line_on link text) progress = keeps_queued place link text progress.net
+keeps_one place (end_of_link link reason) progress = keeps_same progress.net
 
-keeps_all : (place : ℕ) (outs : List Sent) (course : Course)
-    → KeepsHomes course.net (all_sent_out place outs course).net
-keeps_all place [] course = keeps_same course.net
-keeps_all place (sent ∷ outs) course =
-    keeps_both course.net (sent_out place sent course).net
-    (all_sent_out place outs (sent_out place sent course)).net (keeps_one place sent course)
-    (keeps_all place outs (sent_out place sent course))
+keeps_all : (place : ℕ) (outs : List Sent) (progress : Progress)
+    → KeepsHomes progress.net (all_sent_out place outs progress).net
+keeps_all place [] progress = keeps_same progress.net
+keeps_all place (sent ∷ outs) progress =
+    keeps_both progress.net (sent_out place sent progress).net
+    (all_sent_out place outs (sent_out place sent progress)).net (keeps_one place sent progress)
+    (keeps_all place outs (sent_out place sent progress))
 
-pub asked_keeps : (place : ℕ) (occurrence : Occurrence) (course : Course)
-    → KeepsHomes course.net (site_asked place occurrence course).net
-unfolding site_asked
-asked_keeps place occurrence course = by (site_at course.net place)
+pub asked_keeps : (place : ℕ) (occurrence : Occurrence) (progress : Progress)
+    → KeepsHomes progress.net (node_asked place occurrence progress).net
+unfolding node_asked
+asked_keeps place occurrence progress = by (node_at progress.net place)
   where
-    at_site : (site : Site) (view : View)
-        → KeepsHomes course.net (with_reply place course site (reply view occurrence)).net
-    at_site site view =
-        let between : Course = record course {
-          net = with_site place
-              (record site { server = Some (reply view occurrence).view }) course.net;
+    at_node : (node : Node) (view : View)
+        → KeepsHomes progress.net (with_reply place progress node (reply view occurrence)).net
+    at_node node view =
+        let between : Progress = record progress {
+          net = with_node place
+              (record node { server = Some (reply view occurrence).view }) progress.net;
         } in
-        keeps_both course.net between.net (all_sent_out place (reply view occurrence).out
+        keeps_both progress.net between.net (all_sent_out place (reply view occurrence).out
         between).net (record { names = refl; homes = refl; inboxes = refl })
         (keeps_all place (reply view occurrence).out between)
 
-    by_view : (site : Site) (o : Option View) → KeepsHomes course.net (option_map_or
-        (λ (v : View). with_reply place course site (reply v occurrence)) o course).net
-    by_view site None = keeps_same course.net
-    by_view site (Some view) = at_site site view
+    by_view : (node : Node) (o : Option View) → KeepsHomes progress.net (option_map_or
+        (λ (v : View). with_reply place progress node (reply v occurrence)) o progress).net
+    by_view node None = keeps_same progress.net
+    by_view node (Some view) = at_node node view
 
-    by : (o : Option Site)
-        → KeepsHomes course.net (option_map_or (asked_at place occurrence course) o course).net
-    by None = keeps_same course.net
-    by (Some site) = by_view site site.server
+    by : (o : Option Node) → KeepsHomes progress.net
+        (option_map_or (asked_at place occurrence progress) o progress).net
+    by None = keeps_same progress.net
+    by (Some node) = by_view node node.server

@@ -15,12 +15,12 @@ use Rattle.irc_server.specs.declared.event.Event.TheVariants.{Connect, Gone, Lin
 use Rattle.irc_server.specs.declared.event.Event.TheVariants.{LinkLine, LinkUp}
 use Rattle.irc_server.specs.Served.{no_link}
 use Rattle.irc_stage.specs.View.{End, View}
-use Rattle.irc_network.specs.Network.{Site, site_at}
+use Rattle.irc_network.specs.Network.{Node, node_at}
 use Rattle.irc_network.specs.ByteNetwork.{ByteNetwork}
-use Rattle.irc_engine.specs.declared.kind.Kind.TheVariants as kinds
+use Rattle.irc_engine.specs.declared.kind.ConnectionKind.TheVariants as kinds
 use Rattle.irc_engine.specs.Carrying.{open_kind_at}
 use Rattle.irc_engine.specs.Hearing.{Hears, begun_at, lines_by, nothing_of}
-use Rattle.irc_engine.specs.Running.{AreAsked, Asked, Moment, Ran, asked_at}
+use Rattle.irc_engine.specs.Running.{AreAsked, ServerAsked, Moment, Ran, asked_at}
 use Rattle.irc_daemons.specs.AsBytes.{IsServerIf, numbers_at}
 use Rattle.irc_daemons.specs.AsNetwork.{AreSeated, IsAsNetwork}
 use Rattle.irc_daemons.specs.Daemons.{AreJoined, AreLinksOpen, Daemons, connection_in, unsent}
@@ -70,10 +70,10 @@ module _ {W : Type 0} (is_after : W → List Call → Type 0) (pieces : PiecesCo
     abbrev not_itself : (x : ℕ) → old.ends x x ≡ None
     not_itself = same.are_joined.not_itself
 
-    abbrev here : HasServer (numbers_at old place) step.engine (site_at net.network place)
+    abbrev here : HasServer (numbers_at old place) step.engine (node_at net.network place)
     here =
-        has_server (numbers_at old place) step.engine (site_at net.network place)
-        (subst (λ o. IsServerIf (numbers_at old place) o (site_at net.network place)) step.at
+        has_server (numbers_at old place) step.engine (node_at net.network place)
+        (subst (λ o. IsServerIf (numbers_at old place) o (node_at net.network place)) step.at
         (same.as_bytes.servers place))
 
     abbrev started : Moment W
@@ -179,7 +179,7 @@ module _ {W : Type 0} (is_after : W → List Call → Type 0) (pieces : PiecesCo
         (λ es. AreAsked (asked_at mid) es ran_on.outs (asked_at end)) second_is ran_on.are_asked
 
     mid_server : mid.server ≡ Some last.view
-    mid_server = ap (λ (a : Asked). a.server) (sym asked_second.1) ∙ last.is
+    mid_server = ap (λ (a : ServerAsked). a.server) (sym asked_second.1) ∙ last.is
 
     asked_first : AreAsked (asked_at begun_now) ran.events ran.outs (asked_at mid)
     asked_first = subst (λ g. AreAsked (asked_at begun_now) (g ++ ran.events) ran.outs
@@ -196,9 +196,9 @@ module _ {W : Type 0} (is_after : W → List Call → Type 0) (pieces : PiecesCo
     own_start : started.server ≡ Some own.view
     own_start = ap (λ (m : Moment W). m.server) (sym nobody_new.as_it_was) ∙ own.is
 
-    views : HaveViews (numbers_at old place) started.server here.site.server own.view
+    views : HaveViews (numbers_at old place) started.server here.node.server own.view
     views = have_views
-        (numbers_at old place) started.server here.site.server own.view own_start here.of.servers
+        (numbers_at old place) started.server here.node.server own.view own_start here.of.servers
 
     first_none : (y q : ℕ) → old.ends place y ≡ Some q → lines_by q ran.events ≡ []
     first_none y q is =
@@ -241,7 +241,7 @@ module _ {W : Type 0} (is_after : W → List Call → Type 0) (pieces : PiecesCo
 
     last_is : own.view ≡ last.view
     last_is = inside own.view last.view
-        (sym own.is ∙ ap (λ (a : Asked). a.server) (sym asked_none.1) ∙ mid_server)
+        (sym own.is ∙ ap (λ (a : ServerAsked). a.server) (sym asked_none.1) ∙ mid_server)
 
     events_none : (given ++ ran.events) ++ ran_on.events ≡ []
     events_none =
@@ -292,7 +292,7 @@ module _ {W : Type 0} (is_after : W → List Call → Type 0) (pieces : PiecesCo
         (subst (λ os. Went place (numbers_at old place) last.view os net net) (sym outs_none)
         (subst (λ v. Went place (numbers_at old place) v [] net net) last_is
         (went_nowhere place (numbers_at old place) own.view views.theirs net views.alike
-        (ap (option_map (λ (s : Site). s.server)) here.at ∙ ap Some views.is) same.as_bytes.tidy)))
+        (ap (option_map (λ (s : Node). s.server)) here.at ∙ ap Some views.is) same.as_bytes.tidy)))
 
     serves : ServesClients (numbers_at new place) own.view last.view
         ((given ++ ran.events) ++ ran_on.events) (ran.outs ++ ran_on.outs)

@@ -2,12 +2,12 @@
 -- something more. They stay so as bytes come to other servers, and are the same once the server is
 -- asked in both.
 --
--- a.net is linked to b.net and d.net, and its link to c.net comes up: in `more` a.net knows of
--- that already, in `less` not yet
---   bytes come from d.net to b.net    b.net does the same in both
--- bytes come from a.net to b.net the same bytes, for in `more` those that a.net put out on account
--- of c.net are behind them
---   the link comes up in `less` too   now they are the same
+-- a.net is linked to b.net and d.net, and its link to c.net comes up: in `more` a.net knows of that
+-- already, in `less` not yet
+--   bytes come from d.net to b.net   b.net does the same in both
+--   bytes come from a.net to b.net   the same bytes, for in `more` those that a.net put out on
+--                                    account of c.net are behind them
+--   the link comes up in `less` too  now they are the same
 use Rattle.std.proofs.Common.{◌≡◌, ◌≤◌, ℕ, Bool, true, false, ◌&&◌, is_some, Some, List, [], ◌++◌}
 use Rattle.std.proofs.Common.{append_assoc, append-nil, length, nat_eq, refl, sym, ◌∙◌, ap, subst}
 use Rattle.std.proofs.lemmas.Bool.{eq-eqb, eqb-true}
@@ -20,12 +20,12 @@ use Rattle.irc_line.specs.Lines.{begun_behind, completed}
 use Rattle.irc_relay.specs.Links.{Name}
 use Rattle.irc_relay.specs.Relay.{IsFront}
 use Rattle.irc_server.specs.Served.{Occurrence}
-use Rattle.irc_server_laws.specs.Own.{ServedGoesToItsOwn, ServedKeepsEnds}
-use Rattle.irc_network.specs.Site.{Reply, reply}
+use Rattle.irc_server.specs.Own.{ServedGoesToItsOwn, ServedKeepsEnds}
+use Rattle.irc_network.specs.Node.{Served, reply}
 use Rattle.irc_stage.specs.View.{View}
 use Rattle.irc_world.specs.World.{home_in}
-use Rattle.irc_network.specs.Network.{Network, begun, home_place, server_place, site_asked}
-use Rattle.irc_wires.specs.Wires.{Wire, Wires, advanced, lines_by, wire_at}
+use Rattle.irc_network.specs.Network.{Network, begun, home_place, server_place, node_asked}
+use Rattle.irc_wires.specs.Wires.{LinkWire, Wires, advanced, lines_by, wire_at}
 use Rattle.irc_network.specs.ByteNetwork.{ByteNetwork, byte_begun, bytes_come, completed_in}
 use Rattle.irc_network.specs.ByteNetwork.{queues_written, wires_come}
 use Rattle.irc_network.specs.Whole.{has_way}
@@ -65,14 +65,14 @@ record AreBehind (net : Network) (place : ℕ) (outs : List Sent) (one other : W
   no_way : (y : ℕ) → has_way net place y ≡ false → wire_at other place y ≡ wire_at one place y
 
 -- bytes that come are not those behind
-front_advances : (count : ℕ) (wire : Wire) (bytes : List ℕ) → count ≤ length wire.bytes
+front_advances : (count : ℕ) (wire : LinkWire) (bytes : List ℕ) → count ≤ length wire.bytes
     → advanced count (wire_behind bytes wire) ≡ wire_behind bytes (advanced count wire)
 front_advances count wire bytes enough = λ i. record {
   begun = begun_behind wire.begun (take-append-le count wire.bytes bytes enough i);
   bytes = drop-append-le count wire.bytes bytes enough i;
 }
 
-front_completes : (count : ℕ) (wire : Wire) (bytes : List ℕ) → count ≤ length wire.bytes
+front_completes : (count : ℕ) (wire : LinkWire) (bytes : List ℕ) → count ≤ length wire.bytes
     → lines_by count (wire_behind bytes wire) ≡ lines_by count wire
 front_completes count wire bytes enough =
     ap (completed wire.begun) (take-append-le count wire.bytes bytes enough)
@@ -88,7 +88,7 @@ module _ (place : ℕ) (occurrence : Occurrence) (less more : ByteNetwork)
     (lacks : LacksOne place occurrence less more) (from to count : ℕ)
     (enough : count ≤ length (wire_at less.wires from to).bytes)
   where
-    abbrev asked : Reply
+    abbrev asked : Served
     asked = reply lacks.view occurrence
 
     same_lines : completed_in more from to count ≡ completed_in less from to count
@@ -116,7 +116,7 @@ module _ (place : ℕ) (occurrence : Occurrence) (less more : ByteNetwork)
     comes_behind y bytes true is =
         let there = both_are place from y to is in
         front_advances count (wire_at less.wires place y) bytes
-        (subst (λ (w : Wire). count ≤ length w.bytes)
+        (subst (λ (w : LinkWire). count ≤ length w.bytes)
         (λ i. wire_at less.wires (sym there.0 i) (sym there.1 i)) enough)
     comes_behind y bytes false is = refl
 
@@ -143,7 +143,7 @@ module _ (place : ℕ) (occurrence : Occurrence) (less more : ByteNetwork)
 
 module _ (place to : ℕ) (occurrence : Occurrence) (less more : ByteNetwork)
     (lacks : LacksOne place occurrence less more)
-    (away : nat_eq to place ≡ false) (next : Reply) (one other : Wires)
+    (away : nat_eq to place ≡ false) (next : Served) (one other : Wires)
     (behind : AreBehind less.network place (reply lacks.view occurrence).out one other)
     (less_then more_then : ByteNetwork)
     (goes_less : GoesOn to next one less less_then)
@@ -235,7 +235,7 @@ module _ (own_law : ServedGoesToItsOwn) (stay : ClientsStay) (keeps : ServedKeep
       abbrev lines : List (List ℕ)
       lines = completed_in less from to count
 
-      abbrev next : Reply
+      abbrev next : Served
       next = all_replies from other lines
 
       -- who is a client there is none here
@@ -288,13 +288,13 @@ module _ (own_law : ServedGoesToItsOwn) (stay : ClientsStay) (keeps : ServedKeep
 module _ (place : ℕ) (occurrence : Occurrence) (less more : ByteNetwork)
     (lacks : LacksOne place occurrence less more) where
   abbrev asked_too : ByteNetwork
-  asked_too = queues_written (site_asked place occurrence (begun less.network)).net less.wires
+  asked_too = queues_written (node_asked place occurrence (begun less.network)).net less.wires
 
   goes : GoesOn place (reply lacks.view occurrence) less.wires less asked_too
   goes = asked_goes_on place occurrence lacks.view less lacks.tidy_less lacks.here
 
   pub lacks_nothing : IsSameAs
-      (queues_written (site_asked place occurrence (begun less.network)).net less.wires) more
+      (queues_written (node_asked place occurrence (begun less.network)).net less.wires) more
   lacks_nothing = record {
     servers = λ x. same_server x (nat_eq x place) refl;
     ways = λ x y. lacks.ways x y ∙ sym (goes.ways x y);

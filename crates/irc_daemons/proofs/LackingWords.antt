@@ -2,10 +2,10 @@
 -- for in the second alone.
 use Rattle.std.specs.Prelude.{◌≡◌, ℕ, ◌++◌, true, false, is_some, Some, length, nat_eq}
 use Rattle.std.specs.FinMap.{get}
-use Rattle.irc_links.specs.Ways.{AreEnds}
+use Rattle.irc_stage.specs.Ways.{AreEnds}
 use Rattle.irc_stage.specs.View.{View}
 use Rattle.irc_server.specs.Served.{Occurrence}
-use Rattle.irc_network.specs.Site.{reply}
+use Rattle.irc_network.specs.Node.{reply}
 use Rattle.irc_network.specs.Network.{Network}
 use Rattle.irc_wires.specs.Wires.{wire_at}
 use Rattle.irc_network.specs.ByteNetwork.{ByteNetwork}

@@ -7,12 +7,12 @@ use Rattle.std.specs.Option.{option_and_then}
 use Rattle.irc_relay.specs.Links.{Name}
 use Rattle.irc_routes.specs.declared.server_row.ServerRow.{ServerRow}
 use Rattle.irc_routes.specs.Known.{row_of}
-use Rattle.irc_links.specs.Ways.{IsMetEnd}
+use Rattle.irc_stage.specs.Ways.{IsMetEnd}
 use Rattle.irc_stage.specs.View.{End, View}
 use Rattle.irc_daemons.specs.Alike.{AreServersAlike, AreRowsAlike, Numbers}
 use Rattle.irc_daemons.specs.Daemons.{AreJoined, AreLinksOpen, Daemons}
 use Rattle.irc_daemons.specs.Steps.{unless_taken}
-use Rattle.irc_daemons.specs.Tellings.{Tidings, end_by, end_set, is_lost, is_up, is_way_by}
+use Rattle.irc_daemons.specs.Tellings.{LinkTidings, end_by, end_set, is_lost, is_up, is_way_by}
 use Rattle.irc_daemons.specs.Tellings.{seats_by, way_set}
 use Rattle.irc_daemons.proofs.Lists.{inside}
 
@@ -79,11 +79,11 @@ module _ {W : Type 0} (old : Daemons W) (place other : ℕ) where
   -- ---- seats
 
   -- who has a seat then had it before, under a number that the link has not taken
-  pub record SeatBefore (tidings : Tidings) (conn x client q : ℕ) : Type 0 where
+  pub record SeatBefore (tidings : LinkTidings) (conn x client q : ℕ) : Type 0 where
     pub was : old.seats x client ≡ Some q
     pub free : x ≡ place → is_way_by tidings ≡ true → nat_eq q conn ≡ false
 
-  pub seat_before : (tidings : Tidings) (conn x client q : ℕ)
+  pub seat_before : (tidings : LinkTidings) (conn x client q : ℕ)
       → seats_by tidings place conn old x client ≡ Some q → SeatBefore tidings conn x client q
   seat_before is_lost conn x client q is = record { was = is; free = λ one up. cc up }
   seat_before (is_up called) conn x client q is =
@@ -104,7 +104,7 @@ module _ {W : Type 0} (old : Daemons W) (place other : ℕ) where
       by false o two at found =
           record { was = at ∙ found; free = λ one up. cc (sym (eq-eqb x place one) ∙ two) }
 
-  pub seat_elsewhere : (tidings : Tidings) (conn x client : ℕ) → nat_eq x place ≡ false
+  pub seat_elsewhere : (tidings : LinkTidings) (conn x client : ℕ) → nat_eq x place ≡ false
       → seats_by tidings place conn old x client ≡ old.seats x client
   seat_elsewhere is_lost conn x client two = refl
   seat_elsewhere (is_up called) conn x client two =
@@ -115,11 +115,11 @@ module _ {W : Type 0} (old : Daemons W) (place other : ℕ) where
 module _ {W : Type 0} (old : Daemons W) (place other conn : ℕ) (two : nat_eq place other ≡ false)
     (joined : AreJoined old) where
   -- no link of this server has the number of one that is made
-  abbrev pub IsFree : Tidings → Type 0
+  abbrev pub IsFree : LinkTidings → Type 0
   IsFree tidings = (y q : ℕ) → is_way_by tidings ≡ true → old.ends place y ≡ Some q
       → nat_eq q conn ≡ false
 
-  pub joined_by : (tidings : Tidings) (new : Daemons W) → IsFree tidings
+  pub joined_by : (tidings : LinkTidings) (new : Daemons W) → IsFree tidings
       → new.ends ≡ end_set old place other (end_by tidings conn)
       → new.ways ≡ way_set old place other (is_way_by tidings)
       → new.seats ≡ seats_by tidings place conn old → AreLinksOpen new → AreJoined new
@@ -154,7 +154,7 @@ module _ {W : Type 0} (old : Daemons W) (place other conn : ℕ) (two : nat_eq p
           (ap (λ (f : ℕ → ℕ → Option ℕ). f x client) (sym seats) ∙ is)
 
       -- only a link that is made has an end here
-      made : (t : Tidings) (q : ℕ) → end_by t conn ≡ Some q → (is_way_by t ≡ true) × (q ≡ conn)
+      made : (t : LinkTidings) (q : ℕ) → end_by t conn ≡ Some q → (is_way_by t ≡ true) × (q ≡ conn)
       made (is_up called) q is = (refl, sym (inside conn q is))
       made is_lost q is = cc is
 
@@ -203,7 +203,7 @@ module _ {W : Type 0} (old : Daemons W) (place other conn : ℕ) (own theirs : V
   abbrev before : Numbers
   before = record { link = old.ends place; client = old.seats place }
 
-  abbrev pub numbers_by : Tidings → Numbers
+  abbrev pub numbers_by : LinkTidings → Numbers
   numbers_by tidings = record {
     link = end_set old place other (end_by tidings conn) place;
     client = seats_by tidings place conn old place;

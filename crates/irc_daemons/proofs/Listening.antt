@@ -14,12 +14,13 @@ use Rattle.irc_server.specs.declared.event.Event.{Event}
 use Rattle.irc_server.specs.declared.event.Event.TheVariants.{LinkLine}
 use Rattle.irc_server.specs.Happening.{occurrence_of}
 use Rattle.irc_server.specs.Served.{Occurrence, link_says}
-use Rattle.irc_server_laws.specs.Connected.{client_comes}
-use Rattle.irc_server_laws.specs.LineEnds.{ServedLinesEnd}
-use Rattle.irc_server_laws.specs.Own.{ServedGoesToItsOwn}
+use Rattle.irc_server.specs.Connected.{client_comes}
+use Rattle.irc_server.specs.LineEnds.{ServedLinesEnd}
+use Rattle.irc_server.specs.Own.{ServedGoesToItsOwn}
 use Rattle.irc_stage.specs.View.{View}
-use Rattle.irc_network.specs.Site.{Reply, reply}
-use Rattle.irc_network.specs.Network.{Course, Network, Site, heard, line_counted, site_at, waiting}
+use Rattle.irc_network.specs.Node.{Served, reply}
+use Rattle.irc_network.specs.Network.{Progress, Network, Node, heard, line_counted, node_at}
+use Rattle.irc_network.specs.Network.{waiting}
 use Rattle.irc_wires.specs.Wires.{wire_at}
 use Rattle.irc_network.specs.ByteNetwork.{ByteNetwork, all_heard, all_written, queues_written}
 use Rattle.irc_network.specs.ByteNetwork.{waiting_at}
@@ -29,13 +30,13 @@ use Rattle.irc_network.specs.Lemmas.Emptied.{emptied_waits, emptied_ways}
 use Rattle.irc_engine.specs.Carrying.{answers, is_closed_by}
 use Rattle.irc_engine.specs.Hearing.{line_by, lines_by}
 use Rattle.irc_engine.specs.Lemmas.CarryingLaws.{is_closed_by-append}
-use Rattle.irc_engine.specs.Running.{AreAsked, Asked}
+use Rattle.irc_engine.specs.Running.{AreAsked, ServerAsked}
 use Rattle.irc_daemons.specs.Alike.{AreServersAlike, AreApart, Numbers, ServeAlike, ServedAlike}
 use Rattle.irc_daemons.specs.Alike.{client_bytes}
 use Rattle.irc_daemons.specs.Clients.{ClientsStay}
 use Rattle.irc_daemons.specs.Items.{has_item, is_link_line}
 use Rattle.irc_daemons.specs.Receiving.{bytes_received, has_come}
-use Rattle.irc_daemons.proofs.Given.{Went, bytes_of_sites, come_of_sites, emptied_server}
+use Rattle.irc_daemons.proofs.Given.{Went, bytes_of_nodes, come_of_nodes, emptied_server}
 use Rattle.irc_daemons.proofs.Given.{same_answers, wire_behind}
 use Rattle.irc_daemons.proofs.Heard.{answers_both, reply_ends}
 use Rattle.irc_daemons.proofs.Homes.{KeepsHomes, asked_keeps, keeps_both, keeps_same}
@@ -61,7 +62,7 @@ pub record Listens (to : ℕ) (numbers : Numbers) (own last : View) (events : Li
       → waiting_at new to y ≡ waiting_at old to y ++ lines y
   pub bytes : (y q : ℕ) → numbers.link y ≡ Some q → is_closed_by q outs ≡ false
       → with_ends (lines y) ≡ answers q outs
-  pub others : (x : ℕ) → nat_eq x to ≡ false → site_at new x ≡ site_at old x
+  pub others : (x : ℕ) → nat_eq x to ≡ false → node_at new x ≡ node_at old x
   pub keeps : KeepsHomes old new
   pub come : (client : ℕ) → has_come new client ≡ has_come old client
   pub gets : (client q : ℕ) → numbers.client client ≡ Some q → has_come old client ≡ true
@@ -140,30 +141,30 @@ module _ (lines_end : ServedLinesEnd) (own_law : ServedGoesToItsOwn) (stay : Cli
     (from to conn : ℕ) (is_link : numbers.link from ≡ Some conn)
   where
     module _ (line : ArrayVec ℕ) (own other : View)
-        (course : Course) (alike : AreServersAlike numbers own other)
-        (at : server_at course.net to ≡ Some (Some other)) where
+        (progress : Progress) (alike : AreServersAlike numbers own other)
+        (at : server_at progress.net to ≡ Some (Some other)) where
       abbrev it : Occurrence
       it = link_says conn (read_of line.items)
 
       abbrev there : Occurrence
       there = link_says from (read_of line.items)
 
-      abbrev mine : Reply
+      abbrev mine : Served
       mine = reply own it
 
-      abbrev theirs : Reply
+      abbrev theirs : Served
       theirs = reply other there
 
       said : ServeAlike numbers own it other there
       said = alike_law numbers own other there conn apart alike is_link
 
-      here : Replies to theirs.view (λ y. bodies y theirs.out) course.net
-          (heard from to course line.items).net
-      here = heard_replies from to line.items other course at
+      here : Replies to theirs.view (λ y. bodies y theirs.out) progress.net
+          (heard from to progress line.items).net
+      here = heard_replies from to line.items other progress at
 
-      gets_it : Gets (λ q. client_bytes q theirs.out) course.net
-          (heard from to course line.items).net
-      gets_it = heard_gets from to line.items other course at
+      gets_it : Gets (λ q. client_bytes q theirs.out) progress.net
+          (heard from to progress line.items).net
+      gets_it = heard_gets from to line.items other progress at
 
       no_client : (client : ℕ) → numbers.client client ≡ None
           → is_some (get other.clients client) ≡ false
@@ -184,17 +185,17 @@ module _ (lines_end : ServedLinesEnd) (own_law : ServedGoesToItsOwn) (stay : Cli
             };
       }
 
-      keeps_it : KeepsHomes course.net (heard from to course line.items).net
+      keeps_it : KeepsHomes progress.net (heard from to progress line.items).net
       keeps_it =
-          let keeps = asked_keeps to there (record course { net = line_counted course.net }) in
+          let keeps = asked_keeps to there (record progress { net = line_counted progress.net }) in
           record {
             names = keeps.names;
             homes = keeps.homes;
             inboxes = keeps.inboxes;
           }
 
-      listens_one : Listens to numbers own mine.view (LinkLine conn line ∷ []) mine.out course.net
-          (heard from to course line.items).net
+      listens_one : Listens to numbers own mine.view (LinkLine conn line ∷ []) mine.out progress.net
+          (heard from to progress line.items).net
       listens_one = record {
         view = theirs.view;
         alike = said.views;
@@ -208,62 +209,63 @@ module _ (lines_end : ServedLinesEnd) (own_law : ServedGoesToItsOwn) (stay : Cli
         keeps = keeps_it;
         come = gets_it.come;
         gets = λ client q seat has.
-            gets_it.more client has ∙ ap (λ bs. bytes_received course.net client ++ bs)
+            gets_it.more client has ∙ ap (λ bs. bytes_received progress.net client ++ bs)
             (sym (said.say.to_clients client q seat));
         gets_nothing = λ client none has.
             gets_it.more client has
-            ∙ ap (λ bs. bytes_received course.net client ++ bs)
+            ∙ ap (λ bs. bytes_received progress.net client ++ bs)
             (nobody_gets own_law other there (other_ends numbers own other alike) client
             (no_client client none))
-            ∙ append-nil (bytes_received course.net client);
+            ∙ append-nil (bytes_received progress.net client);
         clients = serves_it;
       }
 
     -- ---- events one after another: lines of the link
 
     abbrev pub Listening : List Event → Type 0
-    Listening events = (old new : Asked) (outs : List Sent) (own last other : View)
-        (course : Course) (asked : AreAsked old events outs new)
+    Listening events = (old new : ServerAsked) (outs : List Sent) (own last other : View)
+        (progress : Progress) (asked : AreAsked old events outs new)
         → old.server ≡ Some own → new.server ≡ Some last → has_item events ≡ false
         → AllByRecursion (IsToldOf conn) events
-        → AreServersAlike numbers own other → server_at course.net to ≡ Some (Some other)
-        → Listens to numbers own last events outs course.net
-        (all_heard from to course (lines_by conn events)).net
+        → AreServersAlike numbers own other → server_at progress.net to ≡ Some (Some other)
+        → Listens to numbers own last events outs progress.net
+        (all_heard from to progress (lines_by conn events)).net
 
     hears_none : Listening []
-    hears_none old new outs own last other course asked was is no_item told alike at =
+    hears_none old new outs own last other progress asked was is no_item told alike at =
         let same : own ≡ last =
-        inside own last (sym was ∙ ap (λ (a : Asked). a.server) (sym asked.1) ∙ is) in
-        subst (λ os. Listens to numbers own last [] os course.net course.net) (sym asked.0)
-        (subst (λ v. Listens to numbers own v [] [] course.net course.net) same
-        (listens_none to numbers own other course.net alike at))
+        inside own last (sym was ∙ ap (λ (a : ServerAsked). a.server) (sym asked.1) ∙ is) in
+        subst (λ os. Listens to numbers own last [] os progress.net progress.net) (sym asked.0)
+        (subst (λ v. Listens to numbers own v [] [] progress.net progress.net) same
+        (listens_none to numbers own other progress.net alike at))
 
-    module _ (event : Event) (events : List Event) (later : Listening events) (old new : Asked)
-        (outs : List Sent) (own last other : View) (course : Course)
+    module _ (event : Event) (events : List Event) (later : Listening events)
+        (old new : ServerAsked)
+        (outs : List Sent) (own last other : View) (progress : Progress)
         (asked : AreAsked old (event ∷ events) outs new) (was : old.server ≡ Some own)
         (is : new.server ≡ Some last)
         (no_item : has_item (event ∷ events) ≡ false)
         (told : AllByRecursion (IsToldOf conn) (event ∷ events))
         (alike : AreServersAlike numbers own other)
-        (at : server_at course.net to ≡ Some (Some other))
+        (at : server_at progress.net to ≡ Some (Some other))
       where
         -- what the others make of a network
-        abbrev heard_then : Course → Network
+        abbrev heard_then : Progress → Network
         heard_then c = (all_heard from to c (lines_by conn events)).net
 
         no_item_then : has_item events ≡ false
         no_item_then = (or_parts (not (is_link_line event)) (has_item events) no_item).1
 
         as_outs : (net : Network) → Listens to numbers own last
-            (event ∷ events) (asked.first ++ asked.more) course.net net
-            → Listens to numbers own last (event ∷ events) outs course.net net
+            (event ∷ events) (asked.first ++ asked.more) progress.net net
+            → Listens to numbers own last (event ∷ events) outs progress.net net
         as_outs net listens = subst (λ os. Listens to numbers own last
-            (event ∷ events) os course.net net) (sym asked.outs_are) listens
+            (event ∷ events) os progress.net net) (sym asked.outs_are) listens
 
         -- it is a line of the link
         heard_line : (line : ArrayVec ℕ) → event ≡ LinkLine conn line
-            → Listens to numbers own last (event ∷ events) (asked.first ++ asked.more) course.net
-            (heard_then (heard from to course line.items))
+            → Listens to numbers own last (event ∷ events) (asked.first ++ asked.more) progress.net
+            (heard_then (heard from to progress line.items))
         heard_line line event_is =
             let took_it =
             took own event old.server asked.between.server asked.first was asked.is_handled in
@@ -271,24 +273,24 @@ module _ (lines_end : ServedLinesEnd) (own_law : ServedGoesToItsOwn) (stay : Cli
             took_it.server_is ∙ ap (λ e. Some (reply own (occurrence_of e)).view) event_is in
             let first_is =
             took_it.first_is ∙ ap (λ e. (reply own (occurrence_of e)).out) event_is in
-            let one = listens_one line own other course alike at in
-            let mine : Reply = reply own (link_says conn (read_of line.items)) in
+            let one = listens_one line own other progress alike at in
+            let mine : Served = reply own (link_says conn (read_of line.items)) in
             let two = later asked.between new asked.more mine.view last one.view
-            (heard from to course line.items) asked.rest_is server_is is no_item_then told.1
+            (heard from to progress line.items) asked.rest_is server_is is no_item_then told.1
             one.alike one.server in
             subst (λ e. Listens to numbers own last (e ∷ events) (asked.first
-            ++ asked.more) course.net (heard_then (heard from to course line.items)))
+            ++ asked.more) progress.net (heard_then (heard from to progress line.items)))
             (sym event_is)
             (subst
             (λ os. Listens to numbers own last (LinkLine conn line ∷ events)
-            (os ++ asked.more) course.net (heard_then (heard from to course line.items)))
+            (os ++ asked.more) progress.net (heard_then (heard from to progress line.items)))
             (sym first_is)
             (listens_both to numbers own mine.view last (LinkLine conn line ∷ []) events mine.out
-            asked.more course.net (heard from to course line.items).net
-            (heard_then (heard from to course line.items)) one two))
+            asked.more progress.net (heard from to progress line.items).net
+            (heard_then (heard from to progress line.items)) one two))
 
-        hears_more : Listens to numbers own last (event ∷ events) outs course.net
-            (all_heard from to course (lines_by conn (event ∷ events))).net
+        hears_more : Listens to numbers own last (event ∷ events) outs progress.net
+            (all_heard from to progress (lines_by conn (event ∷ events))).net
         hears_more = by told.0
           where
             first_line : (line : ArrayVec ℕ) → event ≡ LinkLine conn line
@@ -298,21 +300,23 @@ module _ (lines_end : ServedLinesEnd) (own_law : ServedGoesToItsOwn) (stay : Cli
                 ∙ ap (λ b. (if b then line.items ∷ [] else []) ++ lines_by conn events)
                 (eq-eqb conn conn refl)
 
-            by : IsToldOf conn event → Listens to numbers own last (event ∷ events) outs course.net
-                (all_heard from to course (lines_by conn (event ∷ events))).net
+            by : IsToldOf conn event
+                → Listens to numbers own last (event ∷ events) outs progress.net
+                (all_heard from to progress (lines_by conn (event ∷ events))).net
             by (its_line line event_is) =
-                subst (λ lines. Listens to numbers own last (event ∷ events) outs course.net
-                (all_heard from to course lines).net) (sym (first_line line event_is))
-                (as_outs (heard_then (heard from to course line.items)) (heard_line line event_is))
+                subst (λ lines. Listens to numbers own last (event ∷ events) outs progress.net
+                (all_heard from to progress lines).net) (sym (first_line line event_is))
+                (as_outs (heard_then (heard from to progress line.items))
+                (heard_line line event_is))
             by (no_line not_line none) =
                 cc (sym (ap (λ b. not b || has_item events) not_line) ∙ no_item)
 
     pub listening : (events : List Event) → Listening events
     listening [] = hears_none
     listening (event ∷ events) =
-        λ old new outs own last other course asked was is no_item told alike at.
+        λ old new outs own last other progress asked was is no_item told alike at.
         hears_more event events
-        (listening events) old new outs own last other course asked was is no_item told alike at
+        (listening events) old new outs own last other progress asked was is no_item told alike at
 
 -- ---- what was put out is written
 
@@ -326,7 +330,7 @@ module _ (to : ℕ) (numbers : Numbers) (own last : View) (events : List Event) 
     now = queues_written heard_net mid.wires
 
     waits_there : (x y : ℕ) → nat_eq x to ≡ false → waiting_at heard_net x y ≡ []
-    waits_there x y two = ap (λ o. option_map_or (λ (site : Site). waiting site y) o [])
+    waits_there x y two = ap (λ o. option_map_or (λ (node : Node). waiting node y) o [])
         (listens.others x two) ∙ tidy.quiet x y
 
     waits_here : (y q : ℕ) → numbers.link y ≡ Some q → waiting_at heard_net to y ≡ listens.lines y
@@ -339,7 +343,7 @@ module _ (to : ℕ) (numbers : Numbers) (own last : View) (events : List Event) 
         ap (λ n. has_way heard_net n y) (eqb-true x to one) ∙ listens.ways y
         ∙ ap (λ n. has_way mid.network n y) (sym (eqb-true x to one))
     ways_at x y false two =
-        ap (λ o. is_some (option_and_then (λ (site : Site). get site.queues y) o))
+        ap (λ o. is_some (option_and_then (λ (node : Node). get node.queues y) o))
         (listens.others x two)
 
     pub listened : Went to numbers last outs mid now
@@ -348,7 +352,7 @@ module _ (to : ℕ) (numbers : Numbers) (own last : View) (events : List Event) 
       alike = listens.alike;
       server = emptied_server heard_net to ∙ listens.server;
       others = λ x two. emptied_server heard_net x
-          ∙ ap (option_map (λ (s : Site). s.server)) (listens.others x two);
+          ∙ ap (option_map (λ (s : Node). s.server)) (listens.others x two);
       ways = λ x y. emptied_ways heard_net x y ∙ ways_at x y (nat_eq x to) refl;
       wires_there = λ x y two. is_so.wires_are x y
           ∙ ap (λ ls. all_written ls (wire_at mid.wires x y)) (waits_there x y two);
@@ -367,9 +371,9 @@ module _ (to : ℕ) (numbers : Numbers) (own last : View) (events : List Event) 
         homes = listens.keeps.homes;
         inboxes = listens.keeps.inboxes;
       };
-      come = λ client. come_of_sites heard_net now.network refl client ∙ listens.come client;
-      gets = λ client q seat has. bytes_of_sites heard_net now.network refl client
+      come = λ client. come_of_nodes heard_net now.network refl client ∙ listens.come client;
+      gets = λ client q seat has. bytes_of_nodes heard_net now.network refl client
           ∙ listens.gets client q seat has;
-      gets_nothing = λ client none has. bytes_of_sites heard_net now.network refl client
+      gets_nothing = λ client none has. bytes_of_nodes heard_net now.network refl client
           ∙ listens.gets_nothing client none has;
     }

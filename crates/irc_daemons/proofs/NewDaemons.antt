@@ -13,14 +13,14 @@ use Rattle.irc_stage.specs.declared.clients.Client.{Client}
 use Rattle.irc_stage.specs.View.{End, View}
 use Rattle.irc_server.specs.Configuring.{made_view}
 use Rattle.irc_server.specs.declared.config.Config.{Config}
-use Rattle.irc_network.specs.Network.{Site, site_at}
-use Rattle.irc_wires.specs.Wires.{Wire, new_wire, wire_at}
+use Rattle.irc_network.specs.Network.{Node, node_at}
+use Rattle.irc_wires.specs.Wires.{LinkWire, new_wire, wire_at}
 use Rattle.irc_network.specs.ByteNetwork.{ByteNetwork}
 use Rattle.irc_network.specs.Whole.{IsAsNew, NewIsWhole, has_way, no_wires}
 use Rattle.irc_items.specs.SetUp.{setting_at}
 use Rattle.irc_net.specs.Calls.{standing}
 use Rattle.irc_net.specs.Laws.{EveryRunIsKept}
-use Rattle.irc_net.specs.Making.{made_of, new_site, setting_given}
+use Rattle.irc_net.specs.Making.{made_of, new_node, setting_given}
 use Rattle.irc_net.specs.Running.{HasRun, made}
 use Rattle.irc_engine.specs.Hearing.{begun_at}
 use Rattle.irc_engine.specs.Turning.{EngineView}
@@ -70,7 +70,7 @@ module _ (config : Config) where
     }
 
     new_server : {W : Type 0} (engine : EngineView W) → IsNewOf config engine
-        → IsServerOf numbers engine (new_site config)
+        → IsServerOf numbers engine (new_node config)
     new_server engine new = record {
       in_order = new.is_new.in_order;
       framers = λ conn begun is. cc (sym (ap begun_at (new.is_new.no_connections conn)) ∙ is);
@@ -84,7 +84,7 @@ module _ (config : Config) where
 
 new_servers : {W : Type 0} (numbers : Numbers) → ((y : ℕ) → numbers.link y ≡ None) → ((client : ℕ)
     → numbers.client client ≡ None) → (config : Option Config) (engine : Option (EngineView W))
-    → IsNewIf config engine → IsServerIf numbers engine (option_map new_site config)
+    → IsNewIf config engine → IsServerIf numbers engine (option_map new_node config)
 new_servers numbers no_links no_seats None None is = tt
 new_servers numbers no_links no_seats (Some config) (Some engine) is =
     new_server config numbers no_links no_seats engine is
@@ -94,22 +94,22 @@ new_servers numbers no_links no_seats (Some config) None is = absurd is
 -- ---- a new network
 
 no_queues : (configs : List Config)
-    → AllByRecursion (λ (site : Site). site.queues ≡ empty) (map new_site configs)
+    → AllByRecursion (λ (node : Node). node.queues ≡ empty) (map new_node configs)
 no_queues [] = tt
 no_queues (config ∷ configs) = (refl, no_queues configs)
 
 no_wire : (servers from to : ℕ) → wire_at (replicate servers empty) from to ≡ new_wire
 no_wire zero from to = refl
-no_wire (suc servers) zero to = ap (λ o. unwrap_or o new_wire) (get-empty {X = Wire} nat_cmp to)
+no_wire (suc servers) zero to = ap (λ o. unwrap_or o new_wire) (get-empty {X = LinkWire} nat_cmp to)
 no_wire (suc servers) (suc from) to = no_wire servers from to
 
 no_way : (configs : List Config) (from to : ℕ) → has_way (made_of configs) from to ≡ false
 no_way configs from to =
-    ap (λ o. is_some (option_and_then (λ (site : Site). get site.queues to) o))
-    (get_map new_site configs from) ∙ by (slice_get configs from)
+    ap (λ o. is_some (option_and_then (λ (node : Node). get node.queues to) o))
+    (get_map new_node configs from) ∙ by (slice_get configs from)
   where
     by : (o : Option Config) → is_some
-        (option_and_then (λ (site : Site). get site.queues to) (option_map new_site o)) ≡ false
+        (option_and_then (λ (node : Node). get node.queues to) (option_map new_node o)) ≡ false
     by None = refl
     by (Some config) = ap is_some (get-empty {X = List (List ℕ)} nat_cmp to)
 
@@ -149,12 +149,12 @@ module _ {W : Type 0} (whole : NewIsWhole) (configs : List Config) (daemons : Da
   new_as_bytes = record {
     servers = λ place.
         subst (IsServerIf (numbers_at daemons place) (slice_get daemons.engines place))
-        (sym (get_map new_site new.ordered place))
+        (sym (get_map new_node new.ordered place))
         (new_servers (numbers_at daemons place) (λ y. new.no_link place y)
         (λ client. new.no_seat place client) (slice_get new.ordered place)
         (slice_get daemons.engines place) (new.engines place));
     ways = λ from to. no_way new.ordered from to ∙ sym (new.no_way from to);
-    wires = λ from to. no_wire (length (made_of new.ordered).sites) from to
+    wires = λ from to. no_wire (length (made_of new.ordered).nodes) from to
         ∙ sym (nothing_between from to);
     tidy = is_as_new.whole.tidy;
   }
@@ -174,7 +174,7 @@ module _ {W : Type 0} (whole : NewIsWhole) (configs : List Config) (daemons : Da
   )
 
   settings_made : (configs : List Config)
-      → filter_map setting_at (map new_site configs) ≡ map setting_given configs
+      → filter_map setting_at (map new_node configs) ≡ map setting_given configs
   settings_made [] = refl
   settings_made (config ∷ configs) =
       ap (λ settings. setting_given config ∷ settings) (settings_made configs)
@@ -194,10 +194,10 @@ module _ {W : Type 0} (whole : NewIsWhole) (configs : List Config) (daemons : Da
       → slice_get daemons.engines place ≡ Some engine → AreClientsOpen engine.now
   no_client_there place engine at view conn is there =
       let numbers = numbers_at daemons place in
-      let found = has_server numbers engine (site_at net.network place)
-      (subst (λ o. IsServerIf numbers o (site_at net.network place)) at
+      let found = has_server numbers engine (node_at net.network place)
+      (subst (λ o. IsServerIf numbers o (node_at net.network place)) at
       (new_as_bytes.servers place)) in
-      let views = have_views numbers engine.now.server found.site.server view is found.of.servers in
+      let views = have_views numbers engine.now.server found.node.server view is found.of.servers in
       let one =
       views.alike.alike.no_other_client conn there in nobody_sits place one.number conn one.is
 

@@ -12,8 +12,8 @@ use Rattle.irc_server.specs.declared.event.Event.{Event}
 use Rattle.irc_server.specs.declared.event.Event.TheVariants.{Connect, Line, Gone, LinkUp, LinkLine}
 use Rattle.irc_server.specs.declared.event.Event.TheVariants.{LinkDown}
 use Rattle.irc_engine.specs.declared.connection_table.Connection.{Connection}
-use Rattle.irc_engine.specs.declared.kind.Kind.{Kind}
-use Rattle.irc_engine.specs.declared.kind.Kind.TheVariants as kinds
+use Rattle.irc_engine.specs.declared.kind.ConnectionKind.{ConnectionKind}
+use Rattle.irc_engine.specs.declared.kind.ConnectionKind.TheVariants as kinds
 use Rattle.irc_engine.specs.Carrying.{IsOfKind, KeepsKind, is_closed_by, is_open_at, kind_at}
 use Rattle.irc_engine.specs.Carrying.{kind_of_connection, kind_of_loss, open_kind_at}
 use Rattle.irc_engine.specs.Hearing.{Hears, is_gone_of, line_by, lines_by, times_gone}
@@ -29,12 +29,12 @@ use Rattle.irc_daemons.proofs.Told.{IsRealIf, heard_first}
 
 -- ---- kinds
 
-pub record IsOpenOf (its : Kind) (connection : Option Connection) : Type 0 where
+pub record IsOpenOf (its : ConnectionKind) (connection : Option Connection) : Type 0 where
   pub is_open : is_open_at connection ≡ true
   pub kind : kind_at connection ≡ Some its
 
-pub open_of : (kind : Kind) (connection : Option Connection) → open_kind_at connection ≡ Some kind
-    → IsOpenOf kind connection
+pub open_of : (kind : ConnectionKind) (connection : Option Connection)
+    → open_kind_at connection ≡ Some kind → IsOpenOf kind connection
 open_of kind connection is = by (is_open_at connection) refl is
   where
     by : (b : Bool) → is_open_at connection ≡ b
@@ -42,14 +42,14 @@ open_of kind connection is = by (is_open_at connection) refl is
     by true opened known = record { is_open = opened; kind = known }
     by false closed known = cc known
 
-pub as_open_of : (kind : Kind) (connection : Option Connection) → is_open_at connection ≡ true
-    → kind_at connection ≡ Some kind → open_kind_at connection ≡ Some kind
+pub as_open_of : (kind : ConnectionKind) (connection : Option Connection) → is_open_at connection
+    ≡ true → kind_at connection ≡ Some kind → open_kind_at connection ≡ Some kind
 as_open_of kind connection opened known =
     ap (λ b. if b then kind_at connection else None) opened ∙ known
 
-pub keeps_kind : (kind : Kind) (old new : Option Connection) (was now : Option Kind)
-    → KeepsKind old was new now → was ≡ None → kind_at old ≡ Some kind → is_open_at new ≡ true
-    → kind_at new ≡ Some kind
+pub keeps_kind : (kind : ConnectionKind) (old new : Option Connection)
+    (was now : Option ConnectionKind) → KeepsKind old was new now → was ≡ None
+    → kind_at old ≡ Some kind → is_open_at new ≡ true → kind_at new ≡ Some kind
 keeps_kind kind old None was now keeps none known opened = cc opened
 keeps_kind kind old (Some new) was now keeps none known opened =
     sym (kind_then old (Some new) was now keeps none new.kind (kind_of_connection refl)) ∙ known

@@ -9,13 +9,13 @@ use Rattle.irc_line.specs.Laws.{PiecesCompleteTheSame}
 use Rattle.irc_outbox.specs.Calls.{Call, taken}
 use Rattle.irc_forest.specs.Forests.{place_in}
 use Rattle.irc_relay.specs.Links.{Name}
-use Rattle.irc_server_laws.specs.LineEnds.{ServedLinesEnd}
-use Rattle.irc_server_laws.specs.Own.{ServedGoesToItsOwn, ServedKeepsEnds}
+use Rattle.irc_server.specs.LineEnds.{ServedLinesEnd}
+use Rattle.irc_server.specs.Own.{ServedGoesToItsOwn, ServedKeepsEnds}
 use Rattle.irc_server.specs.declared.event.Event.{Event}
 use Rattle.irc_world.specs.Stepping.{Item}
 use Rattle.irc_world.specs.World.{Setting}
-use Rattle.irc_network.specs.Network.{site_at}
-use Rattle.irc_wires.specs.Wires.{Wire, new_wire, wire_at}
+use Rattle.irc_network.specs.Network.{node_at}
+use Rattle.irc_wires.specs.Wires.{LinkWire, new_wire, wire_at}
 use Rattle.irc_network.specs.ByteNetwork.{ByteNetwork, byte_begun, bytes_come}
 use Rattle.irc_net.specs.Laws.{SettingsStay, StaysKept}
 use Rattle.irc_daemons.specs.Alike.{ServedAlike}
@@ -96,12 +96,12 @@ module _ {W : Type 0} (is_after : W → List Call → Type 0) (pieces : PiecesCo
         front_none (taken_at (Some q) step.did.calls) (new.transit y place)
         (ap (λ o. taken_at o step.did.calls ++ new.transit y place) (sym link) ∙ sym (step.reads y)
         ∙ front_none (old.transit y place) (unsent (end_at old y place))
-        (ap (λ (w : Wire). w.bytes) (sym (same.as_bytes.wires y place) ∙ still)))
+        (ap (λ (w : LinkWire). w.bytes) (sym (same.as_bytes.wires y place) ∙ still)))
 
-    here : HasServer (numbers_at old place) step.engine (site_at net.network place)
+    here : HasServer (numbers_at old place) step.engine (node_at net.network place)
     here =
-        has_server (numbers_at old place) step.engine (site_at net.network place)
-        (subst (λ o. IsServerIf (numbers_at old place) o (site_at net.network place)) step.at
+        has_server (numbers_at old place) step.engine (node_at net.network place)
+        (subst (λ o. IsServerIf (numbers_at old place) o (node_at net.network place)) step.at
         (same.as_bytes.servers place))
 
     not_taken : (¬ (ReadsLink step)) → (y q : ℕ) → old.ends place y ≡ Some q
@@ -109,7 +109,7 @@ module _ {W : Type 0} (is_after : W → List Call → Type 0) (pieces : PiecesCo
     not_taken none y q link =
         taken_is is_after pieces names place old new step same.are_joined.not_itself
         same.clients_open here.of.in_order here.of.framers q
-        ∙ came_of is_after step.engine.rooms step.turn.report
+        ∙ came_of is_after step.engine.sizes step.turn.report
         (start is_after pieces names place old new step same.are_joined.not_itself same.clients_open
         here.of.in_order here.of.framers)
         (mid_moment is_after pieces names place old new step same.are_joined.not_itself

@@ -5,18 +5,18 @@ use Rattle.std.proofs.Common.{sym, ◌∙◌, ap, if◌then◌else◌}
 use Rattle.std.proofs.lemmas.Grind.{flat_map-append}
 use Rattle.std.specs.FinMap.{get}
 use Rattle.irc_line.specs.Reading.{read_of}
-use Rattle.irc_links.specs.Ways.{AreEnds}
+use Rattle.irc_stage.specs.Ways.{AreEnds}
 use Rattle.irc_server.specs.Served.{Occurrence, link_says, served}
-use Rattle.irc_server_laws.specs.Connected.{client_comes}
-use Rattle.irc_server_laws.specs.Own.{ServedGoesToItsOwn, ServedKeepsEnds}
-use Rattle.irc_network.specs.Site.{Reply, reply, serves_occurrence}
+use Rattle.irc_server.specs.Connected.{client_comes}
+use Rattle.irc_server.specs.Own.{ServedGoesToItsOwn, ServedKeepsEnds}
+use Rattle.irc_network.specs.Node.{Served, reply, serves_occurrence}
 use Rattle.irc_stage.specs.View.{View}
 use Rattle.irc_daemons.specs.Alike.{bytes_to, client_bytes}
 use Rattle.irc_daemons.specs.Clients.{ClientsStay}
 use Rattle.irc_daemons.proofs.Silence.{nobody_gets}
 use Rattle.irc_daemons.proofs.WhoStays.{is_new}
 
-abbrev replied : Bool → View → Occurrence → Reply
+abbrev replied : Bool → View → Occurrence → Served
 replied b view occurrence =
     if b then record { view = (served view occurrence).view; out = (served view occurrence).out }
     else record { view = view; out = [] }
@@ -41,10 +41,10 @@ reply_keeps_ends keeps view occurrence ends = by (serves_occurrence view occurre
 -- ---- upon lines of a link
 
 -- what a server is once it has heard them, and all that it has put out by then
-abbrev pub then_reply : Reply → Reply → Reply
+abbrev pub then_reply : Served → Served → Served
 then_reply first rest = record { view = rest.view; out = first.out ++ rest.out }
 
-abbrev pub all_replies : ℕ → View → List (List ℕ) → Reply
+abbrev pub all_replies : ℕ → View → List (List ℕ) → Served
 all_replies from view [] = record { view = view; out = [] }
 all_replies from view (line ∷ lines) =
     then_reply (reply view (link_says from (read_of line)))
@@ -95,7 +95,7 @@ pub all_to_own : ServedGoesToItsOwn → ClientsStay → ServedKeepsEnds → (fro
 all_to_own own_law stay keeps from view [] client ends none = refl
 all_to_own own_law stay keeps from view (line ∷ lines) client ends none =
     let it : Occurrence = link_says from (read_of line) in
-    let first : Reply = reply view it in
+    let first : Served = reply view it in
     flat_map-append (bytes_to client) first.out (all_replies from first.view lines).out
     ∙ ap (λ bs. bs ++ client_bytes client (all_replies from first.view lines).out)
     (nobody_gets own_law view it ends client none)

@@ -9,7 +9,7 @@ use Rattle.irc_relay.specs.Links.{Name}
 use Rattle.irc_stage.specs.declared.clients.Client.{Client}
 use Rattle.irc_stage.specs.View.{View}
 use Rattle.irc_world.specs.World.{home_in}
-use Rattle.irc_network.specs.Network.{Site, site_at}
+use Rattle.irc_network.specs.Network.{Node, node_at}
 use Rattle.irc_network.specs.ByteNetwork.{ByteNetwork}
 use Rattle.irc_engine.specs.Turning.{EngineView}
 use Rattle.irc_daemons.specs.Alike.{AreServersAlike, AreServersAlikeIf, Numbers}
@@ -32,21 +32,21 @@ alike_of numbers None view is = absurd is
 alike_of numbers (Some own) view is = record { own = own; alike = is }
 
 alike_if : {W : Type 0} (numbers : Numbers) (engine : Option (EngineView W))
-    (site : Option Site) (view : View) → IsServerIf numbers engine site
-    → option_map (λ (s : Site). s.server) site ≡ Some (Some view) → HasAlike numbers view
+    (node : Option Node) (view : View) → IsServerIf numbers engine node
+    → option_map (λ (s : Node). s.server) node ≡ Some (Some view) → HasAlike numbers view
 alike_if numbers engine None view is none = cc none
-alike_if numbers None (Some site) view is some = absurd is
-alike_if numbers (Some engine) (Some site) view is some =
+alike_if numbers None (Some node) view is some = absurd is
+alike_if numbers (Some engine) (Some node) view is some =
     alike_of numbers engine.now.server view
     (subst (λ o. AreServersAlikeIf numbers engine.now.server o)
-    (inside site.server (Some view) some) is.servers)
+    (inside node.server (Some view) some) is.servers)
 
 module _ {W : Type 0} (names : List Name) (daemons : Daemons W) (net : ByteNetwork)
     (same : IsAsNetwork names daemons net) where
   pub alike_at : (x : ℕ) (view : View) → server_at net.network x ≡ Some (Some view)
       → HasAlike (numbers_at daemons x) view
   alike_at x view at = alike_if (numbers_at daemons x) (slice_get daemons.engines x)
-      (site_at net.network x) view (same.as_bytes.servers x) at
+      (node_at net.network x) view (same.as_bytes.servers x) at
 
   pub all_ends : AreAllEnds net.network
   all_ends x view at =

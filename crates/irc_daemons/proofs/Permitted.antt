@@ -12,9 +12,9 @@ use Rattle.irc_relay.specs.Lemmas.TellingNames.{Telling, alike, same_when, tell,
 use Rattle.irc_stage.specs.View.{View}
 use Rattle.irc_world.specs.Refused.{link_refused, no_such_server, not_linked, refused}
 use Rattle.irc_world.specs.Stepping.{cut, link}
-use Rattle.irc_network.specs.Network.{Network, Site, is_at_rest, server_place, site_at}
+use Rattle.irc_network.specs.Network.{Network, Node, is_at_rest, server_place, node_at}
 use Rattle.irc_network.specs.Refusing.{are_peers, fault_at_rest, link_fault, meeting_fault}
-use Rattle.irc_network.specs.Behind.{Ahead, sites_behind}
+use Rattle.irc_network.specs.Behind.{Ahead, nodes_behind}
 use Rattle.irc_network.specs.ByteNetwork.{ByteNetwork, is_byte_rest, lines_ahead, net_in_lines}
 use Rattle.irc_network.specs.Whole.{RestAsLines, has_way}
 use Rattle.irc_items.specs.Laws.{RefusalsAreTheWorlds}
@@ -45,12 +45,12 @@ pub record IsServing (net : Network) (x : ℕ) : Type 0 where
   pub view : View
   pub at : server_at net x ≡ Some (Some view)
 
-server_behind : (ahead : Ahead) (sites : List Site) (x : ℕ)
-    → option_map (λ (s : Site). s.server) (slice_get (sites_behind ahead sites) x)
-    ≡ option_map (λ (s : Site). s.server) (slice_get sites x)
+server_behind : (ahead : Ahead) (nodes : List Node) (x : ℕ)
+    → option_map (λ (s : Node). s.server) (slice_get (nodes_behind ahead nodes) x)
+    ≡ option_map (λ (s : Node). s.server) (slice_get nodes x)
 server_behind ahead [] x = refl
-server_behind ahead (site ∷ sites) zero = refl
-server_behind ahead (site ∷ sites) (suc x) = server_behind (λ place. ahead (suc place)) sites x
+server_behind ahead (node ∷ nodes) zero = refl
+server_behind ahead (node ∷ nodes) (suc x) = server_behind (λ place. ahead (suc place)) nodes x
 
 pub serves_there : (net : ByteNetwork) → IsKeptSound net → (x : ℕ) (name : Name)
     → slice_get net.network.names x ≡ Some name → IsServing net.network x
@@ -61,9 +61,9 @@ serves_there net kept x name is =
     record {
       view = view_at (net_in_lines net) name;
       at =
-          sym (server_behind (lines_ahead net.wires) net.network.sites x)
+          sym (server_behind (lines_ahead net.wires) net.network.nodes x)
           ∙ ap (server_at (net_in_lines net)) (sym place)
-          ∙ ap (option_map (λ (s : Site). s.server)) here.is_site
+          ∙ ap (option_map (λ (s : Node). s.server)) here.is_node
           ∙ ap Some here.is_view;
     }
 
@@ -156,8 +156,8 @@ module _ (rest_law : RestAsLines) (net : ByteNetwork) (kept : IsKeptSound net)
       (ap (λ k. is_some (way_at net.network near k))
       (only_place net.network.names far f
       (sound_at_rest.set_up.once far (among_at net.network.names far f far_at)) far_at)
-      ∙ ap (λ o. is_some (option_and_then (λ (s : Site). get s.queues f)
-      (option_and_then (site_at net.network) o)))
+      ∙ ap (λ o. is_some (option_and_then (λ (s : Node). get s.queues f)
+      (option_and_then (node_at net.network) o)))
       (placed_by net.network sound_at_rest.set_up n near near_at))
       ∙ sound_at_rest.ways near far
 

@@ -6,7 +6,7 @@ use Rattle.irc_outbox.specs.declared.wire.Ready.{Ready}
 use Rattle.irc_outbox.specs.declared.wire.Ready.TheVariants.{Client, Linked, Idle, Readable}
 use Rattle.irc_outbox.specs.declared.wire.Ready.TheVariants.{Writable}
 use Rattle.irc_outbox.specs.Calls.{Call}
-use Rattle.irc_engine.specs.declared.engine.Rooms.{Rooms}
+use Rattle.irc_engine.specs.declared.engine.OutboxSizes.{OutboxSizes}
 use Rattle.irc_engine.specs.Running.{Answers, Moment, Reads, not_open, read_once}
 use Rattle.irc_daemons.specs.Doings.{Doings, answers_did, newcomer_in, reads_did}
 use Rattle.irc_daemons.specs.Items.{AnswersSpaced, ReadsSpaced}
@@ -41,15 +41,15 @@ module _ {W : Type 0} (is_after : W → List Call → Type 0) where
     else_none = λ q two. ap (λ b. if b then bytes else []) (ap (λ n. nat_eq n q) same ∙ two);
   }
 
-  pub part_reads : (rooms : Rooms) (report : Ready) (old mid : Moment W)
-      (answers : Answers is_after rooms report old mid) (conn : ℕ) → report ≡ Readable conn
-      → IsReading conn old mid (answers_did is_after rooms report old mid answers)
-      (newcomer_in is_after rooms report old mid answers)
-      (λ later. AnswersSpaced is_after later rooms report old mid answers)
-      (first_part is_after rooms report old mid answers)
-  part_reads rooms Idle old mid answers conn is = cc is
-  part_reads rooms (Client which host) old mid answers conn is = cc is
-  part_reads rooms (Linked which called) old mid answers conn is = cc is
-  part_reads rooms (Readable which) old mid answers conn is =
+  pub part_reads : (sizes : OutboxSizes) (report : Ready) (old mid : Moment W)
+      (answers : Answers is_after sizes report old mid) (conn : ℕ) → report ≡ Readable conn
+      → IsReading conn old mid (answers_did is_after sizes report old mid answers)
+      (newcomer_in is_after sizes report old mid answers)
+      (λ later. AnswersSpaced is_after later sizes report old mid answers)
+      (first_part is_after sizes report old mid answers)
+  part_reads sizes Idle old mid answers conn is = cc is
+  part_reads sizes (Client which host) old mid answers conn is = cc is
+  part_reads sizes (Linked which called) old mid answers conn is = cc is
+  part_reads sizes (Readable which) old mid answers conn is =
       which_reads conn which old mid answers (ap number_of is)
-  part_reads rooms (Writable which) old mid answers conn is = cc is
+  part_reads sizes (Writable which) old mid answers conn is = cc is

@@ -12,11 +12,12 @@ use Rattle.irc_relay.specs.Links.{Link, Name, links_without}
 use Rattle.irc_stage.specs.View.{View}
 use Rattle.irc_server.specs.Served.{link_down, link_up}
 use Rattle.irc_world.specs.Stepping.{cut, link}
-use Rattle.irc_network.specs.Network.{LinkPlaces, Network, Site, begun, given, item_kept}
+use Rattle.irc_network.specs.Network.{LinkPlaces, Network, Node, begun, given, item_kept}
 use Rattle.irc_network.specs.Network.{link_places, server_place, servers_linked, servers_parted}
-use Rattle.irc_network.specs.Network.{site_asked, site_at, site_changed_at, waiting, with_site}
+use Rattle.irc_network.specs.Network.{node_asked, node_at, node_changed_at, waiting, with_node}
 use Rattle.irc_network.specs.Network.{with_way, without_way}
-use Rattle.irc_wires.specs.Wires.{AreLean, Wire, Wires, new_wire, wire_at, wire_in, without_wire}
+use Rattle.irc_wires.specs.Wires.{AreLean, LinkWire, Wires, new_wire, wire_at, wire_in}
+use Rattle.irc_wires.specs.Wires.{without_wire}
 use Rattle.irc_wires.specs.Lemmas.PutWires.{get-without}
 use Rattle.irc_network.specs.ByteNetwork.{ByteNetwork, item_given, lost_along, queues_written}
 use Rattle.irc_network.specs.ByteNetwork.{waiting_at}
@@ -36,7 +37,7 @@ Lines = List (List ℕ)
 -- both ends of the way are there, and nothing is on it
 abbrev pub linked_net : Name → Name → ℕ → ℕ → ByteNetwork → ByteNetwork
 linked_net near far n f net = record {
-  network = site_changed_at f (with_way n) (site_changed_at n (with_way f)
+  network = node_changed_at f (with_way n) (node_changed_at n (with_way f)
       (record net.network { links = record { near = near; far = far } ∷ net.network.links }));
   wires = net.wires;
 }
@@ -44,7 +45,7 @@ linked_net near far n f net = record {
 -- the way is gone, with what was on it
 abbrev pub parted_net : Name → Name → ℕ → ℕ → ByteNetwork → ByteNetwork
 parted_net near far n f net = record {
-  network = site_changed_at f (without_way n) (site_changed_at n (without_way f)
+  network = node_changed_at f (without_way n) (node_changed_at n (without_way f)
       (record net.network { links = links_without net.network.links near far }));
   wires = without_wire f n (without_wire n f net.wires);
 }
@@ -62,7 +63,7 @@ places_are net near far n f near_at far_at =
 pub given_link : (net : ByteNetwork) (near far : Name) (n f : ℕ) → server_place net.network near
     ≡ Some n → server_place net.network far ≡ Some f → (item_given (link near far) net).net
     ≡ queues_written
-    (item_kept (link near far) (site_asked f (link_up n None) (site_asked n (link_up f (Some far))
+    (item_kept (link near far) (node_asked f (link_up n None) (node_asked n (link_up f (Some far))
     (begun (linked_net near far n f net).network)))).net
     (linked_net near far n f net).wires
 unfolding item_given given
@@ -75,8 +76,8 @@ given_link net near far n f near_at far_at =
 pub given_cut : (net : ByteNetwork) (near far : Name) (n f : ℕ) → server_place net.network near
     ≡ Some n → server_place net.network far ≡ Some f → (item_given (cut near far) net).net
     ≡ queues_written
-    (item_kept (cut near far) (site_asked f (link_down n)
-    (site_asked n (link_down f) (begun (parted_net near far n f net).network)))).net
+    (item_kept (cut near far) (node_asked f (link_down n)
+    (node_asked n (link_down f) (begun (parted_net near far n f net).network)))).net
     (parted_net near far n f net).wires
 unfolding item_given given
 given_cut net near far n f near_at far_at =
@@ -88,13 +89,13 @@ given_cut net near far n f near_at far_at =
 
 -- ---- one end of a way
 
--- a site's way to a place is there from now on, or is not, and no line waits on it
-record ChangesWay (to : ℕ) (is : Bool) (change : Site → Site) : Type 0 where
-  pub server : (site : Site) → (change site).server ≡ site.server
-  pub way : (site : Site) (y : ℕ) → is_some (get (change site).queues y)
-      ≡ (if nat_eq y to then is else is_some (get site.queues y))
-  pub quiet : (site : Site) → ((y : ℕ) → waiting site y ≡ []) → (y : ℕ)
-      → waiting (change site) y ≡ []
+-- a node's way to a place is there from now on, or is not, and no line waits on it
+record ChangesWay (to : ℕ) (is : Bool) (change : Node → Node) : Type 0 where
+  pub server : (node : Node) → (change node).server ≡ node.server
+  pub way : (node : Node) (y : ℕ) → is_some (get (change node).queues y)
+      ≡ (if nat_eq y to then is else is_some (get node.queues y))
+  pub quiet : (node : Node) → ((y : ℕ) → waiting node y ≡ []) → (y : ℕ)
+      → waiting (change node) y ≡ []
 
 get-opened : (queues : FinMap nat_cmp Lines) (to y : ℕ)
     → get (insert queues to []) y ≡ cond (nat_eq y to) (Some []) (get queues y)
@@ -108,11 +109,11 @@ get-closed queues to y =
 
 opens_way : (to : ℕ) → ChangesWay to true (with_way to)
 opens_way to = record {
-  server = λ site. refl;
+  server = λ node. refl;
   way =
-      λ site y. ap is_some (get-opened site.queues to y) ∙ by_way (nat_eq y to) (get site.queues y);
-  quiet = λ site all y. ap (λ o. unwrap_or o []) (get-opened site.queues to y)
-      ∙ by (nat_eq y to) (get site.queues y) (all y);
+      λ node y. ap is_some (get-opened node.queues to y) ∙ by_way (nat_eq y to) (get node.queues y);
+  quiet = λ node all y. ap (λ o. unwrap_or o []) (get-opened node.queues to y)
+      ∙ by (nat_eq y to) (get node.queues y) (all y);
 }
   where
     by_way : (b : Bool) (o : Option Lines)
@@ -127,11 +128,11 @@ opens_way to = record {
 
 closes_way : (to : ℕ) → ChangesWay to false (without_way to)
 closes_way to = record {
-  server = λ site. refl;
+  server = λ node. refl;
   way =
-      λ site y. ap is_some (get-closed site.queues to y) ∙ by_way (nat_eq y to) (get site.queues y);
-  quiet = λ site all y. ap (λ o. unwrap_or o []) (get-closed site.queues to y)
-      ∙ by (nat_eq y to) (get site.queues y) (all y);
+      λ node y. ap is_some (get-closed node.queues to y) ∙ by_way (nat_eq y to) (get node.queues y);
+  quiet = λ node all y. ap (λ o. unwrap_or o []) (get-closed node.queues to y)
+      ∙ by (nat_eq y to) (get node.queues y) (all y);
 }
   where
     by_way : (b : Bool) (o : Option Lines)
@@ -149,35 +150,35 @@ record IsWayChanged (from to : ℕ) (is : Bool) (old new : Network) : Type 0 whe
   pub ways : (x y : ℕ)
       → has_way new x y ≡ (if nat_eq x from && nat_eq y to then is else has_way old x y)
   pub quiet : ((x y : ℕ) → waiting_at old x y ≡ []) → (x y : ℕ) → waiting_at new x y ≡ []
-  pub rows : length new.sites ≡ length old.sites
+  pub rows : length new.nodes ≡ length old.nodes
   pub names : new.names ≡ old.names
   pub homes : new.homes ≡ old.homes
   pub received : new.received ≡ old.received
 
-module _ (from to : ℕ) (is : Bool) (change : Site → Site) (changes : ChangesWay to is change)
+module _ (from to : ℕ) (is : Bool) (change : Node → Node) (changes : ChangesWay to is change)
     (net : Network) where
-  module _ (site : Site) (at : site_at net from ≡ Some site) where
+  module _ (node : Node) (at : node_at net from ≡ Some node) where
     abbrev now : Network
-    now = with_site from (change site) net
+    now = with_node from (change node) net
 
-    here : site_at now from ≡ Some (change site)
-    here = set_here net.sites from site (change site) at
+    here : node_at now from ≡ Some (change node)
+    here = set_here net.nodes from node (change node) at
 
-    there : (x : ℕ) → nat_eq x from ≡ false → site_at now x ≡ site_at net x
-    there x two = set_elsewhere net.sites from x (change site) two
+    there : (x : ℕ) → nat_eq x from ≡ false → node_at now x ≡ node_at net x
+    there x two = set_elsewhere net.nodes from x (change node) two
 
-    abbrev server_in : Option Site → Option (Option View)
-    server_in o = option_map (λ (s : Site). s.server) o
+    abbrev server_in : Option Node → Option (Option View)
+    server_in o = option_map (λ (s : Node). s.server) o
 
-    abbrev way_in : ℕ → Option Site → Bool
-    way_in y o = is_some (option_and_then (λ (s : Site). get s.queues y) o)
+    abbrev way_in : ℕ → Option Node → Bool
+    way_in y o = is_some (option_and_then (λ (s : Node). get s.queues y) o)
 
-    abbrev waiting_in : ℕ → Option Site → Lines
-    waiting_in y o = option_map_or (λ (s : Site). waiting s y) o []
+    abbrev waiting_in : ℕ → Option Node → Lines
+    waiting_in y o = option_map_or (λ (s : Node). waiting s y) o []
 
     same_server : (x : ℕ) (b : Bool) → nat_eq x from ≡ b → server_at now x ≡ server_at net x
     same_server x true one =
-        ap (server_at now) (eqb-true x from one) ∙ ap server_in here ∙ ap Some (changes.server site)
+        ap (server_at now) (eqb-true x from one) ∙ ap server_in here ∙ ap Some (changes.server node)
         ∙ sym (ap server_in at)
         ∙ ap (server_at net) (sym (eqb-true x from one))
     same_server x false two = ap server_in (there x two)
@@ -185,7 +186,7 @@ module _ (from to : ℕ) (is : Bool) (change : Site → Site) (changes : Changes
     way_now : (x y : ℕ) (b : Bool) → nat_eq x from ≡ b
         → has_way now x y ≡ (if b && nat_eq y to then is else has_way net x y)
     way_now x y true one =
-        ap (λ v. has_way now v y) (eqb-true x from one) ∙ ap (way_in y) here ∙ changes.way site y
+        ap (λ v. has_way now v y) (eqb-true x from one) ∙ ap (way_in y) here ∙ changes.way node y
         ∙ ap (λ b. if nat_eq y to then is else b) (sym (ap (way_in y) at)
         ∙ ap (λ v. has_way net v y) (sym (eqb-true x from one)))
     way_now x y false two = ap (way_in y) (there x two)
@@ -194,39 +195,39 @@ module _ (from to : ℕ) (is : Bool) (change : Site → Site) (changes : Changes
         → waiting_at now x y ≡ []
     quiet_now all x y true one =
         ap (λ v. waiting_at now v y) (eqb-true x from one) ∙ ap (waiting_in y) here
-        ∙ changes.quiet site (λ q. sym (ap (waiting_in q) at) ∙ all from q) y
+        ∙ changes.quiet node (λ q. sym (ap (waiting_in q) at) ∙ all from q) y
     quiet_now all x y false two = ap (waiting_in y) (there x two) ∙ all x y
 
-    site_now : IsWayChanged from to is net now
-    site_now = record {
+    node_now : IsWayChanged from to is net now
+    node_now = record {
       servers = λ x. same_server x (nat_eq x from) refl;
       ways = λ x y. way_now x y (nat_eq x from) refl;
       quiet = λ all x y. quiet_now all x y (nat_eq x from) refl;
-      rows = length_set net.sites from (change site);
+      rows = length_set net.nodes from (change node);
       names = refl;
       homes = refl;
       received = refl;
     }
 
   way_changed : (view : View) → server_at net from ≡ Some (Some view)
-      → IsWayChanged from to is net (site_changed_at from change net)
-  way_changed view is_there = by (site_at net from) refl is_there
+      → IsWayChanged from to is net (node_changed_at from change net)
+  way_changed view is_there = by (node_at net from) refl is_there
     where
-      by : (o : Option Site) → site_at net from ≡ o
-          → option_map (λ (s : Site). s.server) o ≡ Some (Some view) → IsWayChanged from to is net
-          (option_map_or (λ site. with_site from (change site) net) o net)
+      by : (o : Option Node) → node_at net from ≡ o
+          → option_map (λ (s : Node). s.server) o ≡ Some (Some view) → IsWayChanged from to is net
+          (option_map_or (λ node. with_node from (change node) net) o net)
       by None at none = cc none
-      by (Some site) at some = site_now site at
+      by (Some node) at some = node_now node at
 
 -- ---- wires that were taken away
 
-abbrev Row : Type 0
-Row = FinMap nat_cmp Wire
+abbrev WireRow : Type 0
+WireRow = FinMap nat_cmp LinkWire
 
 row_lost : (from to : ℕ) (wires : Wires) → length (without_wire from to wires) ≡ length wires
 row_lost from to wires = by (slice_get wires from)
   where
-    by : (o : Option Row) → length
+    by : (o : Option WireRow) → length
         (option_map_or (λ row. slice_set wires from (remove row to)) o wires) ≡ length wires
     by None = refl
     by (Some row) = length_set wires from (remove row to)
@@ -235,12 +236,12 @@ still_lost : (from to : ℕ) (wires : Wires) → ((x y : ℕ) → wire_at wires 
     → wire_at (without_wire from to wires) x y ≡ new_wire
 still_lost from to wires all x y = by (slice_get wires from) refl
   where
-    by_to : (row : Row) (b : Bool) → wire_in y row ≡ new_wire
+    by_to : (row : WireRow) (b : Bool) → wire_in y row ≡ new_wire
         → unwrap_or (cond b None (get row y)) new_wire ≡ new_wire
     by_to row true still = refl
     by_to row false still = still
 
-    by_from : (row : Row) → slice_get wires from ≡ Some row → (b : Bool) → nat_eq x from ≡ b
+    by_from : (row : WireRow) → slice_get wires from ≡ Some row → (b : Bool) → nat_eq x from ≡ b
         → wire_at (slice_set wires from (remove row to)) x y ≡ new_wire
     by_from row at true one =
         ap (λ v. wire_at (slice_set wires from (remove row to)) v y) (eqb-true x from one)
@@ -252,7 +253,7 @@ still_lost from to wires all x y = by (slice_get wires from) refl
     by_from row at false two = ap (λ o. option_map_or (wire_in y) o new_wire)
         (set_elsewhere wires from x (remove row to) two) ∙ all x y
 
-    by : (o : Option Row) → slice_get wires from ≡ o → wire_at
+    by : (o : Option WireRow) → slice_get wires from ≡ o → wire_at
         (option_map_or (λ row. slice_set wires from (remove row to)) o wires) x y ≡ new_wire
     by None at = all x y
     by (Some row) at = by_from row at (nat_eq x from) refl
@@ -321,7 +322,7 @@ module _ (near far : Name) (n f : ℕ) (net : ByteNetwork) (tidy : IsTidy net) (
         let links : List Link = record { near = near; far = far } ∷ net.network.links in
         let told : Network = record net.network { links = links } in
         let first = way_changed n f true (with_way f) (opens_way f) told one near_there in
-        let mid : Network = site_changed_at n (with_way f) told in
+        let mid : Network = node_changed_at n (with_way f) told in
         let second = way_changed f n true (with_way n) (opens_way n) mid other
         (first.servers f ∙ far_there) in
         both_changed n f true net (linked_net near far n f net) mid tidy
@@ -333,7 +334,7 @@ module _ (near far : Name) (n f : ℕ) (net : ByteNetwork) (tidy : IsTidy net) (
         let links : List Link = links_without net.network.links near far in
         let told : Network = record net.network { links = links } in
         let first = way_changed n f false (without_way f) (closes_way f) told one near_there in
-        let mid : Network = site_changed_at n (without_way f) told in
+        let mid : Network = node_changed_at n (without_way f) told in
         let second = way_changed f n false (without_way n) (closes_way n) mid other
         (first.servers f ∙ far_there) in
         both_changed n f false net (parted_net near far n f net) mid tidy

@@ -5,9 +5,9 @@ use Rattle.irc_line.specs.Laws.{PiecesCompleteTheSame}
 use Rattle.irc_outbox.specs.Calls.{Call}
 use Rattle.irc_relay.specs.Laws.{LinkTakenOut}
 use Rattle.irc_relay.specs.Links.{Name}
-use Rattle.irc_server_laws.specs.Connected.{WhoIsConnected}
-use Rattle.irc_server_laws.specs.LineEnds.{ServedLinesEnd}
-use Rattle.irc_server_laws.specs.Own.{ServedGoesToItsOwn, ServedKeepsEnds}
+use Rattle.irc_server.specs.Connected.{WhoIsConnected}
+use Rattle.irc_server.specs.LineEnds.{ServedLinesEnd}
+use Rattle.irc_server.specs.Own.{ServedGoesToItsOwn, ServedKeepsEnds}
 use Rattle.irc_world.specs.Laws.{WorldIsSound}
 use Rattle.irc_world.specs.Stepping.{Item}
 use Rattle.irc_world.specs.World.{Setting}

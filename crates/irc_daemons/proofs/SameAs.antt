@@ -6,7 +6,7 @@ use Rattle.std.specs.List.{flat_map, slice_get}
 use Rattle.irc_relay.specs.Links.{Name}
 use Rattle.irc_relay.specs.Relay.{IsFront}
 use Rattle.irc_world.specs.World.{home_in}
-use Rattle.irc_network.specs.Network.{Network, Site, site_at}
+use Rattle.irc_network.specs.Network.{Network, Node, node_at}
 use Rattle.irc_wires.specs.Wires.{wire_at}
 use Rattle.irc_network.specs.ByteNetwork.{ByteNetwork}
 use Rattle.irc_network.specs.Whole.{IsTidy, has_way}
@@ -45,8 +45,8 @@ none_received net (suc earlier) none = by (slice_get net.received earlier) refl
 -- ---- daemons that are as one of them
 
 server_if : {W : Type 0} (numbers : Numbers) (engine : Option (EngineView W))
-    (one other : Option Site) → option_map (λ (site : Site). site.server) other
-    ≡ option_map (λ (site : Site). site.server) one → IsServerIf numbers engine one
+    (one other : Option Node) → option_map (λ (node : Node). node.server) other
+    ≡ option_map (λ (node : Node). node.server) one → IsServerIf numbers engine one
     → IsServerIf numbers engine other
 server_if numbers None None None same is = tt
 server_if numbers None None (Some other) same is = cc same
@@ -68,7 +68,7 @@ module _ {W : Type 0} (names : List Name) (daemons : Daemons W) (one other : Byt
     bytes_then = record {
       servers = λ place.
           server_if (numbers_at daemons place) (slice_get daemons.engines place)
-          (site_at one.network place) (site_at other.network place)
+          (node_at one.network place) (node_at other.network place)
           (same.servers place) (is.as_bytes.servers place);
       ways = λ from to. same.ways from to ∙ is.as_bytes.ways from to;
       wires = λ from to. same.wires from to ∙ is.as_bytes.wires from to;

@@ -9,11 +9,11 @@ use Rattle.irc_line.specs.Reading.{read_of}
 use Rattle.irc_batch.specs.declared.close_reason.CloseReason.{CloseReason}
 use Rattle.irc_batch.specs.Batches.{Sent, end_of, end_of_link, line_on, line_to}
 use Rattle.irc_stage.specs.Handle.{connects, goes, says}
-use Rattle.irc_links.specs.Ways.{AreEnds}
+use Rattle.irc_stage.specs.Ways.{AreEnds}
 use Rattle.irc_stage.specs.View.{View}
 use Rattle.irc_server.specs.Served.{Occurrence, link_down, link_says, link_up, of_client, served}
-use Rattle.irc_server_laws.specs.Own.{ServedKeepsEnds}
-use Rattle.irc_network.specs.Site.{Reply, reply, serves_occurrence}
+use Rattle.irc_server.specs.Own.{ServedKeepsEnds}
+use Rattle.irc_network.specs.Node.{Served, reply, serves_occurrence}
 use Rattle.irc_engine.specs.Carrying.{answers, is_closed_by}
 use Rattle.irc_numbers.specs.EndsLast.{NothingIsBehindAnEnd, ends_last}
 use Rattle.irc_numbers.specs.ServedAlike.{ArePutOutAlike, NumbersAreNothing, client_part, link_part}
@@ -189,7 +189,7 @@ say_alike numbers own other apart last put = record {
 
 -- ---- whatever happens
 
-abbrev answered : Bool → View → Occurrence → Reply
+abbrev answered : Bool → View → Occurrence → Served
 answered b view occurrence =
     if b then record { view = (served view occurrence).view; out = (served view occurrence).out }
     else record { view = view; out = [] }
@@ -216,7 +216,7 @@ module _ (nothing : NumbersAreNothing) (behind : NothingIsBehindAnEnd)
     serves_same (link_says place read) at = ap is_some (end_same place at)
     serves_same (link_down place) at = ap is_some (end_same place at)
 
-    abbrev AreReplies : Reply → Reply → Type 0
+    abbrev AreReplies : Served → Served → Type 0
     AreReplies one two = AreAlike numbers one.view two.view × SayAlike numbers one.out two.out
 
     both_reply : (occurrence : Occurrence) → happens_at numbers occurrence ≡ Some conn → (b : Bool)

@@ -12,10 +12,10 @@ use Rattle.irc_batch.specs.Batches.{Sent, end_of, end_of_link, line_on, line_to}
 use Rattle.irc_line.specs.Reading.{read_of}
 use Rattle.irc_server.specs.Served.{Occurrence, link_says}
 use Rattle.irc_stage.specs.View.{View}
-use Rattle.irc_network.specs.Network.{Course, Network, Reply, Site, all_sent_out, asked_at}
+use Rattle.irc_network.specs.Network.{Progress, Network, Served, Node, all_sent_out, asked_at}
 use Rattle.irc_network.specs.Network.{has_received, has_received_at, heard, line_body, line_counted}
-use Rattle.irc_network.specs.Network.{line_queued, reply, sent_out, site_asked, site_at}
-use Rattle.irc_network.specs.Network.{site_changed_at, waiting, with_reply, with_site}
+use Rattle.irc_network.specs.Network.{line_queued, reply, sent_out, node_asked, node_at}
+use Rattle.irc_network.specs.Network.{node_changed_at, waiting, with_reply, with_node}
 use Rattle.irc_network.specs.ByteNetwork.{waiting_at}
 use Rattle.irc_network.specs.Whole.{has_way}
 use Rattle.irc_daemons.proofs.Lists.{set_elsewhere, set_here, turned}
@@ -26,7 +26,7 @@ Lines = List (List ℕ)
 
 -- the server at a place, if one is there
 abbrev pub server_at : Network → ℕ → Option (Option View)
-server_at net place = option_map (λ (site : Site). site.server) (site_at net place)
+server_at net place = option_map (λ (node : Node). node.server) (node_at net place)
 
 -- ---- one line more
 
@@ -35,59 +35,59 @@ get-put : (queues : FinMap nat_cmp Lines) (to : ℕ) (lines : Lines) (y : ℕ)
 get-put queues to lines y = get-insert nat_cmp_total queues to lines y
     ∙ ap (λ b. cond b (Some lines) (get queues y)) (unsigned_tied y to)
 
-queued : (to : ℕ) (text : List ℕ) (site : Site) (y : ℕ) → is_some (get site.queues y) ≡ true
-    → waiting (line_queued to text site) y ≡ waiting site y ++ body_on y (line_on to text)
-queued to text site y way = by (get site.queues to) refl (nat_eq to y) refl
+queued : (to : ℕ) (text : List ℕ) (node : Node) (y : ℕ) → is_some (get node.queues y) ≡ true
+    → waiting (line_queued to text node) y ≡ waiting node y ++ body_on y (line_on to text)
+queued to text node y way = by (get node.queues to) refl (nat_eq to y) refl
   where
-    by : (o : Option Lines) → get site.queues to ≡ o → (b : Bool)
+    by : (o : Option Lines) → get node.queues to ≡ o → (b : Bool)
         → nat_eq to y ≡ b → waiting (option_map_or (λ lines.
-        record site { queues = insert site.queues to (lines ++ line_body text ∷ []) }) o site) y
-        ≡ waiting site y ++ (if b then line_body text ∷ [] else [])
+        record node { queues = insert node.queues to (lines ++ line_body text ∷ []) }) o node) y
+        ≡ waiting node y ++ (if b then line_body text ∷ [] else [])
     by None is true one = cc
-        (sym way ∙ ap (λ n. is_some (get site.queues n)) (sym (eqb-true to y one)) ∙ ap is_some is)
-    by None is false two = sym (append-nil (waiting site y))
+        (sym way ∙ ap (λ n. is_some (get node.queues n)) (sym (eqb-true to y one)) ∙ ap is_some is)
+    by None is false two = sym (append-nil (waiting node y))
     by (Some lines) is true one =
-        ap (λ o. unwrap_or o []) (get-put site.queues to (lines ++ line_body text ∷ []) y)
-        ∙ ap (λ b. unwrap_or (cond b (Some (lines ++ line_body text ∷ [])) (get site.queues y)) [])
+        ap (λ o. unwrap_or o []) (get-put node.queues to (lines ++ line_body text ∷ []) y)
+        ∙ ap (λ b. unwrap_or (cond b (Some (lines ++ line_body text ∷ [])) (get node.queues y)) [])
         (turned y to ∙ one)
         ∙ ap (λ o. unwrap_or o [] ++ line_body text ∷ [])
-        (sym is ∙ ap (get site.queues) (eqb-true to y one))
+        (sym is ∙ ap (get node.queues) (eqb-true to y one))
     by (Some lines) is false two =
-        ap (λ o. unwrap_or o []) (get-put site.queues to (lines ++ line_body text ∷ []) y)
-        ∙ ap (λ b. unwrap_or (cond b (Some (lines ++ line_body text ∷ [])) (get site.queues y)) [])
+        ap (λ o. unwrap_or o []) (get-put node.queues to (lines ++ line_body text ∷ []) y)
+        ∙ ap (λ b. unwrap_or (cond b (Some (lines ++ line_body text ∷ [])) (get node.queues y)) [])
         (turned y to ∙ two)
-        ∙ sym (append-nil (waiting site y))
+        ∙ sym (append-nil (waiting node y))
 
-queued_server : (to : ℕ) (text : List ℕ) (site : Site)
-    → (line_queued to text site).server ≡ site.server
-queued_server to text site = by (get site.queues to)
+queued_server : (to : ℕ) (text : List ℕ) (node : Node)
+    → (line_queued to text node).server ≡ node.server
+queued_server to text node = by (get node.queues to)
   where
-    by : (o : Option Lines) → (option_map_or (λ lines. record site {
-      queues = insert site.queues to
+    by : (o : Option Lines) → (option_map_or (λ lines. record node {
+      queues = insert node.queues to
           (lines ++ line_body text ∷ []);
-    }) o site).server ≡ site.server
+    }) o node).server ≡ node.server
     by None = refl
     by (Some lines) = refl
 
-queued_way : (to : ℕ) (text : List ℕ) (site : Site) (y : ℕ)
-    → is_some (get (line_queued to text site).queues y) ≡ is_some (get site.queues y)
-queued_way to text site y = by (get site.queues to) refl (nat_eq to y) refl
+queued_way : (to : ℕ) (text : List ℕ) (node : Node) (y : ℕ)
+    → is_some (get (line_queued to text node).queues y) ≡ is_some (get node.queues y)
+queued_way to text node y = by (get node.queues to) refl (nat_eq to y) refl
   where
-    by : (o : Option Lines) → get site.queues to ≡ o → (b : Bool) → nat_eq to y ≡ b
-        → is_some (get (option_map_or (λ lines. record site {
-          queues = insert site.queues to
+    by : (o : Option Lines) → get node.queues to ≡ o → (b : Bool) → nat_eq to y ≡ b
+        → is_some (get (option_map_or (λ lines. record node {
+          queues = insert node.queues to
               (lines ++ line_body text ∷ []);
-        }) o site).queues y)
-        ≡ is_some (get site.queues y)
+        }) o node).queues y)
+        ≡ is_some (get node.queues y)
     by None is b same = refl
     by (Some lines) is true one =
-        ap is_some (get-put site.queues to (lines ++ line_body text ∷ []) y)
-        ∙ ap (λ b. is_some (cond b (Some (lines ++ line_body text ∷ [])) (get site.queues y)))
+        ap is_some (get-put node.queues to (lines ++ line_body text ∷ []) y)
+        ∙ ap (λ b. is_some (cond b (Some (lines ++ line_body text ∷ [])) (get node.queues y)))
         (turned y to ∙ one)
-        ∙ ap is_some (sym is ∙ ap (get site.queues) (eqb-true to y one))
+        ∙ ap is_some (sym is ∙ ap (get node.queues) (eqb-true to y one))
     by (Some lines) is false two =
-        ap is_some (get-put site.queues to (lines ++ line_body text ∷ []) y)
-        ∙ ap (λ b. is_some (cond b (Some (lines ++ line_body text ∷ [])) (get site.queues y)))
+        ap is_some (get-put node.queues to (lines ++ line_body text ∷ []) y)
+        ∙ ap (λ b. is_some (cond b (Some (lines ++ line_body text ∷ [])) (get node.queues y)))
         (turned y to ∙ two)
 
 -- ---- what one thing does that is put out
@@ -98,7 +98,7 @@ pub record PutsOut (place : ℕ) (lines : ℕ → Lines) (old new : Network) : T
   pub ways : (y : ℕ) → has_way new place y ≡ has_way old place y
   pub waits : (y : ℕ) → has_way old place y ≡ true
       → waiting_at new place y ≡ waiting_at old place y ++ lines y
-  pub others : (x : ℕ) → nat_eq x place ≡ false → site_at new x ≡ site_at old x
+  pub others : (x : ℕ) → nat_eq x place ≡ false → node_at new x ≡ node_at old x
 
 puts_none : (place : ℕ) (net : Network) → PutsOut place (λ y. []) net net
 puts_none place net = record {
@@ -108,70 +108,70 @@ puts_none place net = record {
   others = λ x two. refl;
 }
 
-puts_received : (place client : ℕ) (text : List ℕ) (course : Course)
-    → PutsOut place (λ y. []) course.net (has_received client text course).net
-puts_received place zero text course = puts_none place course.net
-puts_received place (suc earlier) text course = by (slice_get course.net.received earlier)
+puts_received : (place client : ℕ) (text : List ℕ) (progress : Progress)
+    → PutsOut place (λ y. []) progress.net (has_received client text progress).net
+puts_received place zero text progress = puts_none place progress.net
+puts_received place (suc earlier) text progress = by (slice_get progress.net.received earlier)
   where
-    by : (o : Option Lines) → PutsOut place (λ y. []) course.net
-        (option_map_or (has_received_at earlier text course) o course).net
-    by None = puts_none place course.net
+    by : (o : Option Lines) → PutsOut place (λ y. []) progress.net
+        (option_map_or (has_received_at earlier text progress) o progress).net
+    by None = puts_none place progress.net
     by (Some lines) = record {
       servers = λ x. refl;
       ways = λ y. refl;
-      waits = λ y way. sym (append-nil (waiting_at course.net place y));
+      waits = λ y way. sym (append-nil (waiting_at progress.net place y));
       others = λ x two. refl;
     }
 
 puts_queued : (place to : ℕ) (text : List ℕ) (net : Network) → PutsOut place
-    (λ y. body_on y (line_on to text)) net (site_changed_at place (line_queued to text) net)
-puts_queued place to text net = by (site_at net place) refl
+    (λ y. body_on y (line_on to text)) net (node_changed_at place (line_queued to text) net)
+puts_queued place to text net = by (node_at net place) refl
   where
-    by : (o : Option Site) → site_at net place ≡ o
+    by : (o : Option Node) → node_at net place ≡ o
         → PutsOut place (λ y. body_on y (line_on to text)) net
-        (option_map_or (λ site. with_site place (line_queued to text site) net) o net)
+        (option_map_or (λ node. with_node place (line_queued to text node) net) o net)
     by None at = record {
       servers = λ x. refl;
       ways = λ y. refl;
       waits = λ y way. cc
-          (sym way ∙ ap (λ o. is_some (option_and_then (λ (site : Site). get site.queues y) o)) at);
+          (sym way ∙ ap (λ o. is_some (option_and_then (λ (node : Node). get node.queues y) o)) at);
       others = λ x two. refl;
     }
-    by (Some site) at =
-        let now = line_queued to text site in
-        let here : site_at (with_site place now net) place ≡ Some now =
-        set_here net.sites place site now at in record {
+    by (Some node) at =
+        let now = line_queued to text node in
+        let here : node_at (with_node place now net) place ≡ Some now =
+        set_here net.nodes place node now at in record {
           servers = λ x. same_server x (nat_eq x place) refl;
           ways = λ y.
-              ap (λ o. is_some (option_and_then (λ (s : Site). get s.queues y) o)) here
-              ∙ queued_way to text site y
-              ∙ ap (λ o. is_some (option_and_then (λ (s : Site). get s.queues y) o)) (sym at);
+              ap (λ o. is_some (option_and_then (λ (s : Node). get s.queues y) o)) here
+              ∙ queued_way to text node y
+              ∙ ap (λ o. is_some (option_and_then (λ (s : Node). get s.queues y) o)) (sym at);
           waits = λ y way.
               ap (λ o. option_map_or (λ s. waiting s y) o []) here
-              ∙ queued to text site y (sym
-              (ap (λ o. is_some (option_and_then (λ (s : Site). get s.queues y) o)) at) ∙ way)
+              ∙ queued to text node y (sym
+              (ap (λ o. is_some (option_and_then (λ (s : Node). get s.queues y) o)) at) ∙ way)
               ∙ ap (λ o. option_map_or (λ s. waiting s y) o [] ++ body_on y (line_on to text))
               (sym at);
-          others = λ x two. set_elsewhere net.sites place x now two;
+          others = λ x two. set_elsewhere net.nodes place x now two;
         }
       where
         same_server : (x : ℕ) (b : Bool) → nat_eq x place ≡ b
-            → server_at (with_site place (line_queued to text site) net) x ≡ server_at net x
+            → server_at (with_node place (line_queued to text node) net) x ≡ server_at net x
         same_server x true one =
-            ap (server_at (with_site place (line_queued to text site) net)) (eqb-true x place one)
-            ∙ ap (option_map (λ (s : Site). s.server)) (set_here net.sites place site
-            (line_queued to text site) at) ∙ ap Some (queued_server to text site)
-            ∙ ap (option_map (λ (s : Site). s.server)) (sym at)
+            ap (server_at (with_node place (line_queued to text node) net)) (eqb-true x place one)
+            ∙ ap (option_map (λ (s : Node). s.server)) (set_here net.nodes place node
+            (line_queued to text node) at) ∙ ap Some (queued_server to text node)
+            ∙ ap (option_map (λ (s : Node). s.server)) (sym at)
             ∙ ap (server_at net) (sym (eqb-true x place one))
-        same_server x false two = ap (option_map (λ (s : Site). s.server))
-            (set_elsewhere net.sites place x (line_queued to text site) two)
+        same_server x false two = ap (option_map (λ (s : Node). s.server))
+            (set_elsewhere net.nodes place x (line_queued to text node) two)
 
-puts_one : (place : ℕ) (sent : Sent) (course : Course)
-    → PutsOut place (λ y. body_on y sent) course.net (sent_out place sent course).net
-puts_one place (line_to client text) course = puts_received place client text course
-puts_one place (end_of client) course = puts_none place course.net
-puts_one place (line_on link text) course = puts_queued place link text course.net
-puts_one place (end_of_link link reason) course = puts_none place course.net
+puts_one : (place : ℕ) (sent : Sent) (progress : Progress)
+    → PutsOut place (λ y. body_on y sent) progress.net (sent_out place sent progress).net
+puts_one place (line_to client text) progress = puts_received place client text progress
+puts_one place (end_of client) progress = puts_none place progress.net
+puts_one place (line_on link text) progress = puts_queued place link text progress.net
+puts_one place (end_of_link link reason) progress = puts_none place progress.net
 
 -- ---- all that is put out
 
@@ -186,13 +186,13 @@ puts_both place one other old mid new first second = record {
   others = λ x two. second.others x two ∙ first.others x two;
 }
 
-pub puts_all : (place : ℕ) (outs : List Sent) (course : Course)
-    → PutsOut place (λ y. bodies y outs) course.net (all_sent_out place outs course).net
-puts_all place [] course = puts_none place course.net
-puts_all place (sent ∷ outs) course =
-    puts_both place (λ y. body_on y sent) (λ y. bodies y outs) course.net
-    (sent_out place sent course).net (all_sent_out place (sent ∷ outs) course).net
-    (puts_one place sent course) (puts_all place outs (sent_out place sent course))
+pub puts_all : (place : ℕ) (outs : List Sent) (progress : Progress)
+    → PutsOut place (λ y. bodies y outs) progress.net (all_sent_out place outs progress).net
+puts_all place [] progress = puts_none place progress.net
+puts_all place (sent ∷ outs) progress =
+    puts_both place (λ y. body_on y sent) (λ y. bodies y outs) progress.net
+    (sent_out place sent progress).net (all_sent_out place (sent ∷ outs) progress).net
+    (puts_one place sent progress) (puts_all place outs (sent_out place sent progress))
 
 -- ---- a line is heard
 
@@ -202,63 +202,65 @@ pub record Replies (place : ℕ) (view : View) (lines : ℕ → Lines) (old new 
   pub ways : (y : ℕ) → has_way new place y ≡ has_way old place y
   pub waits : (y : ℕ) → has_way old place y ≡ true
       → waiting_at new place y ≡ waiting_at old place y ++ lines y
-  pub others : (x : ℕ) → nat_eq x place ≡ false → site_at new x ≡ site_at old x
+  pub others : (x : ℕ) → nat_eq x place ≡ false → node_at new x ≡ node_at old x
 
 module _ (place : ℕ) (occurrence : Occurrence) (view : View) where
-  abbrev it : Reply
+  abbrev it : Served
   it = reply view occurrence
 
-  replies_at : (course : Course) (site : Site) → site_at course.net place ≡ Some site → Replies
-      place it.view (λ y. bodies y it.out) course.net (with_reply place course site it).net
-  replies_at course site at =
-      let now : Site = record site { server = Some it.view } in
-      let between : Course = record course { net = with_site place now course.net } in
-      let here : site_at between.net place ≡ Some now =
-      set_here course.net.sites place site now at in
+  replies_at : (progress : Progress) (node : Node) → node_at progress.net place ≡ Some node
+      → Replies
+      place it.view (λ y. bodies y it.out) progress.net (with_reply place progress node it).net
+  replies_at progress node at =
+      let now : Node = record node { server = Some it.view } in
+      let between : Progress = record progress { net = with_node place now progress.net } in
+      let here : node_at between.net place ≡ Some now =
+      set_here progress.net.nodes place node now at in
       let puts = puts_all place it.out between in record {
-        server = puts.servers place ∙ ap (option_map (λ (s : Site). s.server)) here;
+        server = puts.servers place ∙ ap (option_map (λ (s : Node). s.server)) here;
         ways = λ y.
-            puts.ways y ∙ ap (λ o. is_some (option_and_then (λ (s : Site). get s.queues y) o)) here
-            ∙ ap (λ o. is_some (option_and_then (λ (s : Site). get s.queues y) o)) (sym at);
+            puts.ways y ∙ ap (λ o. is_some (option_and_then (λ (s : Node). get s.queues y) o)) here
+            ∙ ap (λ o. is_some (option_and_then (λ (s : Node). get s.queues y) o)) (sym at);
         waits = λ y way.
             puts.waits y
-            (ap (λ o. is_some (option_and_then (λ (s : Site). get s.queues y) o)) here
-            ∙ ap (λ o. is_some (option_and_then (λ (s : Site). get s.queues y) o)) (sym at) ∙ way)
+            (ap (λ o. is_some (option_and_then (λ (s : Node). get s.queues y) o)) here
+            ∙ ap (λ o. is_some (option_and_then (λ (s : Node). get s.queues y) o)) (sym at) ∙ way)
             ∙ ap (λ o. option_map_or (λ s. waiting s y) o [] ++ bodies y it.out) here
             ∙ ap (λ o. option_map_or (λ s. waiting s y) o [] ++ bodies y it.out) (sym at);
-        others = λ x two. puts.others x two ∙ set_elsewhere course.net.sites place x now two;
+        others = λ x two. puts.others x two ∙ set_elsewhere progress.net.nodes place x now two;
       }
 
-  pub asked_replies : (course : Course) → server_at course.net place ≡ Some (Some view) → Replies
-      place it.view (λ y. bodies y it.out) course.net (site_asked place occurrence course).net
-  unfolding site_asked
-  asked_replies course is = by_site (site_at course.net place) refl is
+  pub asked_replies : (progress : Progress) → server_at progress.net place ≡ Some (Some view)
+      → Replies
+      place it.view (λ y. bodies y it.out) progress.net (node_asked place occurrence progress).net
+  unfolding node_asked
+  asked_replies progress is = by_node (node_at progress.net place) refl is
     where
-      by_view : (site : Site) → site_at course.net place ≡ Some site → (o : Option View)
-          → o ≡ Some view → Replies place it.view (λ y. bodies y it.out) course.net
+      by_view : (node : Node) → node_at progress.net place ≡ Some node → (o : Option View)
+          → o ≡ Some view → Replies place it.view (λ y. bodies y it.out) progress.net
           (option_map_or
-          (λ (v : View). with_reply place course site (reply v occurrence)) o course).net
-      by_view site at None none = cc none
-      by_view site at (Some v) one =
-          subst (λ (w : View). Replies place it.view (λ y. bodies y it.out) course.net
-          (with_reply place course site (reply w occurrence)).net)
-          (sym (ap (λ o. unwrap_or o v) one)) (replies_at course site at)
+          (λ (v : View). with_reply place progress node (reply v occurrence)) o progress).net
+      by_view node at None none = cc none
+      by_view node at (Some v) one =
+          subst (λ (w : View). Replies place it.view (λ y. bodies y it.out) progress.net
+          (with_reply place progress node (reply w occurrence)).net)
+          (sym (ap (λ o. unwrap_or o v) one)) (replies_at progress node at)
 
-      by_site : (o : Option Site) → site_at course.net place ≡ o
-          → option_map (λ (s : Site). s.server) o ≡ Some (Some view)
-          → Replies place it.view (λ y. bodies y it.out) course.net
-          (option_map_or (asked_at place occurrence course) o course).net
-      by_site None at none = cc none
-      by_site (Some site) at some = by_view site at site.server (ap (λ o. unwrap_or o None) some)
+      by_node : (o : Option Node) → node_at progress.net place ≡ o
+          → option_map (λ (s : Node). s.server) o ≡ Some (Some view)
+          → Replies place it.view (λ y. bodies y it.out) progress.net
+          (option_map_or (asked_at place occurrence progress) o progress).net
+      by_node None at none = cc none
+      by_node (Some node) at some = by_view node at node.server (ap (λ o. unwrap_or o None) some)
 
-pub heard_replies : (from to : ℕ) (line : List ℕ) (view : View) (course : Course)
-    → server_at course.net to ≡ Some (Some view)
+pub heard_replies : (from to : ℕ) (line : List ℕ) (view : View) (progress : Progress)
+    → server_at progress.net to ≡ Some (Some view)
     → Replies to (reply view (link_says from (read_of line))).view
-    (λ y. bodies y (reply view (link_says from (read_of line))).out) course.net
-    (heard from to course line).net
-heard_replies from to line view course is =
+    (λ y. bodies y (reply view (link_says from (read_of line))).out) progress.net
+    (heard from to progress line).net
+heard_replies from to line view progress is =
     let now = asked_replies to (link_says from (read_of line)) view
-    (record course { net = line_counted course.net }) is in record {
+    (record progress { net = line_counted progress.net }) is in record {
       server = now.server;
       ways = now.ways;
       waits = now.waits;

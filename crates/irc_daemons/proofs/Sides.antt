@@ -17,8 +17,9 @@ use Rattle.irc_relay.specs.Links.{links_without, part, same}
 use Rattle.irc_relay.specs.Links.{linked as are_linked}
 use Rattle.irc_relay.specs.Lemmas.TellingNames.{same_unless, same_when}
 use Rattle.irc_world.specs.Laws.{WorldIsSound}
-use Rattle.irc_network.specs.Network.{Site, server_place, site_at}
-use Rattle.irc_wires.specs.Wires.{Wire, Wires, are_still, are_still_in, is_still, new_wire, wire_at}
+use Rattle.irc_network.specs.Network.{Node, server_place, node_at}
+use Rattle.irc_wires.specs.Wires.{LinkWire, Wires, are_still, are_still_in, is_still, new_wire}
+use Rattle.irc_wires.specs.Wires.{wire_at}
 use Rattle.irc_wires.specs.Wires.{wire_in}
 use Rattle.irc_wires.specs.Lemmas.StillWires.{still_is_new}
 use Rattle.irc_wires.specs.Lemmas.StillWires.{one_of as one_of_all}
@@ -43,11 +44,11 @@ pub record AreSides (n f : ℕ) (is_way : ℕ → ℕ → Bool) : Type 0 where
 
 -- ---- at rest all is still
 
-still_in : (row : FinMap nat_cmp Wire) → are_still_in row ≡ true → (y : ℕ)
+still_in : (row : FinMap nat_cmp LinkWire) → are_still_in row ≡ true → (y : ℕ)
     → wire_in y row ≡ new_wire
 still_in row all y = by (get row y) refl
   where
-    by : (o : Option Wire) → get row y ≡ o → unwrap_or o new_wire ≡ new_wire
+    by : (o : Option LinkWire) → get row y ≡ o → unwrap_or o new_wire ≡ new_wire
     by None is = refl
     by (Some wire) is =
         ap (λ o. unwrap_or o new_wire) (sym is)
@@ -153,18 +154,18 @@ module _ (world_law : WorldIsSound) (taken_out : LinkTakenOut) (rest_law : RestA
         ∙ (placed net.network.names at.server at.among).is_there
 
     pub way_of : (x y : ℕ) → has_way net.network x y ≡ true → IsWay x y
-    way_of x y way = by (site_at net.network x) refl
+    way_of x y way = by (node_at net.network x) refl
       where
-        by : (o : Option Site) → site_at net.network x ≡ o → IsWay x y
+        by : (o : Option Node) → node_at net.network x ≡ o → IsWay x y
         by None at =
-            cc (sym way ∙ ap (λ o. is_some (option_and_then (λ (s : Site). get s.queues y) o)) at)
-        by (Some site) at =
-            let from = at_place net.network sound.set_up x site at in
+            cc (sym way ∙ ap (λ o. is_some (option_and_then (λ (s : Node). get s.queues y) o)) at)
+        by (Some node) at =
+            let from = at_place net.network sound.set_up x node at in
             let from_at : slice_get net.network.names x ≡ Some from.server = name_at x from in
             let to =
             sound.to_servers from.server y
-            (ap (λ o. is_some (option_and_then (λ (s : Site). get s.queues y)
-            (option_and_then (site_at net.network) o)))
+            (ap (λ o. is_some (option_and_then (λ (s : Node). get s.queues y)
+            (option_and_then (node_at net.network) o)))
             (placed_by net.network sound.set_up x from.server from_at)
             ∙ way) in
             let to_at : slice_get net.network.names y ≡ Some to.server = name_at y to in record {

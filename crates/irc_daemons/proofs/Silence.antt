@@ -7,17 +7,17 @@ use Rattle.std.specs.FinMap.{get}
 use Rattle.std.specs.List.{list_all, list_any}
 use Rattle.std.specs.Option.{option_and_then}
 use Rattle.irc_batch.specs.Batches.{Sent, end_of, end_of_link, line_on, line_to}
-use Rattle.irc_links.specs.Ways.{AreEnds, IsMetEnd}
+use Rattle.irc_stage.specs.Ways.{AreEnds, IsMetEnd}
 use Rattle.irc_routes.specs.declared.server_row.ServerRow.{ServerRow}
 use Rattle.irc_routes.specs.Known.{row_of}
 use Rattle.irc_stage.specs.View.{View}
 use Rattle.irc_stage.specs.Handle.{connects, goes, says}
 use Rattle.irc_server.specs.Served.{Occurrence, link_down, link_says, link_up, of_client, served}
-use Rattle.irc_server_laws.specs.Own.{ServedGoesToItsOwn, is_its_own, is_on_new}
-use Rattle.irc_network.specs.Site.{Reply, reply, serves_occurrence}
+use Rattle.irc_server.specs.Own.{ServedGoesToItsOwn, is_its_own, is_on_new}
+use Rattle.irc_network.specs.Node.{Served, reply, serves_occurrence}
 use Rattle.irc_engine.specs.Carrying.{answers, is_closed_by}
 use Rattle.irc_daemons.specs.Alike.{AreServersAlike, AreRowsAlike, Numbers, client_bytes}
-use Rattle.irc_server_laws.specs.Connected.{client_comes, client_goes, ends_client, link_comes}
+use Rattle.irc_server.specs.Connected.{client_comes, client_goes, ends_client, link_comes}
 use Rattle.irc_batch.specs.declared.close_reason.CloseReason.{CloseReason}
 use Rattle.irc_daemons.specs.Clients.{ClientsStay}
 use Rattle.irc_daemons.specs.Items.{is_on_link}
@@ -229,7 +229,7 @@ module _ (own_law : ServedGoesToItsOwn) (view : View) (occurrence : Occurrence)
 
   -- ---- of what a server replies
 
-  abbrev replied : Bool → Reply
+  abbrev replied : Bool → Served
   replied b =
       if b then record { view = (served view occurrence).view; out = (served view occurrence).out }
       else record { view = view; out = [] }

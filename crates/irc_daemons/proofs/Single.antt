@@ -10,14 +10,14 @@ use Rattle.irc_line.specs.Lines.{Begun}
 use Rattle.irc_outbox.specs.Calls.{Call, asks, reads, writes, closes, taken, taken_by, written}
 use Rattle.irc_batch.specs.Batches.{Sent}
 use Rattle.irc_stage.specs.View.{View}
-use Rattle.irc_network.specs.Network.{Network, Site, site_at, waiting}
-use Rattle.irc_wires.specs.Wires.{Wire}
+use Rattle.irc_network.specs.Network.{Network, Node, node_at, waiting}
+use Rattle.irc_wires.specs.Wires.{LinkWire}
 use Rattle.irc_network.specs.ByteNetwork.{waiting_at}
 use Rattle.irc_network.specs.Whole.{has_way}
 use Rattle.irc_network.specs.Lemmas.NewFramer.{new_is_real}
 use Rattle.irc_engine.specs.declared.connection_table.Connection.{Connection}
-use Rattle.irc_engine.specs.declared.kind.Kind.{Kind}
-use Rattle.irc_engine.specs.declared.kind.Kind.TheVariants as kinds
+use Rattle.irc_engine.specs.declared.kind.ConnectionKind.{ConnectionKind}
+use Rattle.irc_engine.specs.declared.kind.ConnectionKind.TheVariants as kinds
 use Rattle.irc_engine.specs.Carrying.{Fate, IsOfKind, KeepsKind, answers, bytes_owed, is_closed_by}
 use Rattle.irc_engine.specs.Carrying.{is_exchange, is_open_at, kind_at, kind_of_connection}
 use Rattle.irc_engine.specs.Carrying.{kind_of_loss, open_kind_at}
@@ -92,8 +92,9 @@ is_carried conn (Some old) (Some new) calls outs fate opened =
       bytes = ap (λ b. old.outbox.bytes ++ bytes_owed b conn outs) (sym parts.0) ∙ fate.carried;
     }
 
-pub kind_then : (old new : Option Connection) (was now : Option Kind) → KeepsKind old was new now
-    → was ≡ None → (kind : Kind) → IsOfKind kind new now → kind_at old ≡ Some kind
+pub kind_then : (old new : Option Connection) (was now : Option ConnectionKind)
+    → KeepsKind old was new now → was ≡ None → (kind : ConnectionKind) → IsOfKind kind new now
+    → kind_at old ≡ Some kind
 kind_then old new was now keeps none kind is = by (keeps kind is)
   where
     by : IsOfKind kind old was → kind_at old ≡ Some kind
@@ -103,22 +104,22 @@ kind_then old new was now keeps none kind is = by (keeps kind is)
 -- ---- ways
 
 pub no_way_waits : (net : Network) (x y : ℕ) → has_way net x y ≡ false → waiting_at net x y ≡ []
-no_way_waits net x y none = by (site_at net x) refl
+no_way_waits net x y none = by (node_at net x) refl
   where
-    by_way : (site : Site) → site_at net x ≡ Some site → (o : Option Lines) → get site.queues y ≡ o
+    by_way : (node : Node) → node_at net x ≡ Some node → (o : Option Lines) → get node.queues y ≡ o
         → unwrap_or o [] ≡ []
-    by_way site at None is = refl
-    by_way site at (Some lines) is =
-        cc (sym (ap (λ o. is_some (option_and_then (λ (s : Site). get s.queues y) o)) at
+    by_way node at None is = refl
+    by_way node at (Some lines) is =
+        cc (sym (ap (λ o. is_some (option_and_then (λ (s : Node). get s.queues y) o)) at
         ∙ ap is_some is) ∙ none)
 
-    by : (o : Option Site) → site_at net x ≡ o → option_map_or (λ site. waiting site y) o [] ≡ []
+    by : (o : Option Node) → node_at net x ≡ o → option_map_or (λ node. waiting node y) o [] ≡ []
     by None at = refl
-    by (Some site) at = by_way site at (get site.queues y) refl
+    by (Some node) at = by_way node at (get node.queues y) refl
 
 -- ---- wires
 
-abbrev pub wire_of : Begun → List ℕ → Wire
+abbrev pub wire_of : Begun → List ℕ → LinkWire
 wire_of begun bytes = record { begun = begun; bytes = bytes }
 
 pub same_wire : (b c : Begun) (xs ys : List ℕ) → b ≡ c → xs ≡ ys → wire_of b xs ≡ wire_of c ys
@@ -137,15 +138,15 @@ moved sent held more gone left is = append_assoc sent held more ∙ ap (λ xs. s
 -- ---- servers
 
 pub record HasServer {W : Type 0} (numbers : Numbers) (engine : EngineView W)
-    (found : Option Site) : Type 0 where
-  pub site : Site
-  pub at : found ≡ Some site
-  pub of : IsServerOf numbers engine site
+    (found : Option Node) : Type 0 where
+  pub node : Node
+  pub at : found ≡ Some node
+  pub of : IsServerOf numbers engine node
 
-pub has_server : {W : Type 0} (numbers : Numbers) (engine : EngineView W) (found : Option Site)
+pub has_server : {W : Type 0} (numbers : Numbers) (engine : EngineView W) (found : Option Node)
     → IsServerIf numbers (Some engine) found → HasServer numbers engine found
 has_server numbers engine None is = absurd is
-has_server numbers engine (Some site) is = record { site = site; at = refl; of = is }
+has_server numbers engine (Some node) is = record { node = node; at = refl; of = is }
 
 pub record HasView (server : Option View) : Type 0 where
   pub view : View

@@ -5,9 +5,9 @@ use Rattle.std.proofs.Common.{length, nat_eq, refl, sym, ◌∙◌, ap, arith, s
 use Rattle.std.proofs.lemmas.Bool.{eqb-true}
 use Rattle.std.proofs.lemmas.List.{length-append}
 use Rattle.std.specs.FinMap.{get}
-use Rattle.irc_links.specs.Ways.{AreEnds}
-use Rattle.irc_server_laws.specs.Own.{ServedKeepsEnds}
-use Rattle.irc_network.specs.Site.{Reply}
+use Rattle.irc_stage.specs.Ways.{AreEnds}
+use Rattle.irc_server.specs.Own.{ServedKeepsEnds}
+use Rattle.irc_network.specs.Node.{Served}
 use Rattle.irc_stage.specs.View.{View}
 use Rattle.irc_wires.specs.Wires.{Wires}
 use Rattle.irc_network.specs.ByteNetwork.{ByteNetwork, byte_begun, bytes_come, completed_in}
@@ -31,7 +31,7 @@ front_enough front rest bytes is =
 
 -- ---- one server does something by which no client comes to it
 
-module _ (place : ℕ) (next : Reply) (along : Wires) (old new : ByteNetwork)
+module _ (place : ℕ) (next : Served) (along : Wires) (old new : ByteNetwork)
     (goes : GoesOn place next along old new) (view : View)
     (at : server_at old.network place ≡ Some (Some view))
   where
@@ -90,7 +90,7 @@ module _ (place : ℕ) (next : Reply) (along : Wires) (old new : ByteNetwork)
 module _ (from to count : ℕ) (net : ByteNetwork) (tidy : IsTidy net) (view : View)
     (at : server_at net.network to ≡ Some (Some view))
   where
-    abbrev next : Reply
+    abbrev next : Served
     next = all_replies from view (completed_in net from to count)
 
     abbrev last : ByteNetwork

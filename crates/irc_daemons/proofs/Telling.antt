@@ -16,23 +16,24 @@ use Rattle.irc_server.specs.declared.event.Event.{Event}
 use Rattle.irc_server.specs.declared.event.Event.TheVariants.{Connect, LinkDown, LinkUp}
 use Rattle.irc_server.specs.Happening.{occurrence_of}
 use Rattle.irc_server.specs.Served.{Occurrence, fault_of, link_down, link_there, served}
-use Rattle.irc_server_laws.specs.Connected.{WhoIsConnected, client_comes, is_link_ended, link_comes}
-use Rattle.irc_server_laws.specs.LineEnds.{ServedLinesEnd}
-use Rattle.irc_server_laws.specs.Own.{ServedGoesToItsOwn}
-use Rattle.irc_links.specs.Ways.{AreEnds}
+use Rattle.irc_server.specs.Connected.{WhoIsConnected, client_comes, is_link_ended, link_comes}
+use Rattle.irc_server.specs.LineEnds.{ServedLinesEnd}
+use Rattle.irc_server.specs.Own.{ServedGoesToItsOwn}
+use Rattle.irc_stage.specs.Ways.{AreEnds}
 use Rattle.irc_stage.specs.View.{End, View}
-use Rattle.irc_network.specs.Site.{Reply, reply, serves_occurrence}
+use Rattle.irc_network.specs.Node.{Served, reply, serves_occurrence}
 use Rattle.irc_world.specs.Stepping.{Item}
 use Rattle.irc_world.specs.World.{home_in}
-use Rattle.irc_network.specs.Network.{Site, begun, item_kept, site_asked, site_at}
-use Rattle.irc_wires.specs.Wires.{Wire, new_wire, wire_at}
+use Rattle.irc_network.specs.Network.{Node, begun, item_kept, node_asked, node_at}
+use Rattle.irc_wires.specs.Wires.{LinkWire, new_wire, wire_at}
 use Rattle.irc_network.specs.ByteNetwork.{ByteNetwork, queues_written}
 use Rattle.irc_network.specs.Whole.{IsTidy, has_way}
 use Rattle.irc_engine.specs.declared.connection_table.Connection.{Connection}
-use Rattle.irc_engine.specs.declared.kind.Kind.TheVariants as kinds
+use Rattle.irc_engine.specs.declared.kind.ConnectionKind.TheVariants as kinds
 use Rattle.irc_engine.specs.Carrying.{fresh_connection, is_open_at, open_kind_at}
 use Rattle.irc_engine.specs.Hearing.{begun_at}
-use Rattle.irc_engine.specs.Running.{AreAsked, Asked, IsNews, Moment, a_line, an_end, asked_at}
+use Rattle.irc_engine.specs.Running.{AreAsked, ServerAsked, IsNews, Moment, a_line, an_end}
+use Rattle.irc_engine.specs.Running.{asked_at}
 use Rattle.irc_daemons.specs.Alike.{AreApart, AreServersAlike, AreServersAlikeIf, Numbers}
 use Rattle.irc_daemons.specs.Alike.{ServedAlike, happens_at, renumbered}
 use Rattle.irc_engine.specs.Turning.{EngineView}
@@ -44,13 +45,13 @@ use Rattle.irc_daemons.specs.Daemons.{unsent, wire_between}
 use Rattle.irc_daemons.specs.Doings.{Doings, taken_at}
 use Rattle.irc_daemons.specs.Receiving.{bytes_received}
 use Rattle.irc_daemons.specs.Steps.{came_after, seats_after}
-use Rattle.irc_daemons.specs.Tellings.{TellsEnd, Tidings, end_before, end_by, end_set, event_of}
+use Rattle.irc_daemons.specs.Tellings.{TellsEnd, LinkTidings, end_before, end_by, end_set, event_of}
 use Rattle.irc_daemons.specs.Tellings.{is_lost, is_up, is_way_by, linked_by, occurrence_by}
 use Rattle.irc_daemons.proofs.Asked.{ServesClients, is_left, took}
 use Rattle.irc_daemons.proofs.Assembly.{IsEndBegun, assembled, begin, begins_same, begun_before}
 use Rattle.irc_daemons.proofs.Assembly.{did_all, first, incoming_stays, mid_moment, newcomer, outs}
 use Rattle.irc_daemons.proofs.Assembly.{part, second, start, taken_is}
-use Rattle.irc_daemons.proofs.Given.{AreThen, Went, asked_went, bytes_of_sites}
+use Rattle.irc_daemons.proofs.Given.{AreThen, Went, asked_went, bytes_of_nodes}
 use Rattle.irc_daemons.proofs.Heard.{none_stays}
 use Rattle.irc_daemons.proofs.Linking.{IsFree, SeatBefore, alike_lost, alike_up, end_elsewhere}
 use Rattle.irc_daemons.proofs.Linking.{end_then, end_told, end_to_others, EndThen, is_old, is_told}
@@ -68,11 +69,11 @@ use Rattle.irc_daemons.proofs.Turn.{link_comes as link_begins, nobody_comes}
 
 -- ---- one event
 
-pub asked_both : (events more : List Event) (old mid new : Asked) (a b : List Sent)
+pub asked_both : (events more : List Event) (old mid new : ServerAsked) (a b : List Sent)
     → AreAsked old events a mid → AreAsked mid more b new
     → AreAsked old (events ++ more) (a ++ b) new
 asked_both [] more old mid new a b one two =
-    subst (λ (o : Asked). AreAsked o more (a ++ b) new) one.1
+    subst (λ (o : ServerAsked). AreAsked o more (a ++ b) new) one.1
     (subst (λ (os : List Sent). AreAsked mid more (os ++ b) new) (sym one.0) two)
 asked_both (event ∷ events) more old mid new a b one two = record {
   between = one.between;
@@ -89,18 +90,19 @@ asked_both (event ∷ events) more old mid new a b one two = record {
     append_three (x ∷ xs) ys zs = ap (λ l. x ∷ l) (append_three xs ys zs)
 
 -- the server has served it, and nothing else
-pub record TookOne (own : View) (event : Event) (new : Asked) (outs : List Sent) : Type 0 where
+pub record TookOne (own : View) (event : Event) (new : ServerAsked)
+    (outs : List Sent) : Type 0 where
   pub none : fault_of own event ≡ None
   pub server_is : new.server ≡ Some (reply own (occurrence_of event)).view
   pub outs_are : outs ≡ (reply own (occurrence_of event)).out
 
-pub took_one : (own : View) (event : Event) (old new : Asked) (sent : List Sent)
+pub took_one : (own : View) (event : Event) (old new : ServerAsked) (sent : List Sent)
     → old.server ≡ Some own → AreAsked old (event ∷ []) sent new → TookOne own event new sent
 took_one own event old new sent was asked =
     let it = took own event old.server asked.between.server asked.first was asked.is_handled in
     record {
       none = it.none;
-      server_is = ap (λ (a : Asked). a.server) asked.rest_is.1 ∙ it.server_is;
+      server_is = ap (λ (a : ServerAsked). a.server) asked.rest_is.1 ∙ it.server_is;
       outs_are =
           asked.outs_are ∙ ap (λ os. asked.first ++ os) asked.rest_is.0 ∙ append-nil asked.first
           ∙ it.first_is;
@@ -109,18 +111,18 @@ took_one own event old new sent was asked =
 -- ---- a server that is the same at both
 
 server_of : {W : Type 0} (numbers : Numbers) (engine : Option (EngineView W))
-    (was now : Option Site) → option_map (λ (s : Site). s.server) now ≡ option_map
-    (λ (s : Site). s.server) was → IsServerIf numbers engine was → IsServerIf numbers engine now
+    (was now : Option Node) → option_map (λ (s : Node). s.server) now ≡ option_map
+    (λ (s : Node). s.server) was → IsServerIf numbers engine was → IsServerIf numbers engine now
 server_of numbers None None None same is = is
-server_of numbers None None (Some site) same is = cc same
-server_of numbers None (Some site) now same is = absurd is
+server_of numbers None None (Some node) same is = cc same
+server_of numbers None (Some node) now same is = absurd is
 server_of numbers (Some engine) None now same is = absurd is
-server_of numbers (Some engine) (Some site) None same is = cc same
-server_of numbers (Some engine) (Some site) (Some now) same is = record {
+server_of numbers (Some engine) (Some node) None same is = cc same
+server_of numbers (Some engine) (Some node) (Some now) same is = record {
   in_order = is.in_order;
   framers = is.framers;
   servers = subst (λ o. AreServersAlikeIf numbers engine.now.server o)
-      (sym (inside now.server site.server same)) is.servers;
+      (sym (inside now.server node.server same)) is.servers;
 }
 
 -- ---- no line, and no end of a connection, tells that a link is up
@@ -157,7 +159,7 @@ no_link (Some end) is = cc is
 module _ {W : Type 0} (is_after : W → List Call → Type 0) (pieces : PiecesCompleteTheSame)
     (lines_end : ServedLinesEnd) (own_law : ServedGoesToItsOwn)
     (stay : ClientsStay) (connected : WhoIsConnected) (alike_law : ServedAlike) (names : List Name)
-    (tidings : Tidings) (place other : ℕ)
+    (tidings : LinkTidings) (place other : ℕ)
     (old new : Daemons W) (telling : TellsEnd is_after tidings place other old new)
     (two : nat_eq place other ≡ false) (old_net : ByteNetwork)
     (same : IsAsNetwork names old old_net) (placed : (x y : ℕ) (name : Name)
@@ -169,10 +171,10 @@ module _ {W : Type 0} (is_after : W → List Call → Type 0) (pieces : PiecesCo
     abbrev pub base : Daemons W
     base = linked_by tidings place other conn old
 
-    here : HasServer (numbers_at old place) telling.step.engine (site_at old_net.network place)
+    here : HasServer (numbers_at old place) telling.step.engine (node_at old_net.network place)
     here =
-        has_server (numbers_at old place) telling.step.engine (site_at old_net.network place)
-        (subst (λ o. IsServerIf (numbers_at old place) o (site_at old_net.network place))
+        has_server (numbers_at old place) telling.step.engine (node_at old_net.network place)
+        (subst (λ o. IsServerIf (numbers_at old place) o (node_at old_net.network place))
         telling.step.at (same.as_bytes.servers place))
 
     not_itself : (x : ℕ) → base.ends x x ≡ None
@@ -280,15 +282,15 @@ module _ {W : Type 0} (is_after : W → List Call → Type 0) (pieces : PiecesCo
         by (newcomer_comes room which host made is it) = sym made.server ∙ own.is
         by (link_begins room which called made is it) = sym made.server ∙ own.is
 
-    views : HaveViews (numbers_at old place) started.server here.site.server own.view
+    views : HaveViews (numbers_at old place) started.server here.node.server own.view
     views = have_views
-        (numbers_at old place) started.server here.site.server own.view own_start here.of.servers
+        (numbers_at old place) started.server here.node.server own.view own_start here.of.servers
 
     abbrev theirs : View
     theirs = views.theirs
 
     server_at_place : server_at old_net.network place ≡ Some (Some theirs)
-    server_at_place = ap (option_map (λ (s : Site). s.server)) here.at ∙ ap Some views.is
+    server_at_place = ap (option_map (λ (s : Node). s.server)) here.at ∙ ap Some views.is
 
     it_took : TookOne own.view event (asked_at end) all_outs
     it_took = took_one own.view event (asked_at begun_now) (asked_at end) all_outs own.is asked_one
@@ -296,10 +298,10 @@ module _ {W : Type 0} (is_after : W → List Call → Type 0) (pieces : PiecesCo
     abbrev occurrence : Occurrence
     occurrence = occurrence_by tidings other
 
-    abbrev mine : Reply
+    abbrev mine : Served
     mine = reply own.view (occurrence_of event)
 
-    is_it : (t : Tidings)
+    is_it : (t : LinkTidings)
         → occurrence_of (event_of t conn) ≡ renumbered conn (occurrence_by t other)
     is_it (is_up called) = refl
     is_it is_lost = refl
@@ -376,10 +378,10 @@ module _ {W : Type 0} (is_after : W → List Call → Type 0) (pieces : PiecesCo
         nothing_read : (q : ℕ) (link : ℕ) (name : Option Name) → given ≡ LinkUp link name ∷ []
             → came q ≡ []
         nothing_read q link name is =
-            came_of is_after telling.step.engine.rooms telling.step.turn.report started mid
+            came_of is_after telling.step.engine.sizes telling.step.turn.report started mid
             telling.step.turn.does.answers q
             (λ report. none_given
-            (part_reads is_after telling.step.engine.rooms telling.step.turn.report started
+            (part_reads is_after telling.step.engine.sizes telling.step.turn.report started
             mid telling.step.turn.does.answers q report).given_is)
           where
             none_given : given ≡ [] → ⊥
@@ -445,7 +447,7 @@ module _ {W : Type 0} (is_after : W → List Call → Type 0) (pieces : PiecesCo
     fault_none : fault_of own.view event ≡ None
     fault_none = it_took.none
 
-    no_end_up : (t : Tidings) → is_way_by t ≡ true → fault_of own.view (event_of t conn) ≡ None
+    no_end_up : (t : LinkTidings) → is_way_by t ≡ true → fault_of own.view (event_of t conn) ≡ None
         → is_some (get own.view.ends conn) ≡ false
     no_end_up (is_up called) up none = no_link (get own.view.ends conn) none
     no_end_up is_lost up none = cc up
@@ -465,7 +467,7 @@ module _ {W : Type 0} (is_after : W → List Call → Type 0) (pieces : PiecesCo
         by false is = refl
 
     -- no link has the number of one that is made
-    free_of : (t : Tidings) → tidings ≡ t → IsFree old place other conn two same.are_joined t
+    free_of : (t : LinkTidings) → tidings ≡ t → IsFree old place other conn two same.are_joined t
     free_of is_lost is y q up link = cc up
     free_of (is_up called) is y q up link = by (nat_eq q conn) refl
       where
@@ -479,7 +481,7 @@ module _ {W : Type 0} (is_after : W → List Call → Type 0) (pieces : PiecesCo
     seats_then : new.seats ≡ base.seats
     seats_then = telling.step.seats_are ∙ ap (seats_after base place) (none_comes tidings refl)
       where
-        none_comes : (t : Tidings) → tidings ≡ t → comes ≡ None
+        none_comes : (t : LinkTidings) → tidings ≡ t → comes ≡ None
         none_comes (is_up called) is = (fresh called is).nobody
         none_comes is_lost is = (nobody_new is).nobody
 
@@ -501,7 +503,7 @@ module _ {W : Type 0} (is_after : W → List Call → Type 0) (pieces : PiecesCo
 
     -- the numbers under which the server is asked: those before where a link is lost, those behind
     -- where one is made
-    record IsAskedBy (t : Tidings) (by : Numbers) : Type 0 where
+    record IsAskedBy (t : LinkTidings) (by : Numbers) : Type 0 where
       apart : AreApart by
       alike : AreServersAlike by own.view theirs
       happens : happens_at by (occurrence_by t other) ≡ Some conn
@@ -515,7 +517,7 @@ module _ {W : Type 0} (is_after : W → List Call → Type 0) (pieces : PiecesCo
           (reply own.view (renumbered conn (occurrence_by t other))).view
           (reply theirs (occurrence_by t other)).view
 
-    record AskedBy (t : Tidings) : Type 0 where
+    record AskedBy (t : LinkTidings) : Type 0 where
       numbers : Numbers
       is : IsAskedBy t numbers
 
@@ -543,7 +545,7 @@ module _ {W : Type 0} (is_after : W → List Call → Type 0) (pieces : PiecesCo
         gone false true closed = refl
         gone false false closed = refl
 
-        replied : Bool → Reply
+        replied : Bool → Served
         replied b =
             if b then record {
               view = (served view (link_down conn)).view;
@@ -560,7 +562,7 @@ module _ {W : Type 0} (is_after : W → List Call → Type 0) (pieces : PiecesCo
             (is_link_ended conn (served view (link_down conn)).out)
         by false is = is
 
-    asked_by : (t : Tidings) → tidings ≡ t → AskedBy t
+    asked_by : (t : LinkTidings) → tidings ≡ t → AskedBy t
     asked_by (is_up called) is =
         let was : old.ends place other ≡ None = telling.was ∙ ap (λ t. end_before t conn) is in
         let no_end = no_end_up (is_up called) refl
@@ -623,14 +625,14 @@ module _ {W : Type 0} (is_after : W → List Call → Type 0) (pieces : PiecesCo
       where
         abbrev asked_net : ByteNetwork
         asked_net = queues_written
-            (item_kept item (site_asked place occurrence (begun mid_net.network))).net mid_net.wires
+            (item_kept item (node_asked place occurrence (begun mid_net.network))).net mid_net.wires
 
         -- ---- wires
 
         transit_still : tidings ≡ is_lost → (y : ℕ) → old.transit y place ≡ []
         transit_still lost y =
             front_none (old.transit y place) (unsent (end_at old y place))
-            (ap (λ (w : Wire). w.bytes) (sym (same.as_bytes.wires y place) ∙ still_in lost y))
+            (ap (λ (w : LinkWire). w.bytes) (sym (same.as_bytes.wires y place) ∙ still_in lost y))
 
         record IsSameEnd : Type 0 where
           same_unsent : unsent (end_at old place other) ≡ unsent (end_at base place other)
@@ -646,7 +648,7 @@ module _ {W : Type 0} (is_after : W → List Call → Type 0) (pieces : PiecesCo
             (end_before tidings conn)
         end_old = ap (option_and_then (connection_at old place)) telling.was
 
-        same_end_by : (t : Tidings) → tidings ≡ t → IsSameEnd
+        same_end_by : (t : LinkTidings) → tidings ≡ t → IsSameEnd
         same_end_by (is_up called) is =
             let none : end_at old place other ≡ None = end_old
             ∙ ap (λ t. option_and_then (connection_at old place) (end_before t conn)) is in
@@ -662,11 +664,11 @@ module _ {W : Type 0} (is_after : W → List Call → Type 0) (pieces : PiecesCo
             ∙ ap (λ t. option_and_then (connection_at old place) (end_by t conn)) is in record {
               same_unsent =
                   rest_none (old.transit place other) (unsent (end_at old place other))
-                  (ap (λ (w : Wire). w.bytes) (sym (same.as_bytes.wires place other)
+                  (ap (λ (w : LinkWire). w.bytes) (sym (same.as_bytes.wires place other)
                   ∙ still_out is))
                   ∙ sym (ap unsent gone);
               same_begun =
-                  ap (λ (w : Wire). w.begun) (sym (same.as_bytes.wires other place)
+                  ap (λ (w : LinkWire). w.begun) (sym (same.as_bytes.wires other place)
                   ∙ still_in is other)
                   ∙ sym (ap (λ o. begun_or_none (begun_at o)) gone);
             }
@@ -762,7 +764,7 @@ module _ {W : Type 0} (is_after : W → List Call → Type 0) (pieces : PiecesCo
             (subst (λ os. Went place numbers_base last.view os mid_net asked_net)
             (sym it_took.outs_are)
             (subst (λ v. Went place numbers_base v mine.out mid_net asked_net) (sym last_is)
-            (subst (λ (r : Reply). Went place numbers_base r.view r.out mid_net asked_net) mine_is
+            (subst (λ (r : Served). Went place numbers_base r.view r.out mid_net asked_net) mine_is
             went_base)))
 
         -- ---- whom it serves
@@ -773,7 +775,7 @@ module _ {W : Type 0} (is_after : W → List Call → Type 0) (pieces : PiecesCo
             seat_before old place other tidings conn place client q
             (ap (λ (f : ℕ → ℕ → Option ℕ). f place client) (sym seats_then) ∙ seat)
 
-        not_new : (t : Tidings) → tidings ≡ t → (client q : ℕ) → new.seats place client ≡ Some q
+        not_new : (t : LinkTidings) → tidings ≡ t → (client q : ℕ) → new.seats place client ≡ Some q
             → link_comes q (occurrence_of (event_of t conn)) ≡ false
         not_new is_lost is client q seat = refl
         not_new (is_up called) is client q seat =
@@ -793,12 +795,12 @@ module _ {W : Type 0} (is_after : W → List Call → Type 0) (pieces : PiecesCo
         abbrev ends_count : AreEnds own.view.ends own.view.routes
         ends_count = views.alike.ends_count
 
-        comes_none : (t : Tidings) (q : ℕ)
+        comes_none : (t : LinkTidings) (q : ℕ)
             → client_comes q (occurrence_of (event_of t conn)) ≡ false
         comes_none (is_up called) q = refl
         comes_none is_lost q = refl
 
-        left_none : (t : Tidings) (q : ℕ) → is_left q (event_of t conn) ≡ false
+        left_none : (t : LinkTidings) (q : ℕ) → is_left q (event_of t conn) ≡ false
         left_none (is_up called) q = refl
         left_none is_lost q = refl
 
@@ -841,7 +843,7 @@ module _ {W : Type 0} (is_after : W → List Call → Type 0) (pieces : PiecesCo
 
         -- ---- ends of links
 
-        fresh_begun : (t : Tidings) (q : ℕ) → tidings ≡ t → end_by t conn ≡ Some q → IsBegun q
+        fresh_begun : (t : LinkTidings) (q : ℕ) → tidings ≡ t → end_by t conn ≡ Some q → IsBegun q
         fresh_begun is_lost q is end = cc end
         fresh_begun (is_up called) q is end =
             let it = fresh called is in
@@ -865,7 +867,8 @@ module _ {W : Type 0} (is_after : W → List Call → Type 0) (pieces : PiecesCo
             by (is_told one there end) = fresh_begun tidings q refl end
             by (is_old apart was) = old_begun q (old_link y q was)
 
-        unread : (t : Tidings) → tidings ≡ t → (y q : ℕ) → base.ends place y ≡ Some q → came q ≡ []
+        unread : (t : LinkTidings) → tidings ≡ t → (y q : ℕ) → base.ends place y ≡ Some q
+            → came q ≡ []
         unread (is_up called) is y q link = (fresh called is).unread q
         unread is_lost is y q link =
             sym (taken_is is_after pieces names place base new telling.step not_itself
@@ -883,9 +886,9 @@ module _ {W : Type 0} (is_after : W → List Call → Type 0) (pieces : PiecesCo
 
         same_received : (client : ℕ)
             → bytes_received mid_net.network client ≡ bytes_received old_net.network client
-        same_received client = bytes_of_sites old_net.network mid_net.network received_same client
+        same_received client = bytes_of_nodes old_net.network mid_net.network received_same client
 
-        not_made : (t : Tidings) → tidings ≡ t → (client q : ℕ)
+        not_made : (t : LinkTidings) → tidings ≡ t → (client q : ℕ)
             → new.seats place client ≡ Some q → is_some (begun_now.connections q) ≡ true
             → begun_now.connections q ≡ started.connections q
         not_made is_lost is client q seat there =
@@ -925,7 +928,7 @@ module _ {W : Type 0} (is_after : W → List Call → Type 0) (pieces : PiecesCo
             nobody_at_all : comes ≡ None
             nobody_at_all = by tidings refl
               where
-                by : (t : Tidings) → tidings ≡ t → comes ≡ None
+                by : (t : LinkTidings) → tidings ≡ t → comes ≡ None
                 by (is_up called) is = (fresh called is).nobody
                 by is_lost is = (nobody_new is).nobody
 
@@ -951,16 +954,16 @@ module _ {W : Type 0} (is_after : W → List Call → Type 0) (pieces : PiecesCo
             λ i. record { link = links i; client = clients i }
 
         servers_mid : (x : ℕ) → nat_eq x place ≡ false
-            → IsServerIf (numbers_at base x) (slice_get base.engines x) (site_at mid_net.network x)
+            → IsServerIf (numbers_at base x) (slice_get base.engines x) (node_at mid_net.network x)
         servers_mid x apart =
-            subst (λ n. IsServerIf n (slice_get old.engines x) (site_at mid_net.network x))
+            subst (λ n. IsServerIf n (slice_get old.engines x) (node_at mid_net.network x))
             (numbers_there x apart)
-            (server_of (numbers_at old x) (slice_get old.engines x) (site_at old_net.network x)
-            (site_at mid_net.network x) (servers_same x)
+            (server_of (numbers_at old x) (slice_get old.engines x) (node_at old_net.network x)
+            (node_at mid_net.network x) (servers_same x)
             (same.as_bytes.servers x))
 
         pub told_followed : IsAsNetwork names new
-            (queues_written (item_kept item (site_asked place (occurrence_by tidings other)
+            (queues_written (item_kept item (node_asked place (occurrence_by tidings other)
             (begun mid_net.network))).net mid_net.wires)
         told_followed =
             assembled is_after pieces names place base new telling.step not_itself same.clients_open

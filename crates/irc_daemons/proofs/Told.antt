@@ -7,8 +7,8 @@ use Rattle.irc_line.specs.Laws.{PiecesCompleteTheSame}
 use Rattle.irc_line.specs.Lines.{Begun, HasTaken, begun_behind, completed, nothing_begun}
 use Rattle.irc_line.specs.Lines.{stream_for}
 use Rattle.irc_server.specs.declared.event.Event.{Event}
-use Rattle.irc_engine.specs.declared.kind.Kind.{Kind}
-use Rattle.irc_engine.specs.declared.kind.Kind.TheVariants.{Client, Link}
+use Rattle.irc_engine.specs.declared.kind.ConnectionKind.{ConnectionKind}
+use Rattle.irc_engine.specs.declared.kind.ConnectionKind.TheVariants.{Client, Link}
 use Rattle.irc_engine.specs.Hearing.{line_by, line_event_of, lines_by, Hears}
 use Rattle.irc_daemons.proofs.Lists.{front_none, inside}
 
@@ -60,12 +60,12 @@ module _ (pieces : PiecesCompleteTheSame) where
 
 -- ---- events
 
-line_there : (kind : Kind) (conn : ℕ) (line : ArrayVec ℕ)
+line_there : (kind : ConnectionKind) (conn : ℕ) (line : ArrayVec ℕ)
     → line_by conn (line_event_of kind conn line) ≡ line.items ∷ []
 line_there Client conn line = ap (λ b. if b then line.items ∷ [] else []) (eq-eqb conn conn refl)
 line_there Link conn line = ap (λ b. if b then line.items ∷ [] else []) (eq-eqb conn conn refl)
 
-pub heard_first : (kind : Kind) (conn : ℕ) (line : ArrayVec ℕ) (event : Event)
+pub heard_first : (kind : ConnectionKind) (conn : ℕ) (line : ArrayVec ℕ) (event : Event)
     (events : List Event) → event ≡ line_event_of kind conn line
     → lines_by conn (event ∷ events) ≡ line.items ∷ lines_by conn events
 heard_first kind conn line event events is = ap (λ e. line_by conn e ++ lines_by conn events) is

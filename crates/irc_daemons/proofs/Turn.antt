@@ -9,9 +9,9 @@ use Rattle.irc_outbox.specs.declared.wire.Ready.TheVariants.{Writable}
 use Rattle.irc_outbox.specs.Calls.{Call, reads, taken}
 use Rattle.irc_server.specs.declared.event.Event.{Event}
 use Rattle.irc_server.specs.declared.event.Event.TheVariants.{Connect, LinkUp}
-use Rattle.irc_engine.specs.declared.engine.Rooms.{Rooms}
-use Rattle.irc_engine.specs.declared.kind.Kind.{Kind}
-use Rattle.irc_engine.specs.declared.kind.Kind.TheVariants as kinds
+use Rattle.irc_engine.specs.declared.engine.OutboxSizes.{OutboxSizes}
+use Rattle.irc_engine.specs.declared.kind.ConnectionKind.{ConnectionKind}
+use Rattle.irc_engine.specs.declared.kind.ConnectionKind.TheVariants as kinds
 use Rattle.irc_engine.specs.Carrying.{fresh_connection}
 use Rattle.irc_engine.specs.Hearing.{nothing_of, only_of}
 use Rattle.irc_engine.specs.Running.{Answers, Moment, Ran, Reads, Starts, in_use, makes_connection}
@@ -21,7 +21,8 @@ use Rattle.irc_daemons.specs.Doings.{starts_did}
 use Rattle.irc_daemons.specs.Items.{AnswersSpaced, RanSpaced, ReadsSpaced, StartsSpaced}
 
 -- a connection is there from now on
-pub record IsMade {W : Type 0} (kind : Kind) (room conn : ℕ) (old new : Moment W) : Type 0 where
+pub record IsMade {W : Type 0} (kind : ConnectionKind) (room conn : ℕ)
+    (old new : Moment W) : Type 0 where
   pub free : old.connections conn ≡ None
   pub server : new.server ≡ old.server
   pub lost : new.lost ≡ old.lost
@@ -124,35 +125,35 @@ module _ {W : Type 0} (is_after : W → List Call → Type 0) where
     takes = λ q. append-nil (only_of conn bytes q);
   }
 
-  abbrev pub first_part : (rooms : Rooms) (report : Ready)
-      (old mid : Moment W) (answers : Answers is_after rooms report old mid)
-      → FirstPart old mid (answers_did is_after rooms report old mid answers)
-      (newcomer_in is_after rooms report old mid answers)
-      (λ later. AnswersSpaced is_after later rooms report old mid answers)
-  first_part rooms Idle old mid ran = run_on old mid ran
-  first_part rooms (Client conn host) old mid starts =
-      client_starts rooms.client conn host old mid starts
-  first_part rooms (Linked conn called) old mid starts =
-      link_starts rooms.link conn called old mid starts
-  first_part rooms (Readable conn) old mid done = reads_part conn old mid done
-  first_part rooms (Writable conn) old mid ran = run_on old mid ran
+  abbrev pub first_part : (sizes : OutboxSizes) (report : Ready)
+      (old mid : Moment W) (answers : Answers is_after sizes report old mid)
+      → FirstPart old mid (answers_did is_after sizes report old mid answers)
+      (newcomer_in is_after sizes report old mid answers)
+      (λ later. AnswersSpaced is_after later sizes report old mid answers)
+  first_part sizes Idle old mid ran = run_on old mid ran
+  first_part sizes (Client conn host) old mid starts =
+      client_starts sizes.client conn host old mid starts
+  first_part sizes (Linked conn called) old mid starts =
+      link_starts sizes.link conn called old mid starts
+  first_part sizes (Readable conn) old mid done = reads_part conn old mid done
+  first_part sizes (Writable conn) old mid ran = run_on old mid ran
 
   -- of a connection that is not what was reported nothing is read
-  pub came_of : (rooms : Rooms) (report : Ready) (old mid : Moment W)
-      (answers : Answers is_after rooms report old mid) (q : ℕ) → (report ≡ Readable q → ⊥)
-      → (first_part rooms report old mid answers).came q ≡ []
-  came_of rooms Idle old mid ran q other = refl
-  came_of rooms (Client conn host) old mid (in_use used ran) q other = refl
-  came_of rooms (Client conn host) old mid
+  pub came_of : (sizes : OutboxSizes) (report : Ready) (old mid : Moment W)
+      (answers : Answers is_after sizes report old mid) (q : ℕ) → (report ≡ Readable q → ⊥)
+      → (first_part sizes report old mid answers).came q ≡ []
+  came_of sizes Idle old mid ran q other = refl
+  came_of sizes (Client conn host) old mid (in_use used ran) q other = refl
+  came_of sizes (Client conn host) old mid
       (makes_connection between free server journal wire lost waiting size set ran) q other = refl
-  came_of rooms (Linked conn called) old mid (in_use used ran) q other = refl
-  came_of rooms (Linked conn called) old mid
+  came_of sizes (Linked conn called) old mid (in_use used ran) q other = refl
+  came_of sizes (Linked conn called) old mid
       (makes_connection between free server journal wire lost waiting size set ran) q other = refl
-  came_of rooms (Readable conn) old mid (not_open closed ran) q other = refl
-  came_of rooms (Readable conn) old mid (read_once room answer bytes is_open as_large ran) q other =
+  came_of sizes (Readable conn) old mid (not_open closed ran) q other = refl
+  came_of sizes (Readable conn) old mid (read_once room answer bytes is_open as_large ran) q other =
       by (nat_eq conn q) refl
     where
       by : (b : Bool) → nat_eq conn q ≡ b → (if b then bytes else []) ≡ []
       by true same = absurd (other (ap Readable (eqb-true conn q same)))
       by false two = refl
-  came_of rooms (Writable conn) old mid ran q other = refl
+  came_of sizes (Writable conn) old mid ran q other = refl

@@ -4,10 +4,10 @@ use Rattle.std.proofs.Common.{sym, ◌∙◌}
 use Rattle.std.proofs.lemmas.Bool.{and_parts, or_parts}
 use Rattle.std.specs.FinMap.{get}
 use Rattle.irc_server.specs.Served.{Occurrence, link_down, link_says, link_up, of_client, served}
-use Rattle.irc_server_laws.specs.Connected.{WhoIsConnected, client_comes, client_goes, has_client}
-use Rattle.irc_server_laws.specs.Connected.{is_client_ended}
-use Rattle.irc_server_laws.specs.Own.{IsNewLink}
-use Rattle.irc_network.specs.Site.{serves_occurrence}
+use Rattle.irc_server.specs.Connected.{WhoIsConnected, client_comes, client_goes, has_client}
+use Rattle.irc_server.specs.Connected.{is_client_ended}
+use Rattle.irc_server.specs.Own.{IsNewLink}
+use Rattle.irc_network.specs.Node.{serves_occurrence}
 use Rattle.irc_stage.specs.View.{End, View}
 use Rattle.irc_daemons.specs.Clients.{ClientsStay}
 

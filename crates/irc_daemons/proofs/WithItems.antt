@@ -4,11 +4,11 @@ use Rattle.irc_line.specs.Laws.{PiecesCompleteTheSame}
 use Rattle.irc_outbox.specs.Calls.{Call}
 use Rattle.irc_relay.specs.Links.{Name}
 use Rattle.irc_world.specs.Stepping.{Item}
-use Rattle.irc_server_laws.specs.LineEnds.{ServedLinesEnd}
-use Rattle.irc_server_laws.specs.Own.{ServedGoesToItsOwn}
-use Rattle.irc_network.specs.Network.{site_at}
+use Rattle.irc_server.specs.LineEnds.{ServedLinesEnd}
+use Rattle.irc_server.specs.Own.{ServedGoesToItsOwn}
+use Rattle.irc_network.specs.Network.{node_at}
 use Rattle.irc_wires.specs.Lemmas.StillWires.{still_is_new}
-use Rattle.irc_wires.specs.Wires.{Wire, new_wire}
+use Rattle.irc_wires.specs.Wires.{LinkWire, new_wire}
 use Rattle.irc_network.specs.ByteNetwork.{ByteNetwork}
 use Rattle.irc_daemons.specs.Alike.{ServedAlike}
 use Rattle.irc_daemons.specs.AsBytes.{IsServerIf, numbers_at}
@@ -37,10 +37,10 @@ module _ {W : Type 0} (is_after : W → List Call → Type 0) (pieces : PiecesCo
     (told_of_links : IsToldOfLinks old place)
     (placed : ArePlaced names net) (same : IsAsNetwork names old net)
   where
-    here : HasServer (numbers_at old place) step.engine (site_at net.network place)
+    here : HasServer (numbers_at old place) step.engine (node_at net.network place)
     here =
-        has_server (numbers_at old place) step.engine (site_at net.network place)
-        (subst (λ o. IsServerIf (numbers_at old place) o (site_at net.network place)) step.at
+        has_server (numbers_at old place) step.engine (node_at net.network place)
+        (subst (λ o. IsServerIf (numbers_at old place) o (node_at net.network place)) step.at
         (same.as_bytes.servers place))
 
     abbrev came : ℕ → List ℕ
@@ -65,7 +65,7 @@ module _ {W : Type 0} (is_after : W → List Call → Type 0) (pieces : PiecesCo
         ∙ front_none (taken_at (Some q) step.did.calls) (new.transit y place)
         (ap (λ o. taken_at o step.did.calls ++ new.transit y place) (sym is) ∙ sym (step.reads y)
         ∙ front_none (old.transit y place) (unsent (end_at old y place))
-        (ap (λ (w : Wire). w.bytes) (still_between quiet y place)))
+        (ap (λ (w : LinkWire). w.bytes) (still_between quiet y place)))
 
     pub items_followed : has_item step.did.events ≡ true → HasFollowed names items net new
     items_followed some =
@@ -77,7 +77,7 @@ module _ {W : Type 0} (is_after : W → List Call → Type 0) (pieces : PiecesCo
     nothing_followed no_link none =
         unread_followed
         (λ y q is.
-        came_of is_after step.engine.rooms step.turn.report
+        came_of is_after step.engine.sizes step.turn.report
         (start is_after pieces names place old new step same.are_joined.not_itself same.clients_open
         here.of.in_order here.of.framers)
         (mid_moment is_after pieces names place old new step same.are_joined.not_itself

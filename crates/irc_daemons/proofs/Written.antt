@@ -4,9 +4,9 @@ use Rattle.std.proofs.Common.{append-nil, nat_eq, refl, sym, ◌∙◌, ap, if�
 use Rattle.std.specs.List.{AllByRecursion, flat_map}
 use Rattle.irc_line.specs.Bytes.{crlf}
 use Rattle.irc_batch.specs.Batches.{Sent, end_of, end_of_link, line_on, line_to}
-use Rattle.irc_network.specs.Site.{line_body}
-use Rattle.irc_server_laws.specs.LineEnds.{EndsInLineEnd}
-use Rattle.irc_wires.specs.Wires.{Wire, written}
+use Rattle.irc_network.specs.Node.{line_body}
+use Rattle.irc_server.specs.LineEnds.{EndsInLineEnd}
+use Rattle.irc_wires.specs.Wires.{LinkWire, written}
 use Rattle.irc_network.specs.ByteNetwork.{all_written}
 use Rattle.irc_daemons.specs.Alike.{link_bytes}
 
@@ -23,7 +23,7 @@ ends_both [] other = refl
 ends_both (line ∷ one) other = ap (λ bytes. with_end line ++ bytes) (ends_both one other)
     ∙ sym (append_assoc (with_end line) (with_ends one) (with_ends other))
 
-pub written_all : (lines : List (List ℕ)) (wire : Wire)
+pub written_all : (lines : List (List ℕ)) (wire : LinkWire)
     → all_written lines wire ≡ record { begun = wire.begun; bytes = wire.bytes ++ with_ends lines }
 written_all [] wire = λ i. record { begun = wire.begun; bytes = sym (append-nil wire.bytes) i }
 written_all (line ∷ lines) wire =

@@ -3,16 +3,16 @@
 --
 -- a.net (place 0) has the link 7 to b.net (place 1) and the link 5 to c.net (place 2), and al as
 -- connection 9, client 1 of the network:
--- al says hi the engine's server puts the line out on 5 and then on 7, the network's on 1 and then
--- on 2: the same on each link, in another order
+--   al says hi  the engine's server puts the line out on 5 and then on 7, the network's on 1 and
+--               then on 2: the same on each link, in another order
 use Rattle.std.specs.Prelude.{◌≡◌, ℕ, ⊤, false, nat_eq, Option, Some, None, List, [], if◌then◌else◌}
 use Rattle.std.specs.List.{flat_map}
 use Rattle.irc_line.specs.Reading.{read_of}
 use Rattle.irc_batch.specs.Batches.{Sent, line_on, line_to}
-use Rattle.irc_links.specs.Ways.{AreEnds}
+use Rattle.irc_stage.specs.Ways.{AreEnds}
 use Rattle.irc_stage.specs.View.{View}
 use Rattle.irc_server.specs.Served.{Occurrence, link_says}
-use Rattle.irc_network.specs.Site.{reply}
+use Rattle.irc_network.specs.Node.{reply}
 use Rattle.irc_engine.specs.Carrying.{answers, is_closed_by}
 pub use Rattle.irc_numbers.specs.Alike.{AreAlike, AreApart, AreRowsAlike, IsAmong, Numbers}
 pub use Rattle.irc_numbers.specs.ServedAlike.{happens_at, renumbered}

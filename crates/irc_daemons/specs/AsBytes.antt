@@ -2,7 +2,7 @@
 use Rattle.std.specs.Prelude.{◌≡◌, ℕ, ⊤, Option, Some, None}
 use Rattle.std.specs.List.{slice_get}
 use Rattle.irc_line.specs.Lines.{Begun, HasTaken, stream_for}
-use Rattle.irc_network.specs.Network.{Site, site_at}
+use Rattle.irc_network.specs.Network.{Node, node_at}
 use Rattle.irc_wires.specs.Wires.{wire_at}
 use Rattle.irc_network.specs.ByteNetwork.{ByteNetwork}
 use Rattle.irc_network.specs.Whole.{IsTidy, has_way}
@@ -23,23 +23,23 @@ AreFramersReal now = (conn : ℕ) (begun : Begun) → begun_at (now.connections 
 
 -- an engine between two turns, and a server of a network
 pub record IsServerOf {W : Type 0} (numbers : Numbers) (engine : EngineView W)
-    (site : Site) : Type 0 where
+    (node : Node) : Type 0 where
   pub in_order : IsInOrder engine.now
   pub framers : AreFramersReal engine.now
-  pub servers : AreServersAlikeIf numbers engine.now.server site.server
+  pub servers : AreServersAlikeIf numbers engine.now.server node.server
 
 -- at one place
-abbrev pub IsServerIf : {W : Type 0} → Numbers → Option (EngineView W) → Option Site → Type 0
+abbrev pub IsServerIf : {W : Type 0} → Numbers → Option (EngineView W) → Option Node → Type 0
 IsServerIf numbers None None = ⊤
-IsServerIf numbers (Some engine) (Some site) = IsServerOf numbers engine site
-IsServerIf numbers None (Some site) = ⊥
+IsServerIf numbers (Some engine) (Some node) = IsServerOf numbers engine node
+IsServerIf numbers None (Some node) = ⊥
 IsServerIf numbers (Some engine) None = ⊥
 
 -- Servers are the same but for numbers; and on each way is what the near engine has put out by that
 -- link and the far one has not read.
 pub record IsAsBytes {W : Type 0} (daemons : Daemons W) (net : ByteNetwork) : Type 0 where
   pub servers : (place : ℕ) → IsServerIf (numbers_at daemons place)
-      (slice_get daemons.engines place) (site_at net.network place)
+      (slice_get daemons.engines place) (node_at net.network place)
   pub ways : (from to : ℕ) → has_way net.network from to ≡ daemons.ways from to
   pub wires : (from to : ℕ) → wire_at net.wires from to ≡ wire_between daemons from to
   pub tidy : IsTidy net

@@ -12,7 +12,7 @@ use Rattle.irc_world.specs.World.{home_in}
 use Rattle.irc_network.specs.ByteNetwork.{ByteNetwork, byte_begun, bytes_come, item_given}
 use Rattle.irc_network.specs.Whole.{has_way}
 use Rattle.irc_net.specs.Faults.{item_fault}
-use Rattle.irc_engine.specs.declared.kind.Kind.TheVariants as kinds
+use Rattle.irc_engine.specs.declared.kind.ConnectionKind.TheVariants as kinds
 use Rattle.irc_engine.specs.Carrying.{open_kind_at}
 use Rattle.irc_engine.specs.Running.{Moment}
 use Rattle.irc_engine.specs.Turning.{EngineView}

@@ -3,8 +3,8 @@
 use Rattle.std.specs.Prelude.{◌≡◌, ℕ, true, false, ◌||◌}
 use Rattle.irc_stage.specs.View.{View}
 use Rattle.irc_server.specs.Served.{Occurrence, served}
-use Rattle.irc_server_laws.specs.Connected.{client_comes, client_goes, has_client, is_client_ended}
-use Rattle.irc_network.specs.Site.{serves_occurrence}
+use Rattle.irc_server.specs.Connected.{client_comes, client_goes, has_client, is_client_ended}
+use Rattle.irc_network.specs.Node.{serves_occurrence}
 
 -- A client was one before, or connects by it; its end was not put out, and it is not gone.
 pub record IsStillClient (view : View) (occurrence : Occurrence) (conn : ℕ) : Type 0 where

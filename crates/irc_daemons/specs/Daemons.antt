@@ -1,21 +1,21 @@
--- Engines whose wires are joined by links: what one has written by a link's end is in transit
--- until the engine at the other end has read it, in order.
+-- Engines whose wires are joined by links: what one has written by a link's end is in transit until
+-- the engine at the other end has read it, in order.
 --
 -- a.net (place 0) and b.net (place 1) are linked: at a.net the link is connection 7, at b.net
 -- connection 4; al is client 1, connection 9 at a.net.
---   ends 0 1       7, and ends 1 0 is 4
--- ways 0 1 true, from when the first of the two is told of the link until the first of them is told
--- that it is lost
---   seats 0 1      9
--- transit 0 1 what the wire took of a.net by its connection 7, and b.net has not read by its
--- connection 4
+--   ends 0 1     7, and ends 1 0 is 4
+--   ways 0 1     true, from when the first of the two is told of the link until the first of them
+--                is told that it is lost
+--   seats 0 1    9
+--   transit 0 1  what the wire took of a.net by its connection 7, and b.net has not read by its
+--                connection 4
 use Rattle.std.specs.Prelude.{◌≡◌, ℕ, ◌++◌, Bool, Option, Some, None, is_some, List, [], unwrap_or}
 use Rattle.std.specs.List.{slice_get}
 use Rattle.std.specs.Option.{option_and_then}
 use Rattle.irc_line.specs.Lines.{nothing_begun}
-use Rattle.irc_wires.specs.Wires.{Wire}
+use Rattle.irc_wires.specs.Wires.{LinkWire}
 use Rattle.irc_engine.specs.declared.connection_table.Connection.{Connection}
-use Rattle.irc_engine.specs.declared.kind.Kind.TheVariants as kinds
+use Rattle.irc_engine.specs.declared.kind.ConnectionKind.TheVariants as kinds
 use Rattle.irc_engine.specs.Carrying.{open_kind_at}
 use Rattle.irc_engine.specs.Hearing.{begun_at}
 use Rattle.irc_engine.specs.Turning.{EngineView}
@@ -58,7 +58,7 @@ unsent (Some connection) = connection.outbox.bytes
 
 -- What the near engine has put out by a link and the far one has not read: first what is in
 -- transit, and behind it the outbox. What has come of a line is in the framer of the far end.
-abbrev pub wire_between : {W : Type 0} → Daemons W → ℕ → ℕ → Wire
+abbrev pub wire_between : {W : Type 0} → Daemons W → ℕ → ℕ → LinkWire
 wire_between daemons from to = record {
   begun = unwrap_or (begun_at (end_at daemons to from)) nothing_begun;
   bytes = daemons.transit from to ++ unsent (end_at daemons from to);

@@ -2,12 +2,12 @@
 -- overlap.
 --
 -- a.net and b.net are linked; al is client 1 at a.net, connection 9, and bo client 2 at b.net.
--- a.net reads `PRIVMSG bo :hi` of 9 an item, `line 1`; its line for b.net is in an outbox, and then
--- in transit
---   bo's line is read meanwhile           it overlaps with that
---   b.net reads the line of a.net         no item: what one server tells another is none
---   a.net loses 9 by a failed write       an item, `gone 1`
---   a.net loses 9, whose outbox is full   so is this
+--   a.net reads `PRIVMSG bo :hi` of 9    an item, `line 1`; its line for b.net is in an outbox, and
+--                                        then in transit
+--   bo's line is read meanwhile          it overlaps with that
+--   b.net reads the line of a.net        no item: what one server tells another is none
+--   a.net loses 9 by a failed write      an item, `gone 1`
+--   a.net loses 9, whose outbox is full  so is this
 use Rattle.std.specs.Prelude.{◌≡◌, ℕ, ⊤, ◌++◌, Bool, true, false, not, ◌||◌, Some, List, [], ◌∷◌}
 use Rattle.std.specs.List.{list_any, slice_get}
 use Rattle.irc_outbox.specs.declared.wire.Ready.{Ready}
@@ -21,11 +21,12 @@ use Rattle.irc_server.specs.declared.event.Event.{Event}
 use Rattle.irc_server.specs.declared.event.Event.TheVariants.{Connect, Line, Gone, LinkLine, LinkUp}
 use Rattle.irc_world.specs.Stepping.{Item, connect, line, gone}
 use Rattle.irc_wires.specs.Wires.{is_still}
-use Rattle.irc_engine.specs.declared.engine.Rooms.{Rooms}
-use Rattle.irc_engine.specs.declared.kind.Kind.{Kind}
-use Rattle.irc_engine.specs.declared.kind.Kind.TheVariants as kinds
+use Rattle.irc_engine.specs.declared.engine.OutboxSizes.{OutboxSizes}
+use Rattle.irc_engine.specs.declared.kind.ConnectionKind.{ConnectionKind}
+use Rattle.irc_engine.specs.declared.kind.ConnectionKind.TheVariants as kinds
 use Rattle.irc_engine.specs.Hearing.{nothing_of, only_of}
-use Rattle.irc_engine.specs.Running.{Answers, AreAsked, Asked, Moment, Ran, Reads, Starts, Turn}
+use Rattle.irc_engine.specs.Running.{Answers, AreAsked, ServerAsked, Moment, Ran, Reads, Starts}
+use Rattle.irc_engine.specs.Running.{Turn}
 use Rattle.irc_engine.specs.Running.{asked_at, in_use, makes_connection, not_open, read_once}
 use Rattle.irc_names.specs.Names.{IsHost}
 use Rattle.irc_daemons.specs.Daemons.{Daemons, wire_between}
@@ -78,7 +79,7 @@ is_on_link other = false
 
 -- What the server puts out by each of these events goes on no link where an item comes behind,
 -- among them or later.
-abbrev pub AreSpaced : Bool → (events : List Event) (old new : Asked) (outs : List Sent)
+abbrev pub AreSpaced : Bool → (events : List Event) (old new : ServerAsked) (outs : List Sent)
     → AreAsked old events outs new → Type 0
 AreSpaced later [] old new outs asked = ⊤
 AreSpaced later (event ∷ events) old new outs asked =
@@ -91,7 +92,7 @@ module _ {W : Type 0} (is_after : W → List Call → Type 0) where
   RanSpaced later exchanges first came old new ran =
       AreSpaced later (first ++ ran.events) (asked_at old) (asked_at new) ran.outs ran.are_asked
 
-  abbrev pub StartsSpaced : (later : Bool) (kind : Kind) (room conn : ℕ) (event : Event)
+  abbrev pub StartsSpaced : (later : Bool) (kind : ConnectionKind) (room conn : ℕ) (event : Event)
       (old new : Moment W) → Starts is_after kind room conn event old new → Type 0
   StartsSpaced later kind room conn event old new (in_use used ran) =
       RanSpaced later [] [] nothing_of old new ran
@@ -106,24 +107,24 @@ module _ {W : Type 0} (is_after : W → List Call → Type 0) where
   ReadsSpaced later conn old new (read_once room answer bytes is_open as_large ran) =
       RanSpaced later (reads conn room answer bytes ∷ []) [] (only_of conn bytes) old new ran
 
-  abbrev pub AnswersSpaced : (later : Bool) (rooms : Rooms) (report : Ready) (old new : Moment W)
-      → Answers is_after rooms report old new → Type 0
-  AnswersSpaced later rooms Idle old new ran = RanSpaced later [] [] nothing_of old new ran
-  AnswersSpaced later rooms (Client conn host) old new starts =
-      StartsSpaced later kinds.Client rooms.client conn (Connect conn host) old new starts
-  AnswersSpaced later rooms (Linked conn called) old new starts =
-      StartsSpaced later kinds.Link rooms.link conn (LinkUp conn called) old new starts
-  AnswersSpaced later rooms (Readable conn) old new done = ReadsSpaced later conn old new done
-  AnswersSpaced later rooms (Writable conn) old new ran =
+  abbrev pub AnswersSpaced : (later : Bool) (sizes : OutboxSizes) (report : Ready)
+      (old new : Moment W) → Answers is_after sizes report old new → Type 0
+  AnswersSpaced later sizes Idle old new ran = RanSpaced later [] [] nothing_of old new ran
+  AnswersSpaced later sizes (Client conn host) old new starts =
+      StartsSpaced later kinds.Client sizes.client conn (Connect conn host) old new starts
+  AnswersSpaced later sizes (Linked conn called) old new starts =
+      StartsSpaced later kinds.Link sizes.link conn (LinkUp conn called) old new starts
+  AnswersSpaced later sizes (Readable conn) old new done = ReadsSpaced later conn old new done
+  AnswersSpaced later sizes (Writable conn) old new ran =
       RanSpaced later [] [] nothing_of old new ran
 
   -- the losses that are told as outboxes are written come last
-  abbrev pub TurnSpaced : (rooms : Rooms) (old new : Moment W) → Turn is_after rooms old new
+  abbrev pub TurnSpaced : (sizes : OutboxSizes) (old new : Moment W) → Turn is_after sizes old new
       → Type 0
-  TurnSpaced rooms old new turn =
+  TurnSpaced sizes old new turn =
       AnswersSpaced
       (has_item (ran_did is_after turn.does.writes.exchanges [] nothing_of turn.does.between new
-      turn.does.writes.ran).events) rooms turn.report
+      turn.does.writes.ran).events) sizes turn.report
       (record old { wire = turn.wire }) turn.does.between turn.does.answers
       × RanSpaced false turn.does.writes.exchanges [] nothing_of turn.does.between new
       turn.does.writes.ran
@@ -133,4 +134,4 @@ module _ {W : Type 0} (is_after : W → List Call → Type 0) where
 pub record IsApartStep {W : Type 0} {is_after : W → List Call → Type 0} {place : ℕ}
     {old new : Daemons W} (step : Steps is_after place old new) : Type 0 where
   pub quiet : has_item step.did.events ≡ true → IsQuiet old
-  pub spaced : TurnSpaced is_after step.engine.rooms step.engine.now step.after.now step.turn
+  pub spaced : TurnSpaced is_after step.engine.sizes step.engine.now step.after.now step.turn

@@ -3,12 +3,12 @@
 -- items. A client whose outbox overflows is gone, which is an item too.
 --
 -- a.net, b.net and c.net stand in a line; al is at a.net, cy at c.net, both in #c. al says hi:
--- a.net has read the line what cy is owed ends in `:al!u@h PRIVMSG #c :hi` and CR LF, and what was
--- written to cy is a front of that
---   b.net has passed it on        so it is still
--- c.net has read it it is in the outbox of cy's connection, and some bytes of it may be written;
--- nothing is in transit, and with the outbox it is all
---   cy's connection takes it      all that cy is owed was written
+--   a.net has read the line   what cy is owed ends in `:al!u@h PRIVMSG #c :hi` and CR LF, and what
+--                             was written to cy is a front of that
+--   b.net has passed it on    so it is still
+--   c.net has read it         it is in the outbox of cy's connection, and some bytes of it may be
+--                             written; nothing is in transit, and with the outbox it is all
+--   cy's connection takes it  all that cy is owed was written
 use Rattle.std.specs.Prelude.{◌≡◌, ℕ, ◌++◌, true, is_some, Option, Some, None, List}
 use Rattle.std.specs.List.{flat_map}
 use Rattle.irc_relay.specs.Relay.{IsFront}

@@ -18,7 +18,7 @@ use Rattle.irc_world.specs.World.{Setting}
 use Rattle.irc_daemons.specs.Daemons.{AreLinksOpen, Daemons}
 use Rattle.irc_daemons.specs.Items.{AreItems, IsApartStep, IsQuiet}
 use Rattle.irc_daemons.specs.Steps.{Steps}
-use Rattle.irc_daemons.specs.Tellings.{IsOfItem, Owing, TellsEnd, Tidings}
+use Rattle.irc_daemons.specs.Tellings.{IsOfItem, Owing, TellsEnd, LinkTidings}
 
 -- Two servers that are linked are peers of each other with one password, and not joined yet,
 -- directly or by others.
@@ -45,7 +45,7 @@ pub data Runs {W : Type 0} (is_after : W → List Call → Type 0) (names : List
       → (step : Steps is_after place between new) → AreLinksOpen new
       → AreItems names new place step.did.events more → IsApartStep step → NoneMeanwhile owing more
       → Runs is_after names settings begin (items ++ more) owing new
-  first_told : (place other : ℕ) (mine theirs : Tidings) (items : List Item) (item : Item)
+  first_told : (place other : ℕ) (mine theirs : LinkTidings) (items : List Item) (item : Item)
       (between new : Daemons W) → Runs is_after names settings begin items None between
       → IsQuiet between → IsOfItem names place other item mine theirs → MayBe settings items item
       → TellsEnd is_after mine place other between new → Runs is_after names settings begin

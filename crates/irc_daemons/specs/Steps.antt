@@ -47,17 +47,17 @@ pub record Steps {W : Type 0} (is_after : W → List Call → Type 0) (place : �
   pub serves : engine.failed ≡ false
   pub still_serves : after.failed ≡ false
   pub has_server : is_some after.now.server ≡ true
-  pub same_rooms : after.rooms ≡ engine.rooms
-  pub turn : Turn is_after engine.rooms engine.now after.now
+  pub same_rooms : after.sizes ≡ engine.sizes
+  pub turn : Turn is_after engine.sizes engine.now after.now
   pub engines_are : new.engines ≡ slice_set old.engines place after
   pub same_ends : new.ends ≡ old.ends
   pub same_ways : new.ways ≡ old.ways
   pub seats_are : new.seats ≡ seats_after old place
-      (newcomer is_after engine.rooms engine.now after.now turn)
+      (newcomer is_after engine.sizes engine.now after.now turn)
   pub came_is : new.came ≡ came_after old.came
-      (newcomer is_after engine.rooms engine.now after.now turn)
+      (newcomer is_after engine.sizes engine.now after.now turn)
   pub did : Doings
-  pub did_is : did ≡ turn_did is_after engine.rooms engine.now after.now turn
+  pub did_is : did ≡ turn_did is_after engine.sizes engine.now after.now turn
   pub reads : (from : ℕ)
       → old.transit from place ≡ taken_at (old.ends place from) did.calls ++ new.transit from place
   pub writes : (to : ℕ)

@@ -22,27 +22,27 @@ use Rattle.irc_daemons.specs.Steps.{Steps, unless_taken}
 
 -- what a server is told of a link: that it is up, with the name that was called at this end, if
 -- one was; or that it is lost
-pub data Tidings : Type 0 where
-  is_up : Option Name → Tidings
-  is_lost : Tidings
+pub data LinkTidings : Type 0 where
+  is_up : Option Name → LinkTidings
+  is_lost : LinkTidings
 
 -- the event by which a server of an engine is told, and what happens then in a network
-abbrev pub event_of : Tidings → ℕ → Event
+abbrev pub event_of : LinkTidings → ℕ → Event
 event_of (is_up called) conn = LinkUp conn called
 event_of is_lost conn = LinkDown conn
 
-abbrev pub occurrence_by : Tidings → ℕ → Occurrence
+abbrev pub occurrence_by : LinkTidings → ℕ → Occurrence
 occurrence_by (is_up called) other = link_up other called
 occurrence_by is_lost other = link_down other
 
 -- ---- who is linked then
 
 -- the connection that is the link's end from then on
-abbrev pub end_by : Tidings → ℕ → Option ℕ
+abbrev pub end_by : LinkTidings → ℕ → Option ℕ
 end_by (is_up called) conn = Some conn
 end_by is_lost conn = None
 
-abbrev pub is_way_by : Tidings → Bool
+abbrev pub is_way_by : LinkTidings → Bool
 is_way_by (is_up called) = true
 is_way_by is_lost = false
 
@@ -56,12 +56,12 @@ way_set old place other is x y =
     then is else old.ways x y
 
 -- a seat is nobody's any more whose number a link has taken
-abbrev pub seats_by : {W : Type 0} → Tidings → ℕ → ℕ → Daemons W → ℕ → ℕ → Option ℕ
+abbrev pub seats_by : {W : Type 0} → LinkTidings → ℕ → ℕ → Daemons W → ℕ → ℕ → Option ℕ
 seats_by (is_up called) place conn old x client =
     if nat_eq x place then unless_taken conn (old.seats x client) else old.seats x client
 seats_by is_lost place conn old x client = old.seats x client
 
-abbrev pub linked_by : {W : Type 0} → Tidings → (place other conn : ℕ) → Daemons W → Daemons W
+abbrev pub linked_by : {W : Type 0} → LinkTidings → (place other conn : ℕ) → Daemons W → Daemons W
 linked_by tidings place other conn old = record old {
   ends = end_set old place other (end_by tidings conn);
   ways = way_set old place other (is_way_by tidings);
@@ -71,13 +71,13 @@ linked_by tidings place other conn old = record old {
 -- ---- one end is told
 
 -- a link that is lost was there, and one that is made was not
-abbrev pub end_before : Tidings → ℕ → Option ℕ
+abbrev pub end_before : LinkTidings → ℕ → Option ℕ
 end_before (is_up called) conn = None
 end_before is_lost conn = Some conn
 
 -- The server at a place is told of its link with another, and of nothing else in this turn. What
 -- it puts out on the link goes on its way from there on.
-pub record TellsEnd {W : Type 0} (is_after : W → List Call → Type 0) (tidings : Tidings)
+pub record TellsEnd {W : Type 0} (is_after : W → List Call → Type 0) (tidings : LinkTidings)
     (place other : ℕ) (old new : Daemons W) : Type 0 where
   pub conn : ℕ
   pub was : old.ends place other ≡ end_before tidings conn
@@ -90,7 +90,7 @@ pub record TellsEnd {W : Type 0} (is_after : W → List Call → Type 0) (tiding
 -- What both ends are told by one item: this one, and the other. The server that calls is the first
 -- in the item.
 pub data IsOfItem (names : List Name) (place other : ℕ) (item : Item)
-    (mine theirs : Tidings) : Type 0 where
+    (mine theirs : LinkTidings) : Type 0 where
   has_called : (near far : Name) → slice_get names place ≡ Some near
       → slice_get names other ≡ Some far → item ≡ link near far → mine ≡ is_up (Some far)
       → theirs ≡ is_up None → IsOfItem names place other item mine theirs
@@ -105,4 +105,4 @@ pub data IsOfItem (names : List Name) (place other : ℕ) (item : Item)
 pub record Owing : Type 0 where
   pub place : ℕ
   pub other : ℕ
-  pub tidings : Tidings
+  pub tidings : LinkTidings

@@ -10,10 +10,10 @@ pub fn each_step_is_followed<W: Wire>()
     ensures { EachStep W.is_after }
 {
     irc_line::laws::pieces_complete_the_same();
-    irc_server_laws::laws::served_lines_end();
-    irc_server_laws::laws::served_goes_to_its_own();
-    irc_server_laws::laws::who_is_connected();
-    irc_server_laws::laws::served_keeps_ends();
+    irc_server::laws::served_lines_end();
+    irc_server::laws::served_goes_to_its_own();
+    irc_server::laws::who_is_connected();
+    irc_server::laws::served_keeps_ends();
     irc_numbers::laws::served_alike();
     irc_numbers::laws::nothing_is_behind_an_end();
 }
@@ -28,10 +28,10 @@ pub fn daemons_are_one_room<W: Wire>()
     irc_line::laws::pieces_complete_the_same();
     irc_relay::laws_of_forests::link_taken_out();
     irc_world::laws::world_is_sound();
-    irc_server_laws::laws::served_lines_end();
-    irc_server_laws::laws::served_goes_to_its_own();
-    irc_server_laws::laws::who_is_connected();
-    irc_server_laws::laws::served_keeps_ends();
+    irc_server::laws::served_lines_end();
+    irc_server::laws::served_goes_to_its_own();
+    irc_server::laws::who_is_connected();
+    irc_server::laws::served_keeps_ends();
     irc_numbers::laws::served_alike();
     irc_numbers::laws::nothing_is_behind_an_end();
     irc_network::laws::new_is_whole();

@@ -16,10 +16,10 @@ use Rattle.irc_modes.specs.declared.modes.ModeChange.{ModeChange}
 use Rattle.irc_modes.specs.declared.modes.ModeLetter.{ModeLetter}
 use Rattle.irc_modes.specs.declared.modes.ModeLetter.TheVariants as letter
 use Rattle.irc_modes.specs.Modes.{is_limit}
-use Rattle.irc_mode_words.specs.Lemmas.FewChanges.{counted_first, few_changes, letters_short}
-use Rattle.irc_mode_words.specs.ModeWritten.{letters_text}
-use Rattle.irc_mode_words.specs.Readable.{is_parameter, word_fits, has_its_word, is_worded}
-use Rattle.irc_mode_words.specs.Readable.{AreReadable}
+use Rattle.irc_modes.specs.Lemmas.FewChanges.{counted_first, few_changes, letters_short}
+use Rattle.irc_modes.specs.ModeWritten.{letters_text}
+use Rattle.irc_modes.specs.Readable.{is_parameter, word_fits, has_its_word, is_worded}
+use Rattle.irc_modes.specs.Readable.{AreReadable}
 use Rattle.irc_modes.specs.Lemmas.LimitFacts.{limit-few}
 use Rattle.irc_effects.specs.Room.{Room}
 use Rattle.irc_effects.specs.Seen.{stored_nick, names_member, written_word, changes_words}

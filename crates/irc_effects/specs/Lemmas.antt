@@ -13,6 +13,7 @@ pub mod LimitsKept
 pub mod Listed
 pub mod ListedRooms
 pub mod ListedSeen
+pub mod Members
 pub mod ModesKept
 pub mod ModesWithin
 pub mod OneViewer

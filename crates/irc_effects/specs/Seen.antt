@@ -13,7 +13,7 @@ use Rattle.irc_modes.specs.declared.modes.ModeChange.{ModeChange}
 use Rattle.irc_channels.specs.declared.channel.Channel.{Channel}
 use Rattle.irc_channels.specs.Channels.{has_member}
 pub use Rattle.irc_modes.specs.Letters.{names_member}
-use Rattle.irc_mode_words.specs.ModeWritten.{letters_text}
+use Rattle.irc_modes.specs.ModeWritten.{letters_text}
 use Rattle.irc_effects.specs.declared.effect.By.{By}
 use Rattle.irc_effects.specs.declared.effect.By.TheVariants as by
 use Rattle.irc_effects.specs.declared.effect.Target.{Target}

@@ -13,7 +13,7 @@ use Rattle.irc_names.specs.Names.{IsNick, IsChannel}
 use Rattle.irc_names.specs.Tables.{row}
 use Rattle.irc_users.specs.declared.user.User.{User}
 use Rattle.irc_channels.specs.declared.channel.Channel.{Channel}
-use Rattle.irc_mode_words.specs.Readable.{AreReadable}
+use Rattle.irc_modes.specs.Readable.{AreReadable}
 use Rattle.irc_modes.specs.declared.modes.ModeChange.{ModeChange}
 use Rattle.irc_effects.specs.declared.effect.By.TheVariants as by
 use Rattle.irc_effects.specs.declared.effect.Target.{Target}

@@ -36,7 +36,7 @@ impl Effect {
     }
 
     /// The user that must be there besides the doer.
-    fn other(&self) -> Option<&Nick>
+    pub fn other(&self) -> Option<&Nick>
         ensures { option_copied result ≡ needs_other self.now }
     {
         match self {

@@ -12,7 +12,7 @@ use Rattle.irc_batch.specs.declared.close_reason.CloseReason.{CloseReason}
 use Rattle.irc_engine.specs.declared.connections.Connections.{Connections}
 use Rattle.irc_engine.specs.declared.connection_table.Pushed.{Pushed}
 use Rattle.irc_engine.specs.declared.connection_table.Pushed.TheVariants.{Nothing}
-use Rattle.irc_engine.specs.declared.kind.Kind.{Kind}
+use Rattle.irc_engine.specs.declared.kind.ConnectionKind.{ConnectionKind}
 use Rattle.irc_engine.specs.declared.connection_table.Connection.{Connection}
 use Rattle.irc_line.specs.Lines.{Begun}
 use Rattle.irc_engine.specs.Hearing.{Hears}
@@ -203,10 +203,11 @@ module _ {W : Type 0} (is_after : W → List Call → Type 0) where
       where
         others_lost : (q : ℕ) → nat_eq conn q ≡ false → lost_at new.lost q ≡ lost_at old.lost q
         others_lost q two =
-            forgotten q ∙ ap (λ t. cond {A = Option Kind} t None (lost_at old.lost q)) two
+            forgotten q ∙ ap (λ t. cond {A = Option ConnectionKind} t None (lost_at old.lost q)) two
 
         not_lost : lost_at new.lost conn ≡ None
-        not_lost = forgotten conn ∙ at_once {A = Option Kind} conn None (lost_at old.lost conn)
+        not_lost =
+            forgotten conn ∙ at_once {A = Option ConnectionKind} conn None (lost_at old.lost conn)
 
         by : IsClosedAt conn old.table new.table → Carries is_after [] old (end_of conn ∷ []) new
         by (no_connection none same so) = record {
@@ -305,8 +306,11 @@ module _ {W : Type 0} (is_after : W → List Call → Type 0) where
       → Carries is_after [] old [] new
   ended_or_waits conn old new (ended done ends) = ends_done conn old new done ends
   ended_or_waits conn old new (stayed undone wire table lost noted) =
-      carries_none old new wire (λ q. ap (λ s. connection_of s q) table) lost (omega
-      (arith, ap connection_count table, ap (λ (m : BTreeMap ℕ Kind). length m.entries) lost))
+      carries_none old new wire (λ q. ap (λ s. connection_of s q) table) lost (omega (
+        arith,
+        ap connection_count table,
+        ap (λ (m : BTreeMap ℕ ConnectionKind). length m.entries) lost,
+      ))
 
   module _ (conn : ℕ) (old mid new : Connections W) (loses : Loses is_after conn mid new)
       (lost : mid.lost ≡ old.lost) (count : count_of mid ≤ count_of old) where

@@ -8,7 +8,7 @@ use Rattle.irc_outbox.specs.declared.wire.IoFault.{IoFault}
 use Rattle.irc_outbox.specs.Calls.{Call, writes, closes, bytes_taken}
 use Rattle.irc_batch.specs.Batches.{Sent, end_of, line_to}
 use Rattle.irc_engine.specs.declared.connections.Connections.{Connections}
-use Rattle.irc_engine.specs.declared.kind.Kind.{Kind}
+use Rattle.irc_engine.specs.declared.kind.ConnectionKind.{ConnectionKind}
 use Rattle.irc_engine.specs.declared.connection_table.Connection.{Connection}
 use Rattle.irc_engine.specs.Carrying.{bytes_owed, open_kind_at, AddsAll, cut_off, overflowed}
 use Rattle.irc_engine.specs.Carrying.{Passage}
@@ -37,7 +37,7 @@ adds_both is_after old mid new a b one other = λ calls after.
 -- numbers
 
 -- what holds of one connection, and of each other that nothing has happened to
-pub by_number : (conn : ℕ) (old new : ℕ → Option Connection) (was now : ℕ → Option Kind)
+pub by_number : (conn : ℕ) (old new : ℕ → Option Connection) (was now : ℕ → Option ConnectionKind)
     (calls : List Call) (outs : List Sent) → ((q : ℕ) → nat_eq conn q ≡ false → new q ≡ old q)
     → ((q : ℕ) → nat_eq conn q ≡ false → now q ≡ was q)
     → ((q : ℕ) → nat_eq conn q ≡ false → IsElsewhere q calls outs)
@@ -120,8 +120,8 @@ closed_elsewhere conn q two = record {
 
 module _ {W : Type 0} (is_after : W → List Call → Type 0) (conn : ℕ)
     (old done : Connections W) where
-  pub lost_open : (lost : BTreeMap ℕ Kind) (kind : Kind) → Ends is_after conn old done
-      → open_kind_at (connection_of old.table conn) ≡ Some kind
+  pub lost_open : (lost : BTreeMap ℕ ConnectionKind) (kind : ConnectionKind)
+      → Ends is_after conn old done → open_kind_at (connection_of old.table conn) ≡ Some kind
       → IsLostAs done.lost conn (Some kind) lost → btree_map_len lost ≤ btree_map_len done.lost + 1
       → Loses is_after conn old (record done { lost = lost })
   lost_open lost kind ends is_open noted len =

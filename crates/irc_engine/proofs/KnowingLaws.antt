@@ -17,13 +17,13 @@ use Rattle.irc_server.specs.Served.{Occurrence, fault_of, link_there, no_link, n
 use Rattle.irc_server.specs.Served.{there}
 use Rattle.irc_server.specs.Happening.{occurrence_of, IsHandled, has_failed, refuses_it, takes_it}
 use Rattle.irc_server.specs.Happening.{wants_memory}
-use Rattle.irc_server_laws.specs.Connected.{client_comes, client_goes, is_client_ended}
-use Rattle.irc_server_laws.specs.Connected.{is_link_ended, link_comes, link_goes, AreConnectedAfter}
-use Rattle.irc_server_laws.specs.Connected.{WhoIsConnected}
-use Rattle.irc_server_laws.specs.Own.{IsNewLink}
+use Rattle.irc_server.specs.Connected.{client_comes, client_goes, is_client_ended}
+use Rattle.irc_server.specs.Connected.{is_link_ended, link_comes, link_goes, AreConnectedAfter}
+use Rattle.irc_server.specs.Connected.{WhoIsConnected}
+use Rattle.irc_server.specs.Own.{IsNewLink}
 use Rattle.irc_engine.specs.declared.connections.Connections.{Connections}
-use Rattle.irc_engine.specs.declared.kind.Kind.{Kind}
-use Rattle.irc_engine.specs.declared.kind.Kind.TheVariants as kinds
+use Rattle.irc_engine.specs.declared.kind.ConnectionKind.{ConnectionKind}
+use Rattle.irc_engine.specs.declared.kind.ConnectionKind.TheVariants as kinds
 use Rattle.irc_engine.specs.declared.connection_table.Connection.{Connection}
 use Rattle.irc_engine.specs.declared.connection_table.ConnectionTable.{ConnectionTable}
 use Rattle.irc_engine.specs.Carrying.{fresh_connection, is_closed_by, is_open_at, kind_at}
@@ -96,17 +96,17 @@ closed_by_either conn (end_of_link which reason ∷ outs) =
 
 -- One of one kind is there behind an event just where it is to be, but for those that are closed,
 -- as one of either kind.
-module _ (f g : Option Kind → Bool) (nobody : f None ≡ false)
-    (apart : (kind : Option Kind) → g kind ≡ true → f kind ≡ false) where
-  of_the_other : (kind : Option Kind) (y goes : Bool) → (y && not goes) ≡ g kind
+module _ (f g : Option ConnectionKind → Bool) (nobody : f None ≡ false)
+    (apart : (kind : Option ConnectionKind) → g kind ≡ true → f kind ≡ false) where
+  of_the_other : (kind : Option ConnectionKind) (y goes : Bool) → (y && not goes) ≡ g kind
       → (goes ≡ true → kind ≡ None) → y ≡ true → f kind ≡ false
   of_the_other kind y true is gone there = ap f (gone refl) ∙ nobody
   of_the_other kind y false is gone there = apart kind (sym is ∙ and_true y ∙ there)
 
-  there_unless_closed : (kind : Option Kind) (x y goes other_goes ended other_ended : Bool)
-      → (x && not goes) ≡ f kind → (y && not other_goes) ≡ g kind
-      → (other_goes ≡ true → kind ≡ None) → (other_ended ≡ true → y ≡ true)
-      → (x && not (goes || ended)) ≡ f (cond (ended || other_ended) None kind)
+  there_unless_closed : (kind : Option ConnectionKind)
+      (x y goes other_goes ended other_ended : Bool) → (x && not goes) ≡ f kind
+      → (y && not other_goes) ≡ g kind → (other_goes ≡ true → kind ≡ None) → (other_ended ≡ true
+      → y ≡ true) → (x && not (goes || ended)) ≡ f (cond (ended || other_ended) None kind)
   there_unless_closed kind x y goes other_goes true other_ended is other gone there = gone_or x goes
       ∙ sym nobody
   there_unless_closed kind x y goes other_goes false true is other gone there =
@@ -115,22 +115,22 @@ module _ (f g : Option Kind → Bool) (nobody : f None ≡ false)
   there_unless_closed kind x y goes other_goes false false is other gone there =
       ap (λ t. x && not t) (or_false goes) ∙ is
 
-link_is_no_client : (kind : Option Kind) → is_link kind ≡ true → is_client kind ≡ false
+link_is_no_client : (kind : Option ConnectionKind) → is_link kind ≡ true → is_client kind ≡ false
 link_is_no_client None is = refl
 link_is_no_client (Some kinds.Client) is = cc is
 link_is_no_client (Some kinds.Link) is = refl
 
-client_is_no_link : (kind : Option Kind) → is_client kind ≡ true → is_link kind ≡ false
+client_is_no_link : (kind : Option ConnectionKind) → is_client kind ≡ true → is_link kind ≡ false
 client_is_no_link None is = refl
 client_is_no_link (Some kinds.Client) is = refl
 client_is_no_link (Some kinds.Link) is = cc is
 
-at_number : (known : ℕ → Option Kind) (conn q : ℕ) (kind : Option Kind) → known conn ≡ kind
-    → nat_eq conn q ≡ true → known q ≡ kind
+at_number : (known : ℕ → Option ConnectionKind) (conn q : ℕ) (kind : Option ConnectionKind)
+    → known conn ≡ kind → nat_eq conn q ≡ true → known q ≡ kind
 at_number known conn q kind is one = ap known (sym (one_number conn q one)) ∙ is
 
 -- which clients an event brings and takes
-client_by : (event : Event) (known : ℕ → Option Kind) → IsOf event known
+client_by : (event : Event) (known : ℕ → Option ConnectionKind) → IsOf event known
     → (q : ℕ) → ((is_client (known q) || client_comes q (occurrence_of event))
     && not (client_goes q (occurrence_of event))) ≡ is_client (kind_after event q (known q))
 client_by (Connect conn host) known due q = by (nat_eq conn q)
@@ -161,7 +161,7 @@ client_by (LinkDown link) known due q = by (nat_eq link q) refl
     by false two = stays (is_client (known q))
 
 -- and which links
-link_by : (event : Event) (known : ℕ → Option Kind) → IsOf event known
+link_by : (event : Event) (known : ℕ → Option ConnectionKind) → IsOf event known
     → (q : ℕ) → ((is_link (known q) || link_comes q (occurrence_of event))
     && not (link_goes q (occurrence_of event))) ≡ is_link (kind_after event q (known q))
 link_by (Connect conn host) known due q = by (nat_eq conn q) refl
@@ -191,7 +191,7 @@ link_by (LinkDown link) known due q = by (nat_eq link q)
     by true = and_false (is_link (known q) || false)
     by false = stays (is_link (known q))
 
-client_gone : (event : Event) (q : ℕ) (was : Option Kind)
+client_gone : (event : Event) (q : ℕ) (was : Option ConnectionKind)
     → client_goes q (occurrence_of event) ≡ true → kind_after event q was ≡ None
 client_gone (Connect conn host) q was is = cc is
 client_gone (Line conn line) q was is = cc is
@@ -200,8 +200,8 @@ client_gone (LinkUp link starts) q was is = cc is
 client_gone (LinkLine link line) q was is = cc is
 client_gone (LinkDown link) q was is = cc is
 
-link_gone : (event : Event) (q : ℕ) (was : Option Kind) → link_goes q (occurrence_of event) ≡ true
-    → kind_after event q was ≡ None
+link_gone : (event : Event) (q : ℕ) (was : Option ConnectionKind)
+    → link_goes q (occurrence_of event) ≡ true → kind_after event q was ≡ None
 link_gone (Connect conn host) q was is = cc is
 link_gone (Line conn line) q was is = cc is
 link_gone (Gone conn) q was is = cc is
@@ -227,7 +227,8 @@ link_some : (end : Option End) → is_some end ≡ true → no_link end ≡ None
 link_some None is = cc is
 link_some (Some end) is = refl
 
-module _ (view : View) (known : ℕ → Option Kind) (has : (q : ℕ) → HasAs view q (known q)) where
+module _ (view : View) (known : ℕ → Option ConnectionKind)
+    (has : (q : ℕ) → HasAs view q (known q)) where
   no_fault : (event : Event) → IsOf event known → fault_of view event ≡ None
   no_fault (Connect conn host) due =
       there_none (get view.clients conn) ((has conn).0 ∙ ap is_client due)
@@ -277,7 +278,7 @@ module _ (view : View) (known : ℕ → Option Kind) (has : (q : ℕ) → HasAs 
       out : List Sent
       out = (served view now).out
 
-      kind : Option Kind
+      kind : Option ConnectionKind
       kind = kind_after event q (known q)
 
       after : AreConnectedAfter view now
@@ -299,7 +300,7 @@ module _ (view : View) (known : ℕ → Option Kind) (has : (q : ℕ) → HasAs 
 
 -- what a server that does not refuse an event answers, where it does not handle it
 pub only_memory : (event : Event) (server after : Option View) (out out_after : List Sent)
-    (fault : ServerFault) (connections : ℕ → Option Connection) (lost : ℕ → Option Kind)
+    (fault : ServerFault) (connections : ℕ → Option Connection) (lost : ℕ → Option ConnectionKind)
     → IsToHear event server connections lost
     → IsHandled server event out (Err fault) after out_after → is_out_of_memory fault ≡ true
 only_memory event server after out out_after fault connections lost awaits
@@ -324,20 +325,20 @@ lost_before true b c is = refl
 lost_before false true c is = cc is
 lost_before false false c is = cc is
 
-of_loss : (kind was : Kind) → IsOfKind kind None (Some was) → Some kind ≡ Some was
+of_loss : (kind was : ConnectionKind) → IsOfKind kind None (Some was) → Some kind ≡ Some was
 of_loss kind was (kind_of_connection is) = cc is
 of_loss kind was (kind_of_loss is) = sym is
 
-of_connection : (kind : Kind) (connection : Option Connection) → IsOfKind kind connection None
-    → kind_at connection ≡ Some kind
+of_connection : (kind : ConnectionKind) (connection : Option Connection)
+    → IsOfKind kind connection None → kind_at connection ≡ Some kind
 of_connection kind connection (kind_of_connection is) = is
 of_connection kind connection (kind_of_loss is) = cc is
 
 -- As what the server is to have a connection stays as it was, unless the server closes it.
 module _ (conn : ℕ) (calls : List Call) (outs : List Sent) where
   known_by : (closed : Bool) → is_closed_by conn outs ≡ closed
-      → (old : Option Connection) (was : Option Kind) (new : Option Connection)
-      (now : Option Kind) → Fate conn old calls outs new
+      → (old : Option Connection) (was : Option ConnectionKind) (new : Option Connection)
+      (now : Option ConnectionKind) → Fate conn old calls outs new
       → is_some now ≡ ((is_some was || (is_open_at old && not (is_some new))) && not closed)
       → KeepsKind old was new now → (is_some was ≡ true → old ≡ None)
       → known_kind new now ≡ cond closed None (known_kind old was)
@@ -362,18 +363,18 @@ module _ (conn : ℕ) (calls : List Call) (outs : List Sent) where
   known_by false is (Some o) None (Some n) None fate lost keeps gone =
       ap (λ t. cond t (Some n.kind) None) (fate.still_open ∙ ap (λ t. is_some o.framer && not t) is
       ∙ and_true (is_some o.framer))
-      ∙ ap (λ (k : Option Kind). cond (is_some o.framer) k None)
+      ∙ ap (λ (k : Option ConnectionKind). cond (is_some o.framer) k None)
       (sym (of_connection n.kind (Some o) (keeps n.kind (kind_of_connection refl))))
 
-  known_passage : (old : Option Connection) (was : Option Kind) (new : Option Connection)
-      (now : Option Kind) → Passage conn old was calls outs new now → (is_some was ≡ true
+  known_passage : (old : Option Connection) (was : Option ConnectionKind) (new : Option Connection)
+      (now : Option ConnectionKind) → Passage conn old was calls outs new now → (is_some was ≡ true
       → old ≡ None) → known_kind new now ≡ cond (is_closed_by conn outs) None (known_kind old was)
   known_passage old was new now passed gone = known_by (is_closed_by conn outs) refl old was new now
       passed.fate passed.lost_is passed.keeps_kind gone
 
   -- one that was lost is not there
-  gone_passage : (old : Option Connection) (was : Option Kind) (new : Option Connection)
-      (now : Option Kind) → Passage conn old was calls outs new now
+  gone_passage : (old : Option Connection) (was : Option ConnectionKind) (new : Option Connection)
+      (now : Option ConnectionKind) → Passage conn old was calls outs new now
       → (is_some was ≡ true → old ≡ None) → is_some now ≡ true → new ≡ None
   gone_passage old was None now passed gone lost = refl
   gone_passage None was (Some n) now passed gone lost = absurd passed.fate
@@ -393,7 +394,8 @@ module _ {W : Type 0} (is_after : W → List Call → Type 0) where
         has = λ q seen is.
             subst (λ (v : View). HasAs v q (known_kind (connection_of new.table q)
             (lost_at new.lost q))) (sym does.view_is ∙ one_view view_after seen is)
-            (subst (λ (k : Option Kind). HasAs (served view (occurrence_of event)).view q k)
+            (subst (λ (k : Option ConnectionKind).
+            HasAs (served view (occurrence_of event)).view q k)
             (sym (known_now q))
             (has_after view awaits.kinds (λ p. awaits.has p view refl) law event awaits.is_of q));
         lost_is_gone = λ q. gone_passage q carries.calls outs (connection_of old.table q)
@@ -416,7 +418,7 @@ module _ {W : Type 0} (is_after : W → List Call → Type 0) where
           (awaits.lost_is_gone q)
           ∙ ap (λ os. cond (is_closed_by q os) None
           (known_kind (connection_of old.table q) (lost_at old.lost q))) put_out
-          ∙ ap (λ (k : Option Kind). cond
+          ∙ ap (λ (k : Option ConnectionKind). cond
           (is_closed_by q (served view (occurrence_of event)).out) None k) (awaits.known q)
 
   -- something is done that no event asks for
@@ -424,7 +426,7 @@ module _ {W : Type 0} (is_after : W → List Call → Type 0) where
       → Carries is_after exchanges old [] new → IsAtOne server (connection_of old.table)
       (lost_at old.lost) → IsAtOne server (connection_of new.table) (lost_at new.lost)
   at_one_carried server exchanges old new carries one = record {
-    has = λ q view is. subst (λ (k : Option Kind). HasAs view q k)
+    has = λ q view is. subst (λ (k : Option ConnectionKind). HasAs view q k)
         (sym (known_passage q carries.calls [] (connection_of old.table q) (lost_at old.lost q)
         (connection_of new.table q) (lost_at new.lost q) (carries.passage q)
         (one.lost_is_gone q))) (one.has q view is);
@@ -439,28 +441,28 @@ module _ {W : Type 0} (is_after : W → List Call → Type 0) where
       → IsAtOne server (connection_of old.table) (lost_at old.lost)
       → IsAtOne server (connection_of new.table) (lost_at new.lost)
   at_one_lost server conn old new loses is_open one = record {
-    has = λ q view is. subst (λ (k : Option Kind). HasAs view q k)
+    has = λ q view is. subst (λ (k : Option ConnectionKind). HasAs view q k)
         (sym (known_now q (nat_eq conn q) refl)) (one.has q view is);
     lost_is_gone = λ q. gone_now q (nat_eq conn q) refl;
   }
     where
-      not_lost : (l : Option Kind) (c : Option Connection) → is_open_at c ≡ true
+      not_lost : (l : Option ConnectionKind) (c : Option Connection) → is_open_at c ≡ true
           → (is_some l ≡ true → c ≡ None) → l ≡ None
       not_lost None c opened gone = refl
       not_lost (Some k) c opened gone = cc (sym opened ∙ ap is_open_at (gone refl))
 
-      open_kind : (c : Option Connection) (l : Option Kind) → is_open_at c ≡ true → l ≡ None
-          → known_kind None (lost_by true c l) ≡ known_kind c l
+      open_kind : (c : Option Connection) (l : Option ConnectionKind) → is_open_at c ≡ true
+          → l ≡ None → known_kind None (lost_by true c l) ≡ known_kind c l
       open_kind None l opened never = cc opened
       open_kind (Some c) l opened never =
           ap (λ t. known_kind None (cond t (Some c.kind) l)) opened
-          ∙ sym (ap (λ (m : Option Kind). known_kind (Some c) m) never
+          ∙ sym (ap (λ (m : Option ConnectionKind). known_kind (Some c) m) never
           ∙ ap (λ t. cond t (Some c.kind) None) opened)
 
-      both : (a c : Option Connection) (b d : Option Kind) → a ≡ c → b ≡ d
+      both : (a c : Option Connection) (b d : Option ConnectionKind) → a ≡ c → b ≡ d
           → known_kind a b ≡ known_kind c d
       both a c b d one other = ap (λ (x : Option Connection). known_kind x b) one
-          ∙ ap (λ (y : Option Kind). known_kind c y) other
+          ∙ ap (λ (y : Option ConnectionKind). known_kind c y) other
 
       known_now : (q : ℕ) (t : Bool) → nat_eq conn q ≡ t → known_kind (connection_of new.table q)
           (lost_at new.lost q) ≡ known_kind (connection_of old.table q) (lost_at old.lost q)
@@ -496,32 +498,34 @@ module _ {W : Type 0} (is_after : W → List Call → Type 0) where
 
 -- ---- before an event
 
-arrival_of : (kind : Kind) (conn : ℕ) (known : ℕ → Option Kind) → known conn ≡ Some kind
-    → IsOf (end_event_of kind conn) known
+arrival_of : (kind : ConnectionKind) (conn : ℕ) (known : ℕ → Option ConnectionKind)
+    → known conn ≡ Some kind → IsOf (end_event_of kind conn) known
 arrival_of kinds.Client conn known is = is
 arrival_of kinds.Link conn known is = is
 
-kind_behind : (kind : Kind) (conn q : ℕ) (was : Option Kind)
+kind_behind : (kind : ConnectionKind) (conn q : ℕ) (was : Option ConnectionKind)
     → kind_after (end_event_of kind conn) q was ≡ cond (nat_eq conn q) None was
 kind_behind kinds.Client conn q was = refl
 kind_behind kinds.Link conn q was = refl
 
-line_is_of : (kind : Kind) (conn : ℕ) (line : ArrayVec ℕ) (known : ℕ → Option Kind)
-    → known conn ≡ Some kind → IsOf (line_event_of kind conn line) known
+line_is_of : (kind : ConnectionKind) (conn : ℕ) (line : ArrayVec ℕ) (known : ℕ
+    → Option ConnectionKind) → known conn ≡ Some kind → IsOf (line_event_of kind conn line) known
 line_is_of kinds.Client conn line known is = is
 line_is_of kinds.Link conn line known is = is
 
-no_kind_changes : (kind : Kind) (conn : ℕ) (line : ArrayVec ℕ) (q : ℕ) (was : Option Kind)
-    → kind_after (line_event_of kind conn line) q was ≡ was
+no_kind_changes : (kind : ConnectionKind) (conn : ℕ) (line : ArrayVec ℕ) (q : ℕ)
+    (was : Option ConnectionKind) → kind_after (line_event_of kind conn line) q was ≡ was
 no_kind_changes kinds.Client conn line q was = refl
 no_kind_changes kinds.Link conn line q was = refl
 
-module _ (server : Option View) (connections : ℕ → Option Connection) (lost : ℕ → Option Kind)
+module _ (server : Option View) (connections : ℕ → Option Connection)
+    (lost : ℕ → Option ConnectionKind)
     (one : IsAtOne server connections lost) where
   -- the server is to be told that a connection is gone, which was lost
-  pub hears_end : (event : Event) (kind : Kind) (conn : ℕ) (left : ℕ → Option Kind)
-      → event ≡ end_event_of kind conn → lost conn ≡ Some kind → ((q : ℕ)
-      → left q ≡ cond (nat_eq conn q) None (lost q)) → IsToHear event server connections left
+  pub hears_end : (event : Event) (kind : ConnectionKind) (conn : ℕ)
+      (left : ℕ → Option ConnectionKind) → event ≡ end_event_of kind conn
+      → lost conn ≡ Some kind → ((q : ℕ) → left q ≡ cond (nat_eq conn q) None (lost q))
+      → IsToHear event server connections left
   hears_end event kind conn left event_is is popped =
       subst (λ (e : Event). IsToHear e server connections left) (sym event_is) (record {
         kinds = λ q. known_kind (connections q) (lost q);
@@ -534,7 +538,8 @@ module _ (server : Option View) (connections : ℕ → Option Connection) (lost 
             (still_lost (nat_eq conn q) (lost q) (sym (ap is_some (popped q)) ∙ is_lost));
       })
     where
-      still_lost : (t : Bool) (l : Option Kind) → is_some (cond t None l) ≡ true → is_some l ≡ true
+      still_lost : (t : Bool) (l : Option ConnectionKind) → is_some (cond t None l) ≡ true
+          → is_some l ≡ true
       still_lost true l is_lost = cc is_lost
       still_lost false l is_lost = is_lost
 
@@ -550,15 +555,15 @@ module _ (server : Option View) (connections : ℕ → Option Connection) (lost 
           ∙ sym (ap (λ t. cond t None (known_kind (connections q) (lost q))) two)
 
   -- a line of a connection that is open
-  pub open_is_not_lost : (conn : ℕ) (kind : Kind) → open_kind_at (connections conn) ≡ Some kind
-      → lost conn ≡ None
+  pub open_is_not_lost : (conn : ℕ) (kind : ConnectionKind)
+      → open_kind_at (connections conn) ≡ Some kind → lost conn ≡ None
   open_is_not_lost conn kind is = by (lost conn) (one.lost_is_gone conn)
     where
-      by : (l : Option Kind) → (is_some l ≡ true → connections conn ≡ None) → l ≡ None
+      by : (l : Option ConnectionKind) → (is_some l ≡ true → connections conn ≡ None) → l ≡ None
       by None gone = refl
       by (Some k) gone = cc (sym (ap open_kind_at (gone refl)) ∙ is)
 
-  pub hears_line : (event : Event) (kind : Kind) (conn : ℕ) (line : ArrayVec ℕ)
+  pub hears_line : (event : Event) (kind : ConnectionKind) (conn : ℕ) (line : ArrayVec ℕ)
       → event ≡ line_event_of kind conn line → open_kind_at (connections conn) ≡ Some kind
       → IsToHear event server connections lost
   hears_line event kind conn line event_is is =
@@ -572,9 +577,9 @@ module _ (server : Option View) (connections : ℕ → Option Connection) (lost 
       })
 
   -- a connection has come, where none of its number was, and no loss is to be told
-  pub hears_arrival : (event : Event) (kind : Kind) (room conn : ℕ) (new : ℕ → Option Connection)
-      → IsArrival kind conn event → ((q : ℕ) → lost q ≡ None) → connections conn ≡ None
-      → IsSet connections conn (Some (fresh_connection kind room)) new
+  pub hears_arrival : (event : Event) (kind : ConnectionKind) (room conn : ℕ)
+      (new : ℕ → Option Connection) → IsArrival kind conn event → ((q : ℕ) → lost q ≡ None)
+      → connections conn ≡ None → IsSet connections conn (Some (fresh_connection kind room)) new
       → IsToHear event server new lost
   hears_arrival event kind room conn new arrival told free set = record {
     kinds = λ q. known_kind (connections q) (lost q);
@@ -583,7 +588,8 @@ module _ (server : Option View) (connections : ℕ → Option Connection) (lost 
         (ap (known_kind (connections conn)) (told conn) ∙ ap open_kind_at free);
     known = λ q. ap (known_kind (new q)) (told q) ∙ ap open_kind_at (set q)
         ∙ by (nat_eq conn q) (connections q)
-        ∙ ap (λ (l : Option Kind). cond (nat_eq conn q) (Some kind) (known_kind (connections q) l))
+        ∙ ap (λ (l : Option ConnectionKind). cond (nat_eq conn q) (Some kind)
+        (known_kind (connections q) l))
         (sym (told q))
         ∙ sym (arrival.comes q (known_kind (connections q) (lost q)));
     lost_is_gone = λ q is_lost. cc (sym (ap is_some (told q)) ∙ is_lost);
@@ -599,20 +605,21 @@ module _ (server : Option View) (connections : ℕ → Option Connection) (lost 
       → ((q : ℕ) → open_kind_at (new q) ≡ open_kind_at (connections q))
       → ((q : ℕ) → is_some (new q) ≡ is_some (connections q)) → IsAtOne server new lost
   at_one_as new kinds_as there_as = record {
-    has = λ q view is. subst (λ (k : Option Kind). HasAs view q k) (sym (by (lost q) q))
+    has = λ q view is. subst (λ (k : Option ConnectionKind). HasAs view q k) (sym (by (lost q) q))
         (one.has q view is);
     lost_is_gone =
         λ q is_lost. no_option (new q) (there_as q ∙ ap is_some (one.lost_is_gone q is_lost));
   }
     where
-      by : (l : Option Kind) (q : ℕ) → known_kind (new q) l ≡ known_kind (connections q) l
+      by : (l : Option ConnectionKind) (q : ℕ) → known_kind (new q) l ≡ known_kind (connections q) l
       by None q = kinds_as q
       by (Some k) q = refl
 
 -- ---- framers
 
 framed_same : (conn : ℕ) (piece : List ℕ) (old new : ConnectionTable)
-    (result : Option (ℕ × Kind × Option (ArrayVec ℕ))) → FramesAt conn piece old result new
+    (result : Option (ℕ × ConnectionKind × Option (ArrayVec ℕ)))
+    → FramesAt conn piece old result new
     → (q : ℕ) → (open_kind_at (connection_of new q) ≡ open_kind_at (connection_of old q))
     × (is_some (connection_of new q) ≡ is_some (connection_of old q))
 framed_same conn piece old new result (no_connection none same never) q =
@@ -647,8 +654,9 @@ framed_same conn piece old new None (at_connection connection now was set so) q 
         (ap open_kind_at here, ap is_some here)
 
 pub at_one_framed : (server : Option View) (conn : ℕ) (piece : List ℕ) (old new : ConnectionTable)
-    (lost : ℕ → Option Kind)
-    (result : Option (ℕ × Kind × Option (ArrayVec ℕ))) → FramesAt conn piece old result new
+    (lost : ℕ → Option ConnectionKind)
+    (result : Option (ℕ × ConnectionKind × Option (ArrayVec ℕ)))
+    → FramesAt conn piece old result new
     → IsAtOne server (connection_of old) lost
     → IsAtOne server (connection_of new) lost
 at_one_framed server conn piece old new lost result frames one =
@@ -656,7 +664,8 @@ at_one_framed server conn piece old new lost result frames one =
     (λ q. (framed_same conn piece old new result frames q).0)
     (λ q. (framed_same conn piece old new result frames q).1)
 
-pub framed_open : (conn : ℕ) (piece : List ℕ) (old new : ConnectionTable) (used : ℕ) (kind : Kind)
+pub framed_open : (conn : ℕ) (piece : List ℕ) (old new : ConnectionTable) (used : ℕ)
+    (kind : ConnectionKind)
     (line : Option (ArrayVec ℕ)) → FramesAt conn piece old (Some (used, kind, line)) new
     → open_kind_at (connection_of new conn) ≡ Some kind
 framed_open conn piece old new used kind line (no_connection none same never) = cc never
@@ -667,13 +676,15 @@ framed_open conn piece old new used kind line (at_connection connection now was 
 
 -- ---- between two turns
 
-module _ (server : Option View) (connections : ℕ → Option Connection) (lost : ℕ → Option Kind) where
+module _ (server : Option View) (connections : ℕ → Option Connection)
+    (lost : ℕ → Option ConnectionKind) where
   pub none_to_tell : IsSettled server connections lost → (q : ℕ) → lost q ≡ None
   none_to_tell settled q = no_option (lost q) (settled q).0
 
   pub at_one_between : IsSettled server connections lost → IsAtOne server connections lost
   at_one_between settled = record {
-    has = λ q view is. subst (λ (l : Option Kind). HasAs view q (known_kind (connections q) l))
+    has = λ q view is.
+        subst (λ (l : Option ConnectionKind). HasAs view q (known_kind (connections q) l))
         (sym (none_to_tell settled q)) ((settled q).1 view is);
     lost_is_gone = λ q is_lost. cc (sym (settled q).0 ∙ is_lost);
   }
@@ -682,18 +693,19 @@ module _ (server : Option View) (connections : ℕ → Option Connection) (lost 
       → IsSettled server connections lost
   settled_again told one q = (
     ap is_some (told q),
-    λ view is. subst (λ (l : Option Kind). HasAs view q (known_kind (connections q) l)) (told q)
+    λ view is. subst (λ (l : Option ConnectionKind). HasAs view q (known_kind (connections q) l))
+        (told q)
         (one.has q view is),
   )
 
 -- that it is so has one proof
 pub settled_once : (failed : Bool) (server : Option View) (connections : ℕ → Option Connection)
-    (lost : ℕ → Option Kind) → IsProp (failed ≡ false → IsSettled server connections lost)
+    (lost : ℕ → Option ConnectionKind) → IsProp (failed ≡ false → IsSettled server connections lost)
 settled_once failed server connections lost = hlevel (Bool-set)
 
 -- a server that has nobody, and no connections
 pub settled_new : (server : Option View) (connections : ℕ → Option Connection)
-    (lost : ℕ → Option Kind) → HasNobody server → ((q : ℕ) → connections q ≡ None)
+    (lost : ℕ → Option ConnectionKind) → HasNobody server → ((q : ℕ) → connections q ≡ None)
     → ((q : ℕ) → lost q ≡ None) → IsSettled server connections lost
 settled_new server connections lost nobody none told q = (
   ap is_some (told q),

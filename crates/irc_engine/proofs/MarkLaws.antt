@@ -9,7 +9,7 @@ use Rattle.irc_outbox.specs.Calls.{Call, is_some_bytes}
 use Rattle.irc_engine.specs.declared.connections.Connections.{Connections}
 use Rattle.irc_engine.specs.declared.connection_table.Pushed.{Pushed}
 use Rattle.irc_engine.specs.declared.connection_table.Pushed.TheVariants.{Nothing, First, More}
-use Rattle.irc_engine.specs.declared.kind.Kind.{Kind}
+use Rattle.irc_engine.specs.declared.kind.ConnectionKind.{ConnectionKind}
 use Rattle.irc_engine.specs.declared.connection_table.Connection.{Connection}
 use Rattle.irc_engine.specs.Carrying.{fresh_connection, has_some_at, is_done_at}
 use Rattle.irc_engine.specs.Loops.Tables.{connection_of, at_connection, no_connection, IsPushedAt}
@@ -219,7 +219,7 @@ module _ {W : Type 0} (conn : ℕ) (old new : Connections W) where
           ∙ ap (λ (s : Connection). is_some_bytes s.outbox.bytes) now_is)
 
   -- a framer has taken bytes
-  pub marks_framed : (piece : List ℕ) (result : Option (ℕ × Kind × Option (ArrayVec ℕ)))
+  pub marks_framed : (piece : List ℕ) (result : Option (ℕ × ConnectionKind × Option (ArrayVec ℕ)))
       → FramesAt conn piece old.table result new.table
       → ((q : ℕ) → has new.waiting q ≡ has old.waiting q) → KeepsMarks old new
   marks_framed piece result (no_connection none same so) noted = marks_same same noted
@@ -284,7 +284,7 @@ module _ {W : Type 0} (conn : ℕ) (old new : Connections W) where
         (record { noted_is = refl; not_done = undone }))
 
   -- a connection has been made, and more is done
-  pub notes_made : (mid : Connections W) (kind : Kind) (room : ℕ)
+  pub notes_made : (mid : Connections W) (kind : ConnectionKind) (room : ℕ)
       → connection_of old.table conn ≡ None → IsSet (connection_of old.table) conn
       (Some (fresh_connection kind room)) (connection_of mid.table)
       → ((q : ℕ) → has mid.waiting q ≡ has old.waiting q) → KeepsMarks mid new → KeepsNotes old new

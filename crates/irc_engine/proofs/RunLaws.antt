@@ -18,8 +18,8 @@ use Rattle.irc_batch.specs.Batches.{Sent}
 use Rattle.irc_stage.specs.View.{View}
 use Rattle.irc_server.specs.Happening.{IsHandled}
 use Rattle.irc_engine.specs.declared.connections.Connections.{Connections}
-use Rattle.irc_engine.specs.declared.kind.Kind.{Kind}
-use Rattle.irc_engine.specs.declared.kind.Kind.TheVariants as kinds
+use Rattle.irc_engine.specs.declared.kind.ConnectionKind.{ConnectionKind}
+use Rattle.irc_engine.specs.declared.kind.ConnectionKind.TheVariants as kinds
 use Rattle.irc_engine.specs.declared.connection_table.Connection.{Connection}
 use Rattle.irc_engine.specs.declared.connection_table.ConnectionTable.{ConnectionTable}
 use Rattle.irc_engine.specs.Carrying.{is_exchange, bytes_owed, is_open_at, is_cut_off, is_closed_by}
@@ -32,8 +32,10 @@ use Rattle.irc_engine.specs.Hearing.{nothing_of, only_of, Hears}
 use Rattle.irc_journal.specs.declared.journal.Journal.{Journal}
 use Rattle.irc_journal.specs.Signs.{EntersAll}
 use Rattle.irc_engine.specs.Noting.{event_signs, out_signs}
-use Rattle.irc_engine.specs.Running.{Moment, Asked, AreAsked, asked, asked_at, AsksOnce, IsNews}
-use Rattle.irc_engine.specs.Running.{a_line, an_end, Ran, RanOn, Standing, standing_of, TellsServer}
+use Rattle.irc_engine.specs.Running.{Moment, ServerAsked, AreAsked, asked, asked_at, AsksOnce}
+use Rattle.irc_engine.specs.Running.{IsNews}
+use Rattle.irc_engine.specs.Running.{a_line, an_end, Ran, RanOn, ConnectionState, standing_of}
+use Rattle.irc_engine.specs.Running.{TellsServer}
 use Rattle.irc_engine.specs.Writing.{one_if}
 use Rattle.irc_engine.proofs.NotingLaws.{enters_both}
 use Rattle.irc_engine.specs.Lemmas.HearingLaws.{lines_by-append, times_gone-append, hears_on}
@@ -64,10 +66,10 @@ pub none_there : (connection : Option Connection) → is_some connection ≡ fal
 none_there None none = refl
 none_there (Some connection) none = cc none
 
-pub asked_on : (old mid new : Asked) (a b : List Event) (x y : List Sent) → AreAsked old a x mid
-    → AreAsked mid b y new → AreAsked old (a ++ b) (x ++ y) new
+pub asked_on : (old mid new : ServerAsked) (a b : List Event) (x y : List Sent)
+    → AreAsked old a x mid → AreAsked mid b y new → AreAsked old (a ++ b) (x ++ y) new
 asked_on old mid new [] b x y one other =
-    subst (λ (o : Asked). AreAsked o b (x ++ y) new) one.1
+    subst (λ (o : ServerAsked). AreAsked o b (x ++ y) new) one.1
     (subst (λ (os : List Sent). AreAsked mid b (os ++ y) new) (sym one.0) other)
 asked_on old mid new (event ∷ a) b x y one other = record {
   between = one.between;
@@ -84,7 +86,7 @@ either_false true b is = cc is
 either_false false b is = (refl, is)
 
 -- what the server is told of one connection, in two stretches
-tells_on : (conn : ℕ) (was mid now : Standing) (a b : List Event) (x y : List Sent)
+tells_on : (conn : ℕ) (was mid now : ConnectionState) (a b : List Event) (x y : List Sent)
     → TellsServer conn was a x mid → TellsServer conn mid b y now
     → TellsServer conn was (a ++ b) (x ++ y) now
 tells_on conn was mid now a b x y one other = λ apart.
@@ -104,11 +106,11 @@ tells_on conn was mid now a b x y one other = λ apart.
       apart = then.apart;
     }
 
-tells_still : (conn : ℕ) (now : Standing) → TellsServer conn now [] [] now
+tells_still : (conn : ℕ) (now : ConnectionState) → TellsServer conn now [] [] now
 tells_still conn now =
     λ apart. record { at_most = omega arith; unless_closed = λ is_open. omega arith; apart = apart }
 
-tells_as : (conn : ℕ) (was now : Standing) → now.lost ≡ was.lost → now.is_open ≡ was.is_open
+tells_as : (conn : ℕ) (was now : ConnectionState) → now.lost ≡ was.lost → now.is_open ≡ was.is_open
     → TellsServer conn was [] [] now
 tells_as conn was now lost is_open =
     subst (λ (l : Bool). TellsServer conn was [] [] (record { lost = l; is_open = now.is_open }))
@@ -149,8 +151,8 @@ known_left false false true = refl
 known_left false false false = refl
 
 -- the server knows of just those connections of which it knew, but for those that it has closed
-known_after : (conn : ℕ) (old : Option Connection) (was : Option Kind)
-    (calls : List Call) (outs : List Sent) (new : Option Connection) (now : Option Kind)
+known_after : (conn : ℕ) (old : Option Connection) (was : Option ConnectionKind)
+    (calls : List Call) (outs : List Sent) (new : Option Connection) (now : Option ConnectionKind)
     → Passage conn old was calls outs new now → (is_some now || is_open_at new)
     ≡ ((is_some was || is_open_at old) && not (is_closed_by conn outs))
 known_after conn None was calls outs None now passed = ap (λ t. t || false) passed.lost_is
@@ -177,8 +179,8 @@ apart_some true false false is = refl
 apart_some false true c is = refl
 apart_some false false c is = refl
 
-apart_after : (conn : ℕ) (old : Option Connection) (was : Option Kind)
-    (calls : List Call) (outs : List Sent) (new : Option Connection) (now : Option Kind)
+apart_after : (conn : ℕ) (old : Option Connection) (was : Option ConnectionKind)
+    (calls : List Call) (outs : List Sent) (new : Option Connection) (now : Option ConnectionKind)
     → Passage conn old was calls outs new now → (is_some was && is_open_at old) ≡ false
     → (is_some now && is_open_at new) ≡ false
 apart_after conn old was calls outs None now passed apart = never_both (is_some now)
@@ -190,8 +192,8 @@ apart_after conn (Some old) was calls outs (Some new) now passed apart =
     ∙ apart_some (is_some was) (is_some old.framer) (is_closed_by conn outs) apart
 
 -- something is done of itself: the server is told nothing
-tells_passage : (conn : ℕ) (old : Option Connection) (was : Option Kind)
-    (calls : List Call) (outs : List Sent) (new : Option Connection) (now : Option Kind)
+tells_passage : (conn : ℕ) (old : Option Connection) (was : Option ConnectionKind)
+    (calls : List Call) (outs : List Sent) (new : Option Connection) (now : Option ConnectionKind)
     → Passage conn old was calls outs new now
     → TellsServer conn (record { lost = is_some was; is_open = is_open_at old }) [] outs
     (record { lost = is_some now; is_open = is_open_at new })
@@ -225,29 +227,30 @@ lost_now q true true true true s one here is_open = λ apart. cc apart
 lost_now q false true true true s one here is_open =
     λ apart. record { at_most = omega arith; unless_closed = λ never. omega arith; apart = refl }
 
-line_told : (kind : Kind) (conn q : ℕ) (line : ArrayVec ℕ) → lines_by q
+line_told : (kind : ConnectionKind) (conn q : ℕ) (line : ArrayVec ℕ) → lines_by q
     (line_event_of kind conn line ∷ []) ≡ cond (nat_eq conn q) (line.items ∷ []) [] ++ []
 line_told kinds.Client conn q line = refl
 line_told kinds.Link conn q line = refl
 
-lines_here : (kind : Kind) (conn : ℕ) (line : Option (ArrayVec ℕ))
+lines_here : (kind : ConnectionKind) (conn : ℕ) (line : Option (ArrayVec ℕ))
     → lines_by conn (passed_on kind conn line) ≡ found_in line
 lines_here kind conn None = refl
 lines_here kind conn (Some line) =
     line_told kind conn conn line ∙ ap (λ xs. xs ++ []) (at_once conn (line.items ∷ []) [])
 
-lines_elsewhere : (kind : Kind) (conn q : ℕ) (line : Option (ArrayVec ℕ)) → nat_eq conn q ≡ false
-    → lines_by q (passed_on kind conn line) ≡ []
+lines_elsewhere : (kind : ConnectionKind) (conn q : ℕ) (line : Option (ArrayVec ℕ))
+    → nat_eq conn q ≡ false → lines_by q (passed_on kind conn line) ≡ []
 lines_elsewhere kind conn q None two = refl
 lines_elsewhere kind conn q (Some line) two =
     line_told kind conn q line ∙ ap (λ t. cond t (line.items ∷ []) [] ++ []) two
 
-no_end_told : (kind : Kind) (conn q : ℕ) (line : ArrayVec ℕ)
+no_end_told : (kind : ConnectionKind) (conn q : ℕ) (line : ArrayVec ℕ)
     → times_gone q (line_event_of kind conn line ∷ []) ≡ 0
 no_end_told kinds.Client conn q line = refl
 no_end_told kinds.Link conn q line = refl
 
-told_by_no_line : (q : ℕ) (kind : Kind) (conn : ℕ) (line : Option (ArrayVec ℕ)) (was now : Standing)
+told_by_no_line : (q : ℕ) (kind : ConnectionKind) (conn : ℕ) (line : Option (ArrayVec ℕ))
+    (was now : ConnectionState)
     (events : List Event) (outs : List Sent) → TellsServer q was events outs now
     → TellsServer q was (passed_on kind conn line ++ events) outs now
 told_by_no_line q kind conn line was now events outs tells =
@@ -307,7 +310,8 @@ pub used_within : (bytes : List ℕ) (used count more : ℕ) → used < count
 used_within bytes used count more within fits =
     omega (arith, within, fits, length-take (count - used) bytes)
 
-pub frames_within : (conn : ℕ) (piece : List ℕ) (old new : ConnectionTable) (used : ℕ) (kind : Kind)
+pub frames_within : (conn : ℕ) (piece : List ℕ) (old new : ConnectionTable) (used : ℕ)
+    (kind : ConnectionKind)
     (line : Option (ArrayVec ℕ)) → FramesAt conn piece old (Some (used, kind, line)) new
     → used ≤ length piece
 frames_within conn piece old new used kind line (no_connection none same never) = cc never
@@ -534,13 +538,13 @@ module _ {W : Type 0} (is_after : W → List Call → Type 0) where
   }
 
   -- The server is told that a connection is gone, which was lost and of which it was to be told.
-  gone_once : (kind : Kind) (conn q : ℕ) (t : Bool) → nat_eq conn q ≡ t
+  gone_once : (kind : ConnectionKind) (conn q : ℕ) (t : Bool) → nat_eq conn q ≡ t
       → times_gone q (end_event_of kind conn ∷ []) ≡ 0 + cond t 1 0
   gone_once kinds.Client conn q t is = ap (λ u. 0 + cond u 1 0) is
   gone_once kinds.Link conn q t is = ap (λ u. 0 + cond u 1 0) is
 
-  gone_of : (kind : Kind) (conn q : ℕ) (t l o : Bool) (events : List Event)
-      (outs : List Sent) (now : Standing) → nat_eq conn q ≡ t → (t ≡ true → l ≡ true)
+  gone_of : (kind : ConnectionKind) (conn q : ℕ) (t l o : Bool) (events : List Event)
+      (outs : List Sent) (now : ConnectionState) → nat_eq conn q ≡ t → (t ≡ true → l ≡ true)
       → TellsServer q (record { lost = cond t false l; is_open = o }) events outs now
       → TellsServer q (record { lost = l; is_open = o }) (end_event_of kind conn ∷ events) outs now
   gone_of kind conn q true true true events outs now is lost tells = λ apart. cc apart
@@ -582,17 +586,18 @@ module _ {W : Type 0} (is_after : W → List Call → Type 0) where
         apart = told.apart;
       }
 
-  no_line_of_an_end : (kind : Kind) (conn q : ℕ) (events : List Event)
+  no_line_of_an_end : (kind : ConnectionKind) (conn q : ℕ) (events : List Event)
       → lines_by q (end_event_of kind conn ∷ events) ≡ lines_by q events
   no_line_of_an_end kinds.Client conn q events = refl
   no_line_of_an_end kinds.Link conn q events = refl
 
-  still_lost : (t : Bool) (l : Option Kind) → is_some (cond t None l) ≡ cond t false (is_some l)
+  still_lost : (t : Bool) (l : Option ConnectionKind)
+      → is_some (cond t None l) ≡ cond t false (is_some l)
   still_lost true l = refl
   still_lost false l = refl
 
   pub ran_gone : (server : Option View) (journal : Journal) (room conn : ℕ)
-      (kind : Kind) (old mid : Connections W) (new : Moment W) → mid.wire ≡ old.wire
+      (kind : ConnectionKind) (old mid : Connections W) (new : Moment W) → mid.wire ≡ old.wire
       → mid.table ≡ old.table → lost_at old.lost conn ≡ Some kind → ((q : ℕ)
       → lost_at mid.lost q ≡ cond (nat_eq conn q) None (lost_at old.lost q)) → Ran is_after []
       (end_event_of kind conn ∷ []) nothing_of (at_connections server journal room mid) new
@@ -856,9 +861,10 @@ module _ {W : Type 0} (is_after : W → List Call → Type 0) where
 
   -- A framer has taken bytes, and the line that they complete is passed on.
   pub ran_framed : (server : Option View) (journal : Journal) (size : ℕ) (old mid : Connections W)
-      (new : Moment W) (conn : ℕ) (piece : List ℕ) (used : ℕ) (kind : Kind)
+      (new : Moment W) (conn : ℕ) (piece : List ℕ) (used : ℕ) (kind : ConnectionKind)
       (line : Option (ArrayVec ℕ))
-      (result : Option (ℕ × Kind × Option (ArrayVec ℕ))) → result ≡ Some (used, kind, line)
+      (result : Option (ℕ × ConnectionKind × Option (ArrayVec ℕ)))
+      → result ≡ Some (used, kind, line)
       → FramesAt conn piece old.table result mid.table → mid.wire ≡ old.wire
       → mid.lost ≡ old.lost
       → Ran is_after [] (passed_on kind conn line) nothing_of
@@ -921,7 +927,7 @@ module _ {W : Type 0} (is_after : W → List Call → Type 0) where
             (begun_at (new.connections q)) (only_of conn (take used piece) q) []
             (lines_by q (passed_on kind conn line)) (lines_by q ran.events)
             (framed q (nat_eq conn q) refl) (ran.hears q)));
-        tells = λ q. subst (λ (s : Standing). TellsServer q s (passed_on kind conn line
+        tells = λ q. subst (λ (s : ConnectionState). TellsServer q s (passed_on kind conn line
             ++ ran.events) ran.outs (standing_of q new)) (same_standing q)
             (told_by_no_line q kind conn line (standing_of q (at_connections server journal size
             mid)) (standing_of q new) ran.events ran.outs (ran.tells q));
@@ -1012,7 +1018,7 @@ module _ {W : Type 0} (is_after : W → List Call → Type 0) where
 
   -- bytes come of a connection that is not open
   pub ran_refused : (server : Option View) (journal : Journal) (size : ℕ) (old new : Connections W)
-      (conn : ℕ) (piece bytes : List ℕ) (result : Option (ℕ × Kind × Option (ArrayVec ℕ)))
+      (conn : ℕ) (piece bytes : List ℕ) (result : Option (ℕ × ConnectionKind × Option (ArrayVec ℕ)))
       → result ≡ None → FramesAt conn piece old.table result new.table
       → new.wire ≡ old.wire → new.lost ≡ old.lost → Ran is_after [] [] (only_of conn bytes)
       (at_connections server journal size old) (at_connections server journal size new)
@@ -1121,7 +1127,7 @@ module _ {W : Type 0} (is_after : W → List Call → Type 0) where
       ∙ only_both (nat_eq conn q) (take used buffer)
       (take (count - used) (drop used buffer))) one other
 
-  pub ran_no_line : (kind : Kind) (conn : ℕ) (line : Option (ArrayVec ℕ)) (now : Moment W)
+  pub ran_no_line : (kind : ConnectionKind) (conn : ℕ) (line : Option (ArrayVec ℕ)) (now : Moment W)
       → line ≡ None → Ran is_after [] (passed_on kind conn line) nothing_of now now
   ran_no_line kind conn line now none = subst (λ (o : Option (ArrayVec ℕ)). Ran is_after []
       (passed_on kind conn o) nothing_of now now) (sym none) (ran_none now)

@@ -6,7 +6,7 @@ use Rattle.irc_outbox.specs.declared.wire.Ready.TheVariants.{Idle, Writable}
 use Rattle.irc_outbox.specs.Calls.{Call, asks, Adds, Keeps}
 use Rattle.irc_engine.specs.declared.engine.Core.{Core}
 use Rattle.irc_engine.specs.declared.engine.Engine.{Engine}
-use Rattle.irc_engine.specs.declared.engine.Rooms.{Rooms}
+use Rattle.irc_engine.specs.declared.engine.OutboxSizes.{OutboxSizes}
 use Rattle.irc_engine.specs.declared.engine.EngineFault.{EngineFault}
 use Rattle.irc_engine.specs.Running.{Moment, AllTold, Answers, Does, Flushes, IsInOrder}
 use Rattle.irc_engine.specs.Loops.Connections.{IsMarkedAt, KeepsNotes}
@@ -45,13 +45,13 @@ told_ready is_after ready old new before after (Ok done) (takes_it still same do
 told_ready is_after ready old new before after (Err fault) (runs_out failed busy) = tt
 
 -- nothing is ready, or only that a connection takes bytes again
-pub nothing_to_do : {W : Type 0} (is_after : W → List Call → Type 0) (rooms : Rooms)
+pub nothing_to_do : {W : Type 0} (is_after : W → List Call → Type 0) (sizes : OutboxSizes)
     (now : Moment W) (ready : Ready) → (ready ≡ Idle) ⊎ ((conn : ℕ) × (ready ≡ Writable conn))
-    → Answers is_after rooms ready now now
-nothing_to_do is_after rooms now ready (inl is) =
-    subst (λ r. Answers is_after rooms r now now) (sym is) (ran_none is_after now)
-nothing_to_do is_after rooms now ready (inr is) =
-    subst (λ r. Answers is_after rooms r now now) (sym is.1) (ran_none is_after now)
+    → Answers is_after sizes ready now now
+nothing_to_do is_after sizes now ready (inl is) =
+    subst (λ r. Answers is_after sizes r now now) (sym is) (ran_none is_after now)
+nothing_to_do is_after sizes now ready (inr is) =
+    subst (λ r. Answers is_after sizes r now now) (sym is.1) (ran_none is_after now)
 
 -- what is ready is done, and then outboxes are written
 module _ {W : Type 0} (is_after : W → List Call → Type 0) (old between new : Core W) where
@@ -67,21 +67,21 @@ module _ {W : Type 0} (is_after : W → List Call → Type 0) (old between new :
       marked : (q : ℕ) → IsMarkedAt q false between.connections
       marked q = notes q (record { noted_is = order.noted q; not_done = order.none_done q })
 
-  pub does_both : {E : Type 0} (rooms : Rooms) (ready : Ready) (result : Result (Unit {0}) E)
-      → Answers is_after rooms ready (moment_of old) (moment_of between) → (AllTold (moment_of old)
+  pub does_both : {E : Type 0} (sizes : OutboxSizes) (ready : Ready) (result : Result (Unit {0}) E)
+      → Answers is_after sizes ready (moment_of old) (moment_of between) → (AllTold (moment_of old)
       → AllTold (moment_of between)) → KeepsNotes old.connections between.connections
       → OnOk result (Flushes is_after (moment_of between) (moment_of new))
       → OnOk result (AllTold (moment_of between) → AllTold (moment_of new))
       → OnOk result (IsInOrder (moment_of between) → IsInOrder (moment_of new))
-      → OnOk result (Does is_after rooms ready (moment_of old) (moment_of new))
-  does_both rooms ready (Ok done) answers told notes writes later still = record {
+      → OnOk result (Does is_after sizes ready (moment_of old) (moment_of new))
+  does_both sizes ready (Ok done) answers told notes writes later still = record {
     between = moment_of between;
     answers = answers;
     writes = writes;
     all_told = λ before. (told before, later (told before));
     in_order = λ order. (order_between told notes order, still (order_between told notes order));
   }
-  does_both rooms ready (Err fault) answers told notes writes later still = tt
+  does_both sizes ready (Err fault) answers told notes writes later still = tt
 
 -- one turn is not taken, behind those that were
 pub stops_by : {W : Type 0} (is_after : W → List Call → Type 0) (old between new : EngineView W)

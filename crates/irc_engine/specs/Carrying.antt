@@ -11,12 +11,12 @@ use Rattle.irc_outbox.specs.Outboxes.{holding}
 use Rattle.irc_outbox.specs.Calls.{Call, reads, writes, closes, is_some_bytes, written}
 use Rattle.irc_outbox.specs.Calls.{times_closed}
 use Rattle.irc_batch.specs.Batches.{Sent, end_of, end_of_link, line_on, line_to}
-use Rattle.irc_engine.specs.declared.kind.Kind.{Kind}
+use Rattle.irc_engine.specs.declared.kind.ConnectionKind.{ConnectionKind}
 use Rattle.irc_engine.specs.declared.connection_table.Connection.{Connection}
 use Rattle.irc_engine.specs.Hearing.{begun_at, Hears}
 
 -- a connection that has just been made
-abbrev pub fresh_connection : Kind → ℕ → Connection
+abbrev pub fresh_connection : ConnectionKind → ℕ → Connection
 fresh_connection kind room =
     record { kind = kind; outbox = holding [] room; framer = Some nothing_begun }
 
@@ -50,23 +50,25 @@ is_open_at None = false
 is_open_at (Some connection) = is_some connection.framer
 
 -- the kind of a connection, if it is there
-abbrev pub kind_at : Option Connection → Option Kind
+abbrev pub kind_at : Option Connection → Option ConnectionKind
 kind_at None = None
 kind_at (Some connection) = Some connection.kind
 
 -- and if the server has not closed it
-abbrev pub open_kind_at : Option Connection → Option Kind
+abbrev pub open_kind_at : Option Connection → Option ConnectionKind
 open_kind_at connection = if is_open_at connection then kind_at connection else None
 
 -- A connection is of this kind: it is there, and of this kind, or it was lost as one of this kind,
 -- and the server has yet to be told.
-pub data IsOfKind (kind : Kind) (connection : Option Connection) (lost : Option Kind) : Type 0 where
+pub data IsOfKind (kind : ConnectionKind) (connection : Option Connection)
+    (lost : Option ConnectionKind) : Type 0 where
   kind_of_connection : kind_at connection ≡ Some kind → IsOfKind kind connection lost
   kind_of_loss : lost ≡ Some kind → IsOfKind kind connection lost
 
 -- it is of no other kind than before
-abbrev pub KeepsKind : Option Connection → Option Kind → Option Connection → Option Kind → Type 0
-KeepsKind old was new now = (kind : Kind) → IsOfKind kind new now → IsOfKind kind old was
+abbrev pub KeepsKind : Option Connection → Option ConnectionKind → Option Connection
+    → Option ConnectionKind → Type 0
+KeepsKind old was new now = (kind : ConnectionKind) → IsOfKind kind new now → IsOfKind kind old was
 
 -- whether it is there, with bytes to write
 abbrev pub has_some_at : Option Connection → Bool
@@ -146,8 +148,9 @@ abbrev pub is_lost_after : Option Connection → Bool → Bool → Option Connec
 is_lost_after old was_lost closed new =
     (was_lost || (is_open_at old && not (is_some new))) && not closed
 
-pub record Passage (conn : ℕ) (old : Option Connection) (was_lost : Option Kind) (calls : List Call)
-    (outs : List Sent) (new : Option Connection) (is_lost : Option Kind)
+pub record Passage (conn : ℕ) (old : Option Connection) (was_lost : Option ConnectionKind)
+    (calls : List Call)
+    (outs : List Sent) (new : Option Connection) (is_lost : Option ConnectionKind)
     : Type 0 where
   pub fate : Fate conn old calls outs new
   pub lost_is : is_some is_lost ≡ is_lost_after old (is_some was_lost) (is_closed_by conn outs) new

@@ -7,17 +7,17 @@ use Rattle.arrayvec.specs.ArrayVec.{ArrayVec}
 use Rattle.irc_line.specs.Lines.{Begun, Takes}
 use Rattle.irc_server.specs.declared.event.Event.{Event}
 use Rattle.irc_server.specs.declared.event.Event.TheVariants.{Line, Gone, LinkLine, LinkDown}
-use Rattle.irc_engine.specs.declared.kind.Kind.{Kind}
-use Rattle.irc_engine.specs.declared.kind.Kind.TheVariants.{Client, Link}
+use Rattle.irc_engine.specs.declared.kind.ConnectionKind.{ConnectionKind}
+use Rattle.irc_engine.specs.declared.kind.ConnectionKind.TheVariants.{Client, Link}
 use Rattle.irc_engine.specs.declared.connection_table.Connection.{Connection}
 
 -- the event by which the server is told a line of a connection of some kind
-abbrev pub line_event_of : Kind → ℕ → ArrayVec ℕ → Event
+abbrev pub line_event_of : ConnectionKind → ℕ → ArrayVec ℕ → Event
 line_event_of Client conn line = Line conn line
 line_event_of Link conn line = LinkLine conn line
 
 -- the event by which it is told that a connection of some kind is gone
-abbrev pub end_event_of : Kind → ℕ → Event
+abbrev pub end_event_of : ConnectionKind → ℕ → Event
 end_event_of Client conn = Gone conn
 end_event_of Link conn = LinkDown conn
 

@@ -15,9 +15,9 @@ use Rattle.irc_server.specs.declared.event.Event.TheVariants.{Connect, LinkUp}
 use Rattle.irc_batch.specs.Batches.{Sent}
 use Rattle.irc_stage.specs.View.{View}
 use Rattle.irc_server.specs.Happening.{IsHandled}
-use Rattle.irc_engine.specs.declared.engine.Rooms.{Rooms}
-use Rattle.irc_engine.specs.declared.kind.Kind.{Kind}
-use Rattle.irc_engine.specs.declared.kind.Kind.TheVariants as kinds
+use Rattle.irc_engine.specs.declared.engine.OutboxSizes.{OutboxSizes}
+use Rattle.irc_engine.specs.declared.kind.ConnectionKind.{ConnectionKind}
+use Rattle.irc_engine.specs.declared.kind.ConnectionKind.TheVariants as kinds
 use Rattle.irc_engine.specs.declared.connection_table.Connection.{Connection}
 use Rattle.irc_engine.specs.Carrying.{has_some_at, is_closed_by, is_done_at, is_exchange}
 use Rattle.irc_engine.specs.Carrying.{is_open_at, AddsAll, Fate, fresh_connection, IsOfKind}
@@ -37,26 +37,26 @@ pub record Moment (W : Type 0) : Type 0 where
   pub journal : Journal
   pub wire : W
   pub connections : ℕ → Option Connection
-  pub lost : ℕ → Option Kind
+  pub lost : ℕ → Option ConnectionKind
   pub waiting : ℕ → Bool
   pub read_room : ℕ
 
 -- how a connection stands with the server: it was lost and the server has yet to be told, or it is
 -- open, or neither
-pub record Standing : Type 0 where
+pub record ConnectionState : Type 0 where
   pub lost : Bool
   pub is_open : Bool
 
-abbrev pub standing_of : {W : Type 0} → ℕ → Moment W → Standing
+abbrev pub standing_of : {W : Type 0} → ℕ → Moment W → ConnectionState
 standing_of conn now =
     record { lost = is_some (now.lost conn); is_open = is_open_at (now.connections conn) }
 
 -- whether the server knows of it
-abbrev pub server_knows : Standing → Bool
+abbrev pub server_knows : ConnectionState → Bool
 server_knows now = now.lost || now.is_open
 
 -- it is not lost and open at once
-abbrev pub IsApart : Standing → Type 0
+abbrev pub IsApart : ConnectionState → Type 0
 IsApart now = (now.lost && now.is_open) ≡ false
 
 -- the server has been told of each connection that was lost
@@ -72,21 +72,21 @@ pub record IsInOrder {W : Type 0} (now : Moment W) : Type 0 where
   pub none_done : (conn : ℕ) → is_done_at (now.connections conn) ≡ false
 
 -- who is asked for events: the server, and the journal of its links with it
-pub record Asked : Type 0 where
+pub record ServerAsked : Type 0 where
   pub server : Option View
   pub journal : Journal
 
-abbrev pub asked : Option View → Journal → Asked
+abbrev pub asked : Option View → Journal → ServerAsked
 asked server journal = record { server = server; journal = journal }
 
-abbrev pub asked_at : {W : Type 0} → Moment W → Asked
+abbrev pub asked_at : {W : Type 0} → Moment W → ServerAsked
 asked_at now = asked now.server now.journal
 
 -- the server is asked for an event, and refuses it not; what comes to light of links by it is
 -- entered in the journal, and then it is asked for others
-pub record AskedFirst (old : Asked) (event : Event) (outs : List Sent)
-    (rest : Asked → List Sent → Type 0) : Type 0 where
-  pub between : Asked
+pub record AskedFirst (old : ServerAsked) (event : Event) (outs : List Sent)
+    (rest : ServerAsked → List Sent → Type 0) : Type 0 where
+  pub between : ServerAsked
   pub first : List Sent
   pub more : List Sent
   pub is_handled : IsHandled old.server event [] (Ok tt) between.server first
@@ -95,28 +95,29 @@ pub record AskedFirst (old : Asked) (event : Event) (outs : List Sent)
   pub rest_is : rest between more
 
 -- The server is asked for these events, one after another, and this is all that it puts out.
-abbrev pub AreAsked : Asked → List Event → List Sent → Asked → Type 0
+abbrev pub AreAsked : ServerAsked → List Event → List Sent → ServerAsked → Type 0
 AreAsked old [] outs new = (outs ≡ []) × (new ≡ old)
 AreAsked old (event ∷ events) outs new =
     AskedFirst old event outs (λ between more. AreAsked between events more new)
 
 -- How often the server is told that one connection is gone: once where it was open or lost before
 -- and is neither any more, and else never; nor where the server has closed it before.
-pub record IsTold (conn : ℕ) (was : Standing) (events : List Event) (outs : List Sent)
-    (now : Standing) : Type 0 where
+pub record IsTold (conn : ℕ) (was : ConnectionState) (events : List Event) (outs : List Sent)
+    (now : ConnectionState) : Type 0 where
   pub at_most : times_gone conn events + one_if (server_knows now) ≤ one_if (server_knows was)
   pub unless_closed : is_closed_by conn outs ≡ false
       → times_gone conn events + one_if (server_knows now) ≡ one_if (server_knows was)
   pub apart : IsApart now
 
-abbrev pub TellsServer : ℕ → Standing → List Event → List Sent → Standing → Type 0
+abbrev pub TellsServer : ℕ → ConnectionState → List Event → List Sent → ConnectionState → Type 0
 TellsServer conn was events outs now = IsApart was → IsTold conn was events outs now
 
 -- An event tells a line of a connection, or that it is gone, by the kind that it is of.
 pub data IsNews {W : Type 0} (now : Moment W) (event : Event) : Type 0 where
-  a_line : (kind : Kind) (conn : ℕ) (line : ArrayVec ℕ) → IsOfKind kind (now.connections conn)
+  a_line : (kind : ConnectionKind) (conn : ℕ) (line : ArrayVec ℕ)
+      → IsOfKind kind (now.connections conn)
       (now.lost conn) → event ≡ line_event_of kind conn line → IsNews now event
-  an_end : (kind : Kind) (conn : ℕ) → IsOfKind kind (now.connections conn) (now.lost conn)
+  an_end : (kind : ConnectionKind) (conn : ℕ) → IsOfKind kind (now.connections conn) (now.lost conn)
       → event ≡ end_event_of kind conn → IsNews now event
 
 -- From one moment to another: the server was asked for some events, calls were made of the wire,
@@ -153,7 +154,8 @@ AsksOnce is_after event old new =
     (ran : Ran is_after [] (event ∷ []) nothing_of old new) × (ran.events ≡ [])
 
 -- This connection was lost, as one of this kind, and none that has a lower number.
-pub record IsLowestLost (conn : ℕ) (kind : Kind) (lost : ℕ → Option Kind) : Type 0 where
+pub record IsLowestLost (conn : ℕ) (kind : ConnectionKind)
+    (lost : ℕ → Option ConnectionKind) : Type 0 where
   pub is_lost : lost conn ≡ Some kind
   pub is_lowest : (q : ℕ) → is_some (lost q) ≡ true → conn ≤ q
 
@@ -162,7 +164,7 @@ pub record IsLowestLost (conn : ℕ) (kind : Kind) (lost : ℕ → Option Kind) 
 pub data TellsLosses {W : Type 0} (is_after : W → List Call → Type 0) (old : Moment W) : Moment W
     → Type 0 where
   none_so_far : TellsLosses is_after old old
-  tells_lowest : (conn : ℕ) (kind : Kind) (before told new : Moment W)
+  tells_lowest : (conn : ℕ) (kind : ConnectionKind) (before told new : Moment W)
       → TellsLosses is_after old before → IsLowestLost conn kind before.lost
       → told ≡ record before { lost = told.lost }
       → ((q : ℕ) → told.lost q ≡ (if nat_eq conn q then None else before.lost q))
@@ -177,7 +179,8 @@ pub record PassesOn {W : Type 0} (is_after : W → List Call → Type 0) (event 
 
 -- A client has connected or a link is open, and is there from now on: nothing is owed to it, and
 -- nothing has come. The server is asked for this event. A number that is in use is passed over.
-pub data Starts {W : Type 0} (is_after : W → List Call → Type 0) (kind : Kind) (room conn : ℕ)
+pub data Starts {W : Type 0} (is_after : W → List Call → Type 0) (kind : ConnectionKind)
+    (room conn : ℕ)
     (event : Event) (old new : Moment W) : Type 0 where
   in_use : is_some (old.connections conn) ≡ true → RanOn is_after old new
       → Starts is_after kind room conn event old new
@@ -199,15 +202,15 @@ pub data Reads {W : Type 0} (is_after : W → List Call → Type 0) (conn : ℕ)
       → Reads is_after conn old new
 
 -- What is ready is done.
-abbrev pub Answers : {W : Type 0} → (W → List Call → Type 0) → Rooms → Ready → Moment W → Moment W
-    → Type 0
-Answers is_after rooms Idle old new = RanOn is_after old new
-Answers is_after rooms (Client conn host) old new =
-    Starts is_after kinds.Client rooms.client conn (Connect conn host) old new
-Answers is_after rooms (Linked conn starts) old new =
-    Starts is_after kinds.Link rooms.link conn (LinkUp conn starts) old new
-Answers is_after rooms (Readable conn) old new = Reads is_after conn old new
-Answers is_after rooms (Writable conn) old new = RanOn is_after old new
+abbrev pub Answers : {W : Type 0} → (W → List Call → Type 0) → OutboxSizes → Ready → Moment W
+    → Moment W → Type 0
+Answers is_after sizes Idle old new = RanOn is_after old new
+Answers is_after sizes (Client conn host) old new =
+    Starts is_after kinds.Client sizes.client conn (Connect conn host) old new
+Answers is_after sizes (Linked conn starts) old new =
+    Starts is_after kinds.Link sizes.link conn (LinkUp conn starts) old new
+Answers is_after sizes (Readable conn) old new = Reads is_after conn old new
+Answers is_after sizes (Writable conn) old new = RanOn is_after old new
 
 -- Each outbox that is not empty is written once.
 pub record Flushes {W : Type 0} (is_after : W → List Call → Type 0)
@@ -217,18 +220,19 @@ pub record Flushes {W : Type 0} (is_after : W → List Call → Type 0)
   pub each : IsInOrder old → WritesEach old.connections exchanges new.connections
 
 -- What is ready is done, and then outboxes are written.
-pub record Does {W : Type 0} (is_after : W → List Call → Type 0) (rooms : Rooms) (report : Ready)
+pub record Does {W : Type 0} (is_after : W → List Call → Type 0) (sizes : OutboxSizes)
+    (report : Ready)
     (old new : Moment W) : Type 0 where
   pub between : Moment W
-  pub answers : Answers is_after rooms report old between
+  pub answers : Answers is_after sizes report old between
   pub writes : Flushes is_after between new
   pub all_told : AllTold old → AllTold between × AllTold new
   pub in_order : IsInOrder old → IsInOrder between × IsInOrder new
 
 -- One turn: the wire is asked once what is ready, and that is done.
-pub record Turn {W : Type 0} (is_after : W → List Call → Type 0) (rooms : Rooms)
+pub record Turn {W : Type 0} (is_after : W → List Call → Type 0) (sizes : OutboxSizes)
     (old new : Moment W) : Type 0 where
   pub report : Ready
   pub wire : W
   pub account : Adds is_after old.wire (asks (Ok report)) wire
-  pub does : Does is_after rooms report (record old { wire = wire }) new
+  pub does : Does is_after sizes report (record old { wire = wire }) new

@@ -6,7 +6,7 @@ use Rattle.irc_outbox.specs.declared.wire.Ready.{Ready}
 use Rattle.irc_outbox.specs.declared.wire.Ready.TheVariants.{Idle, Writable}
 use Rattle.irc_outbox.specs.Calls.{Call, asks, Adds}
 use Rattle.irc_stage.specs.View.{View}
-use Rattle.irc_engine.specs.declared.engine.Rooms.{Rooms}
+use Rattle.irc_engine.specs.declared.engine.OutboxSizes.{OutboxSizes}
 use Rattle.irc_engine.specs.declared.engine.EngineFault.{EngineFault}
 use Rattle.irc_engine.specs.declared.engine.EngineFault.TheVariants.{Memory, Failed, Device}
 use Rattle.irc_engine.specs.Carrying.{has_some_at}
@@ -17,7 +17,7 @@ use Rattle.irc_engine.specs.Running.{Moment, IsInOrder, Does, Turn}
 -- outboxes have room for, and how it is now.
 pub record EngineView (W : Type 0) : Type 0 where
   pub failed : Bool
-  pub rooms : Rooms
+  pub sizes : OutboxSizes
   pub now : Moment W
 
 -- an engine that has served nobody
@@ -27,7 +27,7 @@ pub record IsNew {W : Type 0} (server : Option View) (wire : W) (client_room lin
   pub server_is : engine.now.server ≡ server
   pub is_blank : IsBlank engine.now.journal
   pub wire_is : engine.now.wire ≡ wire
-  pub rooms_are : engine.rooms ≡ record { client = client_room; link = link_room }
+  pub rooms_are : engine.sizes ≡ record { client = client_room; link = link_room }
   pub no_connections : (conn : ℕ) → engine.now.connections conn ≡ None
   pub in_order : IsInOrder engine.now
   pub reads_at_most : engine.now.read_room ≡ 4096
@@ -47,20 +47,20 @@ pub record IsNothingToDo {W : Type 0} (report : Ready) (now : Moment W) : Type 0
 -- there is nothing to do.
 pub data Taken {W : Type 0} (is_after : W → List Call → Type 0) (report : Ready)
     (old new : EngineView W) : Result (Unit {0}) EngineFault → Type 0 where
-  takes_it : new.failed ≡ false → new.rooms ≡ old.rooms
-      → Does is_after old.rooms report old.now new.now → Taken is_after report old new (Ok tt)
+  takes_it : new.failed ≡ false → new.sizes ≡ old.sizes
+      → Does is_after old.sizes report old.now new.now → Taken is_after report old new (Ok tt)
   runs_out : new.failed ≡ true → (IsInOrder old.now → ¬ (IsNothingToDo report old.now))
       → Taken is_after report old new (Err Memory)
 
 -- A turn is taken; or the wire could not tell what is ready, and nothing else has happened; or
--- memory ran out, where there was something to do; or it ran out before. The rooms of outboxes stay
+-- memory ran out, where there was something to do; or it ran out before. The sizes of outboxes stay
 -- what they were.
 pub data Turned {W : Type 0} (is_after : W → List Call → Type 0)
     (old new : EngineView W) : Result (Unit {0}) EngineFault → Type 0 where
-  takes_turn : old.failed ≡ false → new.failed ≡ false → new.rooms ≡ old.rooms
-      → Turn is_after old.rooms old.now new.now → Turned is_after old new (Ok tt)
+  takes_turn : old.failed ≡ false → new.failed ≡ false → new.sizes ≡ old.sizes
+      → Turn is_after old.sizes old.now new.now → Turned is_after old new (Ok tt)
   device_failed : (fault : IoFault) → old.failed ≡ false → new.failed ≡ false
-      → new.rooms ≡ old.rooms → Adds is_after old.now.wire (asks (Err fault)) new.now.wire
+      → new.sizes ≡ old.sizes → Adds is_after old.now.wire (asks (Err fault)) new.now.wire
       → new.now ≡ record old.now { wire = new.now.wire } → Turned is_after old new (Err Device)
   wants_memory : (report : Ready) (wire : W) → old.failed ≡ false → new.failed ≡ true
       → Adds is_after old.now.wire (asks (Ok report)) wire → (IsInOrder old.now

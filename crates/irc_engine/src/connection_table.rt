@@ -10,7 +10,7 @@ ghost use Rattle.irc_engine.specs.Loops.Tables.{IsWrittenIn, with_line, Frames, 
 ghost use Rattle.irc_engine.specs.Loops.Tables.{Within};
 
 use crate::boxed_framer::BoxedFramer;
-use crate::kind::Kind;
+use crate::kind::ConnectionKind;
 use irc_line::Line;
 use irc_outbox::{IoFault, Outbox, Overflow, Wire};
 use std::alloc::{AllocError, Global};
@@ -25,7 +25,7 @@ const PIECE: usize = 2_097_152;
 #[derive(Drop)]
 pub struct Connection {
     /// Whether it is a client's or a link's.
-    pub kind: Kind,
+    pub kind: ConnectionKind,
     /// What is still to be written to it.
     pub outbox: Outbox,
     /// What has come of its next line; none once the server has closed the connection.
@@ -45,7 +45,11 @@ pub(crate) enum Pushed {
 
 impl Connection {
     /// That of a connection that has just been made.
-    pub(crate) fn fresh(alloc: Global, kind: Kind, room: usize) -> Result<Self, AllocError>
+    pub(crate) fn fresh(
+        alloc: Global,
+        kind: ConnectionKind,
+        room: usize,
+    ) -> Result<Self, AllocError>
         ensures { IfOk result (λ connection. connection ≡ fresh_connection kind room) }
     {
         let outbox = Outbox::with_capacity(alloc, room)?;
@@ -65,7 +69,7 @@ impl Connection {
     }
 
     /// The kind of the connection, unless the server has closed it.
-    fn open_kind(&self) -> Option<Kind>
+    fn open_kind(&self) -> Option<ConnectionKind>
         ensures { result ≡ open_kind_at (Some self.now) }
     {
         if self.framer.is_some() {
@@ -96,7 +100,7 @@ impl Connection {
 
     /// Takes bytes that have come, up to the end of the next line, which is put into `line`: how
     /// many, and of which kind the connection is; nothing, where the server has closed it.
-    fn take(&mut self, piece: &[u8], line: &mut Option<Line>) -> Option<(usize, Kind)>
+    fn take(&mut self, piece: &[u8], line: &mut Option<Line>) -> Option<(usize, ConnectionKind)>
         ensures { Frames self.old piece.now (with_line result line.new) self.new }
     {
         match &mut self.framer {
@@ -155,7 +159,7 @@ impl ConnectionTable {
     }
 
     /// The kind of a connection that is there and that the server has not closed.
-    pub(crate) fn open_kind(&self, conn: u64) -> Option<Kind>
+    pub(crate) fn open_kind(&self, conn: u64) -> Option<ConnectionKind>
         ensures { result ≡ open_kind_at (connection_of self.now conn) }
     {
         match self.find(conn) {
@@ -189,7 +193,7 @@ impl ConnectionTable {
         &mut self,
         alloc: Global,
         conn: u64,
-        kind: Kind,
+        kind: ConnectionKind,
         room: usize,
     ) -> Result<(), AllocError>
         ensures { OnOk result (Sets self.old conn (Some (fresh_connection kind room)) self.new) }
@@ -282,7 +286,7 @@ impl ConnectionTable {
         conn: u64,
         piece: &[u8],
         line: &mut Option<Line>,
-    ) -> Option<(usize, Kind)>
+    ) -> Option<(usize, ConnectionKind)>
         ensures at { FramesAt conn piece.now self.old (with_line result line.new) self.new }
         ensures len { connection_count self.new ≡ connection_count self.old }
     {
@@ -337,7 +341,7 @@ fn take(
     slot: &mut Option<Connection>,
     piece: &[u8],
     line: &mut Option<Line>,
-) -> Option<(usize, Kind)>
+) -> Option<(usize, ConnectionKind)>
     ensures { FramesIn piece.now slot.old (with_line result line.new) slot.new }
 {
     match slot {

@@ -13,7 +13,7 @@ ghost use Rattle.irc_batch.specs.Batches.{end_of, line_to, sent_of};
 ghost use Rattle.irc_journal.specs.Signs.{sign_of, EntersAll};
 
 use crate::connection_table::{ConnectionTable, Pushed};
-use crate::kind::Kind;
+use crate::kind::ConnectionKind;
 use irc_batch::{Batch, Out};
 use irc_journal::Journal;
 use irc_outbox::Wire;
@@ -30,7 +30,7 @@ pub(crate) struct Connections<W> {
     /// Connections with bytes to write, but for those that the turn is about to write to.
     pub waiting: BTreeSet<u64, Global>,
     /// Connections that were lost, of which the server has yet to be told, with their kinds.
-    pub lost: BTreeMap<u64, Kind, Global>,
+    pub lost: BTreeMap<u64, ConnectionKind, Global>,
 }
 
 /// Notes a connection's number.
@@ -52,9 +52,9 @@ fn forget(numbers: &mut BTreeSet<u64, Global>, conn: u64)
 
 /// Notes that a connection of this kind was lost.
 fn note_loss(
-    lost: &mut BTreeMap<u64, Kind, Global>,
+    lost: &mut BTreeMap<u64, ConnectionKind, Global>,
     conn: u64,
-    kind: Kind,
+    kind: ConnectionKind,
 ) -> Result<(), AllocError>
     ensures noted { OnOk result (IsLostAs lost.old conn (Some kind) lost.new) }
     ensures len { OnOk result (btree_map_len lost.new ≤ btree_map_len lost.old + 1) }
@@ -66,7 +66,7 @@ fn note_loss(
 }
 
 /// Forgets that a connection was lost.
-fn forget_loss(lost: &mut BTreeMap<u64, Kind, Global>, conn: u64)
+fn forget_loss(lost: &mut BTreeMap<u64, ConnectionKind, Global>, conn: u64)
     ensures forgotten { IsLostAs lost.old conn None lost.new }
     ensures len { btree_map_len lost.new ≤ btree_map_len lost.old }
 {
@@ -74,7 +74,9 @@ fn forget_loss(lost: &mut BTreeMap<u64, Kind, Global>, conn: u64)
 }
 
 /// Takes the lost connection with the lowest number out.
-pub(crate) fn take_lowest(lost: &mut BTreeMap<u64, Kind, Global>) -> Option<(u64, Kind)>
+pub(crate) fn take_lowest(
+    lost: &mut BTreeMap<u64, ConnectionKind, Global>,
+) -> Option<(u64, ConnectionKind)>
     ensures variant { IsSome result ↔ (0 < btree_map_len lost.old) }
     ensures member { IfSome result (λ first. lost_at lost.old first.0 ≡ Some first.1) }
     ensures least { IfSome result (λ first. IsLowerBound nat_cmp lost.old first.0) }

@@ -17,7 +17,7 @@ ghost use Rattle.irc_engine.specs.Turning.{brings_nothing, HasFailed, IsNew, Run
 
 use crate::connection_table::ConnectionTable;
 use crate::connections::{Connections, take_lowest};
-use crate::kind::Kind;
+use crate::kind::ConnectionKind;
 use crate::noting::note;
 use irc_batch::Batch;
 use irc_journal::Journal;
@@ -49,7 +49,7 @@ pub enum EngineFault {
 
 /// How many bytes an outbox holds.
 #[derive(Clone, Copy, Drop)]
-pub struct Rooms {
+pub struct OutboxSizes {
     /// That of a client.
     pub client: usize,
     /// That of a link.
@@ -60,7 +60,7 @@ pub struct Rooms {
 #[derive(Drop)]
 pub struct Engine<W> {
     failed: bool,
-    rooms: Rooms,
+    sizes: OutboxSizes,
     pub(crate) core: Core<W>,
     /// The server has just the connections that are open.
     ghost settled: { failed ≡ false → IsSettled core.server (connection_of core.connections.table)
@@ -104,7 +104,7 @@ impl<W: Wire + Drop> Engine<W> {
         let buffer = vec![in alloc; 0u8; READ_SIZE]?;
         Ok(Engine {
             failed: false,
-            rooms: Rooms {
+            sizes: OutboxSizes {
                 client: client_room,
                 link: link_room,
             },
@@ -132,9 +132,10 @@ impl<W: Wire> Engine<W> {
     /// not empty, in order of number.
     ///
     /// # Errors
-    /// [`EngineFault::Failed`] where memory ran out before; then [`EngineFault::Device`] where the
-    /// wire could not tell what is ready:
-    /// nothing has changed then; [`EngineFault::Memory`] where memory runs out.
+    /// - [`EngineFault::Failed`] where memory ran out before.
+    /// - [`EngineFault::Device`] else, where the wire could not tell what is ready. Nothing has
+    ///   changed then.
+    /// - [`EngineFault::Memory`] where memory runs out.
     pub fn turn(&mut self) -> Result<(), EngineFault>
         ensures turned { Turned W.is_after (engine_view self.old) (engine_view self.new) result }
         ensures failed_before { HasFailed (engine_view self.old) → self.new ≡ self.old }
@@ -156,7 +157,7 @@ impl<W: Wire> Engine<W> {
         ensures { Taken W.is_after ready (engine_view self.old) (engine_view self.new) result }
     {
         self.failed = true;
-        match self.core.turn(ready, self.rooms) {
+        match self.core.turn(ready, self.sizes) {
             Ok(()) => {
                 self.failed = false;
                 Ok(())
@@ -182,30 +183,30 @@ impl<W: Wire> Engine<W> {
 
 impl<W: Wire> Core<W> {
     /// Does what is ready, and writes.
-    fn turn(&mut self, ready: Ready, rooms: Rooms) -> Result<(), AllocError>
+    fn turn(&mut self, ready: Ready, sizes: OutboxSizes) -> Result<(), AllocError>
         requires { IsSettledIn self.old }
         ensures settled { OnOk result (IsSettledIn self.new) }
-        ensures done { OnOk result (Spans (Does W.is_after rooms ready) self.old self.new) }
+        ensures done { OnOk result (Spans (Does W.is_after sizes ready) self.old self.new) }
         ensures quiet { brings_nothing ready ≡ true → IsNobodyNoted self.old → result ≡ Ok tt }
     {
-        self.answer(ready, rooms)?;
+        self.answer(ready, sizes)?;
         self.flush()
     }
 
     /// Does what is ready.
-    fn answer(&mut self, ready: Ready, rooms: Rooms) -> Result<(), AllocError>
+    fn answer(&mut self, ready: Ready, sizes: OutboxSizes) -> Result<(), AllocError>
         requires at_one { IsAtOneIn self.old }
         requires told { AllTold (moment_of self.old) }
         ensures at_one { OnOk result (IsAtOneIn self.new) }
-        ensures done { OnOk result (Spans (Answers W.is_after rooms ready) self.old self.new) }
+        ensures done { OnOk result (Spans (Answers W.is_after sizes ready) self.old self.new) }
         ensures told { OnOk result (KeepsTold self.old self.new) }
         ensures notes { OnOk result (KeepsNotes self.old.connections self.new.connections) }
         ensures quiet { brings_nothing ready ≡ true → (result ≡ Ok tt) × (self.new ≡ self.old) }
     {
         match ready {
             Ready::Idle | Ready::Writable(_) => Ok(()),
-            Ready::Client(conn, host) => self.start_client(conn, host, rooms.client),
-            Ready::Linked(conn, starts) => self.start_link(conn, starts, rooms.link),
+            Ready::Client(conn, host) => self.start_client(conn, host, sizes.client),
+            Ready::Linked(conn, starts) => self.start_link(conn, starts, sizes.link),
             Ready::Readable(conn) => self.read(conn),
         }
     }
@@ -216,12 +217,17 @@ impl<W: Wire> Core<W> {
         requires at_one { IsAtOneIn self.old }
         requires told { AllTold (moment_of self.old) }
         ensures at_one { OnOk result (IsAtOneIn self.new) }
-        ensures done { OnOk result (Spans (Starts W.is_after Kind.Client room conn
+        ensures done { OnOk result (Spans (Starts W.is_after ConnectionKind.Client room conn
             (Event.Connect conn host)) self.old self.new) }
         ensures told { OnOk result (KeepsTold self.old self.new) }
         ensures notes { OnOk result (KeepsNotes self.old.connections self.new.connections) }
     {
-        self.start(conn, Kind::Client, room, &Event::Connect(conn, host))
+        self.start(
+            conn,
+            ConnectionKind::Client,
+            room,
+            &Event::Connect(conn, host),
+        )
     }
 
     /// A link is open: this end calls the server of this name, or is called.
@@ -234,17 +240,28 @@ impl<W: Wire> Core<W> {
         requires at_one { IsAtOneIn self.old }
         requires told { AllTold (moment_of self.old) }
         ensures at_one { OnOk result (IsAtOneIn self.new) }
-        ensures done { OnOk result (Spans (Starts W.is_after Kind.Link room conn
+        ensures done { OnOk result (Spans (Starts W.is_after ConnectionKind.Link room conn
             (Event.LinkUp conn starts)) self.old self.new) }
         ensures told { OnOk result (KeepsTold self.old self.new) }
         ensures notes { OnOk result (KeepsNotes self.old.connections self.new.connections) }
     {
-        self.start(conn, Kind::Link, room, &Event::LinkUp(conn, starts))
+        self.start(
+            conn,
+            ConnectionKind::Link,
+            room,
+            &Event::LinkUp(conn, starts),
+        )
     }
 
     /// A client has connected, or a link is open, and the server is told. A number that is in use
     /// is passed over.
-    fn start(&mut self, conn: u64, kind: Kind, room: usize, event: &Event) -> Result<(), AllocError>
+    fn start(
+        &mut self,
+        conn: u64,
+        kind: ConnectionKind,
+        room: usize,
+        event: &Event,
+    ) -> Result<(), AllocError>
         requires at_one { IsAtOneIn self.old }
         requires told { AllTold (moment_of self.old) }
         requires arrival { IsArrival kind conn event.now }
@@ -308,7 +325,12 @@ impl<W: Wire> Core<W> {
     }
 
     /// Passes on a line, if there is one.
-    fn pass_line(&mut self, conn: u64, kind: Kind, line: Option<Line>) -> Result<(), AllocError>
+    fn pass_line(
+        &mut self,
+        conn: u64,
+        kind: ConnectionKind,
+        line: Option<Line>,
+    ) -> Result<(), AllocError>
         requires at_one { IsAtOneIn self.old }
         requires open { IsOpenAs conn kind self.old }
         ensures at_one { OnOk result (IsAtOneIn self.new) }
@@ -357,7 +379,7 @@ impl<W: Wire> Core<W> {
     }
 
     /// Tells the server that a connection of this kind is gone, and does what it puts out.
-    fn handle_end(&mut self, conn: u64, kind: Kind) -> Result<(), AllocError>
+    fn handle_end(&mut self, conn: u64, kind: ConnectionKind) -> Result<(), AllocError>
         requires { IsToHearIn (end_event_of kind conn) self.old }
         ensures at_one { OnOk result (IsAtOneIn self.new) }
         ensures count { OnOk result
@@ -380,7 +402,7 @@ impl<W: Wire> Core<W> {
         ensures marks { OnOk result (KeepsMarks self.old.connections self.new.connections) }
         ensures same { self.new.buffer ≡ self.old.buffer }
     {
-        irc_server_laws::laws::who_is_connected();
+        irc_server::laws::who_is_connected();
         self.out.clear();
         match self.server.handle(event, &mut self.out) {
             Ok(()) => {

@@ -7,21 +7,21 @@ use irc_server::Event;
 
 /// What is at the other end of a connection.
 #[derive(Clone, Copy, Drop)]
-pub enum Kind {
+pub enum ConnectionKind {
     /// A client.
     Client,
     /// A server: the connection is a link.
     Link,
 }
 
-impl Kind {
+impl ConnectionKind {
     /// The event by which the server is told a line of a connection of this kind.
     pub(crate) fn line_event(self, conn: u64, line: Line) -> Event
         ensures { result ≡ line_event_of self conn line }
     {
         match self {
-            Kind::Client => Event::Line(conn, line),
-            Kind::Link => Event::LinkLine(conn, line),
+            ConnectionKind::Client => Event::Line(conn, line),
+            ConnectionKind::Link => Event::LinkLine(conn, line),
         }
     }
 
@@ -30,8 +30,8 @@ impl Kind {
         ensures { result ≡ end_event_of self conn }
     {
         match self {
-            Kind::Client => Event::Gone(conn),
-            Kind::Link => Event::LinkDown(conn),
+            ConnectionKind::Client => Event::Gone(conn),
+            ConnectionKind::Link => Event::LinkDown(conn),
         }
     }
 }

@@ -20,7 +20,7 @@ use Rattle.irc_routes.specs.Lemmas.TableRows.{row_passes, some_stands}
 use Rattle.irc_routes.specs.Lemmas.DistinctLinks.{both_so}
 use Rattle.irc_world.specs.World.{has_end}
 use Rattle.irc_follow.specs.Tree.{Shape, index_in}
-use Rattle.irc_follow.specs.Part.{Fixed}
+use Rattle.irc_follow.specs.SideState.{ItemSetting}
 use Rattle.irc_follow.specs.AtRest.{AreRight}
 use Rattle.irc_follow.specs.Lemmas.BehindLinks.{row_is_there, row_says}
 use Rattle.irc_follow.specs.Lemmas.PlacesOfNames.{one_place}
@@ -224,7 +224,7 @@ module _ (names : List Name) (t : Name) where
       by (unlike x _) (unlike y _) rest = counted false false x y
           (not_added (len (set_of (numbers links))) (count_by (has_end t) links) rest)
 
-module _ (s : Fixed) (links : List Link) (routes : Name → Known) (t : Name)
+module _ (s : ItemSetting) (links : List Link) (routes : Name → Known) (t : Name)
     (forest : IsForest links) (ends : EndsAreAmong s.names links)
     (right : AreRight s links routes) (among : IsAmong s.names t) where
   abbrev in_routes : List ℕ

@@ -7,8 +7,8 @@ use Rattle.irc_relay.specs.Lemmas.LinkTakenOut.{Ending, ends, ending, passes, ta
 use Rattle.irc_relay.specs.Lemmas.LinkTakenOut.{without-ends, without-passes}
 use Rattle.irc_routes.specs.Known.{row_of}
 use Rattle.irc_follow.specs.Tree.{Tree, shape, shape_in, IsSoundTree}
-use Rattle.irc_follow.specs.Part.{info_in}
-use Rattle.irc_follow.specs.Relinked.{with_links, CanCut, PartAfterCut, TreeAfterCut}
+use Rattle.irc_follow.specs.SideState.{info_in}
+use Rattle.irc_follow.specs.Relinked.{with_links, CanCut, SideAfterCut, TreeAfterCut}
 use Rattle.irc_follow.specs.Lemmas.NewLink.{kept_row, parent_is_linked, shape_stays}
 
 -- whoever is linked without that link was linked before
@@ -65,8 +65,8 @@ module _ (names : List Name) (info : Name → List ℕ) (tree : Tree) (a b : Nam
 pub tree_after_cut : TreeAfterCut
 tree_after_cut names info tree a b sound can = sound_without_link names info tree a b sound can
 
-pub part_after_cut : PartAfterCut
-part_after_cut s w a b source sound can covers = record {
+pub side_after_cut : SideAfterCut
+side_after_cut s w a b source sound can covers = record {
   tree = tree_now;
   parents = λ t p takes. parent_is_linked
       (links_without w.tree.forest a b) source t p tree_now.forest covers takes;

@@ -19,7 +19,7 @@ use Rattle.irc_routes.specs.Place.{KnownServer}
 use Rattle.irc_routes.specs.Lemmas.RouteLaws.{entries_named, mapped_found}
 use Rattle.irc_world.specs.World.{Setting, is_server, known_from, setting_of}
 use Rattle.irc_follow.specs.Tree.{Shape}
-use Rattle.irc_follow.specs.Part.{Fixed, info_in, IsFixed}
+use Rattle.irc_follow.specs.SideState.{ItemSetting, info_in, IsItemSetting}
 use Rattle.irc_follow.specs.AtRest.{AreRight}
 use Rattle.irc_follow.specs.Lemmas.SideAtRest.{joined_among, joined_so}
 use Rattle.irc_follow.specs.Lemmas.BehindLinks.{joined_test, row_is_there, row_says}
@@ -59,7 +59,8 @@ abbrev as_known : List Link → Name → Name → Setting → KnownServer
 as_known links own server other =
     record { name = other.name; info = other.info; distance = distance links own server }
 
-module _ (s : Fixed) (links : List Link) (routes : Name → Known) (t : Name) (fixed : IsFixed s)
+module _ (s : ItemSetting) (links : List Link) (routes : Name → Known) (t : Name)
+    (fixed : IsItemSetting s)
     (forest : IsForest links) (ends : EndsAreAmong s.names links)
     (right : AreRight s links routes) (among : IsAmong s.names t) where
   abbrev known : Known

@@ -32,18 +32,19 @@ use Rattle.irc_stage.specs.EffectTold.{in_silence, shown_at, with_sent}
 use Rattle.irc_stage.specs.Handle.{is_client, to_viewer}
 use Rattle.irc_stage.specs.Linked.{is_taken, told_on_all, with_far, with_row}
 use Rattle.irc_stage.specs.View.{View}
-use Rattle.irc_links.specs.Ways.{but, met_links}
-use Rattle.irc_deeds.specs.DeedTold.{arrival_of, deed_told, forgotten, gain_told, titled_view}
-use Rattle.irc_deeds.specs.DeedTold.{told_by}
-use Rattle.irc_deeds.specs.Heard.{meets, tells}
-use Rattle.irc_deeds.specs.LinkServed.{after_heard, line_served, met_by, on_link, owes}
+use Rattle.irc_stage.specs.Ways.{but, met_links}
+use Rattle.irc_server.specs.DeedTold.{arrival_of, deed_told, forgotten, gain_told, titled_view}
+use Rattle.irc_server.specs.DeedTold.{told_by}
+use Rattle.irc_server.specs.Heard.{meets, tells}
+use Rattle.irc_server.specs.LinkServed.{after_heard, line_served, met_by, on_link, owes}
 use Rattle.irc_line.specs.Reading.{read_of}
 use Rattle.irc_server.specs.Owed.{line_to_conn, lines_to}
 use Rattle.irc_server.specs.Served.{served}
 use Rattle.irc_relay.specs.Links.{distance}
 use Rattle.irc_follow.specs.Tree.{told_token}
-use Rattle.irc_follow.specs.Part.{Fixed, client_sees, is_home_of, number, told_end, IsSoundPart}
-use Rattle.irc_follow.specs.Part as of_side
+use Rattle.irc_follow.specs.SideState.{ItemSetting, client_sees, is_home_of, number, told_end}
+use Rattle.irc_follow.specs.SideState.{IsSoundSide}
+use Rattle.irc_follow.specs.SideState as of_side
 use Rattle.irc_follow.specs.Fits.{Fits}
 use Rattle.irc_follow.specs.Laws.{SaidDeedShows}
 use Rattle.irc_follow.specs.Says.{neighbour_served, Says, IsDoableLoss}
@@ -58,7 +59,7 @@ use Rattle.irc_follow.specs.Lemmas.SaidEffectShown.{all_lines, append_nil, but_l
 use Rattle.irc_follow.specs.Lemmas.SaidEffectShown.{client_is, lines_behind, rooms}
 use Rattle.irc_follow.specs.Lemmas.SaidEffectShown.{said_effect_shows, shown_so, well_here}
 use Rattle.irc_follow.specs.Lemmas.ToldClients.{none_for_some}
-use Rattle.irc_registering.specs.Closing.{error_line}
+use Rattle.irc_commands.specs.Closing.{error_line}
 
 module _ (who : ℕ) where
   none_of_link : (link : ℕ) (lines : List Written) → lines_to who (on_link link lines) ≡ []
@@ -84,13 +85,14 @@ module _ (who : ℕ) where
           before.view).routes (gains uplink name info))
       by false = refl
 
-module _ (s : Fixed) (p t : Name) (w : of_side.Part) (view : View) (takes : TakesFrom s.streams t p)
+module _ (s : ItemSetting) (p t : Name) (w : of_side.SideState) (view : View)
+    (takes : TakesFrom s.streams t p)
     (fits : Fits s t w view) (who : ℕ)
     (at_home : is_home_of s.homes t who ≡ true) where
   abbrev mine : Option Client
   mine = get w.hall.clients who
 
-  sound : IsSoundPart s w
+  sound : IsSoundSide s w
   sound = fits.sound
 
   -- what the effects of a deed show, and nothing else

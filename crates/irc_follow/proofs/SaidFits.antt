@@ -2,9 +2,9 @@
 -- sound.
 use Rattle.irc_merge.specs.Deeds.{does, gains, loses, kills, brings, sets, tops}
 use Rattle.irc_follow.specs.Laws.{DoneStaysSound, SaidDeedFits}
-use Rattle.irc_follow.specs.Lemmas.PartDeeds.{brings_keeps, kills_keeps, loses_keeps, sets_keeps}
-use Rattle.irc_follow.specs.Lemmas.PartDeeds.{tops_keeps}
-use Rattle.irc_follow.specs.Lemmas.PartEffects.{effect_keeps, gain_keeps}
+use Rattle.irc_follow.specs.Lemmas.DeedsOnSide.{brings_keeps, kills_keeps, loses_keeps, sets_keeps}
+use Rattle.irc_follow.specs.Lemmas.DeedsOnSide.{tops_keeps}
+use Rattle.irc_follow.specs.Lemmas.EffectsOnSide.{effect_keeps, gain_keeps}
 use Rattle.irc_follow.specs.Lemmas.SaidDeed.{said_brings_fits, said_kills_fits, said_loses_fits}
 use Rattle.irc_follow.specs.Lemmas.SaidDeed.{said_sets_fits, said_tops_fits}
 use Rattle.irc_follow.specs.Lemmas.SaidEffect.{said_effect_fits}

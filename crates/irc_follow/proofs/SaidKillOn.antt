@@ -28,10 +28,10 @@ use Rattle.irc_stage.specs.EffectTold.{Served, changed, client_ended, ends_of, i
 use Rattle.irc_stage.specs.Handle.{to_viewer}
 use Rattle.irc_stage.specs.Linked.{told_on_all}
 use Rattle.irc_stage.specs.View.{View}
-use Rattle.irc_deeds.specs.DeedTold.{deed_told, told_by}
+use Rattle.irc_server.specs.DeedTold.{deed_told, told_by}
 use Rattle.irc_wire.specs.Lemmas.LinesReadBack.{command_plain, from_plain}
-use Rattle.irc_follow.specs.Part.{Fixed, number, IsFixed, IsSoundPart}
-use Rattle.irc_follow.specs.Part as of_side
+use Rattle.irc_follow.specs.SideState.{ItemSetting, number, IsItemSetting, IsSoundSide}
+use Rattle.irc_follow.specs.SideState as of_side
 use Rattle.irc_follow.specs.Fits.{Fits}
 use Rattle.irc_follow.specs.Laws.{GoesOn, SaidKillGoesOn}
 use Rattle.irc_follow.specs.Says.{neighbour_served, lines_on, machine, Says, IsDoableKill}
@@ -42,7 +42,7 @@ use Rattle.irc_follow.specs.Lemmas.Neighbours as beside
 use Rattle.irc_follow.specs.Lemmas.SaidDeed.{deed_served, there}
 use Rattle.irc_follow.specs.Lemmas.SaidEffect.{rooms_alike}
 use Rattle.irc_follow.specs.Lemmas.ServerLines.{all_so}
-use Rattle.irc_registering.specs.Closing.{error_line}
+use Rattle.irc_commands.specs.Closing.{error_line}
 
 -- the holder is the one that is named
 killed_it : (server nick : List ℕ) (room : Room) → IsStoredNick room nick
@@ -64,12 +64,12 @@ stored_named nick room rule stored = by (row room.users (key nick)) refl stored
     by None at is = cc is
     by (Some user) at is = subst IsNick (same_some user.nick nick is) (rule user at)
 
-module _ (known : IsKnownOfLines) (server nick : List ℕ) (s : Fixed) (p t u : Name)
-    (w : of_side.Part) (view other : View) (line : List ℕ) (client : ℕ)
-    (fixed : IsFixed s) (takes : TakesFrom s.streams t p) (next : TakesFrom s.streams u t)
+module _ (known : IsKnownOfLines) (server nick : List ℕ) (s : ItemSetting) (p t u : Name)
+    (w : of_side.SideState) (view other : View) (line : List ℕ) (client : ℕ)
+    (fixed : IsItemSetting s) (takes : TakesFrom s.streams t p) (next : TakesFrom s.streams u t)
     (apart : u ≢ p) (writer : Fits s t w view)
     (reader : Fits s u w other) (says : Says s p t w view (kills server nick) line) where
-  sound : IsSoundPart s w
+  sound : IsSoundSide s w
   sound = writer.sound
 
   doable : IsDoableKill s w server nick

@@ -42,10 +42,10 @@ use Rattle.irc_link_words.specs.Words.{are_words}
 use Rattle.irc_stage.specs.EffectTold.{Served, all_changed, in_silence}
 use Rattle.irc_stage.specs.Linked.{told_on_all}
 use Rattle.irc_stage.specs.View.{View}
-use Rattle.irc_deeds.specs.DeedTold.{deed_told, forgotten, told_by}
+use Rattle.irc_server.specs.DeedTold.{deed_told, forgotten, told_by}
 use Rattle.irc_wire.specs.Lemmas.LinesReadBack.{carried_no_nul, command_plain, from_plain}
-use Rattle.irc_follow.specs.Part.{Fixed, number, IsFixed, IsSoundPart}
-use Rattle.irc_follow.specs.Part as of_side
+use Rattle.irc_follow.specs.SideState.{ItemSetting, number, IsItemSetting, IsSoundSide}
+use Rattle.irc_follow.specs.SideState as of_side
 use Rattle.irc_follow.specs.Fits.{Fits}
 use Rattle.irc_follow.specs.Laws.{GoesOn, SaidLossGoesOn, SaidMembersGoOn, SaidModesGoOn}
 use Rattle.irc_follow.specs.Laws.{SaidTopicGoesOn}
@@ -66,13 +66,14 @@ use Rattle.irc_follow.specs.Lemmas.ServerLines.{all_so, brought_some, members_pl
 use Rattle.irc_follow.specs.Lemmas.ServerLines.{members_whole, modes_plain, modes_read, modes_whole}
 use Rattle.irc_follow.specs.Lemmas.ServerLines.{or_so, topic_plain, topic_read, topic_whole}
 
-module _ (known : IsKnownOfLines) (s : Fixed) (p t u : Name) (w : of_side.Part) (view other : View)
+module _ (known : IsKnownOfLines) (s : ItemSetting) (p t u : Name) (w : of_side.SideState)
+    (view other : View)
     (line : List ℕ) (client : ℕ)
-    (fixed : IsFixed s) (takes : TakesFrom s.streams t p) (next : TakesFrom s.streams u t)
+    (fixed : IsItemSetting s) (takes : TakesFrom s.streams t p) (next : TakesFrom s.streams u t)
     (apart : u ≢ p) (writer : Fits s t w view)
     (reader : Fits s u w other) (server : Name) (server_known : w.tree.knows server ≡ true)
     (server_far : IsFar s w server) where
-  sound : IsSoundPart s w
+  sound : IsSoundSide s w
   sound = writer.sound
 
   abbrev far_reader : Reader

@@ -16,10 +16,11 @@ use Rattle.irc_world.specs.Stepping.{servers_on_side}
 use Rattle.irc_world.specs.World.{Setting, World, place_at, setting_of}
 use Rattle.irc_world.specs.WorldHolds.{IsWorld}
 use Rattle.irc_follow.specs.Tree.{index_in, shape, shape_in}
-use Rattle.irc_follow.specs.Part.{Fixed, Part, info_in, number, IsFixed, IsSoundPart}
+use Rattle.irc_follow.specs.SideState.{ItemSetting, SideState, info_in, number, IsItemSetting}
+use Rattle.irc_follow.specs.SideState.{IsSoundSide}
 
-abbrev pub part_of : Fixed → World → (Name → Known) → Name → Part
-part_of s world routes server = record {
+abbrev pub side_state_of : ItemSetting → World → (Name → Known) → Name → SideState
+side_state_of s world routes server = record {
   tree = record {
     forest = world.links;
     here = λ x. joined world.links x server;
@@ -37,7 +38,7 @@ created_in settings server =
 -- Each server is what it is configured to be, and keeps a row of each other that it is joined to,
 -- and just those; what it keeps of it is as the links are. Its numbers are low, and of one that it
 -- tells a neighbour of its number is the one that the neighbour keeps.
-pub record AreRight (s : Fixed) (links : List Link) (routes : Name → Known) : Type 0 where
+pub record AreRight (s : ItemSetting) (links : List Link) (routes : Name → Known) : Type 0 where
   pub named : (t : Name) → IsAmong s.names t → (routes t).name ≡ t
   pub described : (t : Name) → IsAmong s.names t → (routes t).info ≡ info_in s.settings t
   pub created : (t : Name) → IsAmong s.names t → (routes t).created ≡ created_in s.settings t
@@ -52,27 +53,30 @@ pub record AreRight (s : Fixed) (links : List Link) (routes : Name → Known) : 
       (routes u) x ≡ Some r → r.link ≡ index_in s.names t → token_out (routes t) x ≡ Some r.token
 
 -- what stays is that of this network: the homes are its clients', and lines come along its links
-pub record IsOfWorld (s : Fixed) (world : World) : Type 0 where
+pub record IsOfWorld (s : ItemSetting) (world : World) : Type 0 where
   pub homes : s.homes ≡ world.homes
   pub parents : (t p : Name) → TakesFrom s.streams t p → AreLinked world.links t p
 
 -- At rest each server's side is sound, where all servers' routes are right.
-abbrev pub PartAtRestIsSound : Type 0
-PartAtRestIsSound = (s : Fixed) (world : World) (routes : Name → Known) (server : Name) → IsFixed s
+abbrev pub SideAtRestIsSound : Type 0
+SideAtRestIsSound = (s : ItemSetting) (world : World) (routes : Name → Known) (server : Name)
+    → IsItemSetting s
     → IsOfWorld s world → IsWorld s.settings world
     → AreRight s world.links routes → IsAmong s.names server
-    → IsSoundPart s (part_of s world routes server)
+    → IsSoundSide s (side_state_of s world routes server)
 
 -- The servers behind a link of a server are those of that side, in order of name.
 abbrev pub BehindIsThatSide : Type 0
-BehindIsThatSide = (s : Fixed) (links : List Link) (routes : Name → Known) (t u : Name) → IsFixed s
+BehindIsThatSide = (s : ItemSetting) (links : List Link) (routes : Name → Known) (t u : Name)
+    → IsItemSetting s
     → IsForest links → EndsAreAmong s.names links
     → AreRight s links routes → AreLinked links t u
     → names_behind (routes t) (number s u) ≡ servers_on_side s.settings (links_without links t u) u
 
 -- What a decision may know of a server's network is what the world has of it.
 abbrev pub PlaceIsWorlds : Type 0
-PlaceIsWorlds = (s : Fixed) (links : List Link) (routes : Name → Known) (t : Name) → IsFixed s
+PlaceIsWorlds = (s : ItemSetting) (links : List Link) (routes : Name → Known) (t : Name)
+    → IsItemSetting s
     → IsForest links → EndsAreAmong s.names links
     → AreRight s links routes → IsAmong s.names t
     → place_of (routes t) ≡ place_at s.settings links t
@@ -80,7 +84,7 @@ PlaceIsWorlds = (s : Fixed) (links : List Link) (routes : Name → Known) (t : N
 -- The neighbour on a link is told of just the servers of this side of the link, but for the one
 -- that tells.
 abbrev pub ToldAreThisSide : Type 0
-ToldAreThisSide = (s : Fixed) (links : List Link) (routes : Name → Known) (t u x : Name)
+ToldAreThisSide = (s : ItemSetting) (links : List Link) (routes : Name → Known) (t u x : Name)
     → IsForest links → EndsAreAmong s.names links
     → AreRight s links routes → AreLinked links t u
     → list_any (same x) (map (λ (r : ServerRow). r.name) (servers_told (routes t) (number s u)))

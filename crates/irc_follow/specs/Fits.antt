@@ -8,7 +8,7 @@ use Rattle.irc_relay.specs.Links.{Name, linked}
 use Rattle.irc_stage.specs.View.{End, KnownPeer, View}
 use Rattle.std.specs.Option.{option_map_or}
 use Rattle.irc_world.specs.World.{Setting, setting_of}
-use Rattle.irc_follow.specs.Part.{Fixed, Part, number, is_home_of, IsSoundPart}
+use Rattle.irc_follow.specs.SideState.{ItemSetting, SideState, number, is_home_of, IsSoundSide}
 
 -- the peers that a server is configured to have
 abbrev pub peers_of : List Setting → Name → List KnownPeer
@@ -20,12 +20,12 @@ abbrev pub far_of : End → Option (List ℕ)
 far_of end = end.far
 
 -- the end of the link to x, where there is one: x has named itself just where this side knows it
-abbrev pub far_end : Part → Name → Name → Option (Option Name)
+abbrev pub far_end : SideState → Name → Name → Option (Option Name)
 far_end w t x = if linked w.tree.forest t x then Some (if w.tree.knows x then Some x else None)
     else None
 
 -- a number that is a server's
-pub record IsNumberOf (s : Fixed) (k : ℕ) : Type 0 where
+pub record IsNumberOf (s : ItemSetting) (k : ℕ) : Type 0 where
   pub server : Name
   pub among : IsAmong s.names server
   pub is : number s server ≡ k
@@ -33,9 +33,9 @@ pub record IsNumberOf (s : Fixed) (k : ℕ) : Type 0 where
 -- A server of this side has the peers that it is configured to have, the servers that it is to know
 -- and the ends of its links, its own clients, and the room but for invitations of other servers'
 -- users.
-pub record Fits (s : Fixed) (t : Name) (w : Part) (v : View) : Type 0 where
+pub record Fits (s : ItemSetting) (t : Name) (w : SideState) (v : View) : Type 0 where
   pub here : w.tree.here t ≡ true
-  pub sound : IsSoundPart s w
+  pub sound : IsSoundSide s w
   pub peers : v.peers ≡ peers_of s.settings t
   pub routes : v.routes ≡ w.tree.routes t
   pub ends : (x : Name) → IsAmong s.names x

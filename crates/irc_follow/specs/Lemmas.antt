@@ -14,8 +14,8 @@ pub mod MemberLines
 pub mod NamedRows
 pub mod Neighbours
 pub mod NewLink
-pub mod PartDeeds
-pub mod PartEffects
+pub mod DeedsOnSide
+pub mod EffectsOnSide
 pub mod ServersPassedBy
 pub mod PlacesOfNames
 pub mod EffectsReadNext

@@ -1,5 +1,5 @@
 pub mod Tree
-pub mod Part
+pub mod SideState
 pub mod Fits
 pub mod Says
 pub mod Laws

@@ -4,7 +4,7 @@ use Rattle.irc_relay.specs.Distances.{IsAmong}
 use Rattle.irc_relay.specs.Links.{Name, Link, part, toward, links_without, AreJoined, AreLinked}
 use Rattle.irc_relay.specs.Links.{IsForest, IsKept}
 use Rattle.irc_relay.specs.Relay.{streams_from, Covers, TakesFrom}
-use Rattle.irc_follow.specs.Part.{Fixed, Part, IsSoundPart}
+use Rattle.irc_follow.specs.SideState.{ItemSetting, SideState, IsSoundSide}
 use Rattle.irc_follow.specs.Says.{IsFar}
 use Rattle.irc_follow.specs.Tree.{Tree, IsSoundTree}
 
@@ -12,11 +12,11 @@ use Rattle.irc_follow.specs.Tree.{Tree, IsSoundTree}
 abbrev pub with_links : List Link → Tree → Tree
 with_links links tree = record tree { forest = links }
 
-abbrev pub relinked : List Link → Part → Part
+abbrev pub relinked : List Link → SideState → SideState
 relinked links w = record w { tree = with_links links w.tree }
 
 -- lines come from other sources, along these links
-abbrev pub taking_from : List Link → (Name → Name) → Fixed → Fixed
+abbrev pub taking_from : List Link → (Name → Name) → ItemSetting → ItemSetting
 taking_from links source s = record s { streams = streams_from links source }
 
 -- a link that may be made: between two servers that are not joined
@@ -39,10 +39,11 @@ TreeAfterLink = (names : List Name) (info : Name → List ℕ) (tree : Tree) (l 
     → IsSoundTree names info (with_links (l ∷ tree.forest) tree)
 
 -- So is the whole side, whatever sources its lines come from, if they cover the links.
-abbrev pub PartAfterLink : Type 0
-PartAfterLink = (s : Fixed) (w : Part) (l : Link) (source : Name → Name) → IsSoundPart s w
+abbrev pub SideAfterLink : Type 0
+SideAfterLink = (s : ItemSetting) (w : SideState) (l : Link) (source : Name → Name)
+    → IsSoundSide s w
     → CanLink s.names w.tree l → Covers (l ∷ w.tree.forest) source
-    → IsSoundPart (taking_from (l ∷ w.tree.forest) source s) (relinked (l ∷ w.tree.forest) w)
+    → IsSoundSide (taking_from (l ∷ w.tree.forest) source s) (relinked (l ∷ w.tree.forest) w)
 
 -- The servers of a side are as they are to be without a link, once they have lost all that were
 -- behind it.
@@ -51,11 +52,12 @@ TreeAfterCut = (names : List Name) (info : Name → List ℕ) (tree : Tree) (a b
     → IsSoundTree names info tree → CanCut tree a b
     → IsSoundTree names info (with_links (links_without tree.forest a b) tree)
 
-abbrev pub PartAfterCut : Type 0
-PartAfterCut = (s : Fixed) (w : Part) (a b : Name) (source : Name → Name) → IsSoundPart s w
+abbrev pub SideAfterCut : Type 0
+SideAfterCut = (s : ItemSetting) (w : SideState) (a b : Name) (source : Name → Name)
+    → IsSoundSide s w
     → CanCut w.tree a b
     → Covers (links_without w.tree.forest a b) source
-    → IsSoundPart (taking_from (links_without w.tree.forest a b) source s)
+    → IsSoundSide (taking_from (links_without w.tree.forest a b) source s)
     (relinked (links_without w.tree.forest a b) w)
 
 -- The lines of a side come along these links from these sources: along all the links, or along what
@@ -70,9 +72,10 @@ pub record FlowsAlong (links : List Link) (source : Name → Name) (tree : Tree)
 
 -- A side stays sound whatever sources its lines come from, along its links or what is left of them.
 abbrev pub OtherSources : Type 0
-OtherSources = (s : Fixed) (w : Part) (links : List Link) (source : Name → Name) → IsSoundPart s w
+OtherSources = (s : ItemSetting) (w : SideState) (links : List Link) (source : Name → Name)
+    → IsSoundSide s w
     → FlowsAlong links source w.tree
-    → IsSoundPart (taking_from links source s) w
+    → IsSoundSide (taking_from links source s) w
 
 -- a server that is behind the source, for each server of this side that is next to that
 pub record IsBehindSource (links : List Link) (source : Name → Name) (tree : Tree)
@@ -83,6 +86,7 @@ pub record IsBehindSource (links : List Link) (source : Name → Name) (tree : T
 
 -- Who is behind the source for the servers next to it is far for all of the side.
 abbrev pub BehindSourceIsFar : Type 0
-BehindSourceIsFar = (s : Fixed) (w : Part) (links : List Link) (source : Name → Name) (x : Name)
+BehindSourceIsFar =
+    (s : ItemSetting) (w : SideState) (links : List Link) (source : Name → Name) (x : Name)
     → IsForest w.tree.forest → FlowsAlong links source w.tree
     → IsBehindSource links source w.tree x → IsFar (taking_from links source s) w x

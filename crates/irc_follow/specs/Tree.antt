@@ -4,10 +4,10 @@
 -- same tree.
 --
 -- a.net, b.net and c.net, linked in a row, are the places 0, 1 and 2, and all are known:
--- a.net keeps of c.net behind link 1, linked to b.net, two links away; b.net's number for it is 3,
--- its own is 3
--- b.net keeps of c.net behind link 2, linked to b.net, one link away; c.net's number for itself is
--- 1, b.net's is 3
+--   a.net keeps of c.net  behind link 1, linked to b.net, two links away; b.net's number for it is
+--                         3, its own is 3
+--   b.net keeps of c.net  behind link 2, linked to b.net, one link away; c.net's number for itself
+--                         is 1, b.net's is 3
 use Rattle.std.specs.Prelude.{◌≡◌, ◌⊎◌, ◌≤◌, ℕ, suc, Bool, true, false, not, ◌&&◌, ◌||◌, Some, None}
 use Rattle.std.specs.Prelude.{List, [], ◌∷◌, unwrap_or, if◌then◌else◌}
 use Rattle.std.specs.Option.{option_map}

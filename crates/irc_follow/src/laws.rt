@@ -1,14 +1,14 @@
 //! What holds of one server and its side of the network. Each law is a function that does nothing,
 //! and its contract is the law: the check proves it, and a crate above may cite it.
-ghost use Rattle.irc_follow.specs.AtRest.{BehindIsThatSide, PartAtRestIsSound, PlaceIsWorlds};
+ghost use Rattle.irc_follow.specs.AtRest.{BehindIsThatSide, SideAtRestIsSound, PlaceIsWorlds};
 ghost use Rattle.irc_follow.specs.AtRest.{ToldAreThisSide, ToldByDistance};
 ghost use Rattle.irc_follow.specs.Laws.{AsideStays, DoneStaysSound, PassedByStays, SaidDeedFits};
 ghost use Rattle.irc_follow.specs.Laws.{SaidDeedGoesOn, SaidDeedShows, SaidEffectGoesOn};
 ghost use Rattle.irc_follow.specs.Laws.{SaidGainGoesOn, SaidKillGoesOn, SaidLossGoesOn};
 ghost use Rattle.irc_follow.specs.Laws.{SaidMembersGoOn, SaidModesGoOn, SaidTopicGoesOn};
 ghost use Rattle.irc_follow.specs.Laws.{ServersFollow};
-ghost use Rattle.irc_follow.specs.Relinked.{BehindSourceIsFar, OtherSources, PartAfterCut};
-ghost use Rattle.irc_follow.specs.Relinked.{PartAfterLink, TreeAfterCut, TreeAfterLink};
+ghost use Rattle.irc_follow.specs.Relinked.{BehindSourceIsFar, OtherSources, SideAfterCut};
+ghost use Rattle.irc_follow.specs.Relinked.{SideAfterLink, TreeAfterCut, TreeAfterLink};
 ghost use Rattle.irc_follow.specs.SideFlows.{CutOnceLost, FarSideIsTold, NearSideIsTold};
 ghost use Rattle.irc_follow.specs.SideFlows.{OneSideIsLeft, OtherSideIsLeft, SourceTells};
 
@@ -143,8 +143,8 @@ pub fn tree_after_link()
 {}
 
 /// So the whole side stays sound by that link, from whatever sources its lines come then.
-pub fn part_after_link()
-    ensures { PartAfterLink }
+pub fn side_after_link()
+    ensures { SideAfterLink }
 {}
 
 /// The servers of a side are as they are to be without a link, once they have lost all that were
@@ -154,8 +154,8 @@ pub fn tree_after_cut()
 {}
 
 /// So the whole side stays sound without that link, from whatever sources its lines come then.
-pub fn part_after_cut()
-    ensures { PartAfterCut }
+pub fn side_after_cut()
+    ensures { SideAfterCut }
 {}
 
 /// A side stays sound whatever sources its lines come from, along its links or what is left of
@@ -204,8 +204,8 @@ pub fn cut_once_lost()
 
 /// While nothing is under way the side of each server is sound: it is the part of the world that
 /// the server is in, where all servers' routes are right.
-pub fn part_at_rest_is_sound()
-    ensures { PartAtRestIsSound }
+pub fn side_at_rest_is_sound()
+    ensures { SideAtRestIsSound }
 {}
 
 /// While nothing is under way the servers that a server has behind a link are those of that side of

@@ -1,1 +1,2 @@
+mod LeftChannels
 pub mod Parting

@@ -1,3 +1,4 @@
+pub mod AsTheyAre
 -- Words of this crate's code alone. No rule stands here.
 pub mod Places
 pub mod Parts

@@ -1,12 +1,17 @@
-//! The servers of a network, the links between them, and which of them the links join. Definitions
-//! are in `specs/`.
+//! The servers of a network, the links between them, which of them the links join, and whether two
+//! halves of a network agree. Definitions are in `specs/`.
 #![tactic(auto)]
 
+mod agreeing;
+#[cfg(test)]
+mod agreement_tests;
+mod alike;
 mod forest;
 mod parts;
 mod places;
 #[cfg(test)]
 mod tests;
 
+pub use agreeing::agree;
 pub use forest::{Forest, MAX_SERVERS};
-pub use places::{Ends, Place};
+pub use places::{EndPlaces, ServerPlace};

@@ -2,15 +2,15 @@
 ghost use Rattle.std.specs.Prelude.{◌<◌, length, IfSome};
 ghost use Rattle.irc_names.specs.Names.{IsServer};
 
-use crate::{Forest, Place};
+use crate::{Forest, ServerPlace};
 use irc_names::ServerName;
 use std::alloc::{AllocError, Global};
 use std::test::Fail;
 
 /// Two servers, whether they are linked, and whether they are joined.
-type Row = (&'static [u8], &'static [u8], bool, bool);
+type LinkRow = (&'static [u8], &'static [u8], bool, bool);
 
-static IN_LINE: [Row; 6] = [
+static IN_LINE: [LinkRow; 6] = [
     (b"a.net", b"a.net", false, true),
     (b"a.net", b"b.net", true, true),
     (b"b.net", b"a.net", true, true),
@@ -19,7 +19,7 @@ static IN_LINE: [Row; 6] = [
     (b"d.net", b"a.net", false, false),
 ];
 
-static ONCE_CUT: [Row; 4] = [
+static ONCE_CUT: [LinkRow; 4] = [
     (b"a.net", b"b.net", false, false),
     (b"a.net", b"c.net", false, false),
     (b"c.net", b"b.net", true, true),
@@ -37,7 +37,7 @@ fn server(name: &[u8]) -> ServerName
 }
 
 /// Four servers with no link.
-#[tactic(auto, unfolding(irc_rules::specs::Names::is_server))]
+#[tactic(auto, unfolding(irc_names::specs::Names::is_server))]
 fn apart(alloc: Global) -> Result<Forest, AllocError> {
     let names = vec![in alloc;
         server(b"a.net"),
@@ -49,7 +49,7 @@ fn apart(alloc: Global) -> Result<Forest, AllocError> {
 }
 
 /// The place of a server.
-fn place(forest: &Forest, name: &[u8]) -> Option<Place>
+fn place(forest: &Forest, name: &[u8]) -> Option<ServerPlace>
     ensures { IfSome result (λ place. place < length forest.now.names) }
 {
     forest.place_of(&ServerName::read(name)?)
@@ -82,7 +82,7 @@ fn relation(forest: &Forest, one: &[u8], other: &[u8]) -> Option<(bool, bool)> {
 }
 
 /// Whether each row is as it says.
-fn rows_hold(forest: &Forest, rows: &[Row]) -> bool {
+fn rows_hold(forest: &Forest, rows: &[LinkRow]) -> bool {
     rows.iter().all(|(one, other, linked, joined)| {
         relation(forest, one, other) == Some((*linked, *joined))
     })

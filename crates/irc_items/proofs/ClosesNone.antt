@@ -4,7 +4,7 @@ use Rattle.std.proofs.Common.{◌≡◌, ℕ, List, [], ◌∷◌, refl, ◌∙�
 use Rattle.irc_batch.specs.Batches.{Sent, end_of, end_of_link, line_on, line_to}
 use Rattle.irc_batch.specs.declared.close_reason.CloseReason.{CloseReason}
 use Rattle.irc_server.specs.Served.{link_down, of_client, served}
-use Rattle.irc_server_laws.specs.Closings.{ServedClosesItsOwn, link_closings}
+use Rattle.irc_server.specs.Closings.{ServedClosesItsOwn, link_closings}
 use Rattle.irc_items.specs.GoodLines.{closings}
 use Rattle.irc_items.specs.Laws.{OnlyLinesClose}
 

@@ -28,12 +28,12 @@ pub record IsLater (first last : Network) : Type 0 where
 module _ (laws : AreReceivingLaws) where
   pub later : (first last : Network) → IsSound first → IsReached first last → IsLater first last
   later first last sound none_yet = record { sound = sound; settings = refl; items = refl }
-  later first last sound (one_more {between = mid} {last = course} from to before is) =
+  later first last sound (one_more {between = mid} {last = progress} from to before is) =
       let so = later first mid sound before in
       record {
-        sound = laws.delivery from to (begun mid) course so.sound is;
-        settings = laws.delivered_settings from to (begun mid) course is ∙ so.settings;
-        items = (delivered_one from to (begun mid) course is).items ∙ so.items;
+        sound = laws.delivery from to (begun mid) progress so.sound is;
+        settings = laws.delivered_settings from to (begun mid) progress is ∙ so.settings;
+        items = (delivered_one from to (begun mid) progress is).items ∙ so.items;
       }
 
   owed_alike : (one other : Network) (client : ℕ) → settings_of other ≡ settings_of one

@@ -6,15 +6,15 @@ use Rattle.irc_line.specs.Reading.{read_of}
 use Rattle.irc_stage.specs.View.{View}
 use Rattle.irc_server.specs.Served.{Occurrence, link_says}
 use Rattle.irc_world.specs.World.{new_world}
-use Rattle.irc_network.specs.Network.{Course, Network, Reply, Site, site_asked, asked_at}
+use Rattle.irc_network.specs.Network.{Progress, Network, Served, Node, node_asked, asked_at}
 use Rattle.irc_network.specs.Network.{line_counted, delivered, left, max_count, none_yet, reply}
-use Rattle.irc_network.specs.Network.{site_at, taken_of, then_one, waiting, with_reply, with_site}
+use Rattle.irc_network.specs.Network.{node_at, taken_of, then_one, waiting, with_reply, with_node}
 use Rattle.irc_items.specs.Kept.{DeliveryKeepsSound, SettlingKeepsSound, TakenAreFew}
 use Rattle.irc_items.specs.Laws.{DeliveryKeepsSettings, DeliveryStaysSound}
 use Rattle.irc_items.specs.SetUp.{settings_of}
 use Rattle.irc_items.specs.Sound.{most_of_last}
-use Rattle.irc_items.proofs.Sites.SentOut.{all_sent, IsSentOut}
-use Rattle.irc_items.proofs.Sites.SiteChanged.{set_there}
+use Rattle.irc_items.proofs.Nodes.SentOut.{all_sent, IsSentOut}
+use Rattle.irc_items.proofs.Nodes.NodeChanged.{set_there}
 
 -- ---- lines that are delivered
 
@@ -22,81 +22,83 @@ pub record IsOnlyTaken (old new : Network) : Type 0 where
   pub items : new.items ≡ old.items
   pub taken : new.taken ≡ old.taken
 
-replied_taken : (place : ℕ) (course : Course) (site : Site) (answer : Reply)
-    → site_at course.net place ≡ Some site
-    → IsOnlyTaken course.net (with_reply place course site answer).net
-replied_taken place course site answer is =
+replied_taken : (place : ℕ) (progress : Progress) (node : Node) (answer : Served)
+    → node_at progress.net place ≡ Some node
+    → IsOnlyTaken progress.net (with_reply place progress node answer).net
+replied_taken place progress node answer is =
     record { items = sent.changed.items; taken = sent.taken }
   where
-    sent : IsSentOut place answer.out (record site { server = Some answer.view })
-        (record course {
-          net = with_site place
-              (record site { server = Some answer.view }) course.net;
+    sent : IsSentOut place answer.out (record node { server = Some answer.view })
+        (record progress {
+          net = with_node place
+              (record node { server = Some answer.view }) progress.net;
         })
-        (with_reply place course site answer)
-    sent = all_sent place answer.out (record site { server = Some answer.view })
-        (record course {
-          net = with_site place
-              (record site { server = Some answer.view }) course.net;
+        (with_reply place progress node answer)
+    sent = all_sent place answer.out (record node { server = Some answer.view })
+        (record progress {
+          net = with_node place
+              (record node { server = Some answer.view }) progress.net;
         })
-        (set_there course.net.sites place site (record site { server = Some answer.view }) is)
+        (set_there progress.net.nodes place node (record node { server = Some answer.view }) is)
 
-asked_taken : (place : ℕ) (occurrence : Occurrence) (course : Course)
-    → IsOnlyTaken course.net (site_asked place occurrence course).net
-unfolding site_asked
-asked_taken place occurrence course = by (site_at course.net place) refl
+asked_taken : (place : ℕ) (occurrence : Occurrence) (progress : Progress)
+    → IsOnlyTaken progress.net (node_asked place occurrence progress).net
+unfolding node_asked
+asked_taken place occurrence progress = by (node_at progress.net place) refl
   where
     same : (net : Network) → IsOnlyTaken net net
     same net = record { items = refl; taken = refl }
 
-    at : (site : Site) → site_at course.net place ≡ Some site → (o : Option View) → site.server ≡ o
-        → IsOnlyTaken course.net (asked_at place occurrence course site).net
-    at site is None e = subst (λ o. IsOnlyTaken course.net (option_map_or
-        (λ (view : View). with_reply place course site (reply view occurrence)) o course).net)
-        (sym e) (same course.net)
-    at site is (Some view) e = subst
-        (λ o. IsOnlyTaken course.net (option_map_or (λ (view : View).
-        with_reply place course site (reply view occurrence)) o course).net) (sym e)
-        (replied_taken place course site (reply view occurrence) is)
+    at : (node : Node) → node_at progress.net place ≡ Some node → (o : Option View)
+        → node.server ≡ o → IsOnlyTaken progress.net (asked_at place occurrence progress node).net
+    at node is None e = subst (λ o. IsOnlyTaken progress.net (option_map_or
+        (λ (view : View). with_reply place progress node (reply view occurrence)) o progress).net)
+        (sym e) (same progress.net)
+    at node is (Some view) e = subst
+        (λ o. IsOnlyTaken progress.net (option_map_or (λ (view : View).
+        with_reply place progress node (reply view occurrence)) o progress).net) (sym e)
+        (replied_taken place progress node (reply view occurrence) is)
 
-    by : (o : Option Site) → site_at course.net place ≡ o → IsOnlyTaken course.net
-        (option_map_or (asked_at place occurrence course) (site_at course.net place) course).net
-    by None e = subst (λ o. IsOnlyTaken course.net
-        (option_map_or (asked_at place occurrence course) o course).net) (sym e) (same course.net)
-    by (Some site) e = subst (λ o. IsOnlyTaken course.net (option_map_or
-        (asked_at place occurrence course) o course).net) (sym e) (at site e site.server refl)
+    by : (o : Option Node) → node_at progress.net place ≡ o → IsOnlyTaken progress.net
+        (option_map_or (asked_at place occurrence progress)
+        (node_at progress.net place) progress).net
+    by None e = subst (λ o. IsOnlyTaken progress.net
+        (option_map_or (asked_at place occurrence progress) o progress).net) (sym e)
+        (same progress.net)
+    by (Some node) e = subst (λ o. IsOnlyTaken progress.net (option_map_or
+        (asked_at place occurrence progress) o progress).net) (sym e) (at node e node.server refl)
 
 pub record IsOneMore (old new : Network) : Type 0 where
   pub items : new.items ≡ old.items
   pub taken : new.taken ≡ min (old.taken + 1) max_count
 
-pub delivered_one : (from to : ℕ) (old new : Course) → delivered from to old ≡ Some new
+pub delivered_one : (from to : ℕ) (old new : Progress) → delivered from to old ≡ Some new
     → IsOneMore old.net new.net
 unfolding delivered
-delivered_one from to old new is = by (site_at old.net from) refl
+delivered_one from to old new is = by (node_at old.net from) refl
   where
-    same_some : (a b : Course) → Some a ≡ Some b → a ≡ b
+    same_some : (a b : Progress) → Some a ≡ Some b → a ≡ b
     same_some a b e = cc e
 
-    taken : (site : Site) → (lines : List (List ℕ)) → taken_of from to old site lines ≡ Some new
+    taken : (node : Node) → (lines : List (List ℕ)) → taken_of from to old node lines ≡ Some new
         → IsOneMore old.net new.net
-    taken site [] e = absurd (cc e)
-    taken site (first ∷ rest) e = subst (λ (c : Course). IsOneMore old.net c.net)
+    taken node [] e = absurd (cc e)
+    taken node (first ∷ rest) e = subst (λ (c : Progress). IsOneMore old.net c.net)
         (same_some _ new e) (record { items = one.items; taken = one.taken })
       where
-        one : IsOnlyTaken (line_counted (with_site from (left to rest site) old.net))
-            (site_asked to (link_says from (read_of first)) (record old {
+        one : IsOnlyTaken (line_counted (with_node from (left to rest node) old.net))
+            (node_asked to (link_says from (read_of first)) (record old {
               net = line_counted
-                  (with_site from (left to rest site) old.net);
+                  (with_node from (left to rest node) old.net);
             })).net
         one = asked_taken to (link_says from (read_of first))
-            (record old { net = line_counted (with_site from (left to rest site) old.net) })
+            (record old { net = line_counted (with_node from (left to rest node) old.net) })
 
-    by : (o : Option Site) → site_at old.net from ≡ o → IsOneMore old.net new.net
+    by : (o : Option Node) → node_at old.net from ≡ o → IsOneMore old.net new.net
     by None e = absurd (let no = sym (ap (option_and_then
-        (λ (site : Site). taken_of from to old site (waiting site to))) e) ∙ is in cc no)
-    by (Some site) e = taken site (waiting site to) (sym (ap (option_and_then
-        (λ (site : Site). taken_of from to old site (waiting site to))) e) ∙ is)
+        (λ (node : Node). taken_of from to old node (waiting node to))) e) ∙ is in cc no)
+    by (Some node) e = taken node (waiting node to) (sym (ap (option_and_then
+        (λ (node : Node). taken_of from to old node (waiting node to))) e) ∙ is)
 
 module _ (settings : DeliveryKeepsSettings) (stays : DeliveryStaysSound) where
   pub delivery_keeps_sound : DeliveryKeepsSound

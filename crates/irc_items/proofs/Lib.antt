@@ -1,5 +1,5 @@
 pub mod Common
-pub mod Sites
+pub mod Nodes
 pub mod Good
 pub mod Client
 pub mod Home

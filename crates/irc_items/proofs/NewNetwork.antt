@@ -27,15 +27,15 @@ use Rattle.irc_world.specs.Stepping.{Item}
 use Rattle.irc_world.specs.WithinLimits.{IsItemWithin}
 use Rattle.irc_world.specs.World.{Setting, home_in, new_world}
 use Rattle.irc_world.specs.WorldHolds.{IsWorld, TakenMakeWorld}
-use Rattle.irc_follow.specs.AtRest.{part_of, AreRight, PartAtRestIsSound}
+use Rattle.irc_follow.specs.AtRest.{side_state_of, AreRight, SideAtRestIsSound}
 use Rattle.irc_follow.specs.Fits.{Fits, far_of}
-use Rattle.irc_follow.specs.Part.{Fixed, info_in, is_home_of, number}
+use Rattle.irc_follow.specs.SideState.{ItemSetting, info_in, is_home_of, number}
 use Rattle.irc_follow.specs.Says.{machine}
 use Rattle.irc_follow.specs.Tree.{index_in, shape, shape_in}
-use Rattle.irc_network.specs.Network.{Network, Site, server_place, site_at}
+use Rattle.irc_network.specs.Network.{Network, Node, server_place, node_at}
 use Rattle.irc_items.specs.Laws.{NewNetworkIsSound}
 use Rattle.irc_items.specs.GoodLines.{no_answers, IsGoodLine}
-use Rattle.irc_items.specs.Relayed.{fixed_of, owed_at, owed_to, relayed, way_at}
+use Rattle.irc_items.specs.Relayed.{setting_of_item, owed_at, owed_to, relayed, way_at}
 use Rattle.irc_items.specs.SetUp.{no_view, routes_in, settings_of, view_at, IsConfigured, IsNew}
 use Rattle.irc_items.specs.SetUp.{IsNewServer}
 use Rattle.irc_items.specs.Sound.{most_now, owed_now, IsSound, IsSoundFrom, IsUnderWay}
@@ -57,28 +57,28 @@ nothing_by_none : (settings : List Setting) (client : ℕ) → owed_by_network s
 unfolding owed_by_network
 nothing_by_none settings client = refl
 
--- no way goes from a site without queues
-none_queued : (sites : List Site) (place to : ℕ)
-    → AllByRecursion (λ (site : Site). site.queues ≡ empty) sites
-    → option_and_then (λ (site : Site). get site.queues to) (slice_get sites place) ≡ None
+-- no way goes from a node without queues
+none_queued : (nodes : List Node) (place to : ℕ)
+    → AllByRecursion (λ (node : Node). node.queues ≡ empty) nodes
+    → option_and_then (λ (node : Node). get node.queues to) (slice_get nodes place) ≡ None
 none_queued [] place to all = refl
-none_queued (site ∷ sites) zero to all = ap (λ queues. get queues to) all.0 ∙ get-empty nat_cmp to
-none_queued (site ∷ sites) (suc place) to all = none_queued sites place to all.1
+none_queued (node ∷ nodes) zero to all = ap (λ queues. get queues to) all.0 ∙ get-empty nat_cmp to
+none_queued (node ∷ nodes) (suc place) to all = none_queued nodes place to all.1
 
-module _ (world_holds : TakenMakeWorld) (side : PartAtRestIsSound) (net : Network)
+module _ (world_holds : TakenMakeWorld) (side : SideAtRestIsSound) (net : Network)
     (new : IsNew net) where
   no_ways : (x : Name) (to : ℕ) → way_at net x to ≡ None
   no_ways x to = by (server_place net x) refl
     where
       by : (o : Option ℕ) → server_place net x ≡ o → way_at net x to ≡ None
-      by None is = ap (λ o. option_and_then (λ (site : Site). get site.queues to)
-          (option_and_then (site_at net) o)) is
-      by (Some place) is = ap (λ o. option_and_then (λ (site : Site). get site.queues to)
-          (option_and_then (site_at net) o)) is
-          ∙ none_queued net.sites place to new.queues
+      by None is = ap (λ o. option_and_then (λ (node : Node). get node.queues to)
+          (option_and_then (node_at net) o)) is
+      by (Some place) is = ap (λ o. option_and_then (λ (node : Node). get node.queues to)
+          (option_and_then (node_at net) o)) is
+          ∙ none_queued net.nodes place to new.queues
 
-  abbrev s : Fixed
-  s = fixed_of net (streams_from [] (λ t. t))
+  abbrev s : ItemSetting
+  s = setting_of_item net (streams_from [] (λ t. t))
 
   no_end : (x : Name) (k : ℕ) → get (view_at net x).ends k ≡ None
   no_end x k = by (list_any (same x) net.names) refl
@@ -171,7 +171,7 @@ module _ (world_holds : TakenMakeWorld) (side : PartAtRestIsSound) (net : Networ
       either false = refl
 
   fits : (t : Name) → IsAmong net.names t
-      → Fits s t (part_of s new_world (routes_in net) t) (view_at net t)
+      → Fits s t (side_state_of s new_world (routes_in net) t) (view_at net t)
   fits t among = record {
     here = same_when (part [] t) (part [] t) refl;
     sound = side s new_world (routes_in net) t (fixed net new.set_up s.streams)
@@ -215,7 +215,7 @@ module _ (world_holds : TakenMakeWorld) (side : PartAtRestIsSound) (net : Networ
   under_way_now : (client : ℕ) → IsUnderWay s no_answers new_world (routes_in net) net client []
   under_way_now client = record {
     away = λ x y line lines is. absurd (let e = sym (nothing_under_way client x y) ∙ is in cc e);
-    fits = λ t among. subst (λ lines. Fits s t (part_of s new_world (routes_in net) t)
+    fits = λ t among. subst (λ lines. Fits s t (side_state_of s new_world (routes_in net) t)
         (after (machine s client) t (s.streams.parent t) (view_at net t) lines))
         (sym (none_comes client t)) (fits t among);
     told = λ home is. absurd (let e = sym is
@@ -282,8 +282,8 @@ module _ (world_holds : TakenMakeWorld) (side : PartAtRestIsSound) (net : Networ
     routes = routes_in net;
     asks = no_answers;
     coming = subst (IsSoundFrom (λ t. t) (routes_in net) no_answers net)
-        (λ i. fixed_of net (streams_from (sym new.links i) (λ t. t))) coming_now;
+        (λ i. setting_of_item net (streams_from (sym new.links i) (λ t. t))) coming_now;
   }
 
-pub new_network_is_sound : TakenMakeWorld → PartAtRestIsSound → NewNetworkIsSound
+pub new_network_is_sound : TakenMakeWorld → SideAtRestIsSound → NewNetworkIsSound
 new_network_is_sound world_holds side net new = new_is_sound world_holds side net new

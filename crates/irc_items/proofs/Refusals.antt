@@ -17,8 +17,8 @@ use Rattle.irc_world.specs.Refused.{password_for as password_kept}
 use Rattle.irc_world.specs.Sound.{IsSound}
 use Rattle.irc_world.specs.Stepping.{Item, connect, line, gone, link, cut}
 use Rattle.irc_world.specs.World.{Setting, World, home_in, is_server}
-use Rattle.irc_follow.specs.Part.{is_home_of}
-use Rattle.irc_network.specs.Network.{Network, site_view}
+use Rattle.irc_follow.specs.SideState.{is_home_of}
+use Rattle.irc_network.specs.Network.{Network, node_view}
 use Rattle.irc_network.specs.Refusing.{fault_at_rest, has_client, is_there, link_fault}
 use Rattle.irc_network.specs.Refusing.{meeting_fault, way_fault}
 use Rattle.irc_network.specs.Refusing.{is_server as is_placed}
@@ -65,14 +65,14 @@ module _ (net : Network) (set_up : IsSetUp net) (links : net.links ≡ (world_no
       by : (o : Option Name) → home_in net.homes client ≡ o
           → is_there net client ≡ is_some (open_client world client)
       by None is =
-          ap (λ o. option_map_or (has_client client) (option_and_then (site_view net) o) false) is
+          ap (λ o. option_map_or (has_client client) (option_and_then (node_view net) o) false) is
           ∙ sym
           (ap (λ o. is_some (option_and_then (λ home. get (world.hall home).clients client) o))
           (sym (ap (λ hs. home_in hs client) homes) ∙ is))
       by (Some home) is =
           let of_world = sym (ap (λ hs. home_in hs client) homes) ∙ is in
           let here = among home (sound.homes_known client home of_world) in
-          ap (λ o. option_map_or (has_client client) (option_and_then (site_view net) o) false) is
+          ap (λ o. option_map_or (has_client client) (option_and_then (node_view net) o) false) is
           ∙ ap (λ o. option_map_or (has_client client) o false) (viewed net set_up home here)
           ∙ ap is_some (kept home is here)
           ∙ sym (ap (λ o. is_some
@@ -99,22 +99,22 @@ module _ (net : Network) (set_up : IsSetUp net) (links : net.links ≡ (world_no
       λ i. refusal_of (joined (links i) near far)
       (are_equal (a_password near far near_here i) (a_password far near far_here i))
 
-  a_link : (near far : Name) → link_fault net near far (site_view net near) (site_view net far)
+  a_link : (near far : Name) → link_fault net near far (node_view net near) (node_view net far)
       ≡ needs_servers settings near far (link_refusal settings world near far)
   a_link near far = by (is_server settings near) (is_server settings far) refl refl
     where
-      none : (server : Name) → is_server settings server ≡ false → site_view net server ≡ None
+      none : (server : Name) → is_server settings server ≡ false → node_view net server ≡ None
       none server is = viewed_nowhere net server (sym (listed net set_up server) ∙ is)
 
       some : (server : Name) → is_server settings server ≡ true
-          → site_view net server ≡ Some (view_at net server)
+          → node_view net server ≡ Some (view_at net server)
       some server is = viewed net set_up server (among server is)
 
       by : (one other : Bool) → is_server settings near ≡ one → is_server settings far ≡ other
-          → link_fault net near far (site_view net near) (site_view net far)
+          → link_fault net near far (node_view net near) (node_view net far)
           ≡ (if one && other then link_refusal settings world near far else Some no_such_server)
       by false other is_near is_far =
-          ap (λ o. link_fault net near far o (site_view net far)) (none near is_near)
+          ap (λ o. link_fault net near far o (node_view net far)) (none near is_near)
       by true false is_near is_far =
           λ i. link_fault net near far (some near is_near i) (none far is_far i)
       by true true is_near is_far =

@@ -4,12 +4,12 @@
 -- is on both sides (RFC 2812 section 3.7.1).
 --
 -- a.net and b.net are being linked, a.net calling; bo is at both:
--- SERVER of a.net comes to b.net b.net puts out PASS, SERVER and its burst on that link: just what
--- it owed, and it owes nothing there any more
---   SERVER of b.net comes to a.net       a.net puts out its burst there: just what it owed
--- NICK of b.net's bo comes to a.net a.net puts out `:a.net KILL bo :Nick collision`, which goes
--- back; when it comes to b.net nobody there has
---                                        the nickname any more
+--   SERVER of a.net comes to b.net     b.net puts out PASS, SERVER and its burst on that link: just
+--                                      what it owed, and it owes nothing there any more
+--   SERVER of b.net comes to a.net     a.net puts out its burst there: just what it owed
+--   NICK of b.net's bo comes to a.net  a.net puts out `:a.net KILL bo :Nick collision`, which goes
+--                                      back; when it comes to b.net nobody there has the nickname
+--                                      any more
 use Rattle.std.specs.Prelude.{◌≡◌, ◌≢◌, ◌⊎◌, ℕ, Bool, false, true, Option, Some, None, List, []}
 use Rattle.std.specs.Prelude.{◌∷◌, ◌++◌}
 use Rattle.std.specs.FinMap.{get}
@@ -23,12 +23,12 @@ use Rattle.irc_relay.specs.Relay.{AnswersOnce}
 use Rattle.irc_routes.specs.Known.{Known}
 use Rattle.irc_stage.specs.View.{End, View}
 use Rattle.irc_stage.specs.EffectTold.{Served}
-use Rattle.irc_deeds.specs.Heard.{heard, tells}
+use Rattle.irc_server.specs.Heard.{heard, tells}
 use Rattle.irc_server.specs.Owed.{lines_to}
 use Rattle.irc_world.specs.World.{World}
-use Rattle.irc_follow.specs.AtRest.{part_of}
+use Rattle.irc_follow.specs.AtRest.{side_state_of}
 use Rattle.irc_follow.specs.Fits.{Fits}
-use Rattle.irc_follow.specs.Part.{Fixed, number, is_home_of}
+use Rattle.irc_follow.specs.SideState.{ItemSetting, number, is_home_of}
 use Rattle.irc_follow.specs.Says.{neighbour_served, lines_on}
 use Rattle.irc_items.specs.Relayed.{is_met_with, owed_to}
 
@@ -42,12 +42,13 @@ closings out = filter_map reason_of out
 
 -- What is put out on another link is behind all that is owed there: nothing is owed, or nothing is
 -- put out.
-pub record PaysNothing (s : Fixed) (view : View) (after : Served) (u : Name) : Type 0 where
+pub record PaysNothing (s : ItemSetting) (view : View) (after : Served) (u : Name) : Type 0 where
   pub owes_as_before : owed_to s after.view u ≡ owed_to s view u
   pub in_turn : (lines_on (number s u) after.out ≡ []) ⊎ (owed_to s view u ≡ [])
 
 -- `back` goes back on the link of p, by which the line came
-pub record IsGoodReply (s : Fixed) (links : List Link) (p t : Name) (view : View) (after : Served)
+pub record IsGoodReply (s : ItemSetting) (links : List Link) (p t : Name) (view : View)
+    (after : Served)
     (back : List (List ℕ)) : Type 0 where
   pub closes_none : closings after.out ≡ []
   pub to_linked : (u : Name) (line : List ℕ) (lines : List (List ℕ))
@@ -71,7 +72,7 @@ abbrev pub no_answers : Answering
 no_answers = record { answered = λ line. false; one = []; other = [] }
 
 -- a line of t does nothing at such a server
-pub record IsUnheard (s : Fixed) (t : Name) (view : View) (line : List ℕ) : Type 0 where
+pub record IsUnheard (s : ItemSetting) (t : Name) (view : View) (line : List ℕ) : Type 0 where
   pub is_line : IsLine line
   pub end : End
   pub is_end : get view.ends (number s t) ≡ Some end
@@ -80,17 +81,17 @@ pub record IsUnheard (s : Fixed) (t : Name) (view : View) (line : List ℕ) : Ty
 -- One line at most goes back, upon one that may be answered, from one end of a new link to the
 -- other. There it does nothing, once that end is what it is to be in this world: nobody is left
 -- whom it is about.
-pub record IsAnswered (s : Fixed) (asks : Answering) (world : World) (routes : Name → Known)
+pub record IsAnswered (s : ItemSetting) (asks : Answering) (world : World) (routes : Name → Known)
     (p t : Name) (line : List ℕ) (back : List (List ℕ))
     : Type 0 where
   pub once : AnswersOnce asks.answered asks.one asks.other p t line back
   pub to_end : (next : List ℕ) (lines : List (List ℕ)) → back ≡ next ∷ lines
       → (s.streams.parent p ≡ t) × (s.streams.depth p ≡ 1)
-  pub unheard : (view : View) → Fits s p (part_of s world routes p) view
+  pub unheard : (view : View) → Fits s p (side_state_of s world routes p) view
       → AllByRecursion (IsUnheard s t view) back
 
 -- of a line that t takes from p
-pub record IsGoodLine (s : Fixed) (asks : Answering) (world : World) (routes : Name → Known)
+pub record IsGoodLine (s : ItemSetting) (asks : Answering) (world : World) (routes : Name → Known)
     (p t : Name) (view : View) (line : List ℕ) : Type 0 where
   pub is_line : IsLine line
   pub end : End

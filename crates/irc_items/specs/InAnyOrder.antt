@@ -3,29 +3,29 @@
 --
 -- al (1) and an (2) are at a.net, where al made #c; bo (3) and cy (4) at b.net, where bo made #c;
 -- then the two are linked. Their bursts cross, in twenty orders; in each
---   al receives   `:bo!u@h JOIN #c`, `:a.net MODE #c +o bo`
---   bo receives   `:al!u@h JOIN #c`, `:b.net MODE #c +o al`
---   an and cy     nothing
+--   al receives  `:bo!u@h JOIN #c`, `:a.net MODE #c +o bo`
+--   bo receives  `:al!u@h JOIN #c`, `:b.net MODE #c +o al`
+--   an and cy    nothing
 --
 -- al (1) at a.net, bo (2) at b.net and cy (3) at c.net, which are in a line, are in #c and #d,
 -- which al made; then the link of a.net and b.net is lost, and is back. In whatever order lines are
 -- delivered each time
--- al receives `:bo!u@h QUIT :a.net b.net`, `:cy!u@h QUIT :a.net b.net`, and then `:bo!u@h JOIN #c`,
--- `:cy!u@h JOIN #c`, `:bo!u@h JOIN #d`, `:cy!u@h JOIN #d`
--- bo receives `:al!u@h QUIT :b.net a.net`, and then `:al!u@h JOIN #c`, `:b.net MODE #c +o al`,
--- `:al!u@h JOIN #d`, `:b.net MODE #d +o al`
---   cy receives   the same, with the flags by c.net
+--   al receives  `:bo!u@h QUIT :a.net b.net`, `:cy!u@h QUIT :a.net b.net`, and then
+--                `:bo!u@h JOIN #c`, `:cy!u@h JOIN #c`, `:bo!u@h JOIN #d`, `:cy!u@h JOIN #d`
+--   bo receives  `:al!u@h QUIT :b.net a.net`, and then `:al!u@h JOIN #c`, `:b.net MODE #c +o al`,
+--                `:al!u@h JOIN #d`, `:b.net MODE #d +o al`
+--   cy receives  the same, with the flags by c.net
 --
 -- zed is at a.net (2) and another zed at b.net (4); al (1) shares a channel with the first, bo (3)
 -- with the other; then the two servers are linked. Whatever crosses
---   al receives   `:zed!u@h QUIT :Killed (Nick collision)`, and so does bo
---   both zeds     `ERROR :Closing link (Killed (Nick collision))`
+--   al receives  `:zed!u@h QUIT :Killed (Nick collision)`, and so does bo
+--   both zeds    `ERROR :Closing link (Killed (Nick collision))`
 use Rattle.std.specs.Prelude.{◌≡◌, ℕ, true, Some, [], ◌∷◌, ◌++◌, codes}
 use Rattle.irc_line.specs.Bytes.{crlf}
 use Rattle.irc_world.specs.Networks.{als_people, bos_people, cut_off, in_a_line, three_people}
 use Rattle.irc_world.specs.Networks.{three_peers, two_apart, with_other_zed, with_zed}
 use Rattle.irc_world.specs.Stepping.{Item, cut, link, step}
-use Rattle.irc_network.specs.Network.{Course, Network, begun, delivered, given, is_at_rest}
+use Rattle.irc_network.specs.Network.{Progress, Network, begun, delivered, given, is_at_rest}
 use Rattle.irc_network.specs.Network.{received_by}
 use Rattle.irc_items.specs.Laws.{IsGivenAtRest}
 use Rattle.irc_items.specs.SetUp.{settings_of}
@@ -34,7 +34,7 @@ use Rattle.irc_items.specs.Sound.{world_now, IsSound}
 -- some lines are delivered, one after another, each by some link
 pub data IsReached : Network → Network → Type 0 where
   none_yet : {net : Network} → IsReached net net
-  one_more : {first between : Network} {last : Course} (from to : ℕ) → IsReached first between
+  one_more : {first between : Network} {last : Progress} (from to : ℕ) → IsReached first between
       → delivered from to (begun between) ≡ Some last → IsReached first last.net
 
 -- an item is given, and lines are delivered until none is on its way

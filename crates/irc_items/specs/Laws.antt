@@ -12,8 +12,8 @@ use Rattle.irc_stage.specs.View.{View}
 use Rattle.irc_world.specs.Refused.{refused}
 use Rattle.irc_world.specs.Stepping.{Item, link}
 use Rattle.irc_world.specs.WithinLimits.{IsItemWithin}
-use Rattle.irc_network.specs.Network.{Course, Network, Site, delivered, given, is_at_rest}
-use Rattle.irc_network.specs.Network.{received_by, site_at, waiting}
+use Rattle.irc_network.specs.Network.{Progress, Network, Node, delivered, given, is_at_rest}
+use Rattle.irc_network.specs.Network.{received_by, node_at, waiting}
 use Rattle.irc_network.specs.Refusing.{fault_at_rest}
 use Rattle.irc_items.specs.OneRoom.{IsOneRoom}
 use Rattle.irc_items.specs.GoodLines.{closings}
@@ -35,7 +35,7 @@ GivenStaysSound = (net : Network) (item : Item) → IsSound net → IsGivenAtRes
     → IsSound (given item net).net
 
 abbrev pub DeliveryStaysSound : Type 0
-DeliveryStaysSound = (from to : ℕ) (old new : Course) → IsSound old.net
+DeliveryStaysSound = (from to : ℕ) (old new : Progress) → IsSound old.net
     → delivered from to old ≡ Some new → IsSound new.net
 
 abbrev pub RestIsOneRoom : Type 0
@@ -57,14 +57,14 @@ GivenKeepsSettings =
     (net : Network) (item : Item) → settings_of (given item net).net ≡ settings_of net
 
 abbrev pub DeliveryKeepsSettings : Type 0
-DeliveryKeepsSettings = (from to : ℕ) (old new : Course) → delivered from to old ≡ Some new
+DeliveryKeepsSettings = (from to : ℕ) (old new : Progress) → delivered from to old ≡ Some new
     → settings_of new.net ≡ settings_of old.net
 
 -- Each line that waits on a way is one: 1 to 510 bytes, none of them NUL, CR or LF. So a stream
 -- that carries it with its CR LF gives it as it was put out (RFC 2812 section 2.3).
 abbrev pub WaitingAreLines : Type 0
-WaitingAreLines = (net : Network) (place to : ℕ) (site : Site) → IsSound net
-    → site_at net place ≡ Some site → AllByRecursion IsLine (waiting site to)
+WaitingAreLines = (net : Network) (place to : ℕ) (node : Node) → IsSound net
+    → node_at net place ≡ Some node → AllByRecursion IsLine (waiting node to)
 
 -- No server closes a link upon the line that it takes next from another.
 abbrev pub ClosesNoLink : Network → Type 0

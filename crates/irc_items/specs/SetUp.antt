@@ -7,7 +7,7 @@ use Rattle.std.specs.FinMap.{empty}
 use Rattle.std.specs.Option.{option_map}
 use Rattle.irc_names.specs.Limits.{max_created}
 use Rattle.irc_names.specs.Names.{IsServer}
-use Rattle.irc_handshake.specs.Passwords.{is_password}
+use Rattle.irc_link_words.specs.Passwords.{is_password}
 use Rattle.irc_relay.specs.Distances.{IsAmong}
 use Rattle.irc_relay.specs.Links.{Name, same}
 use Rattle.irc_room.specs.Laws.{no_room}
@@ -16,7 +16,7 @@ use Rattle.irc_routes.specs.Known.{Known, alone_known}
 use Rattle.irc_routes.specs.Limits.{max_servers}
 use Rattle.irc_stage.specs.View.{KnownPeer, View, new_view}
 use Rattle.irc_world.specs.World.{Setting}
-use Rattle.irc_network.specs.Network.{Network, Site, site_view}
+use Rattle.irc_network.specs.Network.{Network, Node, node_view}
 
 -- ---- a server as it is there
 
@@ -25,7 +25,7 @@ abbrev pub no_view : View
 no_view = new_view (alone_known [] [] []) []
 
 abbrev pub view_at : Network → Name → View
-view_at net server = unwrap_or (site_view net server) no_view
+view_at net server = unwrap_or (node_view net server) no_view
 
 -- what each server knows of the others
 abbrev pub routes_in : Network → Name → Known
@@ -42,16 +42,16 @@ setting_now view = record {
   peers = view.peers;
 }
 
--- none where no server is at the site
-abbrev pub setting_at : Site → Option Setting
-setting_at site = option_map setting_now site.server
+-- none where no server is at the node
+abbrev pub setting_at : Node → Option Setting
+setting_at node = option_map setting_now node.server
 
 abbrev pub settings_of : Network → List Setting
-settings_of net = filter_map setting_at net.sites
+settings_of net = filter_map setting_at net.nodes
 
--- the name of the server of a site, where one is there
-abbrev pub named_at : Site → Option Name
-named_at site = option_map (λ (view : View). view.routes.name) site.server
+-- the name of the server of a node, where one is there
+abbrev pub named_at : Node → Option Name
+named_at node = option_map (λ (view : View). view.routes.name) node.server
 
 -- a password that both ends of a link may give
 abbrev pub HasPassword : KnownPeer → Type 0
@@ -66,7 +66,7 @@ pub record IsConfigured (view : View) : Type 0 where
 
 -- Each server is there under its name, no two have one name, and they are not too many.
 pub record IsSetUp (net : Network) : Type 0 where
-  pub named : map named_at net.sites ≡ map Some net.names
+  pub named : map named_at net.nodes ≡ map Some net.names
   pub once : (server : Name) → IsAmong net.names server → count_by (same server) net.names ≡ 1
   pub few : length net.names ≤ max_servers
   pub configured : (server : Name) → IsAmong net.names server → IsConfigured (view_at net server)
@@ -84,7 +84,7 @@ pub record IsNewServer (view : View) : Type 0 where
 pub record IsNew (net : Network) : Type 0 where
   pub set_up : IsSetUp net
   pub servers : (server : Name) → IsAmong net.names server → IsNewServer (view_at net server)
-  pub queues : AllByRecursion (λ (site : Site). site.queues ≡ empty) net.sites
+  pub queues : AllByRecursion (λ (node : Node). node.queues ≡ empty) net.nodes
   pub links : net.links ≡ []
   pub homes : net.homes ≡ []
   pub received : net.received ≡ []

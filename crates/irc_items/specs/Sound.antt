@@ -5,7 +5,7 @@ use Rattle.std.specs.Prelude.{◌≡◌, ◌⊎◌, ℕ, ◌+◌, ◌≤◌, tru
 use Rattle.std.specs.Prelude.{length}
 use Rattle.std.specs.List.{AllByRecursion}
 use Rattle.irc_line.specs.Messages.{line_text}
-use Rattle.irc_handshake.specs.GreetingLines.{greeting}
+use Rattle.irc_link_words.specs.GreetingLines.{greeting}
 use Rattle.irc_relay.specs.Distances.{IsAmong}
 use Rattle.irc_relay.specs.Following.{GoesWell}
 use Rattle.irc_relay.specs.Links.{Name, linked, AreLinked}
@@ -17,14 +17,14 @@ use Rattle.irc_world.specs.Sound.{AreTaken}
 use Rattle.irc_world.specs.Stepping.{Item, step}
 use Rattle.irc_world.specs.WithinLimits.{IsItemWithin}
 use Rattle.irc_world.specs.World.{Setting, World, new_world, home_in}
-use Rattle.irc_follow.specs.AtRest.{part_of, AreRight}
+use Rattle.irc_follow.specs.AtRest.{side_state_of, AreRight}
 use Rattle.irc_follow.specs.Fits.{Fits}
-use Rattle.irc_follow.specs.Part.{Fixed, is_home_of}
+use Rattle.irc_follow.specs.SideState.{ItemSetting, is_home_of}
 use Rattle.irc_follow.specs.Says.{machine}
 use Rattle.irc_follow.specs.Tree.{index_in}
 use Rattle.irc_network.specs.Network.{Network}
 use Rattle.irc_items.specs.GoodLines.{Answering, IsGoodLine}
-use Rattle.irc_items.specs.Relayed.{fixed_of, is_met_with, relayed, way_at, way_between}
+use Rattle.irc_items.specs.Relayed.{setting_of_item, is_met_with, relayed, way_at, way_between}
 use Rattle.irc_items.specs.SetUp.{settings_of, view_at, IsSetUp}
 
 -- ---- what the items make
@@ -49,19 +49,19 @@ most_now net = most_of_last (settings_of net) new_world net.items
 
 -- Once a server has taken all that is coming to it, it is what it is to be in this world, where
 -- servers know these of each other.
-abbrev pub WillFit : Fixed → World → (Name → Known) → Network → ℕ → Type 0
+abbrev pub WillFit : ItemSetting → World → (Name → Known) → Network → ℕ → Type 0
 WillFit s world routes net client = (t : Name) → IsAmong s.names t
-    → Fits s t (part_of s world routes t)
+    → Fits s t (side_state_of s world routes t)
     (final (machine s client) s.streams (relayed s net client) t)
 
 -- By then a client has received at its home all that it is owed.
-abbrev pub WillReceive : Fixed → Network → ℕ → List (List ℕ) → Type 0
+abbrev pub WillReceive : ItemSetting → Network → ℕ → List (List ℕ) → Type 0
 WillReceive s net client owed =
     (home : Name) → is_home_of s.homes home client ≡ true
     → final_shown (machine s client) s.streams (relayed s net client) home ≡ owed
 
 -- as one client sees it
-pub record IsUnderWay (s : Fixed) (asks : Answering) (world : World) (routes : Name → Known)
+pub record IsUnderWay (s : ItemSetting) (asks : Answering) (world : World) (routes : Name → Known)
     (net : Network) (client : ℕ) (owed : List (List ℕ)) : Type 0 where
   pub away : GoesAway s.streams (relayed s net client)
   pub fits : WillFit s world routes net client
@@ -72,18 +72,18 @@ pub record IsUnderWay (s : Fixed) (asks : Answering) (world : World) (routes : N
 -- ---- what always holds
 
 -- One server has named itself to another, or the line by which it does is on its way.
-pub data HasCalled (s : Fixed) (net : Network) (x y : Name) : Type 0 where
+pub data HasCalled (s : ItemSetting) (net : Network) (x y : Name) : Type 0 where
   is_met : is_met_with s (view_at net y) x ≡ true → HasCalled s net x y
   is_calling : (before behind : List (List ℕ)) → way_between net x y
       ≡ Some (before ++ line_text (greeting (view_at net x).routes) ∷ behind) → HasCalled s net x y
 
 -- of the two ends of a link one has called the other
-abbrev pub AreCalled : Fixed → Network → Type 0
+abbrev pub AreCalled : ItemSetting → Network → Type 0
 AreCalled s net = (x y : Name) → AreLinked net.links x y → HasCalled s net x y ⊎ HasCalled s net y x
 
 -- Lines come along the links from these sources. Those that may be answered count twice.
 pub record IsSoundFrom (source : Name → Name) (routes : Name → Known) (asks : Answering)
-    (net : Network) (s : Fixed) : Type 0 where
+    (net : Network) (s : ItemSetting) : Type 0 where
   pub covers : Covers net.links source
   pub right : AreRight s net.links routes
   pub called : AreCalled s net
@@ -112,4 +112,5 @@ pub record IsSound (net : Network) : Type 0 where
   pub source : Name → Name
   pub routes : Name → Known
   pub asks : Answering
-  pub coming : IsSoundFrom source routes asks net (fixed_of net (streams_from net.links source))
+  pub coming : IsSoundFrom source routes asks net
+      (setting_of_item net (streams_from net.links source))

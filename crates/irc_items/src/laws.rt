@@ -17,7 +17,7 @@ pub fn new_network_is_sound()
     ensures { NewNetworkIsSound }
 {
     irc_world::laws::taken_make_world();
-    irc_follow::laws::part_at_rest_is_sound();
+    irc_follow::laws::side_at_rest_is_sound();
 }
 
 /// It stays so by each item that is taken.
@@ -29,7 +29,7 @@ pub fn given_stays_sound()
     irc_line::laws::every_line_is_read();
     irc_line::laws::words_are_of_the_line();
     irc_room::laws::names_are_line_words();
-    irc_handshake::laws::lines_fit();
+    irc_link_words::laws::lines_fit();
     irc_merge::laws::merge_is_even();
     irc_merge::laws::whole_side();
     irc_merge::laws::burst_tells_no_invitation();
@@ -62,9 +62,9 @@ pub fn given_stays_sound()
     irc_follow::laws::said_deed_goes_on();
     irc_follow::laws::aside_stays();
     irc_follow::laws::passed_by_stays();
-    irc_follow::laws::part_after_link();
+    irc_follow::laws::side_after_link();
     irc_follow::laws::tree_after_cut();
-    irc_follow::laws::part_at_rest_is_sound();
+    irc_follow::laws::side_at_rest_is_sound();
     irc_follow::laws::behind_is_that_side();
     irc_follow::laws::place_is_worlds();
     irc_follow::laws::source_tells();
@@ -82,7 +82,7 @@ pub fn delivery_stays_sound()
     irc_line::laws::written_is_read();
     irc_line::laws::every_line_is_read();
     irc_room::laws::names_are_line_words();
-    irc_handshake::laws::lines_fit();
+    irc_link_words::laws::lines_fit();
     irc_server::laws::keeps_its_setting();
     irc_world::laws::taken_make_world();
 }
@@ -110,7 +110,7 @@ pub fn new_link_is_open()
 pub fn only_lines_close()
     ensures { OnlyLinesClose }
 {
-    irc_server_laws::laws::served_closes_its_own();
+    irc_server::laws::served_closes_its_own();
 }
 
 /// At rest it is one room.
@@ -119,7 +119,7 @@ pub fn rest_is_one_room()
 {
     irc_network::laws::rest_stays();
     irc_world::laws::taken_make_world();
-    irc_follow::laws::part_at_rest_is_sound();
+    irc_follow::laws::side_at_rest_is_sound();
 }
 
 /// At every moment what a client has received is a front of what it is owed.
@@ -250,7 +250,7 @@ pub fn turns_are_few()
     irc_line::laws::written_is_read();
     irc_line::laws::every_line_is_read();
     irc_room::laws::names_are_line_words();
-    irc_handshake::laws::lines_fit();
+    irc_link_words::laws::lines_fit();
     irc_server::laws::keeps_its_setting();
     irc_world::laws::taken_make_world();
 }

@@ -11,8 +11,9 @@ use Rattle.irc_line.specs.Messages.{Parsed, Written, joined_text, line_text, tex
 use Rattle.irc_line.specs.Reading.{read_of}
 use Rattle.irc_line.specs.declared.reading.LineFault.{LineFault}
 use Rattle.irc_names.specs.Names.{is_nick}
-use Rattle.irc_late.specs.declared.hearing.Heard.{Heard}
-use Rattle.irc_late.specs.declared.hearing.Heard.TheVariants.{Unchanged, Changed, LeftOut, KillBack}
+use Rattle.irc_late.specs.declared.hearing.LineFate.{LineFate}
+use Rattle.irc_late.specs.declared.hearing.LineFate.TheVariants.{Unchanged, Changed, LeftOut}
+use Rattle.irc_late.specs.declared.hearing.LineFate.TheVariants.{KillBack}
 use Rattle.irc_late.specs.Remembering.{Remembered, was_introduced}
 use Rattle.irc_late.specs.Late.{is_late, is_met_kill, is_nick_line, word_at, params_put_right}
 use Rattle.irc_late.specs.Late.{read_heard, with_params}
@@ -20,7 +21,7 @@ use Rattle.irc_late.specs.Laws.{ChangedFits}
 use Rattle.irc_late.proofs.Naming.{each_way}
 
 -- what is written in place of a line has room, if something is
-abbrev Fits : Heard → Type 0
+abbrev Fits : LineFate → Type 0
 Fits (Changed changed) = length changed.items ≤ max_text
 Fits Unchanged = ⊤
 Fits LeftOut = ⊤

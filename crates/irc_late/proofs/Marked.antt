@@ -5,7 +5,7 @@ use Rattle.std.specs.List.{list_any}
 use Rattle.circular_buffer.specs.Buffer.{Buffer, buffer}
 use Rattle.irc_names.specs.Fold.{same}
 use Rattle.irc_names.specs.FoldLaws.{same-tells}
-use Rattle.irc_late.specs.declared.memory.Change.{Change}
+use Rattle.irc_late.specs.declared.memory.NickChange.{NickChange}
 use Rattle.irc_late.specs.Marks.{mark_behind, mark_of}
 use Rattle.irc_late.specs.Remembering.{is_from_other, is_of, is_of_others, moved}
 
@@ -26,7 +26,7 @@ other_marks mark other_mark name other shown other_shown is other_is view other_
     apart (is ∙ alike ∙ sym other_is)) ∙ (λ i. same (view i) (other_view i))
 
 -- where none is from or to a nickname, all of them are of others
-none_among : (nick : List ℕ) (change : Change) (rest : List Change) (is : Bool)
+none_among : (nick : List ℕ) (change : NickChange) (rest : List NickChange) (is : Bool)
     → (is || list_any (is_of nick) rest) ≡ false → filter (is_of_others nick) rest ≡ rest
     → cond (not is) (change ∷ filter (is_of_others nick) rest) (filter (is_of_others nick) rest)
     ≡ change ∷ rest
@@ -37,36 +37,38 @@ none_behind : (is rest : Bool) → (is || rest) ≡ false → rest ≡ false
 none_behind true rest none = absurd (true≢false none)
 none_behind false rest none = none
 
-none_of : (nick : List ℕ) (changes : List Change) → list_any (is_of nick) changes ≡ false
+none_of : (nick : List ℕ) (changes : List NickChange) → list_any (is_of nick) changes ≡ false
     → filter (is_of_others nick) changes ≡ changes
 none_of nick [] none = refl
 none_of nick (change ∷ rest) none =
     none_among nick change rest (is_of nick change) none
     (none_of nick rest (none_behind (is_of nick change) (list_any (is_of nick) rest) none))
 
-pub none_sifted : (nick : List ℕ) (changes : Buffer Change) → list_any (is_of nick) changes.items
+pub none_sifted : (nick : List ℕ) (changes : Buffer NickChange)
+    → list_any (is_of nick) changes.items
     ≡ false → changes ≡ buffer (filter (is_of_others nick) changes.items) changes.capacity
 none_sifted nick changes none =
     λ i. buffer (sym (none_of nick changes.items none) i) changes.capacity
 
 -- then none leads on, either
-led_as_it_is : (old new : List ℕ) (change : Change) (leads : Bool) → leads ≡ false
+led_as_it_is : (old new : List ℕ) (change : NickChange) (leads : Bool) → leads ≡ false
     → cond leads (record change { now = new }) change ≡ change
 led_as_it_is old new change true leads = absurd (true≢false leads)
 led_as_it_is old new change false leads = refl
 
-none_led_among : (old new : List ℕ) (change : Change) (rest : List Change) (from to more : Bool)
-    → ((from || to) || more) ≡ false → same change.now old ≡ to → map (moved old new)
+none_led_among : (old new : List ℕ) (change : NickChange) (rest : List NickChange)
+    (from to more : Bool) → ((from || to) || more) ≡ false → same change.now old ≡ to
+    → map (moved old new)
     (filter (is_from_other old) rest) ≡ rest → map (moved old new) (cond (not from)
     (change ∷ filter (is_from_other old) rest) (filter (is_from_other old) rest)) ≡ change ∷ rest
 none_led_among old new change rest true to more none leads so = absurd (true≢false none)
 none_led_among old new change rest false true more none leads so = absurd (true≢false none)
 none_led_among old new change rest false false more none leads so =
-    ap (λ (led : Change). led ∷ map (moved old new) (filter (is_from_other old) rest))
+    ap (λ (led : NickChange). led ∷ map (moved old new) (filter (is_from_other old) rest))
     (led_as_it_is old new change (same change.now old) leads)
     ∙ ap (λ behind. change ∷ behind) so
 
-none_led_of : (old new : List ℕ) (changes : List Change) → list_any (is_of old) changes ≡ false
+none_led_of : (old new : List ℕ) (changes : List NickChange) → list_any (is_of old) changes ≡ false
     → map (moved old new) (filter (is_from_other old) changes) ≡ changes
 none_led_of old new [] none = refl
 none_led_of old new (change ∷ rest) none =
@@ -74,7 +76,7 @@ none_led_of old new (change ∷ rest) none =
     (list_any (is_of old) rest) none refl
     (none_led_of old new rest (none_behind (is_of old change) (list_any (is_of old) rest) none))
 
-pub none_led : (old new : List ℕ) (changes : Buffer Change)
+pub none_led : (old new : List ℕ) (changes : Buffer NickChange)
     → list_any (is_of old) changes.items ≡ false → changes
     ≡ buffer (map (moved old new) (filter (is_from_other old) changes.items)) changes.capacity
 none_led old new changes none =

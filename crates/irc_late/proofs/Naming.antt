@@ -9,7 +9,7 @@ use Rattle.std.specs.Str.{bytes_eq}
 use Rattle.std.proofs.lemmas.Slice.Eq.{bytes_eq-Decides}
 use Rattle.irc_line.specs.Messages.{Parsed, text}
 use Rattle.irc_link_words.specs.Words.{is_command, is_for_channel}
-use Rattle.irc_late.specs.declared.hearing.Heard.TheVariants.{Unchanged, Changed, LeftOut}
+use Rattle.irc_late.specs.declared.hearing.LineFate.TheVariants.{Unchanged, Changed, LeftOut}
 use Rattle.irc_late.specs.declared.memory.Killed.{Killed}
 use Rattle.irc_names.specs.Fold.{same}
 use Rattle.irc_late.specs.Remembering.{Remembered, has_crossed, nick_now}

@@ -6,7 +6,7 @@ use Rattle.std.specs.Option.{is_none}
 use Rattle.irc_line.specs.declared.reading.LineFault.{LineFault}
 use Rattle.irc_line.specs.Messages.{Parsed}
 use Rattle.irc_line.specs.Reading.{read_of}
-use Rattle.irc_late.specs.declared.hearing.Heard.TheVariants.{Unchanged}
+use Rattle.irc_late.specs.declared.hearing.LineFate.TheVariants.{Unchanged}
 use Rattle.irc_late.specs.declared.memory.Met.{Met}
 use Rattle.irc_late.specs.Remembering.{Remembered, none_crossed, with_met, without_changes}
 use Rattle.irc_late.specs.Remembering.{without_killed}

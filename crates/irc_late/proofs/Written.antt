@@ -1,5 +1,5 @@
 -- What is written to a link: what is to be written back, and then the server's bytes.
-use Rattle.std.proofs.Common.{◌≡◌, ℕ, ◌-◌, true, false, Result, Ok, Err, List, [], refl, sym, ◌∙◌}
+use Rattle.std.proofs.Common.{◌≡◌, ℕ, ◌-◌, true, false, Result, Ok, Err, List, [], refl, sym}
 use Rattle.std.proofs.Common.{ap, subst, arith}
 use Rattle.irc_outbox.specs.Calls.{Call, bytes_taken, writes, Adds}
 use Rattle.irc_outbox.specs.declared.wire.IoFault.{IoFault}
@@ -7,7 +7,7 @@ use Rattle.irc_outbox.specs.declared.wire.Ready.{Ready}
 use Rattle.irc_outbox.specs.declared.wire.Ready.TheVariants.{Writable}
 use Rattle.irc_late.specs.declared.late_link.LateLink.{LateLink}
 use Rattle.irc_late.specs.declared.outgoing.Outgoing.{Outgoing}
-use Rattle.irc_late.specs.Around.{Links, told_behind, Meets, WritesBackAt}
+use Rattle.irc_late.specs.Around.{Links, Meets, WritesBackAt}
 use Rattle.irc_late.specs.LinkEnds.{has_to_write_back, WritesBack, WritesLink, WritesUnless}
 use Rattle.irc_late.specs.Links.{taken_off}
 

@@ -31,8 +31,9 @@ use Rattle.irc_line.specs.Messages.{Parsed, Sender, Written, nobody, named, text
 use Rattle.irc_line.specs.Reading.{read_of}
 use Rattle.irc_names.specs.Names.{is_nick}
 use Rattle.irc_link_words.specs.Words.{is_command, is_for_channel}
-use Rattle.irc_late.specs.declared.hearing.Heard.{Heard}
-use Rattle.irc_late.specs.declared.hearing.Heard.TheVariants.{Unchanged, Changed, LeftOut, KillBack}
+use Rattle.irc_late.specs.declared.hearing.LineFate.{LineFate}
+use Rattle.irc_late.specs.declared.hearing.LineFate.TheVariants.{Unchanged, Changed, LeftOut}
+use Rattle.irc_late.specs.declared.hearing.LineFate.TheVariants.{KillBack}
 use Rattle.irc_late.specs.Remembering.{Remembered, has_crossed, is_killed, is_met, is_met_new}
 use Rattle.irc_late.specs.Remembering.{nick_now, none_crossed, with_change, with_killed, with_met}
 use Rattle.irc_late.specs.Remembering.{was_introduced, without_changes, without_killed}
@@ -164,38 +165,38 @@ abbrev pub words_put_right : Remembered → Parsed → List (List ℕ)
 words_put_right memory message = params_put_right memory message.command message.params
 
 -- the line with other parameters, or as it is if they are no others
-abbrev pub heard_with : Parsed → List (List ℕ) → Heard
+abbrev pub heard_with : Parsed → List (List ℕ) → LineFate
 heard_with message params =
     if pointwise bytes_eq params message.params then Unchanged
     else Changed (record { items = text (with_params message params) })
 
-abbrev pub put_right_heard : Remembered → Parsed → Heard
+abbrev pub put_right_heard : Remembered → Parsed → LineFate
 put_right_heard memory message = heard_with message (words_put_right memory message)
 
 -- what becomes of a line that is from nobody whom this end has killed
-abbrev pub other_heard : Remembered → Parsed → Heard
+abbrev pub other_heard : Remembered → Parsed → LineFate
 other_heard memory message =
     if is_met_kill memory message then LeftOut else put_right_heard memory message
 
 -- A line of somebody who was killed is left out. Where it takes another nickname, and the KILL
 -- has crossed the line that has introduced it, a KILL for that nickname is to be written back:
 -- the one for the old nickname finds this end's own user there.
-abbrev pub late_heard : Remembered → List ℕ → Parsed → Heard
+abbrev pub late_heard : Remembered → List ℕ → Parsed → LineFate
 late_heard memory name message =
     if is_nick_line message && (was_introduced memory name && is_nick (word_at 0 message))
     then KillBack (word_at 0 message) else LeftOut
 
-abbrev pub message_heard : Remembered → Parsed → Heard
+abbrev pub message_heard : Remembered → Parsed → LineFate
 message_heard memory message =
     if is_late memory message then late_heard memory (unwrap_or message.prefix []) message
     else other_heard memory message
 
-abbrev pub read_heard : Remembered → Result Parsed LineFault → Heard
+abbrev pub read_heard : Remembered → Result Parsed LineFault → LineFate
 read_heard memory (Ok message) = message_heard memory message
 read_heard memory (Err fault) = Unchanged
 
 -- what becomes of a line
-abbrev pub heard : Remembered → List ℕ → Heard
+abbrev pub heard : Remembered → List ℕ → LineFate
 heard memory line = read_heard memory (read_of line)
 
 -- ---- what is remembered behind it

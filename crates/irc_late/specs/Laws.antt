@@ -10,8 +10,9 @@ use Rattle.irc_line.specs.Messages.{Parsed}
 use Rattle.irc_line.specs.Reading.{read_of}
 use Rattle.irc_names.specs.Names.{IsServer, is_nick}
 use Rattle.irc_link_words.specs.Words.{is_command}
-use Rattle.irc_late.specs.declared.hearing.Heard.{Heard}
-use Rattle.irc_late.specs.declared.hearing.Heard.TheVariants.{Unchanged, Changed, LeftOut, KillBack}
+use Rattle.irc_late.specs.declared.hearing.LineFate.{LineFate}
+use Rattle.irc_late.specs.declared.hearing.LineFate.TheVariants.{Unchanged, Changed, LeftOut}
+use Rattle.irc_late.specs.declared.hearing.LineFate.TheVariants.{KillBack}
 use Rattle.irc_late.specs.declared.memory.Killed.{Killed}
 use Rattle.irc_late.specs.Remembering.{Remembered, is_killed, nick_now, nothing_remembered}
 use Rattle.irc_late.specs.Late.{after_hearing, heard, is_late, line_put_out, names_first, word_at}
@@ -82,11 +83,11 @@ ChangedFits = (memory : Remembered) (line : List ℕ) (changed : ArrayVec ℕ)
 -- ---- examples
 
 -- with this line put out, that one comes
-abbrev pub heard_after : (out line : List ℕ) → Heard
+abbrev pub heard_after : (out line : List ℕ) → LineFate
 heard_after out line = heard (line_put_out nothing_remembered out) line
 
 -- a line in place of the one that has come
-abbrev pub changed_to : List ℕ → Heard
+abbrev pub changed_to : List ℕ → LineFate
 changed_to line = Changed (record { items = line ++ crlf })
 
 abbrev pub KilledIsLeftOut : Type 0
@@ -106,7 +107,7 @@ abbrev pub KeyStays : Type 0
 KeyStays = heard_after (codes ":al NICK ally") (codes ":bo MODE #c +k al") ≡ Unchanged
 
 -- what becomes of a line, where the other end's line has crossed one that is put out because of it
-abbrev pub heard_crossed : (came out line : List ℕ) → Heard
+abbrev pub heard_crossed : (came out line : List ℕ) → LineFate
 heard_crossed came out line = heard (line_put_out (after_hearing nothing_remembered came) out) line
 
 -- a KILL that has crossed this end's

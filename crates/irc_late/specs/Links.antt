@@ -13,11 +13,11 @@ use Rattle.irc_burst_lines.specs.DeedLines.{kill_parts}
 use Rattle.irc_outbox.specs.Calls.{Call, reads, is_some_bytes, Adds}
 use Rattle.irc_outbox.specs.Outboxes.{Held, holding}
 use Rattle.irc_outbox.specs.declared.wire.Got.{Got}
-use Rattle.irc_outbox.specs.declared.wire.Got.TheVariants.{Bytes}
 use Rattle.irc_outbox.specs.declared.wire.IoFault.{IoFault}
 use Rattle.irc_late.specs.declared.outgoing.Outgoing.{Outgoing}
-use Rattle.irc_late.specs.declared.hearing.Heard.{Heard}
-use Rattle.irc_late.specs.declared.hearing.Heard.TheVariants.{Unchanged, Changed, LeftOut, KillBack}
+use Rattle.irc_late.specs.declared.hearing.LineFate.{LineFate}
+use Rattle.irc_late.specs.declared.hearing.LineFate.TheVariants.{Unchanged, Changed, LeftOut}
+use Rattle.irc_late.specs.declared.hearing.LineFate.TheVariants.{KillBack}
 use Rattle.irc_late.specs.Coming.{Coming}
 use Rattle.irc_late.specs.Remembering.{Remembered}
 use Rattle.irc_late.specs.Late.{after_hearing, heard, may_meet}
@@ -93,7 +93,7 @@ pub record FillsFrom {W : Type 0} (is_after : W → List Call → Type 0) (conn 
   pub filled : new ≡ record old { input = bytes }
 
 -- what is given on of a line
-abbrev pub text_given : List ℕ → Heard → List ℕ
+abbrev pub text_given : List ℕ → LineFate → List ℕ
 text_given line Unchanged = line ++ crlf
 text_given line (Changed other) = other.items
 text_given line LeftOut = []
@@ -118,7 +118,7 @@ put_behind bytes held =
     else held
 
 -- the KILL that is to be written back because of a line, if one is
-abbrev pub kill_behind : List ℕ → Heard → Held → Held
+abbrev pub kill_behind : List ℕ → LineFate → Held → Held
 kill_behind own (KillBack nick) held = put_behind (text (kill_parts own nick)) held
 kill_behind own other held = held
 
@@ -131,7 +131,7 @@ all_kills_behind own memory (line ∷ lines) held =
 
 -- whether the server is to have a line before another is heard: it is given on, and what the
 -- server puts out because of it may be remembered
-abbrev pub is_alone : List ℕ → Heard → Bool
+abbrev pub is_alone : List ℕ → LineFate → Bool
 is_alone line Unchanged = may_meet line
 is_alone line other = false
 

@@ -12,7 +12,7 @@ use Rattle.std.specs.List.{find, list_any}
 use Rattle.std.specs.Option.{option_map, option_map_or}
 use Rattle.irc_names.specs.Fold.{same}
 use Rattle.irc_names.specs.Names.{is_nick}
-use Rattle.irc_late.specs.declared.memory.Change.{Change}
+use Rattle.irc_late.specs.declared.memory.NickChange.{NickChange}
 use Rattle.irc_late.specs.declared.memory.Killed.{Killed}
 use Rattle.irc_late.specs.declared.memory.Met.{Met}
 
@@ -21,7 +21,7 @@ pub record Remembered : Type 0 where
   -- the nicknames for which a KILL was put out
   pub killed : List Killed
   -- the nicknames that users have given up, each with the one that its user has now
-  pub changes : List Change
+  pub changes : List NickChange
   -- the nickname that the line at hand introduces or takes: a KILL for it that is put out now
   -- meets that line
   pub met : Option Met
@@ -104,17 +104,18 @@ with_none_met memory = record memory { met = None }
 -- the nickname now of the user that has given up this one, if one has
 abbrev pub nick_now : Remembered → List ℕ → Option (List ℕ)
 nick_now memory nick =
-    option_map (λ (c : Change). c.now) (find (λ (c : Change). same c.given_up nick) memory.changes)
+    option_map (λ (c : NickChange). c.now)
+    (find (λ (c : NickChange). same c.given_up nick) memory.changes)
 
 -- whether a change is from or to a nickname
-abbrev pub is_of : List ℕ → Change → Bool
+abbrev pub is_of : List ℕ → NickChange → Bool
 is_of nick change = same change.given_up nick || same change.now nick
 
-abbrev pub is_of_others : List ℕ → Change → Bool
+abbrev pub is_of_others : List ℕ → NickChange → Bool
 is_of_others nick change = not (is_of nick change)
 
 -- whether a change is from another nickname
-abbrev pub is_from_other : List ℕ → Change → Bool
+abbrev pub is_from_other : List ℕ → NickChange → Bool
 is_from_other nick change = is_other nick change.given_up
 
 -- A nickname has another user now: who had given it up is not to be found by it, and who had it
@@ -123,7 +124,7 @@ abbrev pub without_changes : List ℕ → Remembered → Remembered
 without_changes nick memory = record memory { changes = filter (is_of_others nick) memory.changes }
 
 -- whoever has this nickname now has that one
-abbrev pub moved : (old new : List ℕ) → Change → Change
+abbrev pub moved : (old new : List ℕ) → NickChange → NickChange
 moved old new change = if same change.now old then record change { now = new } else change
 
 -- A user takes another nickname. What it had given up before leads to the new one, too; another

@@ -20,11 +20,11 @@ use irc_link_words::is_command;
 use irc_names::Nick;
 
 /// The words of a line.
-pub(crate) type Words<'a> = ArrayVec<&'a [u8], MAX_PARAMETERS>;
+pub(crate) type LineWords<'a> = ArrayVec<&'a [u8], MAX_PARAMETERS>;
 
 /// What becomes of a line.
 #[derive(Drop)]
-pub enum Heard {
+pub enum LineFate {
     /// It is given on as it came.
     Unchanged,
     /// This is given on in its place.
@@ -56,12 +56,12 @@ impl Memory {
     }
 
     /// A line comes from the other end.
-    pub fn hear(&mut self, line: &[u8]) -> Heard
+    pub fn hear(&mut self, line: &[u8]) -> LineFate
         ensures heard { result ≡ heard self.old line.now }
         ensures remembered { self.new ≡ after_hearing self.old line.now }
     {
         let Ok(message) = parse(line) else {
-            return Heard::Unchanged;
+            return LineFate::Unchanged;
         };
         if let Some(name) = message.prefix
             && self.is_killed(name)
@@ -76,16 +76,16 @@ impl Memory {
     }
 
     /// What becomes of a line of somebody whom this end has killed.
-    fn hear_late(&self, name: &[u8], message: &Message<'_>) -> Heard
+    fn hear_late(&self, name: &[u8], message: &Message<'_>) -> LineFate
         ensures { result ≡ late_heard self.now name.now (parsed message.now) }
     {
         if is_command(b"NICK", message.command)
             && self.was_introduced(name)
             && let Some(nick) = Nick::read(word_at(message, 0))
         {
-            return Heard::KillBack(nick);
+            return LineFate::KillBack(nick);
         }
-        Heard::LeftOut
+        LineFate::LeftOut
     }
 
     /// What such a line tells of nicknames.
@@ -101,11 +101,11 @@ impl Memory {
     }
 
     /// What becomes of another line.
-    fn hear_other(&self, message: &Message<'_>) -> Heard
+    fn hear_other(&self, message: &Message<'_>) -> LineFate
         ensures { result ≡ other_heard self.now (parsed message.now) }
     {
         if is_command(b"KILL", message.command) && self.has_crossed(word_at(message, 0)) {
-            return Heard::LeftOut;
+            return LineFate::LeftOut;
         }
         put_right(self, message)
     }
@@ -148,7 +148,7 @@ fn word_at<'a>(message: &Message<'a>, place: usize) -> &'a [u8]
 }
 
 /// A line with each nickname that one of this end's users has given up put right.
-fn put_right<'a>(memory: &'a Memory, message: &Message<'a>) -> Heard
+fn put_right<'a>(memory: &'a Memory, message: &Message<'a>) -> LineFate
     ensures { result ≡ put_right_heard memory.now (parsed message.now) }
 {
     let words = words_put_right(memory, message);
@@ -156,7 +156,7 @@ fn put_right<'a>(memory: &'a Memory, message: &Message<'a>) -> Heard
 }
 
 /// The parameters of such a line.
-fn words_put_right<'a>(memory: &'a Memory, message: &Message<'a>) -> Words<'a>
+fn words_put_right<'a>(memory: &'a Memory, message: &Message<'a>) -> LineWords<'a>
     ensures { params_now result ≡ words_put_right memory.now (parsed message.now) }
 {
     let mut words = copy_of(message.params.as_slice());
@@ -209,23 +209,23 @@ fn put_word_right<'a>(memory: &'a Memory, word: &'a [u8]) -> &'a [u8]
 }
 
 /// The words once more.
-fn copy_of<'a>(words: &[&'a [u8]]) -> Words<'a>
+fn copy_of<'a>(words: &[&'a [u8]]) -> LineWords<'a>
     requires { length words.now ≤ max_parameters }
     ensures { params_now result ≡ words_now words.now }
 {
-    let mut all = Words::new();
+    let mut all = LineWords::new();
     let _ = all.try_extend_from_slice(words);
     all
 }
 
 /// The line with other parameters, or as it is if they are no others.
-fn heard_with<'a>(message: &Message<'a>, words: &[&'a [u8]]) -> Heard
+fn heard_with<'a>(message: &Message<'a>, words: &[&'a [u8]]) -> LineFate
     ensures { result ≡ heard_with (parsed message.now) (words_now words.now) }
 {
     if are_same(words, message.params.as_slice()) {
-        Heard::Unchanged
+        LineFate::Unchanged
     } else {
-        Heard::Changed(written_again(message, words))
+        LineFate::Changed(written_again(message, words))
     }
 }
 

@@ -8,7 +8,7 @@ ghost use Rattle.irc_late.specs.Links.{dropped, goes_on, has_to_wait, holds_back
 ghost use Rattle.irc_late.specs.Links.{kill_behind, nothing_come, put_behind, text_given, waits};
 ghost use Rattle.irc_late.specs.Links.{FillsFrom, Gives, GivesLine, HearsNext};
 
-use crate::hearing::{Heard, may_meet};
+use crate::hearing::{LineFate, may_meet};
 use crate::memory::Memory;
 use crate::taking::take_line;
 use irc_burst_lines::kill_text;
@@ -205,16 +205,16 @@ fn hear(memory: &mut Memory, back: &mut Outbox, own: &ServerName, line: &[u8]) -
     ensures back { back.new ≡ kill_behind own.now (heard memory.old line.now) back.old }
 {
     match memory.hear(line) {
-        Heard::Unchanged => Given {
+        LineFate::Unchanged => Given {
             text: ended(line),
             is_last: may_meet(line),
         },
-        Heard::Changed(text) => Given {
+        LineFate::Changed(text) => Given {
             text,
             is_last: false,
         },
-        Heard::LeftOut => nothing_given(),
-        Heard::KillBack(nick) => {
+        LineFate::LeftOut => nothing_given(),
+        LineFate::KillBack(nick) => {
             push_behind(back, kill_text(own, &nick).as_slice());
             nothing_given()
         }

@@ -37,7 +37,7 @@ pub struct Met {
 
 /// A user's change of its nickname.
 #[derive(Drop)]
-pub struct Change {
+pub struct NickChange {
     /// The nickname that it had.
     pub given_up: MarkedNick,
     /// The one that it has now.
@@ -48,7 +48,7 @@ pub struct Change {
 #[derive(Drop)]
 pub struct Memory {
     killed: HeapCircularBuffer<Killed, Global>,
-    changes: HeapCircularBuffer<Change, Global>,
+    changes: HeapCircularBuffer<NickChange, Global>,
     /// The nickname that the line at hand introduces or takes.
     met: Option<Met>,
 }
@@ -208,7 +208,7 @@ impl Memory {
             let (given_up, now) = (MarkedNick::of(given_up), MarkedNick::of(now));
             forget_nick(&mut self.changes, &Sought::of(new));
             lead_on(&mut self.changes, &Sought::of(old), &now);
-            let _oldest = self.changes.push_back(Change { given_up, now });
+            let _oldest = self.changes.push_back(NickChange { given_up, now });
         }
     }
 }
@@ -257,7 +257,7 @@ fn mark_first(killed: &mut HeapCircularBuffer<Killed, Global>)
 }
 
 /// Changes without those from or to a nickname.
-fn forget_nick(changes: &mut HeapCircularBuffer<Change, Global>, nick: &Sought<'_>)
+fn forget_nick(changes: &mut HeapCircularBuffer<NickChange, Global>, nick: &Sought<'_>)
     ensures { Sifts (is_of_others nick.now) changes.old changes.new }
 {
     if !is_any_of(nick, changes) {
@@ -269,7 +269,7 @@ fn forget_nick(changes: &mut HeapCircularBuffer<Change, Global>, nick: &Sought<'
 }
 
 /// The first change goes behind the others, or out if it is from or to this nickname.
-fn turn_change(changes: &mut HeapCircularBuffer<Change, Global>, nick: &Sought<'_>)
+fn turn_change(changes: &mut HeapCircularBuffer<NickChange, Global>, nick: &Sought<'_>)
     requires { length changes.old.items ≤ changes.old.capacity }
     ensures turned { TurnsOne (is_of_others nick.now) as_it_is changes.old changes.new }
     ensures fits { length changes.new.items ≤ changes.new.capacity }
@@ -282,7 +282,7 @@ fn turn_change(changes: &mut HeapCircularBuffer<Change, Global>, nick: &Sought<'
 }
 
 /// Whoever had this nickname has that one; who has given it up is not found by it any more.
-fn lead_on(changes: &mut HeapCircularBuffer<Change, Global>, old: &Sought<'_>, new: &MarkedNick)
+fn lead_on(changes: &mut HeapCircularBuffer<NickChange, Global>, old: &Sought<'_>, new: &MarkedNick)
     ensures { TurnsAll (is_from_other old.now) (moved old.now new.now) changes.old changes.new }
 {
     if !is_any_of(old, changes) {
@@ -294,7 +294,11 @@ fn lead_on(changes: &mut HeapCircularBuffer<Change, Global>, old: &Sought<'_>, n
 }
 
 /// The first change goes behind the others as it leads then, or out if it is from this nickname.
-fn lead_first(changes: &mut HeapCircularBuffer<Change, Global>, old: &Sought<'_>, new: &MarkedNick)
+fn lead_first(
+    changes: &mut HeapCircularBuffer<NickChange, Global>,
+    old: &Sought<'_>,
+    new: &MarkedNick,
+)
     requires { length changes.old.items ≤ changes.old.capacity }
     ensures turned { TurnsOne (is_from_other old.now)
         (moved old.now new.now) changes.old changes.new }
@@ -309,21 +313,21 @@ fn lead_first(changes: &mut HeapCircularBuffer<Change, Global>, old: &Sought<'_>
 }
 
 /// Whether some change is from or to a nickname. Mostly none is, and then none has to move.
-fn is_any_of(nick: &Sought<'_>, changes: &HeapCircularBuffer<Change, Global>) -> bool
+fn is_any_of(nick: &Sought<'_>, changes: &HeapCircularBuffer<NickChange, Global>) -> bool
     ensures { result ≡ list_any (is_of nick.now) changes.now.items }
 {
     changes.iter().any(|change| is_of(nick, change))
 }
 
 /// Whether a change is from or to a nickname.
-fn is_of(nick: &Sought<'_>, change: &Change) -> bool
+fn is_of(nick: &Sought<'_>, change: &NickChange) -> bool
     ensures { result ≡ is_of nick.now change.entry.now }
 {
     change.given_up.is(nick) || change.now.is(nick)
 }
 
 /// If it leads to this nickname, it leads to that one.
-fn lead(change: &mut Change, old: &Sought<'_>, new: &MarkedNick)
+fn lead(change: &mut NickChange, old: &Sought<'_>, new: &MarkedNick)
     ensures { change.new ≡ moved old.now new.now change.old }
 {
     if change.now.is(old) {

@@ -19,7 +19,8 @@ use Rattle.irc_link_words.specs.Words.{is_command}
 use Rattle.irc_link_reader.specs.declared.deed.Deed.{Deed as Code}
 use Rattle.irc_link_reader.specs.Loops.Readings.{IsGiven, check_of, row, takes_memory}
 use Rattle.irc_link_reader.specs.Loops.Tellings.{effect_of_told, effects_of, told_found, told_if}
-use Rattle.irc_link_reader.specs.Means.{Checked, IsMeant, Row, first_fault, read_by, read_row}
+use Rattle.irc_link_reader.specs.Means.{Checked, IsMeant, LinkCommandRow, first_fault, read_by}
+use Rattle.irc_link_reader.specs.Means.{read_row}
 use Rattle.irc_link_reader.specs.Means.{wire_row_of, wire_table}
 use Rattle.irc_link_reader.specs.Reader.{Reader}
 use Rattle.irc_link_reader.specs.Told.{Told, a_deed, first_reason, judged, kept_prefix, server_of}
@@ -106,16 +107,16 @@ fault_so message prefix checked given is =
 -- ---- a whole line
 
 -- a row that is found is of the command that was looked for
-row_is_so : (word : List ℕ) (rows : List Row) (r : Row)
-    → find (λ (r : Row). is_command r.command word) rows ≡ Some r
+row_is_so : (word : List ℕ) (rows : List LinkCommandRow) (r : LinkCommandRow)
+    → find (λ (r : LinkCommandRow). is_command r.command word) rows ≡ Some r
     → is_command r.command word ≡ true
 row_is_so word [] r is = cc is
 row_is_so word (first ∷ rows) r is =
     by (is_command first.command word) refl is (row_is_so word rows r)
   where
     by : (b : Bool) → is_command first.command word ≡ b
-        → (if b then Some first else find (λ (r : Row). is_command r.command word) rows) ≡ Some r
-        → (find (λ (r : Row). is_command r.command word) rows ≡ Some r
+        → (if b then Some first else find (λ (r : LinkCommandRow). is_command r.command word) rows)
+        ≡ Some r → (find (λ (r : LinkCommandRow). is_command r.command word) rows ≡ Some r
         → is_command r.command word ≡ true) → is_command r.command word ≡ true
     by true so is later = ap (λ o. is_command (unwrap_or o first).command word) (sym is) ∙ so
     by false so is later = later is

@@ -3,7 +3,7 @@ use Rattle.std.proofs.Common.{◌≡◌, ℕ, List, [], ◌∷◌, None, Result,
 use Rattle.irc_batch.specs.declared.close_reason.CloseReason.{CloseReason}
 use Rattle.irc_link_words.specs.Params.{end_of}
 use Rattle.irc_link_reader.specs.Means.{nick_line}
-use Rattle.irc_link_reader.specs.declared.reading_users.Newcomer.{Newcomer}
+use Rattle.irc_link_reader.specs.declared.reading_users.IntroductionWords.{IntroductionWords}
 use Rattle.irc_link_reader.specs.Loops.Readings.{IsNewcomer, first_effect}
 use Rattle.irc_link_reader.specs.Reader.{Reader}
 
@@ -22,7 +22,7 @@ longer nick distance user host token mode real (one ∷ more) words reason is en
 -- the words behind the seven are refused
 pub refused : (words w1 w2 w3 w4 w5 w6 more : List (List ℕ))
     (nick distance user host token mode real : List ℕ) (given : CloseReason)
-    (result : Result Newcomer CloseReason) → words ≡ nick ∷ w1 → w1 ≡ distance ∷ w2
+    (result : Result IntroductionWords CloseReason) → words ≡ nick ∷ w1 → w1 ≡ distance ∷ w2
     → w2 ≡ user ∷ w3 → w3 ≡ host ∷ w4 → w4 ≡ token ∷ w5 → w5 ≡ mode ∷ w6 → w6 ≡ real ∷ more
     → Err given ≡ end_of more → IsErrAnd result (λ e. e ≡ given) → IsNewcomer words result
 refused words w1 w2 w3 w4 w5 w6 more nick distance user host token mode real given (Ok w)

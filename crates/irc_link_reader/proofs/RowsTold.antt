@@ -17,10 +17,10 @@ use Rattle.irc_link_reader.specs.declared.deed.Deed.{Deed as Code}
 use Rattle.irc_link_reader.specs.Loops.Readings.{TellsRow, check_of, first_effect, found, reader}
 use Rattle.irc_link_reader.specs.Loops.Tellings.{done_told, told_found}
 use Rattle.irc_link_reader.specs.Means.{Checked, if_there, invite_line, join_line, kick_line}
-use Rattle.irc_link_reader.specs.Means.{mode_line, nick_line, part_line, quit_line, say_line}
-use Rattle.irc_link_reader.specs.Means.{user_mode_line, of_either}
+use Rattle.irc_link_reader.specs.Means.{nick_line, part_line, quit_line, say_line}
+use Rattle.irc_link_reader.specs.Means.{user_mode_line}
 use Rattle.irc_link_reader.specs.Reader.{Reader}
-use Rattle.irc_link_reader.specs.Told.{Told, a_deed, a_doing, first_reason, judged, kept_prefix}
+use Rattle.irc_link_reader.specs.Told.{a_deed, a_doing, first_reason, judged, kept_prefix}
 use Rattle.irc_link_reader.specs.Told.{server_of, told_of, unless_late}
 
 -- ---- an effect that is told on as it stands, whosever line it is

@@ -218,14 +218,14 @@ mode_line reader _ _ = malformed
 -- ---- the table
 
 -- a command, and what is looked at in a line of it
-pub record Row : Type 0 where
+pub record LinkCommandRow : Type 0 where
   pub command : List ℕ
   pub check : Reader → Option (List ℕ) → List (List ℕ) → Checked
 
-abbrev pub line : List ℕ → (Reader → Option (List ℕ) → List (List ℕ) → Checked) → Row
+abbrev pub line : List ℕ → (Reader → Option (List ℕ) → List (List ℕ) → Checked) → LinkCommandRow
 line command check = record { command = command; check = check }
 
-abbrev pub wire_table : List Row
+abbrev pub wire_table : List LinkCommandRow
 wire_table =
     line (codes "NICK") nick_line ∷ line (codes "QUIT") quit_line ∷ line (codes "JOIN") join_line
     ∷ line (codes "PART") part_line
@@ -235,11 +235,11 @@ wire_table =
     (codes "INVITE") invite_line ∷ []
 
 -- the row of a command, if it is one that links carry
-abbrev pub wire_row_of : List ℕ → Option Row
-wire_row_of word = find (λ (r : Row). is_command r.command word) wire_table
+abbrev pub wire_row_of : List ℕ → Option LinkCommandRow
+wire_row_of word = find (λ (r : LinkCommandRow). is_command r.command word) wire_table
 
 -- what a line means by its row, or its first fault
-abbrev pub read_row : Reader → Parsed → Option Row → Result (List Effect) WireFault
+abbrev pub read_row : Reader → Parsed → Option LinkCommandRow → Result (List Effect) WireFault
 read_row reader message None = Err UnknownCommand
 read_row reader message (Some r) = first_fault (r.check reader message.prefix message.params)
 

@@ -1,6 +1,6 @@
 -- What a line of a link tells, and what is looked at before it does (RFC 2813 section 4).
-use Rattle.std.specs.Prelude.{ℕ, Bool, true, false, not, Option, Some, None, Result, Ok, Err}
-use Rattle.std.specs.Prelude.{List, [], map, if◌then◌else◌}
+use Rattle.std.specs.Prelude.{ℕ, Bool, not, Option, Some, None, Result, Ok, Err}
+use Rattle.std.specs.Prelude.{List, map, if◌then◌else◌}
 use Rattle.irc_batch.specs.declared.close_reason.CloseReason.{CloseReason}
 use Rattle.irc_batch.specs.declared.close_reason.CloseReason.TheVariants as reason
 use Rattle.irc_names.specs.Names.{is_server}

@@ -17,9 +17,9 @@ pub enum Deed {
     /// The user of a nickname quits, because another has it too (RFC 2812 section 3.7.1).
     Kill(Killing),
     /// Users become members of a channel (RFC 2813 section 4.2.2).
-    Members(Arrivals),
+    Members(NewMembers),
     /// Modes of a channel are set.
-    Modes(Setting),
+    Modes(ModeSetting),
     /// A channel's topic is set.
     Topic(Topic),
 }
@@ -61,7 +61,7 @@ pub struct Killing {
 
 /// Users that become members of a channel.
 #[derive(Drop)]
-pub struct Arrivals {
+pub struct NewMembers {
     /// Whose line it is.
     pub server: ServerName,
     /// The channel.
@@ -81,7 +81,7 @@ pub struct NewMember {
 
 /// Modes of a channel, as a server sets them.
 #[derive(Drop)]
-pub struct Setting {
+pub struct ModeSetting {
     /// Whose line it is.
     pub server: ServerName,
     /// The channel.

@@ -11,6 +11,6 @@ mod reading_users;
 mod telling;
 
 pub use arrival::{Arrival, expect_from, is_far, server};
-pub use deed::{Arrivals, Deed, Killing, Loss, NewMember, NewServer, Setting, Topic};
+pub use deed::{Deed, Killing, Loss, ModeSetting, NewMember, NewMembers, NewServer, Topic};
 pub use reading::read_effect;
 pub use telling::tell_effect;

@@ -3,15 +3,15 @@ ghost use Rattle.std.specs.Prelude.{◌≡◌, IfOk, option_to_list};
 ghost use Rattle.std.specs.Option.{option_map};
 ghost use Rattle.irc_line.specs.MessageViews.{parsed};
 ghost use Rattle.irc_link_reader.specs.Loops.Readings.{IsGiven, row};
-ghost use Rattle.irc_link_reader.specs.Loops.Tellings.{act_told, effect_of_told, effects_of};
+ghost use Rattle.irc_link_reader.specs.Loops.Tellings.{told_of_deed, effect_of_told, effects_of};
 ghost use Rattle.irc_link_reader.specs.Means.{IsMeantIn, wire_row_of};
 
 use crate::arrival::Arrival;
-use crate::deed::{Deed, Setting, Topic};
+use crate::deed::{Deed, ModeSetting, Topic};
 use crate::telling::tell_effect;
 use irc_batch::CloseReason;
 use irc_line::Message;
-use irc_link_words::{Command, EffectCommand, WireFault, command_of};
+use irc_link_words::{EffectCommand, LinkCommand, WireFault, command_of};
 use irc_room::{By, Effect, Room};
 use irc_routes::Routes;
 use std::alloc::{AllocError, Global};
@@ -52,8 +52,8 @@ fn effect_command(word: &[u8]) -> Option<EffectCommand>
     ensures { option_map row result ≡ wire_row_of word.now }
 {
     match command_of(word) {
-        Some(Command::OfEffects(command)) => Some(command),
-        Some(Command::OfServers(_)) => None,
+        Some(LinkCommand::OfEffects(command)) => Some(command),
+        Some(LinkCommand::OfServers(_)) => None,
         None => None,
     }
 }
@@ -89,12 +89,12 @@ fn listed(alloc: Global, deed: Option<Deed>) -> Result<Vec<Effect, Global>, Allo
 
 /// The effect of a deed, if it is one of a line that tells of effects.
 fn effect_of(deed: Deed) -> Option<Effect>
-    ensures { option_to_list result ≡ effect_of_told (act_told deed) }
+    ensures { option_to_list result ≡ effect_of_told (told_of_deed deed) }
 {
     match deed {
         Deed::Does(effect) => Some(effect),
         Deed::Modes(
-            Setting {
+            ModeSetting {
                 channel,
                 changes,
                 ..

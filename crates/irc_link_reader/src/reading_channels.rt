@@ -8,7 +8,7 @@ ghost use Rattle.irc_link_reader.specs.Means.{topic_line};
 ghost use Rattle.irc_link_reader.specs.Told.{a_doing};
 
 use crate::arrival::{Arrival, expect_from, has_far, if_there};
-use crate::deed::{Deed, Setting, Topic};
+use crate::deed::{Deed, ModeSetting, Topic};
 use irc_batch::CloseReason;
 use irc_channels::Words;
 use irc_link_words::{Params, is_marked, read_channel, read_nick, read_words, unmarked};
@@ -175,7 +175,7 @@ pub(crate) fn modes_told(
         }
         Doer::Server(server) => {
             if has_far(at, channel.as_bytes()) {
-                Some(Deed::Modes(Setting {
+                Some(Deed::Modes(ModeSetting {
                     server,
                     channel,
                     changes,

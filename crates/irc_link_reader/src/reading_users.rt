@@ -4,7 +4,7 @@ ghost use Rattle.std.specs.Str.{bytes_eq};
 ghost use Rattle.irc_line.specs.MessageViews.{optional_now};
 ghost use Rattle.irc_link_reader.specs.Loops.Readings.{IsNewcomer, IsUserMode, ReadsEffect};
 ghost use Rattle.irc_link_reader.specs.Loops.Readings.{are_right, home_now, home_or_fault};
-ghost use Rattle.irc_link_reader.specs.Loops.Readings.{introduction_of, reader};
+ghost use Rattle.irc_link_reader.specs.Loops.Readings.{reader};
 ghost use Rattle.irc_link_reader.specs.Means.{invite_line, is_itself_or_none, nick_line, quit_line};
 ghost use Rattle.irc_link_reader.specs.Means.{say_line};
 ghost use Rattle.irc_link_words.specs.Words.{with_i, without_i};
@@ -112,7 +112,7 @@ fn rename_line(
 
 /// The words of the line that a user comes with.
 #[derive(Clone, Copy)]
-struct Newcomer<'a> {
+struct IntroductionWords<'a> {
     nick: &'a [u8],
     distance: &'a [u8],
     user: &'a [u8],
@@ -123,7 +123,7 @@ struct Newcomer<'a> {
 }
 
 /// The words of the line that a user comes with.
-fn words_of_newcomer(mut params: Params<'_>) -> Result<Newcomer<'_>, CloseReason>
+fn words_of_newcomer(mut params: Params<'_>) -> Result<IntroductionWords<'_>, CloseReason>
     ensures { IsNewcomer params.entry result }
 {
     let nick = params.next()?;
@@ -134,7 +134,7 @@ fn words_of_newcomer(mut params: Params<'_>) -> Result<Newcomer<'_>, CloseReason
     let mode = params.next()?;
     let real = params.next()?;
     params.end()?;
-    Ok(Newcomer {
+    Ok(IntroductionWords {
         nick,
         distance,
         user,
@@ -164,7 +164,10 @@ fn introduction_line(at: Arrival<'_>, params: Params<'_>) -> Result<Option<Effec
 }
 
 /// The server that a user comes from, where the words of the line keep their rules.
-fn read_home<'a>(at: Arrival<'a>, words: Newcomer<'_>) -> Result<&'a ServerName, CloseReason>
+fn read_home<'a>(
+    at: Arrival<'a>,
+    words: IntroductionWords<'_>,
+) -> Result<&'a ServerName, CloseReason>
     ensures home { home_now result ≡ home_or_fault (reader at.entry) words.entry }
     ensures right { IsOk result → are_right words.entry ≡ true }
 {
@@ -178,7 +181,7 @@ fn read_home<'a>(at: Arrival<'a>, words: Newcomer<'_>) -> Result<&'a ServerName,
 }
 
 /// Whether the words that are neither names nor numbers keep their rules.
-fn are_right(words: Newcomer<'_>) -> bool
+fn are_right(words: IntroductionWords<'_>) -> bool
     ensures { result ≡ are_right words.entry }
 {
     is_user_name(words.user) && is_come_mode(words.mode) && is_real_name(words.real)

@@ -13,15 +13,15 @@ use Rattle.std.specs.Borrow.{Bor}
 use Rattle.irc_line.specs.Bytes.{is_space}
 use Rattle.irc_line.specs.PartViews.{words_now}
 use Rattle.irc_modes.specs.Limits.{max_mode_word}
-use Rattle.irc_mode_words.specs.declared.mode_words.ModeItem.{ModeItem}
+use Rattle.irc_modes.specs.declared.mode_words.ModeItem.{ModeItem}
 use Rattle.irc_modes.specs.declared.modes.ModeLetter.{ModeLetter}
 use Rattle.irc_modes.specs.declared.modes.ModeChange.{ModeChange}
 use Rattle.irc_modes.specs.declared.modes.ModeLetter.TheVariants as letter
-use Rattle.irc_mode_words.specs.ModeViews.{all_asked, asked}
-use Rattle.irc_mode_words.specs.ModeWords.{Asked, Reading, change, counted, counts, is_sign}
-use Rattle.irc_mode_words.specs.ModeWords.{letter_asks, letters_read, list, mode_of, modes_read}
-use Rattle.irc_mode_words.specs.ModeWords.{next_word, no_word, reading, reading_of, unknown}
-use Rattle.irc_mode_words.specs.ModeWords.{words_after}
+use Rattle.irc_modes.specs.ModeViews.{all_asked, asked}
+use Rattle.irc_modes.specs.ModeWords.{Asked, Reading, change, counted, counts, is_sign}
+use Rattle.irc_modes.specs.ModeWords.{letter_asks, letters_read, list, mode_of, modes_read}
+use Rattle.irc_modes.specs.ModeWords.{next_word, no_word, reading, reading_of, unknown}
+use Rattle.irc_modes.specs.ModeWords.{words_after}
 use Rattle.irc_modes.specs.Letters.{plus_byte}
 use Rattle.irc_link_words.specs.Loops.Changes.{IsKeptWord}
 use Rattle.irc_link_words.specs.Words.{is_mode_word, made}

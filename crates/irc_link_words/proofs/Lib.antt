@@ -1,3 +1,5 @@
+pub mod OwnName
+pub mod WholeLines
 pub mod NumberFacts
 pub mod TextsRead
 pub mod KeptWords

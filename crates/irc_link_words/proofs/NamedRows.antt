@@ -3,13 +3,13 @@ use Rattle.std.proofs.Common.{◌≡◌, ◌+◌, ◌<◌, ℕ, Bool, false, con
 use Rattle.std.proofs.Common.{length, sym, ◌∙◌, ap}
 use Rattle.std.proofs.lemmas.List.{drop_more}
 use Rattle.std.specs.Borrow.{Bor}
-use Rattle.irc_link_words.specs.declared.commands.Command.{Command}
+use Rattle.irc_link_words.specs.declared.commands.LinkCommand.{LinkCommand}
 use Rattle.irc_link_words.specs.Loops.Rows.{found}
 use Rattle.irc_link_words.specs.Words.{is_command}
 
 -- a row of another name is passed by
-pub row_passed : (word : List ℕ) (rows : List (Bor (List ℕ) × Command))
-    (i : ℕ) (d : Bor (List ℕ) × Command) (is : Bool) (command : Option Command)
+pub row_passed : (word : List ℕ) (rows : List (Bor (List ℕ) × LinkCommand))
+    (i : ℕ) (d : Bor (List ℕ) × LinkCommand) (is : Bool) (command : Option LinkCommand)
     → i < length rows → is ≡ is_command ((get_or rows i d).0.now) word → is ≡ false
     → command ≡ found word (drop i rows) → command ≡ found word (drop (i + 1) rows)
 row_passed word rows i d is command within tells other so_far =

@@ -1,9 +1,9 @@
 -- The commands of the lines of a link, by their names (RFC 2813 section 4): those whose lines tell
 -- of effects, and those of servers.
-use Rattle.std.specs.Prelude.{ℕ, Bool, true, false, Option, List, [], ◌∷◌, codes, map}
+use Rattle.std.specs.Prelude.{ℕ, true, false, Option, List, [], ◌∷◌, codes}
 use Rattle.std.specs.List.{find}
-use Rattle.irc_link_words.specs.declared.commands.Command.{Command}
-use Rattle.irc_link_words.specs.declared.commands.Command.TheVariants.{OfEffects, OfServers}
+use Rattle.irc_link_words.specs.declared.commands.LinkCommand.{LinkCommand}
+use Rattle.irc_link_words.specs.declared.commands.LinkCommand.TheVariants.{OfEffects, OfServers}
 use Rattle.irc_link_words.specs.declared.commands.EffectCommand.{EffectCommand}
 use Rattle.irc_link_words.specs.declared.commands.EffectCommand.TheVariants.{Nick, Quit, Join, Part}
 use Rattle.irc_link_words.specs.declared.commands.EffectCommand.TheVariants.{Kick, Mode, Topic, Say}
@@ -34,12 +34,12 @@ server_name Kill = codes "KILL"
 server_name Njoin = codes "NJOIN"
 server_name Pass = codes "PASS"
 
-abbrev pub name_of : Command → List ℕ
+abbrev pub name_of : LinkCommand → List ℕ
 name_of (OfEffects command) = effect_name command
 name_of (OfServers command) = server_name command
 
 -- each command once
-abbrev pub commands : List Command
+abbrev pub commands : List LinkCommand
 commands =
     OfEffects Nick ∷ OfEffects Quit ∷ OfEffects Join ∷ OfEffects Part ∷ OfEffects Kick
     ∷ OfEffects Mode ∷ OfEffects Topic ∷ OfEffects (Say false)
@@ -47,5 +47,5 @@ commands =
     ∷ OfServers Server ∷ OfServers Squit ∷ OfServers Kill ∷ OfServers Njoin ∷ OfServers Pass ∷ []
 
 -- the command that a word is, in any case of letters
-abbrev pub command_of : List ℕ → Option Command
+abbrev pub command_of : List ℕ → Option LinkCommand
 command_of word = find (λ command. is_command (name_of command) word) commands

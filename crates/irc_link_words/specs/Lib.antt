@@ -1,3 +1,8 @@
+pub mod GreetingLines
+pub mod Openings
+pub mod Passwords
+pub mod Peers
+pub mod WholeLines
 pub mod Faults
 pub mod Numbers
 pub mod Words

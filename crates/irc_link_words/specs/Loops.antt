@@ -1,2 +1,3 @@
+pub mod Readings
 pub mod Changes
 pub mod Rows

@@ -17,9 +17,9 @@ use Rattle.irc_modes.specs.Letters.{names_member}
 use Rattle.irc_modes.specs.declared.modes.ModeChange.{ModeChange}
 use Rattle.irc_modes.specs.Limits.{max_mode_word}
 use Rattle.irc_modes.specs.Modes.{is_nil}
-use Rattle.irc_mode_words.specs.ModeWords.{Asked, change, list, no_word, unknown, modes_read}
-use Rattle.irc_mode_words.specs.ModeWritten.{changes_written}
-use Rattle.irc_mode_words.specs.Readable.{has_its_word, is_worded}
+use Rattle.irc_modes.specs.ModeWords.{Asked, change, list, no_word, unknown, modes_read}
+use Rattle.irc_modes.specs.ModeWritten.{changes_written}
+use Rattle.irc_modes.specs.Readable.{has_its_word, is_worded}
 use Rattle.irc_room.specs.effect.Target.{Target}
 use Rattle.irc_room.specs.effect.Target.TheVariants as target
 

@@ -5,8 +5,8 @@ ghost use Rattle.std.specs.Option.{IfSome};
 ghost use Rattle.std.specs.Cmp.Lexicographic.{pointwise};
 ghost use Rattle.std.specs.Str.{bytes_eq};
 ghost use Rattle.irc_line.specs.PartViews.{words_now};
-ghost use Rattle.irc_mode_words.specs.ModeViews.{asked};
-ghost use Rattle.irc_mode_words.specs.ModeWritten.{changes_written, letter_text, letters_text};
+ghost use Rattle.irc_modes.specs.ModeViews.{asked};
+ghost use Rattle.irc_modes.specs.ModeWritten.{changes_written, letter_text, letters_text};
 ghost use Rattle.irc_link_words.specs.Loops.Changes.{Grew, IsKeptWord, behind_bytes, behind_word};
 ghost use Rattle.irc_link_words.specs.Loops.Changes.{bytes_left, if_written, words_left};
 ghost use Rattle.irc_link_words.specs.Words.{changes_of, is_mode_word, made, parameters};
@@ -14,8 +14,7 @@ ghost use Rattle.irc_link_words.specs.Words.{told_changes};
 
 use crate::mode_parameters::keep_words;
 use crate::words::is_mode_word;
-use irc_mode_words::{ModeItem, read_modes, sign_text};
-use irc_modes::ModeChange;
+use irc_modes::{ModeChange, ModeItem, read_modes, sign_text};
 use irc_room::ModeChanges;
 use std::alloc::{AllocError, Global};
 

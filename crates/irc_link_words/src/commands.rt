@@ -6,7 +6,7 @@ use crate::words::is_command;
 
 /// A command of a line of a link (RFC 2813 section 4).
 #[derive(Clone, Copy)]
-pub enum Command {
+pub enum LinkCommand {
     /// Its line tells of something that is done in the room.
     OfEffects(EffectCommand),
     /// Its line is one of a server.
@@ -52,26 +52,29 @@ pub enum ServerCommand {
 }
 
 /// Each command by its name.
-const ROWS: [(&[u8], Command); 15] = [
-    (b"NICK", Command::OfEffects(EffectCommand::Nick)),
-    (b"QUIT", Command::OfEffects(EffectCommand::Quit)),
-    (b"JOIN", Command::OfEffects(EffectCommand::Join)),
-    (b"PART", Command::OfEffects(EffectCommand::Part)),
-    (b"KICK", Command::OfEffects(EffectCommand::Kick)),
-    (b"MODE", Command::OfEffects(EffectCommand::Mode)),
-    (b"TOPIC", Command::OfEffects(EffectCommand::Topic)),
-    (b"PRIVMSG", Command::OfEffects(EffectCommand::Say(false))),
-    (b"NOTICE", Command::OfEffects(EffectCommand::Say(true))),
-    (b"INVITE", Command::OfEffects(EffectCommand::Invite)),
-    (b"SERVER", Command::OfServers(ServerCommand::Server)),
-    (b"SQUIT", Command::OfServers(ServerCommand::Squit)),
-    (b"KILL", Command::OfServers(ServerCommand::Kill)),
-    (b"NJOIN", Command::OfServers(ServerCommand::Njoin)),
-    (b"PASS", Command::OfServers(ServerCommand::Pass)),
+const ROWS: [(&[u8], LinkCommand); 15] = [
+    (b"NICK", LinkCommand::OfEffects(EffectCommand::Nick)),
+    (b"QUIT", LinkCommand::OfEffects(EffectCommand::Quit)),
+    (b"JOIN", LinkCommand::OfEffects(EffectCommand::Join)),
+    (b"PART", LinkCommand::OfEffects(EffectCommand::Part)),
+    (b"KICK", LinkCommand::OfEffects(EffectCommand::Kick)),
+    (b"MODE", LinkCommand::OfEffects(EffectCommand::Mode)),
+    (b"TOPIC", LinkCommand::OfEffects(EffectCommand::Topic)),
+    (
+        b"PRIVMSG",
+        LinkCommand::OfEffects(EffectCommand::Say(false)),
+    ),
+    (b"NOTICE", LinkCommand::OfEffects(EffectCommand::Say(true))),
+    (b"INVITE", LinkCommand::OfEffects(EffectCommand::Invite)),
+    (b"SERVER", LinkCommand::OfServers(ServerCommand::Server)),
+    (b"SQUIT", LinkCommand::OfServers(ServerCommand::Squit)),
+    (b"KILL", LinkCommand::OfServers(ServerCommand::Kill)),
+    (b"NJOIN", LinkCommand::OfServers(ServerCommand::Njoin)),
+    (b"PASS", LinkCommand::OfServers(ServerCommand::Pass)),
 ];
 
 /// The command that a word is, in any case of letters; none where links carry no such line.
-pub fn command_of(word: &[u8]) -> Option<Command>
+pub fn command_of(word: &[u8]) -> Option<LinkCommand>
     ensures { result ≡ command_of word.now }
 {
     for (name, command) in ROWS {

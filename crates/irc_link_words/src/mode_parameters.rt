@@ -3,8 +3,8 @@ ghost use Rattle.std.specs.Prelude.{◌≡◌, Ok, Err, decimal, if◌then◌els
 ghost use Rattle.std.specs.List.{list_all};
 ghost use Rattle.std.specs.Str.{bytes_eq};
 ghost use Rattle.irc_batch.specs.declared.close_reason.CloseReason.TheVariants.{BadName};
-ghost use Rattle.irc_mode_words.specs.Readable.{has_its_word, has_parameter, is_parameter};
-ghost use Rattle.irc_mode_words.specs.Readable.{is_written_limit};
+ghost use Rattle.irc_modes.specs.Readable.{has_its_word, has_parameter, is_parameter};
+ghost use Rattle.irc_modes.specs.Readable.{is_written_limit};
 ghost use Rattle.irc_link_words.specs.Words.{are_members_named, keeps_word, names_nick};
 
 use irc_batch::CloseReason;

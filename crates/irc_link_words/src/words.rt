@@ -1,5 +1,5 @@
 //! The words of a line of a link.
-ghost use Rattle.std.specs.Prelude.{◌≡◌, ◌&&◌, Ok, Err, true, false, not, length, if◌then◌else◌};
+ghost use Rattle.std.specs.Prelude.{◌≡◌, ◌&&◌, Ok, Err, true, false, not, if◌then◌else◌};
 ghost use Rattle.std.specs.List.{list_all};
 ghost use Rattle.std.specs.Str.{bytes_eq};
 ghost use Rattle.irc_batch.specs.declared.close_reason.CloseReason.TheVariants.{BadName};

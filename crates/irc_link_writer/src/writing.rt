@@ -1,9 +1,13 @@
 //! Effects written as lines of a link (RFC 2813 section 4). Nothing here takes memory.
 ghost use Rattle.std.specs.Prelude.{◌≡◌, ◌≤◌, None, Some, [], ◌∷◌, codes, length, if◌then◌else◌};
+ghost use Rattle.std.specs.Option.{option_copied};
 ghost use Rattle.irc_line.specs.MessageViews.{optional_now};
 ghost use Rattle.irc_line.specs.Messages.{text};
 ghost use Rattle.irc_line.specs.PartViews.{words_now};
 ghost use Rattle.irc_names.specs.Limits.{max_channel};
+ghost use Rattle.irc_room.specs.Effects.{by_nick};
+ghost use Rattle.irc_room.specs.Room.{Room as RoomNow};
+ghost use Rattle.irc_room.specs.Loops.Naming.{row_of, IsNamed};
 ghost use Rattle.irc_link_writer.specs.Loops.Families.{IsOfUsers, introduced, written_invite};
 ghost use Rattle.irc_link_writer.specs.Loops.Families.{written_join, written_kick};
 ghost use Rattle.irc_link_writer.specs.Loops.Families.{written_user_mode};
@@ -15,8 +19,8 @@ use crate::mode_line::mode_line;
 use arrayvec::ArrayVec;
 use irc_line::{Parts, Prefix, Text, write_message};
 use irc_link_words::OPERATOR_MARK;
-use irc_names::{ChannelName, MAX_CHANNEL, Nick, ServerName, copied};
-use irc_room::{By, Effect, Room};
+use irc_names::{MAX_CHANNEL, ServerName, copied};
+use irc_room::{By, Effect, Named, Room, target_name};
 use irc_routes::Routes;
 use irc_users::User;
 use itoa::Buffer;
@@ -30,13 +34,15 @@ pub fn write_effect(effect: &Effect, room: &Room, routes: &Routes, link: u64) ->
     ensures { result.items ≡ text (wire room.now.room routes.now effect.now) }
 {
     let _every_link = link;
-    effect_text(effect, room, routes)
+    effect_text(effect, room.named(effect), room, routes)
 }
 
-/// The line that tells other servers of an effect (RFC 2813 section 4). It is the same for every
-/// link. It is to be written before the effect is applied. It takes no memory.
-pub fn effect_text(effect: &Effect, room: &Room, routes: &Routes) -> Text
-    ensures { result.items ≡ text (wire room.now.room routes.now effect.now) }
+/// The line that tells other servers of an effect (RFC 2813 section 4), with what it names in the
+/// room. It is the same for every link. It is to be written before the effect is applied. It takes
+/// no memory.
+pub fn effect_text(effect: &Effect, named: Named<'_>, room: &Room, routes: &Routes) -> Text
+    ensures { IsNamed room.now.room effect.now named.entry
+        → result.items ≡ text (wire room.now.room routes.now effect.now) }
 {
     match effect {
         Effect::ChangeModes {
@@ -45,27 +51,27 @@ pub fn effect_text(effect: &Effect, room: &Room, routes: &Routes) -> Text
             changes,
         } => mode_line(
             room,
-            by_name(room, routes, by),
-            room.stored_channel(channel),
+            by_name(by, named, routes),
+            named.channel_name(channel),
             changes.as_slice(),
         ),
         Effect::SetTopic { by, channel, text } => line(
-            by_name(room, routes, by),
+            by_name(by, named, routes),
             b"TOPIC",
-            &[room.stored_channel(channel)],
+            &[named.channel_name(channel)],
             Some(text.as_bytes()),
         ),
         Effect::Join { nick, channel, op } => {
-            join_line(room, nick, room.stored_channel(channel), *op)
+            join_line(named.doer_nick(nick), named.channel_name(channel), *op)
         }
         Effect::Part {
             nick,
             channel,
             text,
         } => line(
-            room.stored_nick(nick.as_bytes()),
+            named.doer_nick(nick),
             b"PART",
-            &[room.stored_channel(channel)],
+            &[named.channel_name(channel)],
             Some(text.as_bytes()),
         ),
         Effect::Kick {
@@ -73,26 +79,32 @@ pub fn effect_text(effect: &Effect, room: &Room, routes: &Routes) -> Text
             channel,
             nick,
             text,
-        } => kick_line(room, by, channel, nick, text.as_bytes()),
-        _ => user_line(effect, room, routes),
+        } => kick_line(
+            named.doer_nick(by),
+            named.channel_name(channel),
+            named.other_nick(nick),
+            text.as_bytes(),
+        ),
+        _ => user_line(effect, named, routes),
     }
 }
 
 /// The line of an effect on users alone, of a text or of an invitation.
-fn user_line(effect: &Effect, room: &Room, routes: &Routes) -> Text
+fn user_line(effect: &Effect, named: Named<'_>, routes: &Routes) -> Text
     requires { IsOfUsers effect.now }
-    ensures { result.items ≡ text (wire room.now.room routes.now effect.now) }
+    ensures { (room : RoomNow) → IsNamed room effect.now named.entry
+        → result.items ≡ text (wire room routes.now effect.now) }
 {
     match effect {
         Effect::AddUser(user) => introduction_line(routes, user),
         Effect::Rename { nick, new } => line(
-            room.stored_nick(nick.as_bytes()),
+            named.doer_nick(nick),
             b"NICK",
             &[new.as_bytes()],
             None,
         ),
         Effect::Quit { nick, text } => line(
-            room.stored_nick(nick.as_bytes()),
+            named.doer_nick(nick),
             b"QUIT",
             &[],
             Some(text.as_bytes()),
@@ -103,25 +115,28 @@ fn user_line(effect: &Effect, room: &Room, routes: &Routes) -> Text
             target,
             text,
         } => line(
-            room.stored_nick(by.as_bytes()),
+            named.doer_nick(by),
             say_command(*notice),
-            &[room.target_name(target)],
+            &[target_name(target, named)],
             Some(text.as_slice()),
         ),
-        Effect::Invite { by, nick, channel } => invite_line(room, by, nick, channel),
-        Effect::UserMode { nick, invisible } => {
-            user_mode_line(room.stored_nick(nick.as_bytes()), *invisible)
-        }
+        Effect::Invite { by, nick, channel } => invite_line(
+            named.doer_nick(by),
+            named.other_nick(nick),
+            named.channel_name(channel),
+        ),
+        Effect::UserMode { nick, invisible } => user_mode_line(named.doer_nick(nick), *invisible),
         _ => unreachable!(),
     }
 }
 
 /// The name of whoever changes a channel: a user's, or the server's own.
-fn by_name<'a>(room: &'a Room, routes: &'a Routes, by: &'a By) -> &'a [u8]
-    ensures { result.now ≡ by_name room.now.room routes.now by.now }
+fn by_name<'a>(by: &'a By, named: Named<'a>, routes: &'a Routes) -> &'a [u8]
+    ensures { (room : RoomNow) → option_copied named.entry.doer ≡ row_of room.users (by_nick by.now)
+        → result.now ≡ by_name room routes.now by.now }
 {
     match by {
-        By::User(nick) => room.stored_nick(nick.as_bytes()),
+        By::User(nick) => named.doer_nick(nick),
         By::Home => routes.name().as_bytes(),
     }
 }
@@ -145,17 +160,12 @@ fn say_command(notice: bool) -> &'static [u8]
     if notice { b"NOTICE" } else { b"PRIVMSG" }
 }
 
-fn join_line(room: &Room, nick: &Nick, channel: &[u8], op: bool) -> Text
+fn join_line(nick: &[u8], channel: &[u8], op: bool) -> Text
     requires { length channel.now ≤ max_channel }
-    ensures { result.items ≡ text (written_join room.now.room nick.now channel.now op) }
+    ensures { result.items ≡ text (written_join nick.now channel.now op) }
 {
     let word = marked(channel, op);
-    line(
-        room.stored_nick(nick.as_bytes()),
-        b"JOIN",
-        &[word.as_slice()],
-        None,
-    )
+    line(nick, b"JOIN", &[word.as_slice()], None)
 }
 
 /// The channel of a JOIN, and behind it the mark of one who becomes an operator.
@@ -170,39 +180,16 @@ fn marked(channel: &[u8], op: bool) -> MarkedName
     word
 }
 
-fn kick_line<'a>(
-    room: &'a Room,
-    by: &Nick,
-    channel: &'a ChannelName,
-    nick: &'a Nick,
-    words: &[u8],
-) -> Text
-    ensures { result.items ≡ text
-        (written_kick room.now.room by.now channel.now nick.now words.now) }
+fn kick_line<'a>(by: &[u8], channel: &'a [u8], nick: &'a [u8], words: &[u8]) -> Text
+    ensures { result.items ≡ text (written_kick by.now channel.now nick.now words.now) }
 {
-    line(
-        room.stored_nick(by.as_bytes()),
-        b"KICK",
-        &[
-            room.stored_channel(channel),
-            room.stored_nick(nick.as_bytes()),
-        ],
-        Some(words),
-    )
+    line(by, b"KICK", &[channel, nick], Some(words))
 }
 
-fn invite_line<'a>(room: &'a Room, by: &Nick, nick: &'a Nick, channel: &'a ChannelName) -> Text
-    ensures { result.items ≡ text (written_invite room.now.room by.now nick.now channel.now) }
+fn invite_line<'a>(by: &[u8], nick: &'a [u8], channel: &'a [u8]) -> Text
+    ensures { result.items ≡ text (written_invite by.now nick.now channel.now) }
 {
-    line(
-        room.stored_nick(by.as_bytes()),
-        b"INVITE",
-        &[
-            room.stored_nick(nick.as_bytes()),
-            room.stored_channel(channel),
-        ],
-        None,
-    )
+    line(by, b"INVITE", &[nick, channel], None)
 }
 
 fn user_mode_line(nick: &[u8], invisible: bool) -> Text

@@ -15,12 +15,12 @@ use Rattle.irc_room.specs.Room.{Room}
 use Rattle.irc_acts.specs.declared.act.Act.{Act}
 use Rattle.irc_acts.specs.declared.act.Act.TheVariants.{Answer, Do}
 use Rattle.irc_acts.specs.Acts.{client_words}
-use Rattle.irc_acts.specs.Refusing.{Refusal, where_so, first_refusal, unless_refused}
+use Rattle.irc_acts.specs.Refusing.{RefusalRow, where_so, first_refusal, unless_refused}
 use Rattle.irc_acts.specs.Standing.{is_operator}
 
 -- why a user may not invite another to a channel that is there: where mode i is set only an
 -- operator does (RFC 2811 section 4.2.2)
-abbrev pub invite_refusals : User → User → Channel → List Refusal
+abbrev pub invite_refusals : User → User → Channel → List RefusalRow
 invite_refusals me other channel =
     let flags = row channel.members (key me.nick) in
     where_so (not (is_some flags)) (NotOnChannel channel.name)

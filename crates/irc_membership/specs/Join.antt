@@ -24,7 +24,7 @@ use Rattle.irc_acts.specs.declared.act.Act.TheVariants.{Answer, Do}
 use Rattle.irc_acts.specs.Ahead.{in_turn}
 use Rattle.irc_acts.specs.CommaLists.{pieces}
 use Rattle.irc_acts.specs.Acts.{bytes_kept, client_words}
-use Rattle.irc_answers.specs.Names.{names_of, end_of_names}
+use Rattle.irc_acts.specs.Names.{names_of, end_of_names}
 use Rattle.irc_acts.specs.Moves.{own_channels}
 use Rattle.irc_acts.specs.Standing.{is_banned}
 

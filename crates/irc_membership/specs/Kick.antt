@@ -17,7 +17,7 @@ use Rattle.irc_acts.specs.declared.act.Act.TheVariants.{Answer, Do}
 use Rattle.irc_acts.specs.Ahead.{in_turn}
 use Rattle.irc_acts.specs.Acts.{client_words}
 use Rattle.irc_acts.specs.CommaLists.{entries}
-use Rattle.irc_acts.specs.Refusing.{Refusal, where_so, first_refusal, unless_refused}
+use Rattle.irc_acts.specs.Refusing.{RefusalRow, where_so, first_refusal, unless_refused}
 use Rattle.irc_acts.specs.Standing.{is_operator}
 use Rattle.irc_acts.specs.Words.{reason_given}
 
@@ -49,7 +49,7 @@ member_named users channel nick = if has_member (key nick) channel then row user
     else None
 
 -- why a user may not kick from the channel of this name, by its flags there, if it is a member
-abbrev pub kick_refusals : List ℕ → Option Flags → List Refusal
+abbrev pub kick_refusals : List ℕ → Option Flags → List RefusalRow
 kick_refusals name flags =
     where_so (not (is_some flags)) (NotOnChannel name)
     ∷ where_so (not (is_operator flags)) (ChanOPrivsNeeded name)

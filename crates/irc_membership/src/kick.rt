@@ -56,14 +56,14 @@ fn kick_asked(
 {
     let count = entry_count(channels);
     if count == 1 {
-        let asked = Lists {
+        let asked = KickLists {
             channels,
             nicks,
             is_one: true,
         };
         kick_list(context, text, asked)
     } else if count == entry_count(nicks) {
-        let asked = Lists {
+        let asked = KickLists {
             channels,
             nicks,
             is_one: false,
@@ -76,20 +76,20 @@ fn kick_asked(
 
 /// What is left of the two lists of a KICK, and whether one channel is meant for all nicknames.
 #[derive(Clone, Copy)]
-struct Lists<'a> {
+struct KickLists<'a> {
     channels: &'a [u8],
     nicks: &'a [u8],
     is_one: bool,
 }
 
 /// The next nickname of the lists with its channel, and what is left then.
-fn next_kick(left: Lists<'_>) -> Option<(&[u8], &[u8], Lists<'_>)>
+fn next_kick(left: KickLists<'_>) -> Option<(&[u8], &[u8], KickLists<'_>)>
     ensures { IsNextKick left.entry result }
 {
     let (nick, nicks) = next_entry(left.nicks)?;
     let (channel, channels) = next_entry(left.channels)?;
     let channels = if left.is_one { left.channels } else { channels };
-    let behind = Lists {
+    let behind = KickLists {
         channels,
         nicks,
         is_one: left.is_one,
@@ -101,7 +101,7 @@ fn next_kick(left: Lists<'_>) -> Option<(&[u8], &[u8], Lists<'_>)>
 fn kick_list(
     context: &Context<'_>,
     text: &Words,
-    asked: Lists<'_>,
+    asked: KickLists<'_>,
 ) -> Result<Vec<Act, Global>, AllocError>
     ensures { Yields result (by_room context.now kick_list text.now asked.entry) }
 {

@@ -21,7 +21,7 @@ use Rattle.irc_modes.specs.declared.modes.ModeLetter.TheVariants as letter
 use Rattle.irc_channels.specs.declared.channel.Channel.{Channel}
 use Rattle.irc_channels.specs.Channels.{has_member, new_channel, joined, changed, all_changed}
 use Rattle.irc_modes.specs.Letters.{letter_byte, sign_byte}
-use Rattle.irc_mode_words.specs.ModeWritten.{letters_text, changes_written}
+use Rattle.irc_modes.specs.ModeWritten.{letters_text, changes_written}
 use Rattle.irc_room.specs.effect.By.TheVariants as by
 use Rattle.irc_room.specs.effect.Effect.TheVariants.{Join, ChangeModes, SetTopic}
 use Rattle.irc_room.specs.Room.{Room}

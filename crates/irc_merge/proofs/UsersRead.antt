@@ -20,7 +20,6 @@ use Rattle.irc_room.specs.Lemmas.ViewerLaws.{IsNamed, table_named}
 use Rattle.irc_merge.specs.Quits.{quits_of, collision_text}
 use Rattle.irc_merge.specs.Deeds.{does}
 use Rattle.irc_merge.specs.Bursts.{user_deeds}
-use Rattle.irc_merge.specs.BurstRead.{introduced}
 use Rattle.irc_merge.specs.Merge.{clash, room_without, either}
 use Rattle.irc_merge.specs.Lemmas.TableWords.{true_is, absent}
 use Rattle.irc_merge.specs.Lemmas.Reading.{reads, reads-one}

@@ -18,7 +18,7 @@ use Rattle.irc_modes.specs.declared.modes.ModeChange.{ModeChange}
 use Rattle.irc_modes.specs.Modes.{modes_after}
 use Rattle.irc_modes.specs.ModesSet.{set_changes, ban_changes}
 use Rattle.irc_modes.specs.Raised.{raising}
-use Rattle.irc_mode_words.specs.ModeWritten.{changes_written}
+use Rattle.irc_modes.specs.ModeWritten.{changes_written}
 use Rattle.irc_room.specs.Room.{Room}
 use Rattle.irc_merge.specs.Bursts.{bans_a_line, in_lines}
 use Rattle.irc_merge.specs.ShownAlong.{shown_along}

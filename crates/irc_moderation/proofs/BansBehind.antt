@@ -11,8 +11,8 @@ use Rattle.irc_modes.specs.Loops.ManyChanges.{bans_by_mask}
 use Rattle.irc_modes.specs.Lemmas.BanPlaces.{placed, is_placed, with_rises, rises-filter, found_any}
 use Rattle.irc_modes.specs.Lemmas.BanPlaces.{taken_out}
 use Rattle.irc_modes.specs.Lemmas.FoundBans.{find-with_ban, find-without_ban}
-use Rattle.irc_judging.specs.Loops.KeptChanges.{ban_changed_to}
-use Rattle.irc_judging.specs.Laws.BansFound.{find_any, find_passes, any_alike}
+use Rattle.irc_moderation.specs.Loops.KeptChanges.{ban_changed_to}
+use Rattle.irc_moderation.specs.Laws.BansFound.{find_any, find_passes, any_alike}
 
 -- ---- one change
 

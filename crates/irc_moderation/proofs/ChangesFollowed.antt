@@ -20,14 +20,15 @@ use Rattle.irc_modes.specs.Modes.{ban_mask, with_ban, without_ban}
 use Rattle.irc_channels.specs.Channels.{letter_changed, changed, all_changed}
 use Rattle.irc_modes.specs.Loops.ManyChanges.{bans_by_mask, setting_changed, setting_step}
 use Rattle.irc_acts.specs.MoveLaws.{same_is_fold}
-use Rattle.irc_judging.specs.declared.verdict.Verdict.{Verdict}
-use Rattle.irc_judging.specs.declared.verdict.Verdict.TheVariants.{Says, Keeps, Nothing}
+use Rattle.irc_moderation.specs.declared.verdict.Verdict.{Verdict}
+use Rattle.irc_moderation.specs.declared.verdict.Verdict.TheVariants.{Says, Keeps, Nothing}
 use Rattle.irc_moderation.specs.ChannelMode.{outcome_of}
-use Rattle.irc_judging.specs.Judging.{judge}
-use Rattle.irc_judging.specs.Laws.JudgedWalk.{IsSo, judged_so}
-use Rattle.irc_judging.specs.Loops.KeptChanges.{op_set, voice_set, flags_changed, flags_by, ban_by}
-use Rattle.irc_judging.specs.Loops.KeptChanges.{count_by, without_bans, Follows}
-use Rattle.irc_judging.specs.Laws.BansFound.{stored_is_mask}
+use Rattle.irc_moderation.specs.Judging.{judge}
+use Rattle.irc_moderation.specs.Laws.JudgedWalk.{IsSo, judged_so}
+use Rattle.irc_moderation.specs.Loops.KeptChanges.{op_set, voice_set, flags_changed, flags_by}
+use Rattle.irc_moderation.specs.Loops.KeptChanges.{ban_by}
+use Rattle.irc_moderation.specs.Loops.KeptChanges.{count_by, without_bans, Follows}
+use Rattle.irc_moderation.specs.Laws.BansFound.{stored_is_mask}
 use Rattle.irc_moderation.proofs.BansBehind.{found_behind, rises_behind, one_more, one_less}
 use Rattle.irc_moderation.proofs.BansBehind.{by_mask}
 

@@ -6,10 +6,10 @@ use Rattle.irc_names.specs.Tables.{Table}
 use Rattle.irc_users.specs.declared.user.User.{User}
 use Rattle.irc_channels.specs.declared.channel.Channel.{Channel}
 use Rattle.irc_modes.specs.declared.modes.ModeChange.{ModeChange}
-use Rattle.irc_mode_words.specs.declared.mode_words.ModeItem.{ModeItem}
+use Rattle.irc_modes.specs.declared.mode_words.ModeItem.{ModeItem}
 use Rattle.irc_channels.specs.Channels.{all_changed}
-use Rattle.irc_mode_words.specs.ModeViews.{all_asked, asked}
-use Rattle.irc_mode_words.specs.ModeWords.{Asked, change, list, no_word, unknown}
+use Rattle.irc_modes.specs.ModeViews.{all_asked, asked}
+use Rattle.irc_modes.specs.ModeWords.{Asked, change, list, no_word, unknown}
 use Rattle.irc_acts.specs.declared.act.Act.{Act}
 use Rattle.irc_moderation.specs.ChannelMode.{one_served, served}
 use Rattle.irc_moderation.specs.Loops.Denied.{is_change, denied_one, denied_left}

@@ -1,3 +1,4 @@
+pub mod LimitWords
 pub mod BansBehind
 pub mod ChangesFollowed
 pub mod LettersServed

@@ -7,7 +7,7 @@ use Rattle.irc_users.specs.declared.user.User.{User}
 use Rattle.irc_channels.specs.declared.channel.Channel.{Channel}
 use Rattle.irc_modes.specs.declared.modes.ModeChange.{ModeChange}
 use Rattle.irc_channels.specs.Channels.{all_changed}
-use Rattle.irc_mode_words.specs.ModeWords.{Asked, change, list, no_word, unknown, modes_read}
+use Rattle.irc_modes.specs.ModeWords.{Asked, change, list, no_word, unknown, modes_read}
 use Rattle.irc_numerics.specs.declared.replies.Reply.TheVariants.{NoSuchChannel, NeedMoreParams}
 use Rattle.irc_numerics.specs.declared.replies.Reply.TheVariants.{UnknownMode, ChanOPrivsNeeded}
 use Rattle.irc_room.specs.effect.By.TheVariants as by
@@ -17,22 +17,22 @@ use Rattle.irc_acts.specs.declared.act.Act.{Act}
 use Rattle.irc_acts.specs.declared.act.Act.TheVariants.{Answer, Do}
 use Rattle.irc_acts.specs.Acts.{client_words}
 use Rattle.irc_acts.specs.Standing.{is_operator}
-use Rattle.irc_judging.specs.declared.verdict.Verdict.{Verdict}
-use Rattle.irc_judging.specs.declared.verdict.Verdict.TheVariants.{Says, Keeps, Nothing}
-use Rattle.irc_judging.specs.Judging.{judge}
+use Rattle.irc_moderation.specs.declared.verdict.Verdict.{Verdict}
+use Rattle.irc_moderation.specs.declared.verdict.Verdict.TheVariants.{Says, Keeps, Nothing}
+use Rattle.irc_moderation.specs.Judging.{judge}
 use Rattle.irc_moderation.specs.ModesShown.{modes_shown, bans_shown}
 
 -- what comes of some letters: what is answered, and the changes that are made, in order
-pub record Outcome : Type 0 where
+pub record ModeOutcome : Type 0 where
   pub replies : List Act
   pub changes : List ModeChange
 
 -- what changes nothing, and is at most answered
-abbrev pub only_replies : List Act → Outcome
+abbrev pub only_replies : List Act → ModeOutcome
 only_replies replies = record { replies = replies; changes = [] }
 
 -- what comes of one letter, as it was judged
-abbrev pub outcome_of : Verdict → Outcome
+abbrev pub outcome_of : Verdict → ModeOutcome
 outcome_of (Says reply) = only_replies (Answer reply ∷ [])
 outcome_of (Keeps made) = record { replies = []; changes = made ∷ [] }
 outcome_of Nothing = only_replies []
@@ -46,13 +46,13 @@ letter_replies start (unknown byte) = Answer (UnknownMode byte start.name) ∷ [
 letter_replies start (change plus which word) = []
 
 -- what comes of one letter, where the channel was one at the command's start and is another now
-abbrev pub one_served : Table User → Channel → Channel → Asked → Outcome
+abbrev pub one_served : Table User → Channel → Channel → Asked → ModeOutcome
 one_served users start now (change plus which word) = outcome_of (judge users now plus which word)
 one_served users start now other = only_replies (letter_replies start other)
 
 -- What comes of the letters of an operator, each in the channel as the changes before it have left
 -- it. That it is an operator is asked of the command's start alone (our own choice).
-abbrev pub served : Table User → Channel → Channel → List Asked → Outcome
+abbrev pub served : Table User → Channel → Channel → List Asked → ModeOutcome
 served users start now [] = only_replies []
 served users start now (item ∷ items) =
     let first = one_served users start now item in
@@ -74,7 +74,7 @@ changing me channel (first ∷ changes) =
     Do (ChangeModes (by.User me.nick) channel.name (first ∷ changes)) ∷ []
 
 -- the replies, and then the changes
-abbrev pub in_one : User → Channel → Outcome → List Act
+abbrev pub in_one : User → Channel → ModeOutcome → List Act
 in_one me channel outcome = outcome.replies ++ changing me channel outcome.changes
 
 -- what the letters of an operator do

@@ -1,3 +1,4 @@
+pub mod Judging
 pub mod UserMode
 pub mod ModesShown
 pub mod ChannelMode

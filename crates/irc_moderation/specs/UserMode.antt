@@ -5,13 +5,13 @@ use Rattle.std.specs.List.{list_any}
 use Rattle.irc_names.specs.Fold.{same}
 use Rattle.irc_users.specs.declared.user.User.{User}
 use Rattle.irc_modes.specs.Letters.{plus_byte}
-use Rattle.irc_mode_words.specs.ModeWords.{is_sign}
+use Rattle.irc_modes.specs.ModeWords.{is_sign}
 use Rattle.irc_numerics.specs.declared.replies.Reply.TheVariants.{UserModeIs, UModeUnknownFlag}
 use Rattle.irc_numerics.specs.declared.replies.Reply.TheVariants.{UsersDontMatch}
 use Rattle.irc_room.specs.effect.Effect.TheVariants.{UserMode}
 use Rattle.irc_acts.specs.declared.act.Act.{Act}
 use Rattle.irc_acts.specs.declared.act.Act.TheVariants.{Answer, Do}
-use Rattle.irc_judging.specs.Judging.{differs}
+use Rattle.irc_moderation.specs.Judging.{differs}
 
 -- i
 abbrev pub invisible_byte : ℕ

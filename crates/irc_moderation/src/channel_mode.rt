@@ -3,7 +3,7 @@ ghost use Rattle.std.specs.Prelude.{◌≡◌, [], OnOk};
 ghost use Rattle.irc_names.specs.Fold.{key};
 ghost use Rattle.irc_names.specs.Tables.{row};
 ghost use Rattle.irc_line.specs.PartViews.{words_now};
-ghost use Rattle.irc_mode_words.specs.ModeViews.{all_asked, asked};
+ghost use Rattle.irc_modes.specs.ModeViews.{all_asked, asked};
 ghost use Rattle.irc_moderation.specs.ChannelMode.{
   asked_of,
   changing,
@@ -19,17 +19,17 @@ ghost use Rattle.irc_acts.specs.Steps.{among_users, by_room, AddsTo, Yields};
 ghost use Rattle.irc_acts.specs.declared.act.Act.TheVariants.{Answer};
 ghost use Rattle.irc_numerics.specs.declared.replies.Reply.TheVariants.{UnknownMode};
 ghost use Rattle.irc_moderation.specs.Loops.Denied.{denied_one, is_change};
-ghost use Rattle.irc_judging.specs.Loops.KeptChanges.{AreSetBy, Follows};
+ghost use Rattle.irc_moderation.specs.Loops.KeptChanges.{AreSetBy, Follows};
 ghost use Rattle.irc_moderation.specs.Loops.Served.{AnswersEach, AnswersOne, ChangesEach};
 ghost use Rattle.irc_moderation.specs.Loops.Served.{ChangesOne};
 
 use crate::modes_shown::{modes_shown, put_bans};
+use crate::{KeptChanges, Verdict, judge, know_bans_rise};
 use irc_acts::refusals::{need_more_params, no_such_channel};
 use irc_acts::standing::is_operator;
 use irc_acts::{Act, Context, only, put};
 use irc_channels::Channel;
-use irc_judging::{KeptChanges, Verdict, judge, know_bans_rise};
-use irc_mode_words::{ModeItem, read_modes};
+use irc_modes::{ModeItem, read_modes};
 use irc_numerics::Reply;
 use irc_room::{By, Effect, ModeChanges, Room};
 use irc_users::User;

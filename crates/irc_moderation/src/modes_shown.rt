@@ -46,7 +46,7 @@ fn key_shown(member: bool, key: &Key) -> Key
 }
 
 /// What stands in the place of a key.
-#[tactic(auto, unfolding(irc_rules::specs::Names::is_key))]
+#[tactic(auto, unfolding(irc_names::specs::Names::is_key))]
 fn star() -> Key
     ensures { result ≡ codes "*" }
 {

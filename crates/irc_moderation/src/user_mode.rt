@@ -2,7 +2,7 @@
 ghost use Rattle.std.specs.Prelude.{◌≡◌, true, [], ◌∷◌};
 ghost use Rattle.std.specs.List.{list_any};
 ghost use Rattle.irc_line.specs.PartViews.{words_now};
-ghost use Rattle.irc_mode_words.specs.ModeWords.{is_sign};
+ghost use Rattle.irc_modes.specs.ModeWords.{is_sign};
 ghost use Rattle.irc_acts.specs.Steps.{AddsTo, Yields};
 ghost use Rattle.irc_moderation.specs.UserMode.{
   invisible_after,

@@ -1,2 +1,4 @@
+pub mod ModeSteps
+pub mod Reworded
 pub mod SettingsParted
 pub mod BanRoom

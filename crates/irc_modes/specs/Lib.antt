@@ -1,3 +1,8 @@
+pub mod ModeWords
+pub mod ModeViews
+pub mod ModeWritten
+pub mod Readable
+pub mod ModeLaws
 pub mod Modes
 pub mod Texts
 pub mod Limits

@@ -1,6 +1,10 @@
 -- The limits of modes.
 use Rattle.std.specs.Prelude.{ℕ}
 
+-- how many letters of one MODE count that take a parameter (RFC 2812 section 3.2.3)
+abbrev pub max_mode_parameters : ℕ
+max_mode_parameters = 3
+
 -- the most bans that a client's MODE may set on a channel (our own choice); a change that is
 -- applied knows no such limit
 abbrev pub max_bans : ℕ

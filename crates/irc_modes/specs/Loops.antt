@@ -1,1 +1,3 @@
+pub mod ModeLimits
+pub mod WrittenLetters
 pub mod ManyChanges

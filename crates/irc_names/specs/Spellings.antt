@@ -8,8 +8,8 @@ use Rattle.std.specs.Ordering.{then_cmp, ordering_then, nat_cmp, is_eq}
 use Rattle.std.specs.Cmp.{IsTotalOrder, IsEquivalence, then_total}
 use Rattle.std.specs.Cmp.Lexicographic.{pointwise, slice_cmp, nat_list_cmp_total, nat_list_eq_equiv}
 use Rattle.std.specs.Cmp.Lexicographic.{texts_ties, bytes_decides}
-use Rattle.irc_rules.specs.Fold.{key, name_cmp}
-use Rattle.irc_rules.specs.FoldLaws.{name_cmp-total, key-equal}
+use Rattle.irc_names.specs.Fold.{key, name_cmp}
+use Rattle.irc_names.specs.FoldLaws.{name_cmp-total, key-equal}
 
 -- two names have the same bytes
 abbrev pub exactly_same : List ℕ → List ℕ → Bool

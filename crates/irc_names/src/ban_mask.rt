@@ -3,13 +3,13 @@ ghost use Rattle.std.specs.Prelude.{◌≡◌, ◌≤◌, length, ⊤, refl};
 ghost use Rattle.std.specs.Option.{SomeIff};
 ghost use Rattle.std.specs.Ordering.{as_partial_cmp};
 ghost use Rattle.std.specs.Cmp.{partial_equiv_from_equiv, po};
-ghost use Rattle.irc_rules.specs.Names.{IsBanMask};
-ghost use Rattle.irc_rules.specs.Fold.{same, name_cmp};
-ghost use Rattle.irc_rules.specs.FoldLaws.{same-equivalence, name_cmp-total, same-ties, folds_fed};
-ghost use Rattle.irc_rules.specs.FoldLaws.{same-fed};
+ghost use Rattle.irc_names.specs.Names.{IsBanMask};
+ghost use Rattle.irc_names.specs.Fold.{same, name_cmp};
+ghost use Rattle.irc_names.specs.FoldLaws.{same-equivalence, name_cmp-total, same-ties, folds_fed};
+ghost use Rattle.irc_names.specs.FoldLaws.{same-fed};
 
+use crate::{MAX_BAN_MASK, compare, copied, hash_folds, is_ban_mask, same};
 use arrayvec::ArrayVec;
-use irc_rules::{MAX_BAN_MASK, compare, copied, hash_folds, is_ban_mask, same};
 use std::alloc::AllocError;
 use std::cmp::Ordering;
 use std::hash::{Hash, Hasher};
@@ -23,7 +23,7 @@ pub struct BanMask(ArrayVec<u8, MAX_BAN_MASK>);
 /// In a clause it is the list of its bytes, of which its rule holds always.
 impl Model for BanMask {
     ghost use Rattle.std.specs.Prelude.{ℕ, List};
-    ghost use Rattle.irc_rules.specs.Names.{IsBanMask};
+    ghost use Rattle.irc_names.specs.Names.{IsBanMask};
 
     ghost Value = { List ℕ };
 
@@ -36,7 +36,7 @@ impl Model for BanMask {
 
 impl BanMask {
     /// The mask that these bytes are, where [`is_ban_mask`] takes them.
-    #[tactic(auto, using(irc_rules::specs::Lemmas::RuleFacts::lengths))]
+    #[tactic(auto, using(crate::specs::Lemmas::RuleFacts::lengths))]
     pub fn read(bytes: &[u8]) -> Option<Self>
         ensures { SomeIff result (IsBanMask bytes.now) bytes.now }
     {

@@ -7,8 +7,7 @@ ghost use Rattle.irc_names.specs.Spellings.{exactly_same, exact_cmp, exactly_sam
 ghost use Rattle.irc_names.specs.Spellings.{exact_cmp-total, exactly_same-ties, bytes_fed};
 ghost use Rattle.irc_names.specs.Spellings.{exactly_same-fed};
 
-use crate::{BanMask, ChannelName, Nick};
-use irc_rules::compare;
+use crate::{BanMask, ChannelName, Nick, compare};
 use std::cmp::Ordering;
 use std::hash::{Hash, Hasher};
 

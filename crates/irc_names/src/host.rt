@@ -1,10 +1,10 @@
 //! Hosts.
 ghost use Rattle.std.specs.Prelude.{◌≡◌, ◌≤◌, length, ⊤};
 ghost use Rattle.std.specs.Option.{SomeIff};
-ghost use Rattle.irc_rules.specs.Names.{IsHost};
+ghost use Rattle.irc_names.specs.Names.{IsHost};
 
+use crate::{MAX_HOST, copied, is_host};
 use arrayvec::ArrayVec;
-use irc_rules::{MAX_HOST, copied, is_host};
 use std::alloc::AllocError;
 use std::marker::Model;
 
@@ -16,7 +16,7 @@ pub struct Host(ArrayVec<u8, MAX_HOST>);
 /// In a clause it is the list of its bytes, of which its rule holds always.
 impl Model for Host {
     ghost use Rattle.std.specs.Prelude.{ℕ, List};
-    ghost use Rattle.irc_rules.specs.Names.{IsHost};
+    ghost use Rattle.irc_names.specs.Names.{IsHost};
 
     ghost Value = { List ℕ };
 
@@ -29,7 +29,7 @@ impl Model for Host {
 
 impl Host {
     /// The host that these bytes are, where [`is_host`] takes them.
-    #[tactic(auto, using(irc_rules::specs::Lemmas::RuleFacts::lengths))]
+    #[tactic(auto, using(crate::specs::Lemmas::RuleFacts::lengths))]
     pub fn read(bytes: &[u8]) -> Option<Self>
         ensures { SomeIff result (IsHost bytes.now) bytes.now }
     {

@@ -1,10 +1,10 @@
 //! Keys of channels.
 ghost use Rattle.std.specs.Prelude.{◌≡◌, ◌≤◌, length};
 ghost use Rattle.std.specs.Option.{SomeIff};
-ghost use Rattle.irc_rules.specs.Names.{IsKey};
+ghost use Rattle.irc_names.specs.Names.{IsKey};
 
+use crate::{MAX_KEY, copied, is_key};
 use arrayvec::ArrayVec;
-use irc_rules::{MAX_KEY, copied, is_key};
 use std::marker::Model;
 
 /// A channel's key, which [`is_key`] takes.
@@ -14,7 +14,7 @@ pub struct Key(ArrayVec<u8, MAX_KEY>);
 /// In a clause it is the list of its bytes.
 impl Model for Key {
     ghost use Rattle.std.specs.Prelude.{ℕ, List};
-    ghost use Rattle.irc_rules.specs.Names.{IsKey};
+    ghost use Rattle.irc_names.specs.Names.{IsKey};
 
     ghost Value = { List ℕ };
 
@@ -27,7 +27,7 @@ impl Model for Key {
 
 impl Key {
     /// The key that these bytes are, where [`is_key`] takes them.
-    #[tactic(auto, using(irc_rules::specs::Lemmas::RuleFacts::lengths))]
+    #[tactic(auto, using(crate::specs::Lemmas::RuleFacts::lengths))]
     pub fn read(bytes: &[u8]) -> Option<Self>
         ensures { SomeIff result (IsKey bytes.now) bytes.now }
     {

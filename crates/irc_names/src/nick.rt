@@ -3,13 +3,13 @@ ghost use Rattle.std.specs.Prelude.{◌≡◌, ◌≤◌, length, ⊤, refl};
 ghost use Rattle.std.specs.Option.{SomeIff};
 ghost use Rattle.std.specs.Ordering.{as_partial_cmp};
 ghost use Rattle.std.specs.Cmp.{partial_equiv_from_equiv, po};
-ghost use Rattle.irc_rules.specs.Names.{IsNick};
-ghost use Rattle.irc_rules.specs.Fold.{same, name_cmp};
-ghost use Rattle.irc_rules.specs.FoldLaws.{same-equivalence, name_cmp-total, same-ties, folds_fed};
-ghost use Rattle.irc_rules.specs.FoldLaws.{same-fed};
+ghost use Rattle.irc_names.specs.Names.{IsNick};
+ghost use Rattle.irc_names.specs.Fold.{same, name_cmp};
+ghost use Rattle.irc_names.specs.FoldLaws.{same-equivalence, name_cmp-total, same-ties, folds_fed};
+ghost use Rattle.irc_names.specs.FoldLaws.{same-fed};
 
+use crate::{MAX_NICK, compare, copied, hash_folds, is_nick, same};
 use arrayvec::ArrayVec;
-use irc_rules::{MAX_NICK, compare, copied, hash_folds, is_nick, same};
 use std::alloc::AllocError;
 use std::cmp::Ordering;
 use std::hash::{Hash, Hasher};
@@ -23,7 +23,7 @@ pub struct Nick(ArrayVec<u8, MAX_NICK>);
 /// In a clause it is the list of its bytes, of which its rule holds always.
 impl Model for Nick {
     ghost use Rattle.std.specs.Prelude.{ℕ, List};
-    ghost use Rattle.irc_rules.specs.Names.{IsNick};
+    ghost use Rattle.irc_names.specs.Names.{IsNick};
 
     ghost Value = { List ℕ };
 
@@ -36,7 +36,7 @@ impl Model for Nick {
 
 impl Nick {
     /// The nickname that these bytes are, where [`is_nick`] takes them.
-    #[tactic(auto, using(irc_rules::specs::Lemmas::RuleFacts::lengths))]
+    #[tactic(auto, using(crate::specs::Lemmas::RuleFacts::lengths))]
     pub fn read(bytes: &[u8]) -> Option<Self>
         ensures { SomeIff result (IsNick bytes.now) bytes.now }
     {

@@ -1,9 +1,9 @@
 //! Real names.
 ghost use Rattle.std.specs.Prelude.{◌≡◌, ◌≤◌, length};
-ghost use Rattle.irc_rules.specs.UserTexts.{cut_real, IsRealName};
+ghost use Rattle.irc_names.specs.UserTexts.{cut_real, IsRealName};
 
+use crate::{MAX_REAL_NAME, copied, cut_copy};
 use arrayvec::ArrayVec;
-use irc_rules::{MAX_REAL_NAME, copied, cut_copy};
 use std::marker::Model;
 
 /// A real name: at most [`MAX_REAL_NAME`] bytes (our own choice).
@@ -13,7 +13,7 @@ pub struct RealName(ArrayVec<u8, MAX_REAL_NAME>);
 /// In a clause it is the list of its bytes.
 impl Model for RealName {
     ghost use Rattle.std.specs.Prelude.{ℕ, List};
-    ghost use Rattle.irc_rules.specs.UserTexts.{IsRealName};
+    ghost use Rattle.irc_names.specs.UserTexts.{IsRealName};
 
     ghost Value = { List ℕ };
 
@@ -26,7 +26,7 @@ impl Model for RealName {
 
 impl RealName {
     /// The real name made of any bytes: those past [`MAX_REAL_NAME`] are cut off.
-    #[tactic(auto, unfolding(irc_rules::specs::UserTexts::cut_real))]
+    #[tactic(auto, unfolding(crate::specs::UserTexts::cut_real))]
     pub fn cut(bytes: &[u8]) -> Self
         ensures { result ≡ cut_real bytes.now }
     {

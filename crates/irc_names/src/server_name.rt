@@ -1,10 +1,10 @@
 //! Names of servers.
 ghost use Rattle.std.specs.Prelude.{◌≡◌, ◌≤◌, length, ⊤};
 ghost use Rattle.std.specs.Option.{SomeIff};
-ghost use Rattle.irc_rules.specs.Names.{IsServer};
+ghost use Rattle.irc_names.specs.Names.{IsServer};
 
+use crate::{MAX_SERVER, copied, is_server};
 use arrayvec::ArrayVec;
-use irc_rules::{MAX_SERVER, copied, is_server};
 use std::alloc::AllocError;
 use std::marker::Model;
 
@@ -16,7 +16,7 @@ pub struct ServerName(ArrayVec<u8, MAX_SERVER>);
 /// In a clause it is the list of its bytes, of which its rule holds always.
 impl Model for ServerName {
     ghost use Rattle.std.specs.Prelude.{ℕ, List};
-    ghost use Rattle.irc_rules.specs.Names.{IsServer};
+    ghost use Rattle.irc_names.specs.Names.{IsServer};
 
     ghost Value = { List ℕ };
 
@@ -29,7 +29,7 @@ impl Model for ServerName {
 
 impl ServerName {
     /// The server's name that these bytes are, where [`is_server`] takes them.
-    #[tactic(auto, using(irc_rules::specs::Lemmas::RuleFacts::lengths))]
+    #[tactic(auto, using(crate::specs::Lemmas::RuleFacts::lengths))]
     pub fn read(bytes: &[u8]) -> Option<Self>
         ensures { SomeIff result (IsServer bytes.now) bytes.now }
     {

@@ -1,9 +1,9 @@
 //! User names.
 ghost use Rattle.std.specs.Prelude.{◌≡◌, ◌≤◌, length};
-ghost use Rattle.irc_rules.specs.UserTexts.{clean_user, clean_user_byte, is_user_byte, IsUserName};
+ghost use Rattle.irc_names.specs.UserTexts.{clean_user, clean_user_byte, is_user_byte, IsUserName};
 
+use crate::{MAX_USER_NAME, copied, cut_copy, is_user_byte};
 use arrayvec::ArrayVec;
-use irc_rules::{MAX_USER_NAME, copied, cut_copy, is_user_byte};
 use std::marker::Model;
 
 /// A user name: at most [`MAX_USER_NAME`] bytes that are letters, digits, `-`, `.`, `_` or `~` (our
@@ -14,7 +14,7 @@ pub struct UserName(ArrayVec<u8, MAX_USER_NAME>);
 /// In a clause it is the list of its bytes.
 impl Model for UserName {
     ghost use Rattle.std.specs.Prelude.{ℕ, List};
-    ghost use Rattle.irc_rules.specs.UserTexts.{IsUserName};
+    ghost use Rattle.irc_names.specs.UserTexts.{IsUserName};
 
     ghost Value = { List ℕ };
 

@@ -1,13 +1,13 @@
 -- What a call answers is what clients have received by it.
 use Rattle.std.proofs.Common.{◌≡◌, ℕ, zero, suc, Bool, true, false, Option, Some, None, Ok, List}
-use Rattle.std.proofs.Common.{[], ◌∷◌, ◌++◌, append-nil, option_map, refl, sym, ◌∙◌, ap, subst}
+use Rattle.std.proofs.Common.{[], ◌∷◌, append-nil, option_map, refl, sym, ◌∙◌, subst}
 use Rattle.std.proofs.Common.{if◌then◌else◌}
 use Rattle.std.specs.Option.{option_and_then, option_map_or}
 use Rattle.irc_relay.specs.Links.{Name}
 use Rattle.irc_world.specs.Stepping.{Item}
 use Rattle.irc_network.specs.Behind.{emptied}
-use Rattle.irc_network.specs.ByteNetwork.{ByteCourse, ByteNetwork, all_heard, byte_begun}
-use Rattle.irc_network.specs.ByteNetwork.{bytes_come, completed_in, course_without_wires}
+use Rattle.irc_network.specs.ByteNetwork.{ByteProgress, ByteNetwork, all_heard, byte_begun}
+use Rattle.irc_network.specs.ByteNetwork.{bytes_come, completed_in, progress_without_wires}
 use Rattle.irc_network.specs.ByteNetwork.{item_given}
 use Rattle.irc_network.specs.Turns.{TurnsGo, none_yet, turn_first, turn_in, turn_taken}
 use Rattle.irc_net.specs.declared.answer.Answer.{Answer}
@@ -16,14 +16,14 @@ use Rattle.irc_net.specs.Calls.{delivers_it, given_it, line_between, piece_betwe
 use Rattle.irc_net.specs.Calls.{standing, takes_them, wire_between}
 use Rattle.irc_net.specs.Laws.{AnswersAreReceived, HasReceived}
 use Rattle.irc_network.specs.Laws.{ReceiptsAreReceived}
-use Rattle.irc_network.specs.Network.{AreReceived, Course, LinkPlaces, Network, Receipt, begun}
-use Rattle.irc_network.specs.Network.{link_places, given, heard, lines_of_client, received_by}
+use Rattle.irc_network.specs.Network.{AreReceived, Progress, LinkPlaces, Network, Receipt, begun}
+use Rattle.irc_network.specs.Network.{link_places, given, heard, received_by}
 use Rattle.irc_network.specs.Views.{receipts_of}
 use Rattle.irc_wires.specs.Wires.{Direction, first_direction, has_byte, through_line_feed}
 
 -- since clients had received what they have in a network
-abbrev IsTold : Network → ByteCourse → Type 0
-IsTold net course = AreReceived net (course_without_wires course)
+abbrev IsTold : Network → ByteProgress → Type 0
+IsTold net progress = AreReceived net (progress_without_wires progress)
 
 nothing_told : (net : Network) → AreReceived net (begun net)
 nothing_told net client = sym (append-nil (received_by net client))
@@ -34,47 +34,48 @@ emptied_received : (net : Network) (client : ℕ)
 emptied_received net zero = refl
 emptied_received net (suc earlier) = refl
 
-as_course : (old new : NetView) (receipts : List Receipt) (last : ByteCourse)
+as_progress : (old new : NetView) (receipts : List Receipt) (last : ByteProgress)
     → new ≡ standing last.net → receipts ≡ last.receipts → IsTold old.network.network last
     → HasReceived old.network new.network receipts
-as_course old new receipts last after same told =
+as_progress old new receipts last after same told =
     subst (λ (n : NetView). HasReceived old.network n.network receipts) (sym after)
     (subst (HasReceived old.network last.net) (sym same) told)
 
 none_received : (old new : NetView) (receipts : List Receipt) → new ≡ standing old.network
     → receipts ≡ [] → HasReceived old.network new.network receipts
 none_received old new receipts after none =
-    as_course old new receipts (byte_begun old.network) after none
+    as_progress old new receipts (byte_begun old.network) after none
     (nothing_told old.network.network)
 
 module _ (law : ReceiptsAreReceived) where
-  heard_told : (net : Network) (from to : ℕ) (lines : List (List ℕ)) (course : Course)
-      → AreReceived net course → AreReceived net
-      (all_heard from to course lines)
-  heard_told net from to [] course told = told
-  heard_told net from to (line ∷ lines) course told =
-      heard_told net from to lines (heard from to course line)
-      (law.heard from to line net course told)
+  heard_told : (net : Network) (from to : ℕ) (lines : List (List ℕ)) (progress : Progress)
+      → AreReceived net progress → AreReceived net
+      (all_heard from to progress lines)
+  heard_told net from to [] progress told = told
+  heard_told net from to (line ∷ lines) progress told =
+      heard_told net from to lines (heard from to progress line)
+      (law.heard from to line net progress told)
 
-  come_told : (net : Network) (from to count : ℕ) (course : ByteCourse) → IsTold net course
-      → IsTold net (bytes_come from to count course)
+  come_told : (net : Network) (from to count : ℕ) (progress : ByteProgress) → IsTold net progress
+      → IsTold net (bytes_come from to count progress)
   unfolding bytes_come
-  come_told net from to count course told client =
+  come_told net from to count progress told client =
       let last =
-      all_heard from to (course_without_wires course) (completed_in course.net from to count) in
+      all_heard from to (progress_without_wires progress) (completed_in progress.net from to count)
+      in
       emptied_received last.net client ∙ heard_told net from to
-      (completed_in course.net from to count) (course_without_wires course) told client
+      (completed_in progress.net from to count) (progress_without_wires progress) told client
 
   item_told : (net : ByteNetwork) (item : Item) → IsTold net.network (item_given item net)
   unfolding item_given
   item_told net item client =
       emptied_received (given item net.network).net client ∙ law.given item net.network client
 
-  turn_told : (net : Network) (old new : ByteCourse) → turn_taken old ≡ Some new → IsTold net old
+  turn_told : (net : Network) (old new : ByteProgress) → turn_taken old ≡ Some new → IsTold net old
       → IsTold net new
   turn_told net old new turn told = by (first_direction old.net.wires) turn
     where
-      same_some : (a b : ByteCourse) → Some a ≡ Some b → a ≡ b
+      same_some : (a b : ByteProgress) → Some a ≡ Some b → a ≡ b
       same_some a b is = cc is
 
       by : (o : Option Direction) → option_map (turn_in old) o ≡ Some new → IsTold net new
@@ -82,7 +83,7 @@ module _ (law : ReceiptsAreReceived) where
       by (Some d) some = subst (IsTold net) (same_some (turn_in old d) new some)
           (come_told net d.from d.to _ old told)
 
-  turns_told : (net : Network) {count : ℕ} {old new : ByteCourse} → TurnsGo count old new
+  turns_told : (net : Network) {count : ℕ} {old new : ByteProgress} → TurnsGo count old new
       → IsTold net old → IsTold net new
   turns_told net none_yet told = told
   turns_told net {old = old} (turn_first {between = between} turn all_is rest) told =
@@ -94,14 +95,14 @@ module _ (law : ReceiptsAreReceived) where
   piece_told count net (Some ends) =
       come_told net.network ends.near ends.far count (byte_begun net) (nothing_told net.network)
 
-  abbrev through : ByteNetwork → LinkPlaces → ByteCourse
+  abbrev through : ByteNetwork → LinkPlaces → ByteProgress
   through net ends = piece_between (through_line_feed (wire_between net ends).bytes) net ends
 
-  line_told : (net : ByteNetwork) (ends : LinkPlaces) (last : ByteCourse)
+  line_told : (net : ByteNetwork) (ends : LinkPlaces) (last : ByteProgress)
       → line_between net ends ≡ Some last → IsTold net.network last
   line_told net ends last = by (has_byte (wire_between net ends))
     where
-      same_some : (a b : ByteCourse) → Some a ≡ Some b → a ≡ b
+      same_some : (a b : ByteProgress) → Some a ≡ Some b → a ≡ b
       same_some a b is = cc is
 
       by : (b : Bool) → (if b then Some (through net ends) else None) ≡ Some last
@@ -115,14 +116,14 @@ module _ (law : ReceiptsAreReceived) where
   given_received : (old new : NetView) (item : Item) (answer : Answer) → IsGiven old item
       (Ok answer) new → HasReceived old.network new.network (receipts_of answer.lines.items)
   given_received old new item answer (given_it stands gives) =
-      as_course old new (receipts_of answer.lines.items)
+      as_progress old new (receipts_of answer.lines.items)
       (item_given item old.network) gives.after gives.receipts (item_told old.network item)
 
   taken_received : (old new : NetView) (from to : Name) (count taken : ℕ) (receipts : List Receipt)
       → BytesTaken old from to count (Ok (taken, receipts)) new
       → HasReceived old.network new.network receipts
   taken_received old new from to count taken receipts (takes_them stands takes) =
-      as_course old new receipts _ takes.after takes.received
+      as_progress old new receipts _ takes.after takes.received
       (piece_told count old.network (link_places old.network.network from to))
 
   delivered_received : (old new : NetView) (from to : Name) (was_taken : Bool)
@@ -131,12 +132,12 @@ module _ (law : ReceiptsAreReceived) where
   delivered_received old new from to was_taken receipts (delivers_it stands none delivers) =
       by (link_places old.network.network from to) delivers
     where
-      took : (ends : LinkPlaces) (o : Option ByteCourse) → line_between old.network ends ≡ o
+      took : (ends : LinkPlaces) (o : Option ByteProgress) → line_between old.network ends ≡ o
           → Delivers o old.network was_taken receipts new
           → HasReceived old.network new.network receipts
       took ends None is so = none_received old new receipts so.2 so.1
       took ends (Some last) is so =
-          as_course old new receipts last so.2 so.1 (line_told old.network ends last is)
+          as_progress old new receipts last so.2 so.1 (line_told old.network ends last is)
 
       by : (o : Option LinkPlaces) → Delivers (option_and_then (line_between old.network) o)
           old.network was_taken receipts new → HasReceived old.network new.network receipts
@@ -146,7 +147,7 @@ module _ (law : ReceiptsAreReceived) where
   settled_received : (old new : NetView) (counted : ℕ) (receipts : List Receipt)
       → IsSettled old (Ok (counted, receipts)) new → HasReceived old.network new.network receipts
   settled_received old new counted receipts (settles_it stands settles) =
-      as_course old new receipts settles.last settles.after settles.received
+      as_progress old new receipts settles.last settles.after settles.received
       (turns_told old.network.network settles.goes (nothing_told old.network.network))
 
   pub answers_are_received : AnswersAreReceived

@@ -15,8 +15,8 @@ use Rattle.irc_net.specs.declared.step.Step.{Step}
 use Rattle.irc_net.specs.declared.step.StepAnswer.{StepAnswer}
 use Rattle.irc_net.specs.declared.step.StepAnswer.TheVariants.{Refused}
 use Rattle.irc_room.specs.Lemmas.Rows.{same_some}
-use Rattle.irc_network.specs.ByteNetwork.{ByteCourse, ByteNetwork, byte_begun}
-use Rattle.irc_network.specs.Loops.Coming.{byte_course, bytes_between, come_between}
+use Rattle.irc_network.specs.ByteNetwork.{ByteProgress, ByteNetwork, byte_begun}
+use Rattle.irc_network.specs.Loops.Coming.{byte_progress, bytes_between, come_between}
 use Rattle.irc_line.specs.Bytes.{line_feed}
 use Rattle.irc_relay.specs.Links.{linked as are_linked}
 use Rattle.irc_world.specs.Refused.{Refusal, no_such_server, not_linked}
@@ -29,8 +29,8 @@ use Rattle.irc_net.specs.Loops.Coming.{AreEnds, ComesTo, HaveComeTo, IsNoWay}
 use Rattle.irc_net.specs.Calls as calls
 use Rattle.irc_net.specs.Faults.{deliver_fault, fault_by, is_refusal, item_fault}
 use Rattle.irc_net.specs.Loops.Settling.{SettlesAt}
-use Rattle.irc_forest.specs.declared.places.Ends.{Ends as KeptEnds}
-use Rattle.irc_network.specs.Loops.Courses.{ends_now}
+use Rattle.irc_forest.specs.declared.places.EndPlaces.{EndPlaces}
+use Rattle.irc_network.specs.Loops.Progress.{ends_now}
 use Rattle.irc_network.specs.Network.{LinkPlaces, Network, Receipt, link_places, server_place}
 use Rattle.irc_network.specs.Refusing.{way_fault}
 use Rattle.irc_net.specs.Views.{answers_now, counted_now, delivered_now}
@@ -142,7 +142,7 @@ between_some net from to ends is some =
     ends) else None) (some_feed (wire_between net ends).bytes some)
 
 -- no byte was on its way
-pub none_came : (net : NetView) (from to : Name) (ends : KeptEnds) (lines : List KeptReceipt)
+pub none_came : (net : NetView) (from to : Name) (ends : EndPlaces) (lines : List KeptReceipt)
     → AreEnds net from to ends → through_line_feed (wire_between net.network (ends_now ends)).bytes
     ≡ 0 → lines ≡ [] → IsDelivered net from to (Ok (false, receipts_of lines)) net
 none_came net from to ends lines are none nothing =
@@ -152,7 +152,7 @@ none_came net from to ends lines are none nothing =
     (refl, ap receipts_of nothing, stands_so net are.stands))
 
 -- some were
-pub some_came : (old new : NetView) (from to : Name) (ends : KeptEnds)
+pub some_came : (old new : NetView) (from to : Name) (ends : EndPlaces)
     (count taken : ℕ) (lines : List KeptReceipt) → AreEnds old from to ends
     → count ≡ through_line_feed (wire_between old.network (ends_now ends)).bytes
     → (count ≡ 0 → ⊥) → ComesTo old ends count taken (receipts_of lines) new
@@ -164,7 +164,7 @@ some_came old new from to ends count taken lines are is some comes =
     ∙ ap (λ n. Some (piece_between n old.network (ends_now ends))) (sym is)))
     (refl, comes.received, comes.after))
 
-pub line_wants : (old new : NetView) (from to : Name) (ends : KeptEnds) (fault : NetFault)
+pub line_wants : (old new : NetView) (from to : Name) (ends : EndPlaces) (fault : NetFault)
     (r : Result (Bool × Vec KeptReceipt) NetFault) → IsErrAnd r (λ e. e ≡ fault)
     → AreEnds old from to ends → (fault ≡ Memory) × (new.failed ≡ true)
     → IsDelivered old from to (delivered_now r) new
@@ -174,7 +174,7 @@ line_wants old new from to ends fault (Err e) is are wants =
     (calls.delivery_wants_memory are.stands are.none wants.1)
 
 -- so many bytes came, or memory ran out
-pub pieces_came : (old new : NetView) (from to : Name) (ends : KeptEnds)
+pub pieces_came : (old new : NetView) (from to : Name) (ends : EndPlaces)
     (count : ℕ) (r : Result (ℕ × List Receipt) NetFault) → AreEnds old from to ends
     → HaveComeTo old ends count r new → BytesTaken old from to count r new
 pieces_came old new from to ends count (Ok pair) are comes =
@@ -182,8 +182,8 @@ pieces_came old new from to ends count (Ok pair) are comes =
       none = are.none;
       taken_is = comes.taken_is
           ∙ sym (ap (λ o. option_map_or (count_between count old.network) o 0) are.ends_are);
-      received = comes.received ∙ sym (ap (λ (c : ByteCourse). c.receipts) at);
-      after = comes.after ∙ sym (ap (λ (c : ByteCourse). standing c.net) at);
+      received = comes.received ∙ sym (ap (λ (c : ByteProgress). c.receipts) at);
+      after = comes.after ∙ sym (ap (λ (c : ByteProgress). standing c.net) at);
     })
   where
     at : piece count old.network from to ≡ piece_between count old.network (ends_now ends)
@@ -194,31 +194,32 @@ pieces_came old new from to ends count (Err fault) are wants =
     (calls.taking_wants_memory are.stands are.none wants.1)
 
 -- as the code answers it
-pub came_to : (old : NetView) (net new : ByteNetwork) (ends : KeptEnds)
+pub came_to : (old : NetView) (net new : ByteNetwork) (ends : EndPlaces)
     (count taken : ℕ) (lines none : List KeptReceipt) → net ≡ old.network → none ≡ []
-    → taken ≡ min count (bytes_between net ends) → byte_course new lines ≡ come_between ends count
-    (byte_course net none) → ComesTo old ends count taken (receipts_of lines) (standing new)
+    → taken ≡ min count (bytes_between net ends) → byte_progress new lines ≡ come_between ends count
+    (byte_progress net none) → ComesTo old ends count taken (receipts_of lines) (standing new)
 came_to old net new ends count taken lines none same begins taken_is comes = record {
   taken_is = taken_is ∙ ap (λ n. min count (bytes_between n ends)) same;
-  received = ap (λ (c : ByteCourse). c.receipts) so;
-  after = ap (λ (c : ByteCourse). standing c.net) so;
+  received = ap (λ (c : ByteProgress). c.receipts) so;
+  after = ap (λ (c : ByteProgress). standing c.net) so;
 }
   where
-    so : byte_course new lines ≡ piece_between count old.network (ends_now ends)
-    so = comes ∙ ap (λ n. come_between ends count (byte_course n none)) same
-        ∙ ap (λ ls. come_between ends count (byte_course old.network ls)) begins
+    so : byte_progress new lines ≡ piece_between count old.network (ends_now ends)
+    so = comes ∙ ap (λ n. come_between ends count (byte_progress n none)) same
+        ∙ ap (λ ls. come_between ends count (byte_progress old.network ls)) begins
 
-pub coming_wants : (old new : NetView) (ends : KeptEnds) (count : ℕ)
+pub coming_wants : (old new : NetView) (ends : EndPlaces) (count : ℕ)
     (r : Result (ℕ × Vec KeptReceipt) NetFault) → IsErrAnd r (λ e. e ≡ Memory) → new.failed ≡ true
     → HaveComeTo old ends count (counted_now r) new
 coming_wants old new ends count (Ok answer) is failed = absurd is
 coming_wants old new ends count (Err e) is failed = (is, failed)
 
 pub settles_by : (net new : ByteNetwork) (lines : List KeptReceipt) (count : ℕ) → SettlesAt count
-    (byte_begun net) (byte_course new lines) → Settles net count (receipts_of lines) (standing new)
+    (byte_begun net) (byte_progress new lines)
+    → Settles net count (receipts_of lines) (standing new)
 settles_by net new lines count so = record {
   count = so.turns.count;
-  last = byte_course new lines;
+  last = byte_progress new lines;
   goes = so.turns.goes;
   rest = so.rest;
   counts = so.turns.counts;

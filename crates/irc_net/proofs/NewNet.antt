@@ -16,7 +16,7 @@ use Rattle.std.specs.Option.{option_and_then}
 use Rattle.irc_forest.specs.Forests.{Forest}
 use Rattle.irc_names.specs.Limits.{max_created}
 use Rattle.irc_names.specs.Names.{fits, is_server}
-use Rattle.irc_handshake.specs.Passwords.{is_password}
+use Rattle.irc_link_words.specs.Passwords.{is_password}
 use Rattle.irc_relay.specs.Distances.{IsAmong}
 use Rattle.irc_relay.specs.Links.{Name, same}
 use Rattle.irc_relay.specs.Lemmas.TellingNames.{Telling, alike, unlike, tell, same_unless}
@@ -26,12 +26,12 @@ use Rattle.irc_server.specs.declared.config.Config.{Config}
 use Rattle.irc_server.specs.declared.config.ConfigFault.TheVariants as one
 use Rattle.irc_stage.specs.View.{View, known_peer}
 use Rattle.irc_stage.specs.declared.peer.Peer.{Peer}
-use Rattle.irc_network.specs.Network.{Network, Site, server_place, site_at}
+use Rattle.irc_network.specs.Network.{Network, Node, server_place, node_at}
 use Rattle.irc_items.specs.SetUp.{named_at, no_view, view_at, HasPassword, IsConfigured, IsNew}
 use Rattle.irc_items.specs.SetUp.{IsNewServer}
 use Rattle.irc_items.specs.Lemmas.SetUpFacts.{placed_if}
 use Rattle.irc_net.specs.Making.{config_name, configs_fault, has_name_twice, is_bad_config}
-use Rattle.irc_net.specs.Making.{is_bad_name, is_config_of, made_of, new_site}
+use Rattle.irc_net.specs.Making.{is_bad_name, is_config_of, made_of, new_node}
 use Rattle.irc_net.proofs.Named.{ordered_few, without_fault}
 
 -- ---- no name is there twice
@@ -169,22 +169,22 @@ all_configured (config ∷ configs) good = (configured config parts.0, all_confi
 
 -- ---- each is there
 
-sites_named : (configs : List Config)
-    → map named_at (map new_site configs) ≡ map Some (map config_name configs)
-sites_named [] = refl
-sites_named (config ∷ configs) =
-    ap (λ names. Some (config_name config) ∷ names) (sites_named configs)
+nodes_named : (configs : List Config)
+    → map named_at (map new_node configs) ≡ map Some (map config_name configs)
+nodes_named [] = refl
+nodes_named (config ∷ configs) =
+    ap (λ names. Some (config_name config) ∷ names) (nodes_named configs)
 
 none_queued : (configs : List Config)
-    → AllByRecursion (λ (site : Site). site.queues ≡ empty) (map new_site configs)
+    → AllByRecursion (λ (node : Node). node.queues ≡ empty) (map new_node configs)
 none_queued [] = tt
 none_queued (config ∷ configs) = (refl, none_queued configs)
 
 -- what is so of each server at a place is so of the one of each name
 made_there : (P : View → Type 0) (configs : List Config) (place : ℕ)
     → AllByRecursion (λ (config : Config). P (made_view config)) configs
-    → place < length configs → P (unwrap_or (option_and_then (λ (site : Site). site.server)
-    (slice_get (map new_site configs) place)) no_view)
+    → place < length configs → P (unwrap_or (option_and_then (λ (node : Node). node.server)
+    (slice_get (map new_node configs) place)) no_view)
 made_there P [] place all within = absurd (omega (arith, within))
 made_there P (config ∷ configs) zero all within = all.0
 made_there P (config ∷ configs) (suc place) all within =
@@ -192,8 +192,8 @@ made_there P (config ∷ configs) (suc place) all within =
 
 -- the server at a place that was found
 abbrev seen : List Config → Option ℕ → View
-seen configs o = unwrap_or (option_and_then (λ (site : Site). site.server)
-    (option_and_then (site_at (made_of configs)) o)) no_view
+seen configs o = unwrap_or (option_and_then (λ (node : Node). node.server)
+    (option_and_then (node_at (made_of configs)) o)) no_view
 
 made_at : (P : View → Type 0) (configs : List Config) (server : Name)
     → AllByRecursion (λ (config : Config). P (made_view config)) configs
@@ -221,7 +221,7 @@ pub made_is_new : (configs ordered : List Config) → configs_fault configs ≡ 
     → IsPermutation configs ordered → IsNew (made_of ordered)
 made_is_new configs ordered none ones = record {
   set_up = record {
-    named = sites_named ordered;
+    named = nodes_named ordered;
     once = ordered_once configs ordered ones (without_fault configs none).twice_none;
     few = subst (λ n. n ≤ 256) (sym (length-map ordered config_name))
         (ordered_few configs ordered none ones);
@@ -238,10 +238,10 @@ made_is_new configs ordered none ones = record {
   taken = refl;
 }
 
-abbrev pub made_with : Forest → List Site → Network
-made_with forest sites = record {
+abbrev pub made_with : Forest → List Node → Network
+made_with forest nodes = record {
   names = forest.names;
-  sites = sites;
+  nodes = nodes;
   links = forest.links;
   homes = [];
   received = [];
@@ -249,11 +249,11 @@ made_with forest sites = record {
   taken = 0;
 }
 
--- a network of their forest and their sites is what they make
-pub network_made : (ordered configs : List Config) (forest : Forest) (sites : List Site)
+-- a network of their forest and their nodes is what they make
+pub network_made : (ordered configs : List Config) (forest : Forest) (nodes : List Node)
     → configs ≡ ordered → forest ≡ record { names = map config_name configs; links = [] }
-    → sites ≡ map new_site ordered → made_with forest sites ≡ made_of ordered
-network_made ordered configs forest sites ones named placed =
-    ap (λ f. made_with f sites)
+    → nodes ≡ map new_node ordered → made_with forest nodes ≡ made_of ordered
+network_made ordered configs forest nodes ones named placed =
+    ap (λ f. made_with f nodes)
     (named ∙ ap (λ cs. record { names = map config_name cs; links = [] }) ones)
     ∙ ap (made_with (record { names = map config_name ordered; links = [] })) placed

@@ -3,7 +3,7 @@ use Rattle.std.proofs.Common.{◌≡◌, ℕ, true, zero, suc, ◌+◌, ◌<◌,
 use Rattle.std.proofs.Common.{option_map, refl, sym, subst, ◌∙◌, ap, arith}
 use Rattle.irc_items.specs.Kept.{TurnLeavesFewer}
 use Rattle.irc_items.specs.Sound.{most_now}
-use Rattle.irc_network.specs.ByteNetwork.{ByteCourse, ByteNetwork, byte_begun, course_in_lines}
+use Rattle.irc_network.specs.ByteNetwork.{ByteProgress, ByteNetwork, byte_begun, progress_in_lines}
 use Rattle.irc_network.specs.ByteNetwork.{net_in_lines, is_byte_rest}
 use Rattle.irc_network.specs.Turns.{ComesToLine, GoesToLine, TurnsGo, lines_in_turn, none_yet}
 use Rattle.irc_network.specs.Turns.{turn_first, turn_in, turn_taken}
@@ -22,7 +22,7 @@ use Rattle.irc_wires.specs.Wires.{Direction, first_direction}
 none_first : (n : ℕ) → n ≡ 0 + n
 none_first n = omega arith
 
-pub turns_both : {one other : ℕ} {a b c : ByteCourse} → TurnsGo one a b → TurnsGo other b c
+pub turns_both : {one other : ℕ} {a b c : ByteProgress} → TurnsGo one a b → TurnsGo other b c
     → TurnsGo (one + other) a c
 turns_both {other = other} {a = a} {c = c} none_yet more =
     subst (λ n. TurnsGo n a c) (none_first other) more
@@ -33,24 +33,25 @@ turns_both {one = one} {other = other} {a = a} {c = c}
     behind : (x y n m : ℕ) → x ≡ y + n → x + m ≡ y + (n + m)
     behind x y n m is = omega (arith, is)
 
-pub one_turn : (lines : ℕ) (old new : ByteCourse) → turn_taken old ≡ Some new
+pub one_turn : (lines : ℕ) (old new : ByteProgress) → turn_taken old ≡ Some new
     → lines ≡ lines_in_turn old.net → TurnsGo lines old new
 one_turn lines old new turn is = turn_first turn (is ∙ alone (lines_in_turn old.net)) none_yet
   where
     alone : (n : ℕ) → n ≡ n + 0
     alone n = omega arith
 
-pub to_line : (lines : ℕ) (old new : ByteCourse) → GoesToLine lines old new → TurnsGo lines old new
+pub to_line : (lines : ℕ) (old new : ByteProgress) → GoesToLine lines old new
+    → TurnsGo lines old new
 to_line lines old new goes =
     subst (λ n. TurnsGo n old new) (sym (none_first lines))
     (turns_both goes.goes (one_turn lines goes.between new goes.turn goes.lines_are))
 
 -- ---- as the code counts them
 
-pub none_counted : (course : ByteCourse) → GoesCounted 0 course course
-none_counted course = record { count = 0; goes = none_yet; counts = omega arith }
+pub none_counted : (progress : ByteProgress) → GoesCounted 0 progress progress
+none_counted progress = record { count = 0; goes = none_yet; counts = omega arith }
 
-pub lines_counted : {first : ByteCourse} (old new : ByteCourse) (counted lines more : ℕ)
+pub lines_counted : {first : ByteProgress} (old new : ByteProgress) (counted lines more : ℕ)
     → GoesCounted counted first old → GoesToLine lines old new
     → more ≡ min (counted + lines) max_count → GoesCounted more first new
 lines_counted old new counted lines more turns goes is = record {
@@ -65,17 +66,17 @@ lines_counted old new counted lines more turns goes is = record {
 
 -- ---- no byte is left
 
-no_direction : (course : ByteCourse) → turn_taken course ≡ None
-    → first_direction course.net.wires ≡ None
-no_direction course none = by (first_direction course.net.wires) none
+no_direction : (progress : ByteProgress) → turn_taken progress ≡ None
+    → first_direction progress.net.wires ≡ None
+no_direction progress none = by (first_direction progress.net.wires) none
   where
-    by : (o : Option Direction) → option_map (turn_in course) o ≡ None → o ≡ None
+    by : (o : Option Direction) → option_map (turn_in progress) o ≡ None → o ≡ None
     by None is = refl
     by (Some d) is = cc is
 
-pub rests : NoByteRests → (course : ByteCourse) → IsKeptSound course.net → turn_taken course ≡ None
-    → is_byte_rest course.net ≡ true
-rests no_byte course kept none = no_byte course.net kept.whole (no_direction course none)
+pub rests : NoByteRests → (progress : ByteProgress) → IsKeptSound progress.net
+    → turn_taken progress ≡ None → is_byte_rest progress.net ≡ true
+rests no_byte progress kept none = no_byte progress.net kept.whole (no_direction progress none)
 
 -- ---- each line leaves fewer
 
@@ -84,8 +85,8 @@ none_then n m is = (omega (arith, is), omega (arith, is))
 
 module _ (laws : AreTurning) where
   -- turns that complete nothing change nothing where links carry lines
-  pub same_lines : {count : ℕ} {old new : ByteCourse} → TurnsGo count old new → count ≡ 0
-      → IsKeptSound old.net → course_in_lines new ≡ course_in_lines old
+  pub same_lines : {count : ℕ} {old new : ByteProgress} → TurnsGo count old new → count ≡ 0
+      → IsKeptSound old.net → progress_in_lines new ≡ progress_in_lines old
   same_lines none_yet is kept = refl
   same_lines {old = old} {new = new}
       (turn_first {count = left} {between = between} turn all_is rest) is kept =
@@ -95,13 +96,13 @@ module _ (laws : AreTurning) where
       ∙ by (turn_is laws old between kept turn) none.0
     where
       by : IsTurnOf old between → lines_in_turn old.net ≡ 0
-          → course_in_lines between ≡ course_in_lines old
+          → progress_in_lines between ≡ progress_in_lines old
       by (nothing none same) zero_is = same
       by (next_line one next) zero_is = cc (sym one ∙ zero_is)
 
-  pub leaves_fewer : TurnLeavesFewer → (most lines : ℕ) (old new : ByteCourse)
+  pub leaves_fewer : TurnLeavesFewer → (most lines : ℕ) (old new : ByteProgress)
       → IsKeptSound old.net → most_now (net_in_lines old.net) ≤ most → GoesToLine lines old new
-      → lines_left most (course_in_lines new) < lines_left most (course_in_lines old)
+      → lines_left most (progress_in_lines new) < lines_left most (progress_in_lines old)
   leaves_fewer fewer most lines old new kept few goes =
       by (turn_is laws goes.between new (turns_kept laws goes.goes kept).kept goes.turn)
     where
@@ -109,11 +110,11 @@ module _ (laws : AreTurning) where
       never n is some = omega (arith, is, some)
 
       by : IsTurnOf goes.between new
-          → lines_left most (course_in_lines new) < lines_left most (course_in_lines old)
+          → lines_left most (progress_in_lines new) < lines_left most (progress_in_lines old)
       by (nothing none alike) = absurd (never lines (goes.lines_are ∙ none) goes.some)
       by (next_line one next) =
           let same = same_lines goes.goes refl kept in
-          fewer most (course_in_lines old) (course_in_lines new) kept.sound few
+          fewer most (progress_in_lines old) (progress_in_lines new) kept.sound few
           (sym (ap next_in_turn same) ∙ next)
 
   pub kept_settled : (net last : ByteNetwork) (counted : ℕ) (receipts : List Receipt)
@@ -124,14 +125,15 @@ module _ (laws : AreTurning) where
 
   -- ---- as the code counts them
 
-  pub counted_kept : {first : ByteCourse} (now : ByteCourse) (counted : ℕ) → IsKeptSound first.net
-      → GoesCounted counted first now → IsKeptSound now.net
+  pub counted_kept : {first : ByteProgress} (now : ByteProgress) (counted : ℕ)
+      → IsKeptSound first.net → GoesCounted counted first now → IsKeptSound now.net
   counted_kept now counted kept turns = (turns_kept laws turns.goes kept).kept
 
-  pub counted_fewer : TurnLeavesFewer → {first : ByteCourse} (old new : ByteCourse)
+  pub counted_fewer : TurnLeavesFewer → {first : ByteProgress} (old new : ByteProgress)
       (counted lines : ℕ) → IsKeptSound first.net → GoesCounted counted first old
       → GoesToLine lines old new → lines_left (most_now (net_in_lines first.net))
-      (course_in_lines new) < lines_left (most_now (net_in_lines first.net)) (course_in_lines old)
+      (progress_in_lines new) < lines_left (most_now (net_in_lines first.net))
+      (progress_in_lines old)
   counted_fewer fewer {first = first} old new counted lines kept turns goes =
       let now = turns_kept laws turns.goes kept in
       leaves_fewer fewer (most_now (net_in_lines first.net)) lines old new now.kept (same (most_now
@@ -141,7 +143,7 @@ module _ (laws : AreTurning) where
       same a b is = omega (arith, is)
 
   -- none is left
-  pub settles_at : NoByteRests → {first : ByteCourse} (old new : ByteCourse) (counted : ℕ)
+  pub settles_at : NoByteRests → {first : ByteProgress} (old new : ByteProgress) (counted : ℕ)
       → IsKeptSound first.net → GoesCounted counted first old → ComesToLine None old new
       → SettlesAt counted first new
   settles_at no_byte {first = first} old new counted kept turns so = record {
@@ -158,29 +160,29 @@ module _ (laws : AreTurning) where
 
   -- ---- some end
 
-  record Settling (course : ByteCourse) : Type 0 where
+  record Settling (progress : ByteProgress) : Type 0 where
     count : ℕ
-    last : ByteCourse
-    goes : TurnsGo count course last
+    last : ByteProgress
+    goes : TurnsGo count progress last
     rest : is_byte_rest last.net ≡ true
 
-  settling : TurnLeavesFewer → EachComesToLine → NoByteRests → (fuel most : ℕ) (course : ByteCourse)
-      → IsKeptSound course.net → most_now (net_in_lines course.net) ≤ most
-      → lines_left most (course_in_lines course) < fuel → Settling course
-  settling fewer comes no_byte zero most course kept few less =
-      absurd (nothing_less (lines_left most (course_in_lines course)) less)
+  settling : TurnLeavesFewer → EachComesToLine → NoByteRests → (fuel most : ℕ)
+      (progress : ByteProgress) → IsKeptSound progress.net → most_now (net_in_lines progress.net)
+      ≤ most → lines_left most (progress_in_lines progress) < fuel → Settling progress
+  settling fewer comes no_byte zero most progress kept few less =
+      absurd (nothing_less (lines_left most (progress_in_lines progress)) less)
     where
       nothing_less : (n : ℕ) → n < 0 → ⊥
       nothing_less n less = omega (arith, less)
-  settling fewer comes no_byte (suc fuel) most course kept few less =
-      by (comes course kept.whole.tidy) (λ next. settling fewer comes no_byte fuel most next)
+  settling fewer comes no_byte (suc fuel) most progress kept few less =
+      by (comes progress kept.whole.tidy) (λ next. settling fewer comes no_byte fuel most next)
     where
       further : (a b n : ℕ) → a < b → b < suc n → a < n
       further a b n one other = omega (arith, one, other)
 
-      at : (lines : Option ℕ) (new : ByteCourse) → ComesToLine lines course new
-          → ((next : ByteCourse) → IsKeptSound next.net → most_now (net_in_lines next.net) ≤ most
-          → lines_left most (course_in_lines next) < fuel → Settling next) → Settling course
+      at : (lines : Option ℕ) (new : ByteProgress) → ComesToLine lines progress new
+          → ((next : ByteProgress) → IsKeptSound next.net → most_now (net_in_lines next.net) ≤ most
+          → lines_left most (progress_in_lines next) < fuel → Settling next) → Settling progress
       at None new so on = record {
         count = 0;
         last = new;
@@ -188,21 +190,21 @@ module _ (laws : AreTurning) where
         rest = rests no_byte new (turns_kept laws so.0 kept).kept so.1;
       }
       at (Some lines) new so on =
-          let now = turns_kept laws (to_line lines course new so) kept in
-          let less_now = leaves_fewer fewer most lines course new kept few so in
+          let now = turns_kept laws (to_line lines progress new so) kept in
+          let less_now = leaves_fewer fewer most lines progress new kept few so in
           let more = on new now.kept (subst (λ n. n ≤ most) (sym now.keeps.most) few)
-          (further (lines_left most (course_in_lines new))
-          (lines_left most (course_in_lines course)) fuel less_now less) in
+          (further (lines_left most (progress_in_lines new))
+          (lines_left most (progress_in_lines progress)) fuel less_now less) in
           record {
             count = lines + more.count;
             last = more.last;
-            goes = turns_both (to_line lines course new so) more.goes;
+            goes = turns_both (to_line lines progress new so) more.goes;
             rest = more.rest;
           }
 
-      by : ComesToSome course
-          → ((next : ByteCourse) → IsKeptSound next.net → most_now (net_in_lines next.net) ≤ most
-          → lines_left most (course_in_lines next) < fuel → Settling next) → Settling course
+      by : ComesToSome progress
+          → ((next : ByteProgress) → IsKeptSound next.net → most_now (net_in_lines next.net) ≤ most
+          → lines_left most (progress_in_lines next) < fuel → Settling next) → Settling progress
       by some on = at some.lines some.new some.comes on
 
   pub each_settles : TurnLeavesFewer → EachComesToLine → NoByteRests → (net : ByteNetwork)
@@ -210,7 +212,7 @@ module _ (laws : AreTurning) where
   each_settles fewer comes no_byte net kept =
       let most = most_now (net_in_lines net) in
       let so =
-      settling fewer comes no_byte (suc (lines_left most (course_in_lines (byte_begun net))))
+      settling fewer comes no_byte (suc (lines_left most (progress_in_lines (byte_begun net))))
       most (byte_begun net) kept (same most) (less _) in
       record {
         counted = min so.count max_count;

@@ -8,7 +8,8 @@ use Rattle.irc_world.specs.World.{Setting, new_world}
 use Rattle.irc_world.specs.Refused.{Refusal, refused}
 use Rattle.irc_world.specs.WithinLimits.{IsItemWithin}
 use Rattle.irc_relay.specs.Relay.{IsFront}
-use Rattle.irc_network.specs.Network.{Course, Direction, Network, delivered, first_direction, given}
+use Rattle.irc_network.specs.Network.{Progress, Direction, Network, delivered, first_direction}
+use Rattle.irc_network.specs.Network.{given}
 use Rattle.irc_network.specs.Network.{max_count, next_in_turn, received_by}
 use Rattle.irc_network.specs.Refusing.{fault_at_rest}
 use Rattle.irc_items.specs.Kept.{DeliveryKeepsSound, KeepsItems, TakenAreFew}
@@ -18,17 +19,17 @@ use Rattle.irc_items.specs.Laws.{RestIsOneRoom, WaitingAreLines}
 use Rattle.irc_items.specs.OneRoom.{IsOneRoom}
 use Rattle.irc_items.specs.Sound.{IsSound, most_now, most_of_last, owed_now, world_now}
 use Rattle.irc_items.specs.SetUp.{IsNew, settings_of}
-use Rattle.irc_network.specs.ByteNetwork.{ByteCourse, ByteNetwork, byte_begun, bytes_come}
-use Rattle.irc_network.specs.ByteNetwork.{course_in_lines, net_in_lines, is_byte_rest}
+use Rattle.irc_network.specs.ByteNetwork.{ByteProgress, ByteNetwork, byte_begun, bytes_come}
+use Rattle.irc_network.specs.ByteNetwork.{progress_in_lines, net_in_lines, is_byte_rest}
 use Rattle.irc_network.specs.ByteNetwork.{item_given}
 use Rattle.irc_network.specs.Turns.{TurnsGo, lines_in_turn, none_yet, turn_first, turn_taken}
 use Rattle.irc_network.specs.Whole.{AreLinesWaiting, BytesComeAsLines, Delivers, GivenAsLines}
 use Rattle.irc_network.specs.Whole.{NewIsWhole, RestAsLines, TurnAsLines, TurnsAsLines}
 use Rattle.irc_network.specs.Whole.{no_line, no_more, no_wires, one_first, one_line}
-use Rattle.irc_network.specs.Loops.Coming.{byte_course, come_between}
+use Rattle.irc_network.specs.Loops.Coming.{byte_progress, come_between}
 use Rattle.irc_net.specs.Calls.{NetView, standing}
 use Rattle.irc_net.specs.Laws.{KeptIsOwed, StaysKept}
-use Rattle.irc_forest.specs.declared.places.Ends.{Ends as KeptEnds}
+use Rattle.irc_forest.specs.declared.places.EndPlaces.{EndPlaces}
 use Rattle.irc_network.specs.declared.receipt.Receipt.{Receipt as KeptReceipt}
 use Rattle.irc_net.specs.Faults.{fault_by, item_fault}
 use Rattle.irc_net.specs.declared.fault.NetFault.TheVariants as fault
@@ -152,7 +153,7 @@ given_taken net item = refl
 
 -- what waits in a sound network are lines
 pub are_lines : WaitingAreLines → (net : Network) → IsSound net → AreLinesWaiting net
-are_lines waiting net sound place to site is = waiting net place to site sound is
+are_lines waiting net sound place to node is = waiting net place to node sound is
 
 pub kept_given : GivenStaysSound → WaitingAreLines → GivenAsLines → RestAsLines
     → (net : ByteNetwork) (item : Item) → IsKeptSound net → item_fault net item ≡ None
@@ -169,9 +170,9 @@ kept_given given_sound waiting as_lines resting net item kept none within =
     let so = as_lines net item kept.whole is_free.at_rest
     (are_lines waiting (given item (net_in_lines net)).net sound) in
     record {
-      sound = subst IsSound (sym (ap (λ (c : Course). c.net) so.as_lines)) sound;
+      sound = subst IsSound (sym (ap (λ (c : Progress). c.net) so.as_lines)) sound;
       whole = so.whole;
-      counted = subst (λ n. n ≤ max_count) (sym (ap (λ (c : Course). c.net.taken) so.as_lines
+      counted = subst (λ n. n ≤ max_count) (sym (ap (λ (c : Progress). c.net.taken) so.as_lines
           ∙ given_taken (net_in_lines net) item)) (omega arith);
     }
 
@@ -206,7 +207,7 @@ few_now count old new keeps =
 one_more : (n : ℕ) → 1 + n ≡ suc n
 one_more n = omega arith
 
-pub deliveries_keep : DeliveryKeepsSound → {from to count : ℕ} {old new : Course}
+pub deliveries_keep : DeliveryKeepsSound → {from to count : ℕ} {old new : Progress}
     → Delivers from to count old new → old.net.taken ≤ max_count → KeepsItems count old.net new.net
 deliveries_keep law {old = old} no_more few = none_kept old.net few
 deliveries_keep law {from = from} {to = to} {old = old} {new = new}
@@ -228,26 +229,26 @@ kept_come law waiting as_lines net from to count kept =
     let are = are_lines waiting come.last.net sound in
     let same = come.as_lines are in
     record {
-      sound = subst IsSound (sym (ap (λ (c : Course). c.net) same)) sound;
+      sound = subst IsSound (sym (ap (λ (c : Progress). c.net) same)) sound;
       whole = come.whole are;
-      counted = subst (λ n. n ≤ max_count) (sym (ap (λ (c : Course). c.net.taken) same))
+      counted = subst (λ n. n ≤ max_count) (sym (ap (λ (c : Progress). c.net.taken) same))
           (few_now _ (net_in_lines net) come.last.net keeps);
     }
 
 -- as the code lets them come
-pub kept_by : StaysKept → (net new : ByteNetwork) (ends : KeptEnds)
+pub kept_by : StaysKept → (net new : ByteNetwork) (ends : EndPlaces)
     (count : ℕ) (none lines : List KeptReceipt) → IsKeptSound net → none ≡ []
-    → byte_course new lines ≡ come_between ends count (byte_course net none) → IsKeptSound new
+    → byte_progress new lines ≡ come_between ends count (byte_progress net none) → IsKeptSound new
 kept_by stays net new ends count none lines kept begins comes =
-    subst IsKeptSound (sym (ap (λ (c : ByteCourse). c.net)
-    (comes ∙ ap (λ ls. come_between ends count (byte_course net ls)) begins)))
+    subst IsKeptSound (sym (ap (λ (c : ByteProgress). c.net)
+    (comes ∙ ap (λ ls. come_between ends count (byte_progress net ls)) begins)))
     (stays.come net ends.near ends.far count kept)
 
 pub kept_item : StaysKept → (net new : ByteNetwork) (item : Item) (lines : List KeptReceipt)
     → IsKeptSound net → item_fault net item ≡ None → IsItemWithin item
-    → byte_course new lines ≡ item_given item net → IsKeptSound new
+    → byte_progress new lines ≡ item_given item net → IsKeptSound new
 kept_item stays net new item lines kept none within is =
-    subst IsKeptSound (sym (ap (λ (c : ByteCourse). c.net) is))
+    subst IsKeptSound (sym (ap (λ (c : ByteProgress). c.net) is))
     (stays.given net item kept none within)
 
 -- ---- turns
@@ -258,16 +259,17 @@ pub record AreTurning : Type 0 where
   pub turns : TurnAsLines
 
 -- a turn keeps a network sound, and counts for the lines that it completes
-pub record IsTurnKept (old new : ByteCourse) : Type 0 where
+pub record IsTurnKept (old new : ByteProgress) : Type 0 where
   pub kept : IsKeptSound new.net
   pub keeps : KeepsItems (lines_in_turn old.net) (net_in_lines old.net) (net_in_lines new.net)
 
-pub data IsTurnOf (old new : ByteCourse) : Type 0 where
-  nothing : lines_in_turn old.net ≡ 0 → course_in_lines new ≡ course_in_lines old → IsTurnOf old new
+pub data IsTurnOf (old new : ByteProgress) : Type 0 where
+  nothing : lines_in_turn old.net ≡ 0 → progress_in_lines new ≡ progress_in_lines old
+      → IsTurnOf old new
   next_line : lines_in_turn old.net ≡ 1
-      → next_in_turn (course_in_lines old) ≡ Some (course_in_lines new) → IsTurnOf old new
+      → next_in_turn (progress_in_lines old) ≡ Some (progress_in_lines new) → IsTurnOf old new
 
-delivery_of : (old new : Course) → next_in_turn old ≡ Some new
+delivery_of : (old new : Progress) → next_in_turn old ≡ Some new
     → (d : Direction) × (delivered d.from d.to old ≡ Some new)
 delivery_of old new is = by (first_direction old.net) is
   where
@@ -277,19 +279,19 @@ delivery_of old new is = by (first_direction old.net) is
     by (Some d) some = (d, some)
 
 module _ (laws : AreTurning) where
-  pub turn_as : (old new : ByteCourse) → IsKeptSound old.net → turn_taken old ≡ Some new
+  pub turn_as : (old new : ByteProgress) → IsKeptSound old.net → turn_taken old ≡ Some new
       → TurnsAsLines old new
   turn_as old new kept turn =
       laws.turns old new kept.whole (are_lines laws.waiting (net_in_lines old.net) kept.sound) turn
 
-  pub turn_kept : (old new : ByteCourse) → IsKeptSound old.net → turn_taken old ≡ Some new
+  pub turn_kept : (old new : ByteProgress) → IsKeptSound old.net → turn_taken old ≡ Some new
       → IsTurnKept old new
   turn_kept old new kept turn = by (turn_as old new kept turn)
     where
       by : TurnsAsLines old new → IsTurnKept old new
       by (no_line none same whole) =
           let net_is : net_in_lines old.net ≡ net_in_lines new.net =
-          sym (ap (λ (c : Course). c.net) same) in
+          sym (ap (λ (c : Progress). c.net) same) in
           record {
             kept = record {
               sound = subst IsSound net_is kept.sound;
@@ -302,12 +304,13 @@ module _ (laws : AreTurning) where
                 (none_kept (net_in_lines old.net) kept.counted));
           }
       by (one_line last one next same whole) =
-          let d = delivery_of (course_in_lines old) last next in
-          let keeps = laws.delivered d.0.from d.0.to (course_in_lines old) last d.1 kept.counted in
+          let d = delivery_of (progress_in_lines old) last next in
+          let keeps =
+          laws.delivered d.0.from d.0.to (progress_in_lines old) last d.1 kept.counted in
           let sound = keeps.sound kept.sound in
           let are = are_lines laws.waiting last.net sound in
           let net_is : last.net ≡ net_in_lines new.net =
-          sym (ap (λ (c : Course). c.net) (same are)) in
+          sym (ap (λ (c : Progress). c.net) (same are)) in
           record {
             kept = record {
               sound = subst IsSound net_is sound;
@@ -320,25 +323,25 @@ module _ (laws : AreTurning) where
           }
 
   -- where links carry lines it is nothing, or the next line in turn
-  pub turn_is : (old new : ByteCourse) → IsKeptSound old.net → turn_taken old ≡ Some new
+  pub turn_is : (old new : ByteProgress) → IsKeptSound old.net → turn_taken old ≡ Some new
       → IsTurnOf old new
   turn_is old new kept turn = by (turn_as old new kept turn)
     where
       by : TurnsAsLines old new → IsTurnOf old new
       by (no_line none same whole) = nothing none same
       by (one_line last one next same whole) =
-          let d = delivery_of (course_in_lines old) last next in
+          let d = delivery_of (progress_in_lines old) last next in
           let sound = (laws.delivered d.0.from d.0.to
-          (course_in_lines old) last d.1 kept.counted).sound kept.sound in
+          (progress_in_lines old) last d.1 kept.counted).sound kept.sound in
           next_line one (next ∙ ap Some (sym (same (are_lines laws.waiting last.net sound))))
 
   -- so do turns one after another
-  pub record AreTurnsKept (count : ℕ) (old new : ByteCourse) : Type 0 where
+  pub record AreTurnsKept (count : ℕ) (old new : ByteProgress) : Type 0 where
     pub kept : IsKeptSound new.net
     pub keeps : KeepsItems count (net_in_lines old.net) (net_in_lines new.net)
 
-  pub turns_kept : {count : ℕ} {old new : ByteCourse} → TurnsGo count old new → IsKeptSound old.net
-      → AreTurnsKept count old new
+  pub turns_kept : {count : ℕ} {old new : ByteProgress} → TurnsGo count old new
+      → IsKeptSound old.net → AreTurnsKept count old new
   turns_kept {old = old} none_yet kept =
       record { kept = kept; keeps = none_kept (net_in_lines old.net) kept.counted }
   turns_kept {old = old} {new = new}

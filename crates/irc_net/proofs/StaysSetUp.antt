@@ -12,28 +12,29 @@ use Rattle.irc_server.specs.Served.{served}
 use Rattle.irc_server.specs.declared.config.Config.{Config}
 use Rattle.irc_stage.specs.View.{View}
 use Rattle.irc_world.specs.Stepping.{Item}
-use Rattle.irc_network.specs.Behind.{Ahead, emptied, emptied_site, sites_behind}
-use Rattle.irc_network.specs.ByteNetwork.{ByteCourse, ByteNetwork, all_heard, byte_begun}
-use Rattle.irc_network.specs.ByteNetwork.{bytes_come, completed_in, course_without_wires}
+use Rattle.irc_network.specs.Behind.{Ahead, emptied, emptied_node, nodes_behind}
+use Rattle.irc_network.specs.ByteNetwork.{ByteProgress, ByteNetwork, all_heard, byte_begun}
+use Rattle.irc_network.specs.ByteNetwork.{bytes_come, completed_in, progress_without_wires}
 use Rattle.irc_network.specs.ByteNetwork.{item_given, lines_ahead, net_in_lines}
 use Rattle.irc_network.specs.Turns.{TurnsGo, none_yet, turn_first, turn_in, turn_taken}
 use Rattle.irc_items.specs.Laws.{GivenKeepsSettings}
 use Rattle.irc_items.specs.SetUp.{setting_at, setting_now, settings_of}
 use Rattle.irc_net.specs.Calls.{NetView, Settles, standing}
 use Rattle.irc_net.specs.Laws.{BeginsSetUp, SettingsStay, StaysSetUp}
-use Rattle.irc_net.specs.Making.{IsMadeOf, new_site, setting_given}
+use Rattle.irc_net.specs.Making.{IsMadeOf, new_node, setting_given}
 use Rattle.irc_network.specs.Laws.{GivenIsKept}
-use Rattle.irc_network.specs.Network.{Course, Network, Receipt, Reply, Site, all_sent_out, asked_at}
+use Rattle.irc_network.specs.Network.{Progress, Network, Receipt, Served, Node, all_sent_out}
+use Rattle.irc_network.specs.Network.{asked_at}
 use Rattle.irc_network.specs.Network.{given, has_received, has_received_at, heard, line_body}
 use Rattle.irc_network.specs.Network.{line_counted, line_queued, reply, sent_out, serves_occurrence}
-use Rattle.irc_network.specs.Network.{site_asked, site_at, site_changed_at, with_reply, with_site}
+use Rattle.irc_network.specs.Network.{node_asked, node_at, node_changed_at, with_reply, with_node}
 use Rattle.irc_wires.specs.Wires.{Direction, first_direction}
 
 -- What is read of a network, where neither what clients receive nor a server that is set up as
 -- before makes a difference to it.
 pub record IsLeft {X : Type 0} (read : Network → X) : Type 0 where
-  pub set : (place : ℕ) (site after : Site) (net : Network) → site_at net place ≡ Some site
-      → setting_at after ≡ setting_at site → read (with_site place after net) ≡ read net
+  pub set : (place : ℕ) (node after : Node) (net : Network) → node_at net place ≡ Some node
+      → setting_at after ≡ setting_at node → read (with_node place after net) ≡ read net
   pub told : (net : Network) (received : List (List (List ℕ)))
       → read (record net { received = received }) ≡ read net
   pub counted : (net : Network) → read (line_counted net) ≡ read net
@@ -41,27 +42,27 @@ pub record IsLeft {X : Type 0} (read : Network → X) : Type 0 where
 
 -- ---- one of these is how servers are set up
 
-set_there : (sites : List Site) (place : ℕ) (site after : Site)
-    → slice_get sites place ≡ Some site → setting_at after ≡ setting_at site
-    → filter_map setting_at (slice_set sites place after) ≡ filter_map setting_at sites
-set_there [] place site after is same = refl
-set_there (first ∷ sites) zero site after is same =
-    ap (λ o. cons_option o (filter_map setting_at sites))
+set_there : (nodes : List Node) (place : ℕ) (node after : Node)
+    → slice_get nodes place ≡ Some node → setting_at after ≡ setting_at node
+    → filter_map setting_at (slice_set nodes place after) ≡ filter_map setting_at nodes
+set_there [] place node after is same = refl
+set_there (first ∷ nodes) zero node after is same =
+    ap (λ o. cons_option o (filter_map setting_at nodes))
     (same ∙ ap (λ o. setting_at (unwrap_or o first)) (sym is))
-set_there (first ∷ sites) (suc place) site after is same =
-    ap (cons_option (setting_at first)) (set_there sites place site after is same)
+set_there (first ∷ nodes) (suc place) node after is same =
+    ap (cons_option (setting_at first)) (set_there nodes place node after is same)
 
-emptied_alike : (sites : List Site)
-    → filter_map setting_at (map emptied_site sites) ≡ filter_map setting_at sites
+emptied_alike : (nodes : List Node)
+    → filter_map setting_at (map emptied_node nodes) ≡ filter_map setting_at nodes
 emptied_alike [] = refl
-emptied_alike (site ∷ sites) = ap (cons_option (setting_at site)) (emptied_alike sites)
+emptied_alike (node ∷ nodes) = ap (cons_option (setting_at node)) (emptied_alike nodes)
 
 settings_left : IsLeft settings_of
 settings_left = record {
-  set = λ place site after net is same. set_there net.sites place site after is same;
+  set = λ place node after net is same. set_there net.nodes place node after is same;
   told = λ net received. refl;
   counted = λ net. refl;
-  emptied_too = λ net. emptied_alike net.sites;
+  emptied_too = λ net. emptied_alike net.nodes;
 }
 
 -- another is what was given
@@ -70,7 +71,7 @@ items_now net = net.items
 
 items_left : IsLeft items_now
 items_left = record {
-  set = λ place site after net is same. refl;
+  set = λ place node after net is same. refl;
   told = λ net received. refl;
   counted = λ net. refl;
   emptied_too = λ net. refl;
@@ -78,26 +79,26 @@ items_left = record {
 
 -- ---- where links carry lines, both are the same
 
-behind_alike : (ahead : Ahead) (sites : List Site)
-    → filter_map setting_at (sites_behind ahead sites) ≡ filter_map setting_at sites
+behind_alike : (ahead : Ahead) (nodes : List Node)
+    → filter_map setting_at (nodes_behind ahead nodes) ≡ filter_map setting_at nodes
 behind_alike ahead [] = refl
-behind_alike ahead (site ∷ sites) =
-    ap (cons_option (setting_at site)) (behind_alike (λ place. ahead (suc place)) sites)
+behind_alike ahead (node ∷ nodes) =
+    ap (cons_option (setting_at node)) (behind_alike (λ place. ahead (suc place)) nodes)
 
 pub settings_in_lines : (net : ByteNetwork)
     → settings_of (net_in_lines net) ≡ settings_of net.network
-settings_in_lines net = behind_alike (lines_ahead net.wires) net.network.sites
+settings_in_lines net = behind_alike (lines_ahead net.wires) net.network.nodes
 
 -- ---- a server is asked
 
-queued_alike : (to : ℕ) (text : List ℕ) (site : Site)
-    → setting_at (line_queued to text site) ≡ setting_at site
-queued_alike to text site = by (get site.queues to)
+queued_alike : (to : ℕ) (text : List ℕ) (node : Node)
+    → setting_at (line_queued to text node) ≡ setting_at node
+queued_alike to text node = by (get node.queues to)
   where
-    queued : List (List ℕ) → Site
-    queued lines = record site { queues = insert site.queues to (lines ++ line_body text ∷ []) }
+    queued : List (List ℕ) → Node
+    queued lines = record node { queues = insert node.queues to (lines ++ line_body text ∷ []) }
 
-    by : (o : Option (List (List ℕ))) → setting_at (option_map_or queued o site) ≡ setting_at site
+    by : (o : Option (List (List ℕ))) → setting_at (option_map_or queued o node) ≡ setting_at node
     by None = refl
     by (Some lines) = refl
 
@@ -105,7 +106,7 @@ reply_alike : ServedKeepsItsSetting → (view : View) (occurrence : Occurrence)
     → setting_now (reply view occurrence).view ≡ setting_now view
 reply_alike kept view occurrence = by (serves_occurrence view occurrence)
   where
-    answer : Bool → Reply
+    answer : Bool → Served
     answer b = if b then record {
       view = (served view occurrence).view;
       out = (served view occurrence).out;
@@ -121,100 +122,101 @@ reply_alike kept view occurrence = by (serves_occurrence view occurrence)
     by false = refl
 
 module _ {X : Type 0} (read : Network → X) (left : IsLeft read) where
-  changed : (place : ℕ) (change : Site → Site)
-      → ((site : Site) → setting_at (change site) ≡ setting_at site) → (net : Network)
-      → read (site_changed_at place change net) ≡ read net
-  changed place change same net = by (site_at net place) refl
+  changed : (place : ℕ) (change : Node → Node)
+      → ((node : Node) → setting_at (change node) ≡ setting_at node) → (net : Network)
+      → read (node_changed_at place change net) ≡ read net
+  changed place change same net = by (node_at net place) refl
     where
-      by : (o : Option Site) → site_at net place ≡ o
-          → read (option_map_or (λ site. with_site place (change site) net) o net) ≡ read net
+      by : (o : Option Node) → node_at net place ≡ o
+          → read (option_map_or (λ node. with_node place (change node) net) o net) ≡ read net
       by None e = refl
-      by (Some site) e = left.set place site (change site) net e (same site)
+      by (Some node) e = left.set place node (change node) net e (same node)
 
-  received_more : (client : ℕ) (text : List ℕ) (course : Course)
-      → read (has_received client text course).net ≡ read course.net
-  received_more zero text course = refl
-  received_more (suc earlier) text course = by (slice_get course.net.received earlier)
+  received_more : (client : ℕ) (text : List ℕ) (progress : Progress)
+      → read (has_received client text progress).net ≡ read progress.net
+  received_more zero text progress = refl
+  received_more (suc earlier) text progress = by (slice_get progress.net.received earlier)
     where
       by : (o : Option (List (List ℕ))) → read
-          (option_map_or (has_received_at earlier text course) o course).net ≡ read course.net
+          (option_map_or (has_received_at earlier text progress) o progress).net ≡ read progress.net
       by None = refl
       by (Some lines) =
-          left.told course.net (slice_set course.net.received earlier (lines ++ text ∷ []))
+          left.told progress.net (slice_set progress.net.received earlier (lines ++ text ∷ []))
 
-  sent_keeps : (place : ℕ) (sent : Sent) (course : Course)
-      → read (sent_out place sent course).net ≡ read course.net
-  sent_keeps place (line_to client text) course = received_more client text course
-  sent_keeps place (end_of client) course = refl
-  sent_keeps place (line_on to text) course =
-      changed place (line_queued to text) (queued_alike to text) course.net
-  sent_keeps place (end_of_link to reason) course = refl
+  sent_keeps : (place : ℕ) (sent : Sent) (progress : Progress)
+      → read (sent_out place sent progress).net ≡ read progress.net
+  sent_keeps place (line_to client text) progress = received_more client text progress
+  sent_keeps place (end_of client) progress = refl
+  sent_keeps place (line_on to text) progress =
+      changed place (line_queued to text) (queued_alike to text) progress.net
+  sent_keeps place (end_of_link to reason) progress = refl
 
-  all_sent_keep : (place : ℕ) (out : List Sent) (course : Course)
-      → read (all_sent_out place out course).net ≡ read course.net
-  all_sent_keep place [] course = refl
-  all_sent_keep place (sent ∷ out) course = all_sent_keep place out (sent_out place sent course)
-      ∙ sent_keeps place sent course
+  all_sent_keep : (place : ℕ) (out : List Sent) (progress : Progress)
+      → read (all_sent_out place out progress).net ≡ read progress.net
+  all_sent_keep place [] progress = refl
+  all_sent_keep place (sent ∷ out) progress = all_sent_keep place out (sent_out place sent progress)
+      ∙ sent_keeps place sent progress
 
   module _ (kept : ServedKeepsItsSetting) where
-    replied_keeps : (place : ℕ) (occurrence : Occurrence) (course : Course) (site : Site)
-        (view : View) → site_at course.net place ≡ Some site → site.server ≡ Some view
-        → read (with_reply place course site (reply view occurrence)).net ≡ read course.net
-    replied_keeps place occurrence course site view is server =
+    replied_keeps : (place : ℕ) (occurrence : Occurrence) (progress : Progress) (node : Node)
+        (view : View) → node_at progress.net place ≡ Some node → node.server ≡ Some view
+        → read (with_reply place progress node (reply view occurrence)).net ≡ read progress.net
+    replied_keeps place occurrence progress node view is server =
         all_sent_keep place (reply view occurrence).out _
-        ∙ left.set place site
-        (record site { server = Some (reply view occurrence).view }) course.net is
+        ∙ left.set place node
+        (record node { server = Some (reply view occurrence).view }) progress.net is
         (ap Some (reply_alike kept view occurrence) ∙ sym (ap (option_map setting_now) server))
 
-    asked_keeps : (place : ℕ) (occurrence : Occurrence) (course : Course)
-        → read (site_asked place occurrence course).net ≡ read course.net
-    unfolding site_asked
-    asked_keeps place occurrence course = by (site_at course.net place) refl
+    asked_keeps : (place : ℕ) (occurrence : Occurrence) (progress : Progress)
+        → read (node_asked place occurrence progress).net ≡ read progress.net
+    unfolding node_asked
+    asked_keeps place occurrence progress = by (node_at progress.net place) refl
       where
-        at : (site : Site) → site_at course.net place ≡ Some site → (o : Option View)
-            → site.server ≡ o → read (option_map_or (λ (view : View). with_reply place course site
-            (reply view occurrence)) o course).net ≡ read course.net
-        at site is None e = refl
-        at site is (Some view) e = replied_keeps place occurrence course site view is e
+        at : (node : Node) → node_at progress.net place ≡ Some node → (o : Option View)
+            → node.server ≡ o → read (option_map_or (λ (view : View). with_reply place progress node
+            (reply view occurrence)) o progress).net ≡ read progress.net
+        at node is None e = refl
+        at node is (Some view) e = replied_keeps place occurrence progress node view is e
 
-        by : (o : Option Site) → site_at course.net place ≡ o
-            → read (option_map_or (asked_at place occurrence course) o course).net ≡ read course.net
+        by : (o : Option Node) → node_at progress.net place ≡ o → read
+            (option_map_or (asked_at place occurrence progress) o progress).net ≡ read progress.net
         by None e = refl
-        by (Some site) e = at site e site.server refl
+        by (Some node) e = at node e node.server refl
 
     -- ---- bytes come
 
-    heard_keep : (from to : ℕ) (lines : List (List ℕ)) (course : Course)
-        → read (all_heard from to course lines).net ≡ read course.net
-    heard_keep from to [] course = refl
-    heard_keep from to (line ∷ lines) course =
-        heard_keep from to lines (heard from to course line)
+    heard_keep : (from to : ℕ) (lines : List (List ℕ)) (progress : Progress)
+        → read (all_heard from to progress lines).net ≡ read progress.net
+    heard_keep from to [] progress = refl
+    heard_keep from to (line ∷ lines) progress =
+        heard_keep from to lines (heard from to progress line)
         ∙ asked_keeps to (link_says from (read_of line))
-        (record course { net = line_counted course.net }) ∙ left.counted course.net
+        (record progress { net = line_counted progress.net }) ∙ left.counted progress.net
 
-    come_keeps : (from to count : ℕ) (course : ByteCourse)
-        → read (bytes_come from to count course).net.network ≡ read course.net.network
+    come_keeps : (from to count : ℕ) (progress : ByteProgress)
+        → read (bytes_come from to count progress).net.network ≡ read progress.net.network
     unfolding bytes_come
-    come_keeps from to count course =
-        left.emptied_too (all_heard from to (course_without_wires course)
-        (completed_in course.net from to count)).net
-        ∙ heard_keep from to (completed_in course.net from to count) (course_without_wires course)
+    come_keeps from to count progress =
+        left.emptied_too (all_heard from to (progress_without_wires progress)
+        (completed_in progress.net from to count)).net
+        ∙ heard_keep from to (completed_in progress.net from to count)
+        (progress_without_wires progress)
 
-    turn_keeps : (old new : ByteCourse) → turn_taken old ≡ Some new
+    turn_keeps : (old new : ByteProgress) → turn_taken old ≡ Some new
         → read new.net.network ≡ read old.net.network
     turn_keeps old new turn = by (first_direction old.net.wires) turn
       where
-        same_some : (a b : ByteCourse) → Some a ≡ Some b → a ≡ b
+        same_some : (a b : ByteProgress) → Some a ≡ Some b → a ≡ b
         same_some a b is = cc is
 
         by : (o : Option Direction) → option_map (turn_in old) o ≡ Some new
             → read new.net.network ≡ read old.net.network
         by None none = absurd (cc none)
         by (Some d) some =
-            ap (λ (c : ByteCourse). read c.net.network) (sym (same_some (turn_in old d) new some))
+            ap (λ (c : ByteProgress). read c.net.network) (sym (same_some (turn_in old d) new some))
             ∙ come_keeps d.from d.to _ old
 
-    turns_keep : {count : ℕ} {old new : ByteCourse} → TurnsGo count old new
+    turns_keep : {count : ℕ} {old new : ByteProgress} → TurnsGo count old new
         → read new.net.network ≡ read old.net.network
     turns_keep none_yet = refl
     turns_keep {old = old} (turn_first {between = between} turn all_is rest) = turns_keep rest
@@ -231,14 +233,14 @@ given_stays : GivenKeepsSettings → GivenIsKept → (net : ByteNetwork) (item :
     → StaysSetUp net (item_given item net).net (net.network.items ++ item ∷ [])
 unfolding item_given
 given_stays keeps kept net item = record {
-  settings = emptied_alike (given item net.network).net.sites ∙ keeps net.network item;
+  settings = emptied_alike (given item net.network).net.nodes ∙ keeps net.network item;
   items_are = (kept item net.network).items;
 }
 
 -- ---- a new network
 
 made_alike : (configs : List Config)
-    → filter_map setting_at (map new_site configs) ≡ map setting_given configs
+    → filter_map setting_at (map new_node configs) ≡ map setting_given configs
 made_alike [] = refl
 made_alike (config ∷ configs) =
     ap (λ settings. setting_given config ∷ settings) (made_alike configs)

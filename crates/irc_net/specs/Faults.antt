@@ -9,7 +9,7 @@ use Rattle.irc_world.specs.Stepping.{Item}
 use Rattle.irc_net.specs.declared.fault.NetFault.{NetFault}
 use Rattle.irc_net.specs.declared.fault.NetFault.TheVariants as fault
 use Rattle.irc_network.specs.ByteNetwork.{ByteNetwork, is_byte_rest}
-use Rattle.irc_network.specs.Network.{Network, site_view}
+use Rattle.irc_network.specs.Network.{Network, node_view}
 pub use Rattle.irc_network.specs.Refusing.{are_agreed, fault_at_rest, way_fault}
 
 -- a refusal as the caller is told of it
@@ -30,7 +30,7 @@ deliver_fault net from to = option_map fault_by (way_fault net.network from to)
 
 -- whether two servers are there, and agree on all channels that both have
 abbrev pub do_agree : Network → Name → Name → Bool
-do_agree net one other = are_agreed (site_view net one) (site_view net other)
+do_agree net one other = are_agreed (node_view net one) (node_view net other)
 
 -- a refusal is the answer to a step; want of memory is none
 abbrev pub is_refusal : NetFault → Bool

@@ -19,7 +19,7 @@ use Rattle.irc_net.specs.declared.making.NetConfigFault.TheVariants.{Memory}
 use Rattle.irc_net.specs.Calls.{NetView}
 use Rattle.irc_network.specs.ByteNetwork.{ByteNetwork}
 use Rattle.irc_network.specs.Whole.{no_wires}
-use Rattle.irc_network.specs.Network.{Network, Site}
+use Rattle.irc_network.specs.Network.{Network, Node}
 
 abbrev pub config_name : Config → Name
 config_name config = config.own.name.items
@@ -58,14 +58,14 @@ configs_fault configs =
 
 -- ---- the network that they make
 
-abbrev pub new_site : Config → Site
-new_site config = record { server = Some (made_view config); queues = empty }
+abbrev pub new_node : Config → Node
+new_node config = record { server = Some (made_view config); queues = empty }
 
 -- servers in this order: no link, and nobody connected
 abbrev pub made_of : List Config → Network
 made_of ordered = record {
   names = map config_name ordered;
-  sites = map new_site ordered;
+  nodes = map new_node ordered;
   links = [];
   homes = [];
   received = [];

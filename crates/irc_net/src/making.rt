@@ -5,12 +5,12 @@ ghost use Rattle.std.specs.List.Sorted.{IsPermutation, IsSortedByKey};
 ghost use Rattle.std.specs.Cmp.Lexicographic.{slice_cmp};
 ghost use Rattle.std.specs.Ordering.{nat_cmp};
 ghost use Rattle.irc_net.specs.Making.{config_name, configs_fault, has_name_twice, is_bad_config};
-ghost use Rattle.irc_net.specs.Making.{is_config_of, is_double, new_site};
+ghost use Rattle.irc_net.specs.Making.{is_config_of, is_double, new_node};
 ghost use Rattle.irc_net.specs.Loops.Ordering.{IsServerConfig, new_forest};
 
 use irc_forest::{Forest, MAX_SERVERS};
 use irc_names::ServerName;
-use irc_network::Site;
+use irc_network::Node;
 use irc_server::{Config, ConfigFault, Server, config_fault};
 use std::alloc::{AllocError, Global};
 use std::cmp::Ordering;
@@ -146,26 +146,26 @@ fn name_of(config: &Config) -> ServerName
     name
 }
 
-/// A site for each of these configurations, in turn.
-pub(crate) fn sites_of(
+/// A node for each of these configurations, in turn.
+pub(crate) fn nodes_of(
     alloc: Global,
     configs: Vec<Config, Global>,
-) -> Result<Vec<Site, Global>, AllocError>
-    ensures { IfOk result (λ sites. sites.items ≡ map new_site configs.items) }
+) -> Result<Vec<Node, Global>, AllocError>
+    ensures { IfOk result (λ nodes. nodes.items ≡ map new_node configs.items) }
 {
-    let mut sites = Vec::new(alloc);
+    let mut nodes = Vec::new(alloc);
     let mut rest = configs.into_iter();
     while let Some(config) = rest.next() {
-        sites.push(site_of(alloc, config)?)?;
+        nodes.push(node_of(alloc, config)?)?;
     }
-    Ok(sites)
+    Ok(nodes)
 }
 
-fn site_of(alloc: Global, config: Config) -> Result<Site, AllocError>
-    ensures { IfOk result (λ site. site ≡ new_site config) }
+fn node_of(alloc: Global, config: Config) -> Result<Node, AllocError>
+    ensures { IfOk result (λ node. node ≡ new_node config) }
 {
     match Server::new(alloc, config) {
-        Ok(server) => Ok(Site::new(alloc, server)),
+        Ok(server) => Ok(Node::new(alloc, server)),
         Err(_) => Err(AllocError),
     }
 }

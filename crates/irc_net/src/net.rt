@@ -20,13 +20,13 @@ ghost use Rattle.irc_world.specs.WithinLimits.{IsItemWithin};
 
 use crate::answer::Answer;
 use crate::fault::NetFault;
-use crate::making::{NetConfigFault, configs_fault, forest_of, in_order, sites_of};
+use crate::making::{NetConfigFault, configs_fault, forest_of, in_order, nodes_of};
 use crate::step::{Step, StepAnswer};
-use irc_forest::Ends;
+use irc_forest::EndPlaces;
 use irc_items::laws;
 use irc_line::Text;
 use irc_names::ServerName;
-use irc_network::{Desk, History, Item, Kept, Network, Receipt, Refusal};
+use irc_network::{CallOutput, History, Item, Kept, Network, Receipt, Refusal};
 use irc_server::Config;
 use std::alloc::{AllocError, Global};
 use std::marker::Model;
@@ -94,11 +94,11 @@ impl<H: History> Net<H> {
         }
         let ordered = in_order(configs);
         let forest = forest_of(alloc, &ordered)?;
-        let sites = sites_of(alloc, ordered)?;
+        let nodes = nodes_of(alloc, ordered)?;
         Ok(Net {
             alloc,
             failed: false,
-            network: Network::new(alloc, forest, sites)?,
+            network: Network::new(alloc, forest, nodes)?,
         })
     }
 
@@ -149,13 +149,13 @@ impl<H: History> Net<H> {
             return Err(fault);
         }
         let client = self.network.number_given(&item);
-        let mut desk = Desk::new(self.alloc);
+        let mut output = CallOutput::new(self.alloc);
         self.failed = true;
-        self.network.give(item, &mut desk)?;
+        self.network.give(item, &mut output)?;
         self.failed = false;
         Ok(Answer {
             client,
-            lines: desk.lines,
+            lines: output.lines,
         })
     }
 
@@ -205,7 +205,7 @@ impl<H: History> Net<H> {
     ///
     /// # Errors
     /// As above.
-    fn ends_linked(&self, from: &ServerName, to: &ServerName) -> Result<Ends, NetFault>
+    fn ends_linked(&self, from: &ServerName, to: &ServerName) -> Result<EndPlaces, NetFault>
         ensures { AreLinkedEnds self.now from.now to.now result }
     {
         if self.failed {
@@ -224,16 +224,20 @@ impl<H: History> Net<H> {
     ///
     /// # Errors
     /// Where memory runs out.
-    fn come(&mut self, ends: Ends, count: usize) -> Result<(usize, Vec<Receipt, Global>), NetFault>
+    fn come(
+        &mut self,
+        ends: EndPlaces,
+        count: usize,
+    ) -> Result<(usize, Vec<Receipt, Global>), NetFault>
         requires stands { self.old.failed ≡ false }
         ensures { HaveComeTo self.old ends count (counted_now result) self.new }
     {
         crate::laws::networks_stay_sound();
-        let mut desk = Desk::new(self.alloc);
+        let mut output = CallOutput::new(self.alloc);
         self.failed = true;
-        let came = self.network.come(ends, count, &mut desk)?;
+        let came = self.network.come(ends, count, &mut output)?;
         self.failed = false;
-        Ok((came.bytes, desk.lines))
+        Ok((came.bytes, output.lines))
     }
 
     /// Bytes come in turn, each time those up to and with the next LF in the first direction, by
@@ -250,11 +254,11 @@ impl<H: History> Net<H> {
         if self.failed {
             return Err(NetFault::Failed);
         }
-        let mut desk = Desk::new(self.alloc);
+        let mut output = CallOutput::new(self.alloc);
         self.failed = true;
-        let count = take_all(&mut self.network, &mut desk)?;
+        let count = take_all(&mut self.network, &mut output)?;
         self.failed = false;
-        Ok((count, desk.lines))
+        Ok((count, output.lines))
     }
 
     /// At rest a network is one room: each server knows all that there is to know in its part of
@@ -374,9 +378,13 @@ impl<H: History> Net<H> {
 
 /// Lets bytes of a sound network come in turn until nothing is on its way, and counts the lines
 /// that they complete. They come to an end since each of those leaves fewer.
-fn take_all<H: History>(network: &mut Network<H>, desk: &mut Desk) -> Result<u64, AllocError>
+fn take_all<H: History>(
+    network: &mut Network<H>,
+    output: &mut CallOutput,
+) -> Result<u64, AllocError>
     requires sound { IsKeptSound network.old }
-    ensures { IfOk result (λ count. HasComeToRest count network.old desk.old network.new desk.new) }
+    ensures { IfOk result
+        (λ count. HasComeToRest count network.old output.old network.new output.new) }
 {
     laws::delivery_keeps_sound();
     laws::turn_leaves_fewer();
@@ -384,7 +392,7 @@ fn take_all<H: History>(network: &mut Network<H>, desk: &mut Desk) -> Result<u64
     irc_network::laws::turn_as_lines();
     irc_network::laws::rest_as_lines();
     let mut count: u64 = 0;
-    while let Some(lines) = network.come_to_line(desk)? {
+    while let Some(lines) = network.come_to_line(output)? {
         count = count.saturating_add(lines as u64);
     }
     Ok(count)

@@ -11,25 +11,25 @@ use Rattle.std.specs.Ordering.{nat_cmp}
 use Rattle.irc_server.specs.Served.{Occurrence, link_says}
 use Rattle.irc_line.specs.Reading.{read_of}
 use Rattle.irc_stage.specs.Lemmas.Numbers.{get-with, one_number, same_number, same_number-refl}
-use Rattle.irc_network.specs.Network.{Course, Network, Site, heard, left, line_body, line_counted}
-use Rattle.irc_network.specs.Network.{line_queued, site_asked, site_at, site_changed_at, waiting}
-use Rattle.irc_network.specs.Network.{with_site}
-use Rattle.irc_wires.specs.Wires.{AreLean, SameWires, Wire, Wires, new_wire, put_in, wire_at}
+use Rattle.irc_network.specs.Network.{Progress, Network, Node, heard, left, line_body, line_counted}
+use Rattle.irc_network.specs.Network.{line_queued, node_asked, node_at, node_changed_at, waiting}
+use Rattle.irc_network.specs.Network.{with_node}
+use Rattle.irc_wires.specs.Wires.{AreLean, SameWires, LinkWire, Wires, new_wire, put_in, wire_at}
 use Rattle.irc_wires.specs.Wires.{wire_in, with_wire, written, written_at}
 use Rattle.irc_wires.specs.Lemmas.PutWires.{IsSetAt, get_set, it, nowhere, other_from, other_to}
 use Rattle.irc_wires.specs.Lemmas.PutWires.{wire_put, wire_set}
-use Rattle.irc_network.specs.Behind.{Ahead, course_behind, each_way, emptied, emptied_site}
-use Rattle.irc_network.specs.Behind.{net_behind, site_behind, sites_behind}
+use Rattle.irc_network.specs.Behind.{Ahead, progress_behind, each_way, emptied, emptied_node}
+use Rattle.irc_network.specs.Behind.{net_behind, node_behind, nodes_behind}
 use Rattle.irc_network.specs.ByteNetwork.{ByteNetwork, all_heard, all_written}
-use Rattle.irc_network.specs.ByteNetwork.{course_without_wires, course_written, queues_written}
+use Rattle.irc_network.specs.ByteNetwork.{progress_without_wires, progress_written, queues_written}
 use Rattle.irc_network.specs.ByteNetwork.{rows_written, waiting_at}
-use Rattle.irc_network.specs.Loops.Courses.{all_heard_out, asked_out, heard_out}
+use Rattle.irc_network.specs.Loops.Progress.{all_heard_out, asked_out, heard_out}
 use Rattle.irc_network.specs.Loops.Writing.{IsWritten}
 use Rattle.irc_network.specs.Whole.{has_way}
 use Rattle.irc_network.specs.Lemmas.Emptied.{emptied_ways, no_line}
 use Rattle.irc_network.specs.Lemmas.Rows.{length_set, rows_stay}
 use Rattle.irc_network.specs.Lemmas.RowsWritten.{is_written, lean_with, same_written}
-use Rattle.irc_network.specs.Lemmas.SitesStay.{asked_stays, heard_stays}
+use Rattle.irc_network.specs.Lemmas.NodesStay.{asked_stays, heard_stays}
 use Rattle.irc_network.specs.Lemmas.Ways.{each_twice, get-each_way, none_waiting}
 use Rattle.irc_network.specs.Lemmas.Ways.{same_ways, waiting_behind}
 use Rattle.irc_network.proofs.Behind.{asked-behind, at-behind}
@@ -38,109 +38,109 @@ use Rattle.irc_network.proofs.Places.{set_again}
 use Rattle.irc_network.proofs.Refilled.{alone, refilled}
 use Rattle.irc_network.proofs.WaysStay.{asked_keeps}
 
-abbrev Row : Type 0
-Row = FinMap nat_cmp Wire
+abbrev WireRow : Type 0
+WireRow = FinMap nat_cmp LinkWire
 
 -- ---- other lines are left on a way
 
-site_emptied : (site : Site) (to : ℕ) (lines rest : List (List ℕ)) → get site.queues to ≡ Some lines
-    → emptied_site (left to rest site) ≡ emptied_site site
-site_emptied site to lines rest is = ap (λ ways. record site { queues = ways })
-    (same_ways (each_way (λ q more. []) (insert site.queues to rest))
-    (each_way (λ q more. []) site.queues) (λ q.
-    get-each_way (λ p more. []) (insert site.queues to rest) q
-    ∙ ap (option_map no_line) (get-with site.queues to rest q)
-    ∙ by q (same_number q to) refl ∙ sym (get-each_way (λ p more. []) site.queues q)))
+node_emptied : (node : Node) (to : ℕ) (lines rest : List (List ℕ)) → get node.queues to ≡ Some lines
+    → emptied_node (left to rest node) ≡ emptied_node node
+node_emptied node to lines rest is = ap (λ ways. record node { queues = ways })
+    (same_ways (each_way (λ q more. []) (insert node.queues to rest))
+    (each_way (λ q more. []) node.queues) (λ q.
+    get-each_way (λ p more. []) (insert node.queues to rest) q
+    ∙ ap (option_map no_line) (get-with node.queues to rest q)
+    ∙ by q (same_number q to) refl ∙ sym (get-each_way (λ p more. []) node.queues q)))
   where
     by : (q : ℕ) (b : Bool) → same_number q to ≡ b → option_map no_line
-        (cond b (Some rest) (get site.queues q)) ≡ option_map no_line (get site.queues q)
+        (cond b (Some rest) (get node.queues q)) ≡ option_map no_line (get node.queues q)
     by q true one = ap (option_map no_line) (sym is)
-        ∙ ap (λ n. option_map no_line (get site.queues n)) (sym (one_number q to one))
+        ∙ ap (λ n. option_map no_line (get node.queues n)) (sym (one_number q to one))
     by q false two = refl
 
-map_set : (sites : List Site) (from : ℕ) (site after : Site)
-    → slice_get sites from ≡ Some site → emptied_site after ≡ emptied_site site
-    → map emptied_site (slice_set sites from after) ≡ map emptied_site sites
-map_set [] from site after at same = refl
-map_set (first ∷ sites) zero site after at same =
-    ap (λ s. s ∷ map emptied_site sites) (same ∙ ap (λ o. emptied_site (unwrap_or o site)) (sym at))
-map_set (first ∷ sites) (suc from) site after at same =
-    ap (λ ss. emptied_site first ∷ ss) (map_set sites from site after at same)
+map_set : (nodes : List Node) (from : ℕ) (node after : Node)
+    → slice_get nodes from ≡ Some node → emptied_node after ≡ emptied_node node
+    → map emptied_node (slice_set nodes from after) ≡ map emptied_node nodes
+map_set [] from node after at same = refl
+map_set (first ∷ nodes) zero node after at same =
+    ap (λ s. s ∷ map emptied_node nodes) (same ∙ ap (λ o. emptied_node (unwrap_or o node)) (sym at))
+map_set (first ∷ nodes) (suc from) node after at same =
+    ap (λ ss. emptied_node first ∷ ss) (map_set nodes from node after at same)
 
-set_at : (sites : List Site) (place : ℕ) (site after : Site) → slice_get sites place ≡ Some site
-    → slice_get (slice_set sites place after) place ≡ Some after
-set_at [] place site after at = cc at
-set_at (first ∷ sites) zero site after at = refl
-set_at (first ∷ sites) (suc place) site after at = set_at sites place site after at
+set_at : (nodes : List Node) (place : ℕ) (node after : Node) → slice_get nodes place ≡ Some node
+    → slice_get (slice_set nodes place after) place ≡ Some after
+set_at [] place node after at = cc at
+set_at (first ∷ nodes) zero node after at = refl
+set_at (first ∷ nodes) (suc place) node after at = set_at nodes place node after at
 
-set_elsewhere : (sites : List Site) (place x : ℕ) (after : Site) → x ≢ place
-    → slice_get (slice_set sites place after) x ≡ slice_get sites x
+set_elsewhere : (nodes : List Node) (place x : ℕ) (after : Node) → x ≢ place
+    → slice_get (slice_set nodes place after) x ≡ slice_get nodes x
 set_elsewhere [] place x after two = refl
-set_elsewhere (first ∷ sites) zero zero after two = absurd (two refl)
-set_elsewhere (first ∷ sites) zero (suc x) after two = refl
-set_elsewhere (first ∷ sites) (suc place) zero after two = refl
-set_elsewhere (first ∷ sites) (suc place) (suc x) after two =
-    set_elsewhere sites place x after (λ e. two (ap suc e))
+set_elsewhere (first ∷ nodes) zero zero after two = absurd (two refl)
+set_elsewhere (first ∷ nodes) zero (suc x) after two = refl
+set_elsewhere (first ∷ nodes) (suc place) zero after two = refl
+set_elsewhere (first ∷ nodes) (suc place) (suc x) after two =
+    set_elsewhere nodes place x after (λ e. two (ap suc e))
 
-module _ (net : Network) (place to : ℕ) (site : Site) (lines rest : List (List ℕ))
-    (at : site_at net place ≡ Some site)
-    (way : get site.queues to ≡ Some lines) where
+module _ (net : Network) (place to : ℕ) (node : Node) (lines rest : List (List ℕ))
+    (at : node_at net place ≡ Some node)
+    (way : get node.queues to ≡ Some lines) where
   abbrev after_left : Network
-  after_left = with_site place (left to rest site) net
+  after_left = with_node place (left to rest node) net
 
   left_emptied : emptied after_left ≡ emptied net
-  left_emptied = ap (λ sites. record net { sites = sites })
-      (map_set net.sites place site (left to rest site) at (site_emptied site to lines rest way))
+  left_emptied = ap (λ nodes. record net { nodes = nodes })
+      (map_set net.nodes place node (left to rest node) at (node_emptied node to lines rest way))
 
-  left_at : site_at after_left place ≡ Some (left to rest site)
-  left_at = set_at net.sites place site (left to rest site) at
+  left_at : node_at after_left place ≡ Some (left to rest node)
+  left_at = set_at net.nodes place node (left to rest node) at
 
   left_waits : waiting_at after_left place to ≡ rest
   left_waits =
       ap (λ o. option_map_or (λ s. waiting s to) o []) left_at
-      ∙ ap (λ o. unwrap_or o []) (get-with site.queues to rest to)
-      ∙ ap (λ b. unwrap_or (cond b (Some rest) (get site.queues to)) []) (same_number-refl to)
+      ∙ ap (λ o. unwrap_or o []) (get-with node.queues to rest to)
+      ∙ ap (λ b. unwrap_or (cond b (Some rest) (get node.queues to)) []) (same_number-refl to)
 
   left_there : (y : ℕ) → y ≢ to → waiting_at after_left place y ≡ waiting_at net place y
   left_there y two =
       ap (λ o. option_map_or (λ s. waiting s y) o []) left_at
-      ∙ ap (λ o. unwrap_or o []) (get-with site.queues to rest y) ∙ by (same_number y to) refl
+      ∙ ap (λ o. unwrap_or o []) (get-with node.queues to rest y) ∙ by (same_number y to) refl
       ∙ sym (ap (λ o. option_map_or (λ s. waiting s y) o []) at)
     where
       by : (b : Bool) → same_number y to ≡ b
-          → unwrap_or (cond b (Some rest) (get site.queues y)) [] ≡ unwrap_or (get site.queues y) []
+          → unwrap_or (cond b (Some rest) (get node.queues y)) [] ≡ unwrap_or (get node.queues y) []
       by true one = absurd (two (one_number y to one))
       by false other = refl
 
   left_elsewhere : (x y : ℕ) → x ≢ place → waiting_at after_left x y ≡ waiting_at net x y
   left_elsewhere x y two = ap (λ o. option_map_or (λ s. waiting s y) o [])
-      (set_elsewhere net.sites place x (left to rest site) two)
+      (set_elsewhere net.nodes place x (left to rest node) two)
 
 -- ---- a line that waits and is written then, and one that is written at once
 
-written_behind : (lines : List (List ℕ)) (line : List ℕ) (wire : Wire)
+written_behind : (lines : List (List ℕ)) (line : List ℕ) (wire : LinkWire)
     → all_written (lines ++ line ∷ []) wire ≡ written line (all_written lines wire)
 written_behind [] line wire = refl
 written_behind (first ∷ lines) line wire = written_behind lines line (written first wire)
 
-all_behind : (front back : List (List ℕ)) (wire : Wire)
+all_behind : (front back : List (List ℕ)) (wire : LinkWire)
     → all_written (front ++ back) wire ≡ all_written back (all_written front wire)
 all_behind [] back wire = refl
 all_behind (line ∷ front) back wire = all_behind front back (written line wire)
 
-row_there : (wires : Wires) (sites : List Site) (place : ℕ) (site : Site)
-    → length wires ≡ length sites → slice_get sites place ≡ Some site
-    → (row : Row) × (slice_get wires place ≡ Some row)
-row_there wires [] place site same at = cc at
-row_there [] (first ∷ sites) place site same at = cc same
-row_there (row ∷ wires) (first ∷ sites) zero site same at = (row, refl)
-row_there (row ∷ wires) (first ∷ sites) (suc place) site same at =
-    row_there wires sites place site (one_less (length wires) (length sites) same) at
+row_there : (wires : Wires) (nodes : List Node) (place : ℕ) (node : Node)
+    → length wires ≡ length nodes → slice_get nodes place ≡ Some node
+    → (row : WireRow) × (slice_get wires place ≡ Some row)
+row_there wires [] place node same at = cc at
+row_there [] (first ∷ nodes) place node same at = cc same
+row_there (row ∷ wires) (first ∷ nodes) zero node same at = (row, refl)
+row_there (row ∷ wires) (first ∷ nodes) (suc place) node same at =
+    row_there wires nodes place node (one_less (length wires) (length nodes) same) at
   where
     one_less : (a b : ℕ) → suc a ≡ suc b → a ≡ b
     one_less a b is = cc is
 
-wire_here : (wires : Wires) (from to : ℕ) (wire : Wire) (row : Row)
+wire_here : (wires : Wires) (from to : ℕ) (wire : LinkWire) (row : WireRow)
     → slice_get wires from ≡ Some row → wire_at (with_wire from to wire wires) from to ≡ wire
 wire_here wires from to wire row is =
     ap (λ o. wire_at (option_map_or (λ r. slice_set wires from (put_in to wire r)) o wires) from to)
@@ -155,35 +155,35 @@ not_one x y two one = cc (sym (eq-eqb x y one) ∙ two)
 one_less : (a b : ℕ) → suc a ≡ suc b → a ≡ b
 one_less a b is = cc is
 
-pub as_many : (sites : List Site) (wires : Wires) → length wires ≡ length sites
-    → length (rows_written sites wires) ≡ length sites
+pub as_many : (nodes : List Node) (wires : Wires) → length wires ≡ length nodes
+    → length (rows_written nodes wires) ≡ length nodes
 as_many [] wires long = long
-as_many (site ∷ sites) [] long = cc long
-as_many (site ∷ sites) (row ∷ wires) long =
-    ap suc (as_many sites wires (one_less (length wires) (length sites) long))
+as_many (node ∷ nodes) [] long = cc long
+as_many (node ∷ nodes) (row ∷ wires) long =
+    ap suc (as_many nodes wires (one_less (length wires) (length nodes) long))
 
-pub map_length : (sites : List Site) → length (map emptied_site sites) ≡ length sites
+pub map_length : (nodes : List Node) → length (map emptied_node nodes) ≡ length nodes
 map_length [] = refl
-map_length (site ∷ sites) = ap suc (map_length sites)
+map_length (node ∷ nodes) = ap suc (map_length nodes)
 
 module _ (net : Network) (wires : Wires) (lean : AreLean wires)
-    (long : length wires ≡ length net.sites) (place to : ℕ) (site : Site)
-    (lines : List (List ℕ)) (line : List ℕ) (at : site_at net place ≡ Some site)
-    (way : get site.queues to ≡ Some lines) where
+    (long : length wires ≡ length net.nodes) (place to : ℕ) (node : Node)
+    (lines : List (List ℕ)) (line : List ℕ) (at : node_at net place ≡ Some node)
+    (way : get node.queues to ≡ Some lines) where
   abbrev after_queued : Network
-  after_queued = with_site place (left to (lines ++ line ∷ []) site) net
+  after_queued = with_node place (left to (lines ++ line ∷ []) node) net
 
   abbrev out : Wires
-  out = rows_written net.sites wires
+  out = rows_written net.nodes wires
 
-  abbrev now : Wire
+  abbrev now : LinkWire
   now = written line (wire_at out place to)
 
   is_out : IsWritten net wires (queues_written net wires)
   is_out = is_written net wires lean long
 
   there : wire_at (with_wire place to now out) place to ≡ now
-  there = let row = row_there out net.sites place site (as_many net.sites wires long) at in
+  there = let row = row_there out net.nodes place node (as_many net.nodes wires long) at in
       wire_here out place to now row.0 row.1
 
   waited : waiting_at net place to ≡ lines
@@ -198,7 +198,7 @@ module _ (net : Network) (wires : Wires) (lean : AreLean wires)
       ∙ ap (λ more. all_written more (wire_at wires place to)) waited)
       ∙ sym (written_behind lines line (wire_at wires place to))
       ∙ sym (ap (λ more. all_written more (wire_at wires place to))
-      (left_waits net place to site lines (lines ++ line ∷ []) at way))
+      (left_waits net place to node lines (lines ++ line ∷ []) at way))
       ∙ sym (ap (λ n. all_written (waiting_at after_queued place n) (wire_at wires place n)) two)
       ∙ sym (ap (λ n. all_written (waiting_at after_queued n y) (wire_at wires n y)) one)
 
@@ -206,10 +206,10 @@ module _ (net : Network) (wires : Wires) (lean : AreLean wires)
       → waiting_at after_queued x y ≡ waiting_at net x y
   apart_to x y two true one =
       ap (λ n. waiting_at after_queued n y) (eqb-true x place one)
-      ∙ left_there net place to site lines (lines ++ line ∷ []) at way y two
+      ∙ left_there net place to node lines (lines ++ line ∷ []) at way y two
       ∙ sym (ap (λ n. waiting_at net n y) (eqb-true x place one))
   apart_to x y two false other =
-      left_elsewhere net place to site lines (lines ++ line ∷ []) at way x y (not_one x place other)
+      left_elsewhere net place to node lines (lines ++ line ∷ []) at way x y (not_one x place other)
 
   wire_is : (x y : ℕ) → wire_at (with_wire place to now out) x y
       ≡ all_written (waiting_at after_queued x y) (wire_at wires x y)
@@ -222,7 +222,7 @@ module _ (net : Network) (wires : Wires) (lean : AreLean wires)
       by (other_from apart is) =
           is ∙ is_out.wires_are x y
           ∙ sym (ap (λ more. all_written more (wire_at wires x y))
-          (left_elsewhere net place to site lines (lines ++ line ∷ []) at way x y
+          (left_elsewhere net place to node lines (lines ++ line ∷ []) at way x y
           (not_one x place apart)))
       by (other_to apart is) =
           is ∙ is_out.wires_are x y
@@ -232,115 +232,115 @@ module _ (net : Network) (wires : Wires) (lean : AreLean wires)
   is_queued : IsWritten after_queued wires
       (record { network = emptied net; wires = with_wire place to now out })
   is_queued = record {
-    network_is = sym (left_emptied net place to site lines (lines ++ line ∷ []) at way);
+    network_is = sym (left_emptied net place to node lines (lines ++ line ∷ []) at way);
     wires_are = wire_is;
-    rows = rows_stay place to now out ∙ as_many net.sites wires long ∙ sym (map_length net.sites);
+    rows = rows_stay place to now out ∙ as_many net.nodes wires long ∙ sym (map_length net.nodes);
     lean = lean_with place to now out is_out.lean;
   }
 
-  long_queued : length wires ≡ length after_queued.sites
-  long_queued = long ∙ sym (length_set net.sites place (left to (lines ++ line ∷ []) site))
+  long_queued : length wires ≡ length after_queued.nodes
+  long_queued = long ∙ sym (length_set net.nodes place (left to (lines ++ line ∷ []) node))
 
 module _ (same : SameWires) (net : Network) (wires : Wires) (lean : AreLean wires)
-    (long : length wires ≡ length net.sites)
+    (long : length wires ≡ length net.nodes)
     (place to : ℕ) (text : List ℕ) where
   abbrev at_once : ByteNetwork
   at_once = record {
     network = emptied net;
-    wires = written_at place to (line_body text) (rows_written net.sites wires);
+    wires = written_at place to (line_body text) (rows_written net.nodes wires);
   }
 
   -- it waits on a way, and is written then
   pub queued_written : has_way net place to ≡ true
-      → queues_written (site_changed_at place (line_queued to text) net) wires ≡ at_once
-  queued_written has = by_site (site_at net place) refl has
+      → queues_written (node_changed_at place (line_queued to text) net) wires ≡ at_once
+  queued_written has = by_node (node_at net place) refl has
     where
-      by_way : (site : Site) → site_at net place ≡ Some site → (o : Option (List (List ℕ)))
-          → get site.queues to ≡ o → is_some o ≡ true → queues_written (with_site place
-          (option_map_or (λ lines. record site {
-            queues = insert site.queues to
+      by_way : (node : Node) → node_at net place ≡ Some node → (o : Option (List (List ℕ)))
+          → get node.queues to ≡ o → is_some o ≡ true → queues_written (with_node place
+          (option_map_or (λ lines. record node {
+            queues = insert node.queues to
                 (lines ++ line_body text ∷ []);
-          }) o site) net) wires ≡ at_once
-      by_way site at None way there_is = cc there_is
-      by_way site at (Some lines) way there_is =
+          }) o node) net) wires ≡ at_once
+      by_way node at None way there_is = cc there_is
+      by_way node at (Some lines) way there_is =
           let after =
-          after_queued net wires lean long place to site lines (line_body text) at way in
+          after_queued net wires lean long place to node lines (line_body text) at way in
           same_written same after wires (queues_written after wires) at_once
           (is_written after wires lean
-          (long_queued net wires lean long place to site lines (line_body text) at way))
-          (is_queued net wires lean long place to site lines (line_body text) at way)
+          (long_queued net wires lean long place to node lines (line_body text) at way))
+          (is_queued net wires lean long place to node lines (line_body text) at way)
 
-      by_site : (o : Option Site) → site_at net place ≡ o → is_some
-          (option_and_then (λ (site : Site). get site.queues to) o) ≡ true → queues_written
-          (option_map_or (λ site. with_site place (line_queued to text site) net) o net) wires
+      by_node : (o : Option Node) → node_at net place ≡ o → is_some
+          (option_and_then (λ (node : Node). get node.queues to) o) ≡ true → queues_written
+          (option_map_or (λ node. with_node place (line_queued to text node) net) o net) wires
           ≡ at_once
-      by_site None at there_is = cc there_is
-      by_site (Some site) at there_is = by_way site at (get site.queues to) refl there_is
+      by_node None at there_is = cc there_is
+      by_node (Some node) at there_is = by_way node at (get node.queues to) refl there_is
 
   -- without a way it does not wait
   pub nowhere_queued : has_way net place to ≡ false
-      → site_changed_at place (line_queued to text) net ≡ net
-  nowhere_queued none = by_site (site_at net place) refl none
+      → node_changed_at place (line_queued to text) net ≡ net
+  nowhere_queued none = by_node (node_at net place) refl none
     where
-      by_way : (site : Site) → site_at net place ≡ Some site → (o : Option (List (List ℕ)))
-          → is_some o ≡ false → with_site place (option_map_or (λ lines. record site
-          { queues = insert site.queues to (lines ++ line_body text ∷ []) }) o site) net ≡ net
-      by_way site at None nothing =
-          ap (λ sites. record net { sites = sites }) (set_again net.sites place site at)
-      by_way site at (Some lines) nothing = cc nothing
+      by_way : (node : Node) → node_at net place ≡ Some node → (o : Option (List (List ℕ)))
+          → is_some o ≡ false → with_node place (option_map_or (λ lines. record node
+          { queues = insert node.queues to (lines ++ line_body text ∷ []) }) o node) net ≡ net
+      by_way node at None nothing =
+          ap (λ nodes. record net { nodes = nodes }) (set_again net.nodes place node at)
+      by_way node at (Some lines) nothing = cc nothing
 
-      by_site : (o : Option Site) → site_at net place ≡ o
-          → is_some (option_and_then (λ (site : Site). get site.queues to) o) ≡ false
-          → option_map_or (λ site. with_site place (line_queued to text site) net) o net ≡ net
-      by_site None at nothing = refl
-      by_site (Some site) at nothing = by_way site at (get site.queues to) nothing
+      by_node : (o : Option Node) → node_at net place ≡ o
+          → is_some (option_and_then (λ (node : Node). get node.queues to) o) ≡ false
+          → option_map_or (λ node. with_node place (line_queued to text node) net) o net ≡ net
+      by_node None at nothing = refl
+      by_node (Some node) at nothing = by_way node at (get node.queues to) nothing
 
 -- ---- a server that is asked while lines wait, and once they are written
 
-emptied_behind : (ahead : ℕ → List (List ℕ)) (site : Site)
-    → emptied_site (site_behind ahead site) ≡ emptied_site site
-emptied_behind ahead site = ap (λ ways. record site { queues = ways })
-    (each_twice (λ to lines. []) (λ to lines. ahead to ++ lines) site.queues)
+emptied_behind : (ahead : ℕ → List (List ℕ)) (node : Node)
+    → emptied_node (node_behind ahead node) ≡ emptied_node node
+emptied_behind ahead node = ap (λ ways. record node { queues = ways })
+    (each_twice (λ to lines. []) (λ to lines. ahead to ++ lines) node.queues)
 
-all_emptied_behind : (ahead : Ahead) (sites : List Site)
-    → map emptied_site (sites_behind ahead sites) ≡ map emptied_site sites
+all_emptied_behind : (ahead : Ahead) (nodes : List Node)
+    → map emptied_node (nodes_behind ahead nodes) ≡ map emptied_node nodes
 all_emptied_behind ahead [] = refl
-all_emptied_behind ahead (site ∷ sites) =
-    λ i. emptied_behind (ahead 0) site i ∷ all_emptied_behind (λ place. ahead (suc place)) sites i
+all_emptied_behind ahead (node ∷ nodes) =
+    λ i. emptied_behind (ahead 0) node i ∷ all_emptied_behind (λ place. ahead (suc place)) nodes i
 
-sites_counted : (ahead : Ahead) (sites : List Site)
-    → length (sites_behind ahead sites) ≡ length sites
-sites_counted ahead [] = refl
-sites_counted ahead (site ∷ sites) = ap suc (sites_counted (λ place. ahead (suc place)) sites)
+nodes_counted : (ahead : Ahead) (nodes : List Node)
+    → length (nodes_behind ahead nodes) ≡ length nodes
+nodes_counted ahead [] = refl
+nodes_counted ahead (node ∷ nodes) = ap suc (nodes_counted (λ place. ahead (suc place)) nodes)
 
 -- on a way that is there the lines ahead are in front, and there are none where no way is
 behind_waits : (ahead : Ahead) (net : Network) (from to : ℕ)
     → (has_way net from to ≡ false → ahead from to ≡ [])
     → waiting_at (net_behind ahead net) from to ≡ ahead from to ++ waiting_at net from to
 behind_waits ahead net from to none =
-    ap (λ o. option_map_or (λ site. waiting site to) o []) (at-behind ahead net from)
-    ∙ by_site (site_at net from) none
+    ap (λ o. option_map_or (λ node. waiting node to) o []) (at-behind ahead net from)
+    ∙ by_node (node_at net from) none
   where
-    by_way : (site : Site) (o : Option (List (List ℕ)))
-        → get site.queues to ≡ o → (is_some o ≡ false → ahead from to ≡ [])
-        → waiting (site_behind (ahead from) site) to ≡ ahead from to ++ waiting site to
-    by_way site None way nothing =
-        none_waiting (ahead from) site to way ∙ sym (nothing refl)
+    by_way : (node : Node) (o : Option (List (List ℕ)))
+        → get node.queues to ≡ o → (is_some o ≡ false → ahead from to ≡ [])
+        → waiting (node_behind (ahead from) node) to ≡ ahead from to ++ waiting node to
+    by_way node None way nothing =
+        none_waiting (ahead from) node to way ∙ sym (nothing refl)
         ∙ sym (append-nil (ahead from to)) ∙ ap (λ o. ahead from to ++ unwrap_or o []) (sym way)
-    by_way site (Some lines) way nothing =
-        waiting_behind (ahead from) site to lines way
+    by_way node (Some lines) way nothing =
+        waiting_behind (ahead from) node to lines way
         ∙ ap (λ o. ahead from to ++ unwrap_or o []) (sym way)
 
-    by_site : (o : Option Site) → (is_some (option_and_then (λ (site : Site). get site.queues to) o)
+    by_node : (o : Option Node) → (is_some (option_and_then (λ (node : Node). get node.queues to) o)
         ≡ false → ahead from to ≡ [])
-        → option_map_or (λ site. waiting site to) (option_map (site_behind (ahead from)) o) []
-        ≡ ahead from to ++ option_map_or (λ site. waiting site to) o []
-    by_site None nothing = sym (append-nil (ahead from to) ∙ nothing refl)
-    by_site (Some site) nothing = by_way site (get site.queues to) refl nothing
+        → option_map_or (λ node. waiting node to) (option_map (node_behind (ahead from)) o) []
+        ≡ ahead from to ++ option_map_or (λ node. waiting node to) o []
+    by_node None nothing = sym (append-nil (ahead from to) ∙ nothing refl)
+    by_node (Some node) nothing = by_way node (get node.queues to) refl nothing
 
 module _ (same : SameWires) (ahead : Ahead) (net : Network) (wires out : Wires)
     (lean : AreLean wires) (out_lean : AreLean out)
-    (long : length wires ≡ length net.sites) (out_long : length out ≡ length net.sites)
+    (long : length wires ≡ length net.nodes) (out_long : length out ≡ length net.nodes)
     (none : (from to : ℕ) → has_way net from to ≡ false → ahead from to ≡ [])
     (out_is : (from to : ℕ)
     → wire_at out from to ≡ all_written (ahead from to) (wire_at wires from to)) where
@@ -349,7 +349,7 @@ module _ (same : SameWires) (ahead : Ahead) (net : Network) (wires out : Wires)
       let written = is_written net out out_lean out_long in
       record {
         network_is =
-            sym (ap (λ sites. record net { sites = sites }) (all_emptied_behind ahead net.sites));
+            sym (ap (λ nodes. record net { nodes = nodes }) (all_emptied_behind ahead net.nodes));
         wires_are = λ from to.
             written.wires_are from to ∙ ap (all_written (waiting_at net from to)) (out_is from to)
             ∙ sym (all_behind (ahead from to) (waiting_at net from to) (wire_at wires from to))
@@ -364,62 +364,64 @@ module _ (same : SameWires) (ahead : Ahead) (net : Network) (wires out : Wires)
   written_ahead =
       same_written same (net_behind ahead net) wires (queues_written (net_behind ahead net) wires)
       (queues_written net out)
-      (is_written (net_behind ahead net) wires lean (long ∙ sym (sites_counted ahead net.sites)))
+      (is_written (net_behind ahead net) wires lean (long ∙ sym (nodes_counted ahead net.nodes)))
       is_behind
 
-module _ (same : SameWires) (place : ℕ) (occurrence : Occurrence) (course : Course) (wires : Wires)
+module _ (same : SameWires) (place : ℕ) (occurrence : Occurrence) (progress : Progress)
+    (wires : Wires)
     (lean : AreLean wires)
-    (long : length wires ≡ length course.net.sites) where
+    (long : length wires ≡ length progress.net.nodes) where
   abbrev waiting_now : Ahead
-  waiting_now from to = waiting_at course.net from to
+  waiting_now from to = waiting_at progress.net from to
 
-  abbrev start : Course
-  start = course_without_wires (course_written course wires)
+  abbrev start : Progress
+  start = progress_without_wires (progress_written progress wires)
 
-  abbrev last : Course
-  last = site_asked place occurrence start
+  abbrev last : Progress
+  last = node_asked place occurrence start
 
-  was_behind : course ≡ course_behind waiting_now start
-  was_behind = ap (λ net. record course { net = net })
-      (sym (refilled (λ from to. []) waiting_now course.net (λ from to. refl)
-      ∙ alone (λ from to. []) course.net (λ from to. refl)))
+  was_behind : progress ≡ progress_behind waiting_now start
+  was_behind = ap (λ net. record progress { net = net })
+      (sym (refilled (λ from to. []) waiting_now progress.net (λ from to. refl)
+      ∙ alone (λ from to. []) progress.net (λ from to. refl)))
 
-  asked_so : site_asked place occurrence course ≡ course_behind waiting_now last
+  asked_so : node_asked place occurrence progress ≡ progress_behind waiting_now last
   asked_so =
-      ap (site_asked place occurrence) was_behind ∙ asked-behind waiting_now place occurrence start
+      ap (node_asked place occurrence) was_behind ∙ asked-behind waiting_now place occurrence start
 
-  long_now : length wires ≡ length last.net.sites
-  long_now = long ∙ sym (map_length course.net.sites) ∙ sym (asked_stays place occurrence start)
+  long_now : length wires ≡ length last.net.nodes
+  long_now = long ∙ sym (map_length progress.net.nodes) ∙ sym (asked_stays place occurrence start)
 
   -- They are written before it is asked or with what it puts out: it is one.
-  pub written_between : asked_out place occurrence (course_written course wires)
-      ≡ course_written (site_asked place occurrence course) wires
+  pub written_between : asked_out place occurrence (progress_written progress wires)
+      ≡ progress_written (node_asked place occurrence progress) wires
   written_between =
-      let written = is_written course.net wires lean long in
-      sym (ap (λ (c : Course). course_written c wires) asked_so
+      let written = is_written progress.net wires lean long in
+      sym (ap (λ (c : Progress). progress_written c wires) asked_so
       ∙ ap (λ (net : ByteNetwork). record { net = net; receipts = last.receipts })
       (written_ahead same waiting_now last.net wires
-      (rows_written course.net.sites wires) lean written.lean long_now
-      (as_many course.net.sites wires long ∙ sym long ∙ long_now)
-      (λ from to none. none_there course.net from to
-      (sym (emptied_ways course.net from to) ∙ sym (asked_keeps place occurrence start from to)
+      (rows_written progress.net.nodes wires) lean written.lean long_now
+      (as_many progress.net.nodes wires long ∙ sym long ∙ long_now)
+      (λ from to none. none_there progress.net from to
+      (sym (emptied_ways progress.net from to) ∙ sym (asked_keeps place occurrence start from to)
       ∙ none))
       written.wires_are))
 
 -- ---- lines that are heard in turn
 
 module _ (same : SameWires) (from to : ℕ) (wires : Wires) (lean : AreLean wires) where
-  one_heard : (course : Course) (line : List ℕ) → length wires ≡ length course.net.sites
-      → heard_out from to (course_written course wires) line ≡ course_written
-      (heard from to course line) wires
-  one_heard course line long = written_between same to (link_says from (read_of line))
-      (record course { net = line_counted course.net }) wires lean long
+  one_heard : (progress : Progress) (line : List ℕ) → length wires ≡ length progress.net.nodes
+      → heard_out from to (progress_written progress wires) line ≡ progress_written
+      (heard from to progress line) wires
+  one_heard progress line long = written_between same to (link_says from (read_of line))
+      (record progress { net = line_counted progress.net }) wires lean long
 
-  pub all_heard_written : (lines : List (List ℕ)) (course : Course)
-      → length wires ≡ length course.net.sites → all_heard_out from to
-      (course_written course wires) lines ≡ course_written (all_heard from to course lines) wires
-  all_heard_written [] course long = refl
-  all_heard_written (line ∷ lines) course long =
-      ap (λ c. all_heard_out from to c lines) (one_heard course line long)
-      ∙ all_heard_written lines (heard from to course line)
-      (long ∙ sym (heard_stays from to course line))
+  pub all_heard_written : (lines : List (List ℕ)) (progress : Progress)
+      → length wires ≡ length progress.net.nodes → all_heard_out from to
+      (progress_written progress wires) lines ≡ progress_written
+      (all_heard from to progress lines) wires
+  all_heard_written [] progress long = refl
+  all_heard_written (line ∷ lines) progress long =
+      ap (λ c. all_heard_out from to c lines) (one_heard progress line long)
+      ∙ all_heard_written lines (heard from to progress line)
+      (long ∙ sym (heard_stays from to progress line))

@@ -7,7 +7,7 @@ use Rattle.std.specs.List.{find, list_all, list_any, slice_get}
 use Rattle.std.specs.Option.{option_and_then, option_map_or}
 use Rattle.irc_room.specs.Lemmas.Rows.{same_some}
 use Rattle.irc_stage.specs.Lemmas.Numbers.{one_number, same_number}
-use Rattle.irc_network.specs.Network.{Course, Site, delivered, direction, first_among}
+use Rattle.irc_network.specs.Network.{Progress, Node, delivered, direction, first_among}
 use Rattle.irc_network.specs.Network.{first_way, given, is_at_rest, is_nothing, is_quiet, taken_of}
 use Rattle.irc_network.specs.Network.{waiting, waits}
 use Rattle.irc_network.specs.Laws.{GivenIsKept, RestStays}
@@ -54,51 +54,51 @@ key_passes test to (k ∷ ks) among none =
     by false two later is true passes left = cc left
     by false two later is false fails left = later is left
 
-quiet_way : (site : Site) (to : ℕ) → is_quiet site ≡ true → waiting site to ≡ []
-quiet_way site to quiet = by (get site.queues to) refl
+quiet_way : (node : Node) (to : ℕ) → is_quiet node ≡ true → waiting node to ≡ []
+quiet_way node to quiet = by (get node.queues to) refl
   where
-    by : (o : Option (List (List ℕ))) → get site.queues to ≡ o → waiting site to ≡ []
+    by : (o : Option (List (List ℕ))) → get node.queues to ≡ o → waiting node to ≡ []
     by None is = ap (λ o. unwrap_or o []) is
     by (Some lines) is =
-        no_lines (waiting site to)
-        (key_passes (waits site) to (keys site.queues) (sym (contains_key-keys site.queues to)
+        no_lines (waiting node to)
+        (key_passes (waits node) to (keys node.queues) (sym (contains_key-keys node.queues to)
         ∙ ap is_some is) (not_true _ quiet))
 
-quiet_at : (sites : List Site) (place : ℕ) → list_all is_quiet sites ≡ true → (site : Site)
-    → slice_get sites place ≡ Some site → is_quiet site ≡ true
-quiet_at [] place all site is = cc is
-quiet_at (first ∷ sites) zero all site is = ap is_quiet (sym (same_some first site is))
-    ∙ (both (is_quiet first) (list_all is_quiet sites) all).0
-quiet_at (first ∷ sites) (suc place) all site is =
-    quiet_at sites place (both (is_quiet first) (list_all is_quiet sites) all).1 site is
+quiet_at : (nodes : List Node) (place : ℕ) → list_all is_quiet nodes ≡ true → (node : Node)
+    → slice_get nodes place ≡ Some node → is_quiet node ≡ true
+quiet_at [] place all node is = cc is
+quiet_at (first ∷ nodes) zero all node is = ap is_quiet (sym (same_some first node is))
+    ∙ (both (is_quiet first) (list_all is_quiet nodes) all).0
+quiet_at (first ∷ nodes) (suc place) all node is =
+    quiet_at nodes place (both (is_quiet first) (list_all is_quiet nodes) all).1 node is
 
-no_delivery : (course : Course) → is_at_rest course.net ≡ true → (from to : ℕ)
-    → delivered from to course ≡ None
+no_delivery : (progress : Progress) → is_at_rest progress.net ≡ true → (from to : ℕ)
+    → delivered from to progress ≡ None
 unfolding delivered
-no_delivery course rest from to = by (slice_get course.net.sites from) refl
+no_delivery progress rest from to = by (slice_get progress.net.nodes from) refl
   where
-    by : (o : Option Site) → slice_get course.net.sites from ≡ o
-        → option_and_then (λ (site : Site). taken_of from to course site (waiting site to)) o ≡ None
+    by : (o : Option Node) → slice_get progress.net.nodes from ≡ o → option_and_then
+        (λ (node : Node). taken_of from to progress node (waiting node to)) o ≡ None
     by None is = refl
-    by (Some site) is = ap (taken_of from to course site)
-        (quiet_way site to (quiet_at course.net.sites from rest site is))
+    by (Some node) is = ap (taken_of from to progress node)
+        (quiet_way node to (quiet_at progress.net.nodes from rest node is))
 
 -- ---- the first way on which a line waits
 
-quiet_none : (site : Site) → is_quiet site ≡ true → first_way site ≡ None
-quiet_none site quiet = none_found (waits site) (keys site.queues) (not_true _ quiet)
+quiet_none : (node : Node) → is_quiet node ≡ true → first_way node ≡ None
+quiet_none node quiet = none_found (waits node) (keys node.queues) (not_true _ quiet)
 
-no_first : (place : ℕ) (sites : List Site) → list_all is_quiet sites ≡ true
-    → first_among place sites ≡ None
+no_first : (place : ℕ) (nodes : List Node) → list_all is_quiet nodes ≡ true
+    → first_among place nodes ≡ None
 no_first place [] all = refl
-no_first place (site ∷ sites) all =
-    ap (λ o. option_map_or (λ to. Some (direction place to)) o (first_among (place + 1) sites))
-    (quiet_none site (both (is_quiet site) (list_all is_quiet sites) all).0)
-    ∙ no_first (place + 1) sites (both (is_quiet site) (list_all is_quiet sites) all).1
+no_first place (node ∷ nodes) all =
+    ap (λ o. option_map_or (λ to. Some (direction place to)) o (first_among (place + 1) nodes))
+    (quiet_none node (both (is_quiet node) (list_all is_quiet nodes) all).0)
+    ∙ no_first (place + 1) nodes (both (is_quiet node) (list_all is_quiet nodes) all).1
 
 pub rest_stays : RestStays
-rest_stays course rest =
-    record { no_line = no_delivery course rest; no_way = no_first 0 course.net.sites rest }
+rest_stays progress rest =
+    record { no_line = no_delivery progress rest; no_way = no_first 0 progress.net.nodes rest }
 
 pub given_is_kept : GivenIsKept
 unfolding given

@@ -7,10 +7,10 @@ use Rattle.std.specs.FinMap.{get}
 use Rattle.std.specs.List.{AllByRecursion}
 use Rattle.std.specs.Option.{option_and_then, option_map_or}
 use Rattle.irc_line.specs.Lines.{IsLine}
-use Rattle.irc_network.specs.Network.{Course, Network, Receipt, Site, site_at, waiting, heard}
-use Rattle.irc_wires.specs.Wires.{Wire, Wires, advanced, lines_to_come, wire_at, with_wire}
+use Rattle.irc_network.specs.Network.{Progress, Network, Receipt, Node, node_at, waiting, heard}
+use Rattle.irc_wires.specs.Wires.{LinkWire, Wires, advanced, lines_to_come, wire_at, with_wire}
 use Rattle.irc_wires.specs.Lemmas.PutWires.{IsSetAt, it, nowhere, other_from, other_to, wire_set}
-use Rattle.irc_network.specs.Behind.{Ahead, net_behind, course_behind, emptied, site_behind}
+use Rattle.irc_network.specs.Behind.{Ahead, net_behind, progress_behind, emptied, node_behind}
 use Rattle.irc_network.specs.ByteNetwork.{ByteNetwork, all_heard, all_written, bytes_come}
 use Rattle.irc_network.specs.ByteNetwork.{completed_in, net_in_lines, lines_ahead, waiting_at}
 use Rattle.irc_network.specs.ByteNetwork.{queues_written}
@@ -19,7 +19,7 @@ use Rattle.irc_network.specs.Whole.{AreLinesWaiting, BytesComeAsLines, ComeAsLin
 use Rattle.irc_network.specs.Whole.{IsWhole, IsWholeNet, has_way, no_more, one_first}
 use Rattle.irc_network.proofs.Behind.{at-behind}
 use Rattle.irc_network.specs.Lemmas.Rows.{rows_after_lines}
-use Rattle.irc_network.proofs.Delivered.{IsLeftOn, one_delivered, same_sites}
+use Rattle.irc_network.proofs.Delivered.{IsLeftOn, one_delivered, same_nodes}
 use Rattle.irc_network.proofs.GivenLines.{none_there, with_net}
 use Rattle.irc_network.proofs.Refilled.{refilled}
 use Rattle.irc_network.specs.Lemmas.Emptied.{emptied_waits, emptied_ways}
@@ -74,46 +74,46 @@ left_on from to some rest ahead = record {
 
 -- a way, and the lines that wait on it
 pub record HasWay (net : Network) (from to : ℕ) : Type 0 where
-  pub site : Site
-  pub at : site_at net from ≡ Some site
+  pub node : Node
+  pub at : node_at net from ≡ Some node
   pub lines : List (List ℕ)
-  pub way : get site.queues to ≡ Some lines
+  pub way : get node.queues to ≡ Some lines
 
 way_of : (net : Network) (from to : ℕ) → has_way net from to ≡ true → HasWay net from to
-way_of net from to is = by_site (site_at net from) refl is
+way_of net from to is = by_node (node_at net from) refl is
   where
-    by_way : (site : Site) → site_at net from ≡ Some site → (o : Option (List (List ℕ)))
-        → get site.queues to ≡ o → is_some o ≡ true → HasWay net from to
-    by_way site at None way none = cc none
-    by_way site at (Some lines) way some = record { site = site; at = at; lines = lines; way = way }
+    by_way : (node : Node) → node_at net from ≡ Some node → (o : Option (List (List ℕ)))
+        → get node.queues to ≡ o → is_some o ≡ true → HasWay net from to
+    by_way node at None way none = cc none
+    by_way node at (Some lines) way some = record { node = node; at = at; lines = lines; way = way }
 
-    by_site : (o : Option Site) → site_at net from ≡ o → is_some
-        (option_and_then (λ (site : Site). get site.queues to) o) ≡ true → HasWay net from to
-    by_site None at none = cc none
-    by_site (Some site) at some = by_way site at (get site.queues to) refl some
+    by_node : (o : Option Node) → node_at net from ≡ o → is_some
+        (option_and_then (λ (node : Node). get node.queues to) o) ≡ true → HasWay net from to
+    by_node None at none = cc none
+    by_node (Some node) at some = by_way node at (get node.queues to) refl some
 
 module _ (from to : ℕ) (ahead : Ahead) (rest : List (List ℕ)) where
-  all_delivered : (lines : List (List ℕ)) (course : Course)
-      → has_way course.net from to ≡ true → Delivers from to (length lines)
-      (course_behind (ahead_on from to (lines ++ rest) ahead) course)
-      (course_behind (ahead_on from to rest ahead) (all_heard from to course lines))
-  all_delivered [] course way = no_more
-  all_delivered (line ∷ lines) course way =
-      let there = way_of course.net from to way in
+  all_delivered : (lines : List (List ℕ)) (progress : Progress)
+      → has_way progress.net from to ≡ true → Delivers from to (length lines)
+      (progress_behind (ahead_on from to (lines ++ rest) ahead) progress)
+      (progress_behind (ahead_on from to rest ahead) (all_heard from to progress lines))
+  all_delivered [] progress way = no_more
+  all_delivered (line ∷ lines) progress way =
+      let there = way_of progress.net from to way in
       one_first
       (one_delivered from to line (lines ++ rest) (ahead_on from to (line ∷ (lines ++ rest)) ahead)
       (ahead_on from to (lines ++ rest) ahead)
       (on_it from to (line ∷ (lines ++ rest)) ahead) (left_on from to (line ∷ (lines ++ rest))
-      (lines ++ rest) ahead) course there.site there.at there.lines
+      (lines ++ rest) ahead) progress there.node there.at there.lines
       there.way)
-      (all_delivered lines (heard from to course line)
-      (heard_ways from to course line from to ∙ way))
+      (all_delivered lines (heard from to progress line)
+      (heard_ways from to progress line from to ∙ way))
 
 -- ---- bytes
 
 module _ (known : IsKnownOfStreams) (old : ByteNetwork) (from to count : ℕ) (before : List Receipt)
     (whole : IsWholeNet old) where
-  abbrev wire : Wire
+  abbrev wire : LinkWire
   wire = wire_at old.wires from to
 
   abbrev lines : List (List ℕ)
@@ -125,7 +125,7 @@ module _ (known : IsKnownOfStreams) (old : ByteNetwork) (from to count : ℕ) (b
   abbrev ahead : Ahead
   ahead = lines_ahead old.wires
 
-  abbrev start : Course
+  abbrev start : Progress
   start = record { net = old.network; receipts = before }
 
   -- the wires once they have come
@@ -136,7 +136,7 @@ module _ (known : IsKnownOfStreams) (old : ByteNetwork) (from to count : ℕ) (b
   abbrev now : Ahead
   now = ahead_on from to rest ahead
 
-  abbrev last : Course
+  abbrev last : Progress
   last = all_heard from to start lines
 
   parted : ahead from to ≡ lines ++ rest
@@ -158,33 +158,36 @@ module _ (known : IsKnownOfStreams) (old : ByteNetwork) (from to count : ℕ) (b
 
   -- ---- what is delivered
 
-  delivers : Delivers from to (length lines) (course_behind ahead start) (course_behind now last)
+  delivers : Delivers from to (length lines) (progress_behind ahead start)
+      (progress_behind now last)
   delivers =
       subst (λ net. Delivers from to (length lines) (record start { net = net })
-      (course_behind now last))
-      (ap (λ sites. record old.network { sites = sites })
-      (same_sites (ahead_on from to (lines ++ rest) ahead) ahead old.network.sites front_is))
+      (progress_behind now last))
+      (ap (λ nodes. record old.network { nodes = nodes })
+      (same_nodes (ahead_on from to (lines ++ rest) ahead) ahead old.network.nodes front_is))
       (by (has_way old.network from to) refl)
     where
       by : (b : Bool) → has_way old.network from to ≡ b → Delivers from to (length lines)
-          (course_behind (ahead_on from to (lines ++ rest) ahead) start) (course_behind now last)
+          (progress_behind (ahead_on from to (lines ++ rest) ahead) start)
+          (progress_behind now last)
       by true way = all_delivered from to ahead rest lines start way
       by false none =
           subst (λ ls. Delivers from to (length ls)
-          (course_behind (ahead_on from to (ls ++ rest) ahead) start)
-          (course_behind (ahead_on from to rest ahead) (all_heard from to start ls)))
+          (progress_behind (ahead_on from to (ls ++ rest) ahead) start)
+          (progress_behind (ahead_on from to rest ahead) (all_heard from to start ls)))
           (sym (none_of_both lines rest (sym parted ∙ whole.ways from to none)).0) no_more
 
   -- ---- the wires before what is put out is written
 
-  pub record IsAhead (x y : ℕ) (w : Wire) : Type 0 where
+  pub record IsAhead (x y : ℕ) (w : LinkWire) : Type 0 where
     pub lines_come : lines_to_come w ≡ now x y
     pub ends_lines : IsWhole w
 
   there_now : (x y : ℕ) → x ≡ from → y ≡ to → now x y ≡ rest
   there_now x y one two = ap (λ n. now n y) one ∙ ap (now from) two ∙ on_it from to rest ahead
 
-  old_wire : (x y : ℕ) (w : Wire) → w ≡ wire_at old.wires x y → now x y ≡ ahead x y → IsAhead x y w
+  old_wire : (x y : ℕ) (w : LinkWire) → w ≡ wire_at old.wires x y → now x y ≡ ahead x y
+      → IsAhead x y w
   old_wire x y w is alike =
       subst (IsAhead x y) (sym is) (record { lines_come = sym alike; ends_lines = whole.whole x y })
 
@@ -221,21 +224,21 @@ module _ (known : IsKnownOfStreams) (old : ByteNetwork) (from to count : ℕ) (b
 
   put_out_are : AreLinesWaiting (net_behind now last.net) → (x y : ℕ)
       → AllByRecursion IsLine (waiting_at last.net x y)
-  put_out_are are x y = by_site (site_at last.net x) refl
+  put_out_are are x y = by_node (node_at last.net x) refl
     where
-      by_way : (site : Site) → site_at last.net x ≡ Some site → (o : Option (List (List ℕ)))
-          → get site.queues y ≡ o → AllByRecursion IsLine (unwrap_or o [])
-      by_way site at None way = tt
-      by_way site at (Some lines) way =
+      by_way : (node : Node) → node_at last.net x ≡ Some node → (o : Option (List (List ℕ)))
+          → get node.queues y ≡ o → AllByRecursion IsLine (unwrap_or o [])
+      by_way node at None way = tt
+      by_way node at (Some lines) way =
           all_behind (now x y) lines
-          (subst (AllByRecursion IsLine) (waiting_behind (now x) site y lines way)
-          (are x y (site_behind (now x) site) (at-behind now last.net x
-          ∙ ap (option_map (site_behind (now x))) at)))
+          (subst (AllByRecursion IsLine) (waiting_behind (now x) node y lines way)
+          (are x y (node_behind (now x) node) (at-behind now last.net x
+          ∙ ap (option_map (node_behind (now x))) at)))
 
-      by_site : (o : Option Site) → site_at last.net x ≡ o
-          → AllByRecursion IsLine (option_map_or (λ site. waiting site y) o [])
-      by_site None at = tt
-      by_site (Some site) at = by_way site at (get site.queues y) refl
+      by_node : (o : Option Node) → node_at last.net x ≡ o
+          → AllByRecursion IsLine (option_map_or (λ node. waiting node y) o [])
+      by_node None at = tt
+      by_node (Some node) at = by_way node at (get node.queues y) refl
 
   module _ (new : ByteNetwork) (written : IsWritten last.net between new)
       (are : AreLinesWaiting (net_behind now last.net)) where
@@ -258,11 +261,11 @@ module _ (known : IsKnownOfStreams) (old : ByteNetwork) (from to count : ℕ) (b
     after_is = ap (net_behind (lines_ahead new.wires)) network_is
         ∙ refilled now (lines_ahead new.wires) last.net lines_are
 
-    all_ways : (ls : List (List ℕ)) (course : Course) (x y : ℕ)
-        → has_way (all_heard from to course ls).net x y ≡ has_way course.net x y
-    all_ways [] course x y = refl
-    all_ways (line ∷ ls) course x y =
-        all_ways ls (heard from to course line) x y ∙ heard_ways from to course line x y
+    all_ways : (ls : List (List ℕ)) (progress : Progress) (x y : ℕ)
+        → has_way (all_heard from to progress ls).net x y ≡ has_way progress.net x y
+    all_ways [] progress x y = refl
+    all_ways (line ∷ ls) progress x y =
+        all_ways ls (heard from to progress line) x y ∙ heard_ways from to progress line x y
 
     same_ways_now : (x y : ℕ) → has_way new.network x y ≡ has_way old.network x y
     same_ways_now x y =
@@ -304,7 +307,7 @@ module _ (known : IsKnownOfStreams) (old : ByteNetwork) (from to count : ℕ) (b
   as_lines : ComeAsLines from to count (record { net = old; receipts = before })
   unfolding bytes_come
   as_lines = record {
-    last = course_behind now last;
+    last = progress_behind now last;
     delivers = delivers;
     as_lines =
         λ are. ap (with_net last) (after_is (queues_written last.net between) all_is_written are);

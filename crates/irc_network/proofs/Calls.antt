@@ -5,12 +5,12 @@ use Rattle.std.specs.Option.{option_map_or}
 use Rattle.irc_network.specs.Network.{done_by, given}
 use Rattle.irc_world.specs.Stepping.{Item}
 use Rattle.irc_wires.specs.Wires.{Direction, SameWires, advanced, first_direction, wire_at}
-use Rattle.irc_network.specs.ByteNetwork.{ByteCourse, ByteNetwork, bytes_come, completed_in}
-use Rattle.irc_network.specs.ByteNetwork.{course_without_wires, course_written, item_given}
+use Rattle.irc_network.specs.ByteNetwork.{ByteProgress, ByteNetwork, bytes_come, completed_in}
+use Rattle.irc_network.specs.ByteNetwork.{progress_without_wires, progress_written, item_given}
 use Rattle.irc_network.specs.ByteNetwork.{wires_after, wires_come}
 use Rattle.irc_network.specs.Lemmas.Rows.{rows_stay}
 use Rattle.irc_network.specs.Lemmas.RowsWritten.{lean_with}
-use Rattle.irc_network.specs.Loops.Courses.{all_heard_out}
+use Rattle.irc_network.specs.Loops.Progress.{all_heard_out}
 use Rattle.irc_network.specs.Whole.{IsTidy}
 use Rattle.irc_network.proofs.AskedOut.{all_heard_written}
 use Rattle.irc_network.proofs.SentOut.{tidy_alone}
@@ -19,18 +19,18 @@ use Rattle.irc_network.specs.Turns.{TurnsBy, bytes_in_turn, lines_in, turn_in}
 -- ---- what is given
 
 -- it is kept, and lines are counted anew
-abbrev pub byte_kept : Item → ByteCourse → ByteCourse
-byte_kept item course = record course {
-  net = record course.net {
-    network = record course.net.network {
-      items = course.net.network.items ++ item ∷ [];
+abbrev pub byte_kept : Item → ByteProgress → ByteProgress
+byte_kept item progress = record progress {
+  net = record progress.net {
+    network = record progress.net.network {
+      items = progress.net.network.items ++ item ∷ [];
       taken = 0;
     };
   };
 }
 
-pub was_given : (old : ByteNetwork) (item : Item) (done : ByteCourse)
-    → done ≡ course_written (done_by item old.network) (wires_after old.network item old.wires)
+pub was_given : (old : ByteNetwork) (item : Item) (done : ByteProgress)
+    → done ≡ progress_written (done_by item old.network) (wires_after old.network item old.wires)
     → byte_kept item done ≡ item_given item old
 unfolding given item_given
 was_given old item done is = ap (byte_kept item) is
@@ -50,24 +50,24 @@ come_tidy from to count net tidy = record {
 }
 
 -- what they complete is heard in turn, and what servers put out upon it is written at once
-pub have_come : SameWires → (from to count : ℕ) (old : ByteCourse) → IsTidy old.net
+pub have_come : SameWires → (from to count : ℕ) (old : ByteProgress) → IsTidy old.net
     → all_heard_out from to (record old { net = come_in from to count old.net })
     (completed_in old.net from to count) ≡ bytes_come from to count old
 unfolding bytes_come
 have_come same from to count old tidy =
     let now = come_tidy from to count old.net tidy in
     let lines = completed_in old.net from to count in
-    ap (λ course. all_heard_out from to course lines)
+    ap (λ progress. all_heard_out from to progress lines)
     (sym (tidy_alone (record old { net = come_in from to count old.net }) now))
     ∙ all_heard_written same from to (wires_come old.net from to count) now.lean lines
-    (course_without_wires old) now.rows
+    (progress_without_wires old) now.rows
 
 -- ---- a turn
 
-pub no_turn : (old : ByteCourse) → None ≡ first_direction old.net.wires → TurnsBy None old old
+pub no_turn : (old : ByteProgress) → None ≡ first_direction old.net.wires → TurnsBy None old old
 no_turn old none = (ap (option_map (turn_in old)) (sym none), refl)
 
-pub one_turn : (old new : ByteCourse) (d : Direction) (count lines : ℕ)
+pub one_turn : (old new : ByteProgress) (d : Direction) (count lines : ℕ)
     → Some d ≡ first_direction old.net.wires
     → count ≡ bytes_in_turn old.net d → new ≡ bytes_come d.from d.to count old
     → lines ≡ length (completed_in old.net d.from d.to count) → TurnsBy (Some lines) old new

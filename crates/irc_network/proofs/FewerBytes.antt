@@ -15,13 +15,13 @@ use Rattle.irc_tables.specs.Lemmas.OrderedEntries.{others, others-between, put-t
 use Rattle.irc_tables.specs.Lemmas.OrderedEntries.{sorted-below}
 use Rattle.irc_stage.specs.Lemmas.Numbers.{one_number, same_number}
 use Rattle.irc_line.specs.Bytes.{line_feed}
-use Rattle.irc_wires.specs.Wires.{Direction, Wire, Wires, advanced, first_direction, first_from}
+use Rattle.irc_wires.specs.Wires.{Direction, LinkWire, Wires, advanced, first_direction, first_from}
 use Rattle.irc_wires.specs.Wires.{first_in, has_byte, is_none, is_still, new_wire, put_in}
 use Rattle.irc_wires.specs.Wires.{through_line_feed, wire_at, wire_in, with_wire}
 use Rattle.irc_network.specs.Loops.Turning.{bytes_of_entries, bytes_on_way}
 
-abbrev Row : Type 0
-Row = FinMap nat_cmp Wire
+abbrev WireRow : Type 0
+WireRow = FinMap nat_cmp LinkWire
 
 told : (b : Bool) → T b → b ≡ true
 told true h = refl
@@ -29,18 +29,18 @@ told false h = absurd h
 
 -- ---- in a row
 
-bytes_of-append : (front back : List (ℕ × Wire))
+bytes_of-append : (front back : List (ℕ × LinkWire))
     → bytes_of_entries (front ++ back) ≡ bytes_of_entries front + bytes_of_entries back
 bytes_of-append [] back = omega arith
 bytes_of-append (entry ∷ front) back = let more = bytes_of-append front back in omega (arith, more)
 
 -- where a wire is among the entries
-record IsListed (es : List (ℕ × Wire)) (to : ℕ) (wire : Wire) : Type 0 where
-  front : List (ℕ × Wire)
-  back : List (ℕ × Wire)
+record IsListed (es : List (ℕ × LinkWire)) (to : ℕ) (wire : LinkWire) : Type 0 where
+  front : List (ℕ × LinkWire)
+  back : List (ℕ × LinkWire)
   is : es ≡ front ++ (to, wire) ∷ back
 
-is_listed : (es : List (ℕ × Wire)) (to : ℕ) (wire : Wire) → find nat_cmp to es ≡ Some wire
+is_listed : (es : List (ℕ × LinkWire)) (to : ℕ) (wire : LinkWire) → find nat_cmp to es ≡ Some wire
     → IsListed es to wire
 is_listed [] to wire is = cc is
 is_listed (e ∷ es) to wire is = by (same_number to e.0) refl (is_listed es to wire) is
@@ -58,20 +58,20 @@ is_listed (e ∷ es) to wire is = by (same_number to e.0) refl (is_listed es to 
         let rest = later found in
         record { front = e ∷ rest.front; back = rest.back; is = ap (λ more. e ∷ more) rest.is }
 
-entries-remove : (row : Row) (to : ℕ)
+entries-remove : (row : WireRow) (to : ℕ)
     → entries (remove row to) ≡ others nat_cmp_total to (entries row)
 entries-remove row to =
     ap entries (same_map nat_cmp_total nat_cmp-IsAntisymmetric (remove row to)
     (from_sorted left) same) ∙ entries-from_sorted nat_cmp left rise
   where
-    left : List (ℕ × Wire)
+    left : List (ℕ × LinkWire)
     left = others nat_cmp_total to (entries row)
 
     rise : T (is_sorted nat_cmp left)
     rise =
         is_sorted-where_key nat_cmp (λ x. not (same_number to x)) (entries row) (entries_sorted row)
 
-    turned_round : (b c : Bool) (o : Option Wire) → b ≡ c → cond b None o ≡ cond (not c) o None
+    turned_round : (b c : Bool) (o : Option LinkWire) → b ≡ c → cond b None o ≡ cond (not c) o None
     turned_round true c o same = ap (λ d. cond (not d) o None) same
     turned_round false c o same = ap (λ d. cond (not d) o None) same
 
@@ -96,7 +96,7 @@ less_gone front before back all now all_is now_is some = omega arith
 some_before : (after before : ℕ) → after < before → 0 < before
 some_before after before less = omega arith
 
-row_fewer : (row : Row) (to : ℕ) (wire after : Wire)
+row_fewer : (row : WireRow) (to : ℕ) (wire after : LinkWire)
     → get row to ≡ Some wire → length after.bytes < length wire.bytes
     → bytes_of_entries (entries (put_in to after row)) < bytes_of_entries (entries row)
 row_fewer row to wire after is less = by (is_still after)
@@ -143,14 +143,14 @@ less_front before after rest less = omega arith
 less_rest : (front before after : ℕ) → after < before → front + after < front + before
 less_rest front before after less = omega arith
 
-rows_fewer : (wires : Wires) (from : ℕ) (row after : Row) → slice_get wires from ≡ Some row
+rows_fewer : (wires : Wires) (from : ℕ) (row after : WireRow) → slice_get wires from ≡ Some row
     → bytes_of_entries (entries after) < bytes_of_entries (entries row)
     → bytes_on_way (slice_set wires from after) < bytes_on_way wires
 rows_fewer [] from row after at less = cc at
 rows_fewer (first ∷ wires) zero row after at less =
     less_front (bytes_of_entries (entries first)) (bytes_of_entries (entries after))
     (bytes_on_way wires)
-    (subst (λ (r : Row). bytes_of_entries (entries after) < bytes_of_entries (entries r))
+    (subst (λ (r : WireRow). bytes_of_entries (entries after) < bytes_of_entries (entries r))
     (sym (ap (λ o. unwrap_or o row) at)) less)
 rows_fewer (first ∷ wires) (suc from) row after at less =
     less_rest (bytes_of_entries (entries first)) (bytes_on_way wires)
@@ -172,7 +172,7 @@ found_passes test (n ∷ numbers) number is = by (test n) refl (found_passes tes
 record HasByteIn (wires : Wires) (place : ℕ) (way : Direction) : Type 0 where
   earlier : ℕ
   place_is : way.from ≡ place + earlier
-  row : Row
+  row : WireRow
   is_row : slice_get wires earlier ≡ Some row
   moves : has_byte (wire_in way.to row) ≡ true
 
@@ -241,10 +241,11 @@ abbrev pub turned : Direction → Wires → Wires
 turned way wires = with_wire way.from way.to (advanced (through_line_feed
     (wire_at wires way.from way.to).bytes) (wire_at wires way.from way.to)) wires
 
-there : (row : Row) (to : ℕ) → has_byte (wire_in to row) ≡ true → get row to ≡ Some (wire_in to row)
+there : (row : WireRow) (to : ℕ) → has_byte (wire_in to row) ≡ true
+    → get row to ≡ Some (wire_in to row)
 there row to moves = by (get row to) moves
   where
-    by : (o : Option Wire) → has_byte (unwrap_or o new_wire) ≡ true
+    by : (o : Option LinkWire) → has_byte (unwrap_or o new_wire) ≡ true
         → o ≡ Some (unwrap_or o new_wire)
     by None none = cc none
     by (Some wire) some = refl
@@ -262,15 +263,15 @@ fewer_bytes wires way is = subst (λ ws. bytes_on_way ws < bytes_on_way wires) (
     at : slice_get wires way.from ≡ Some found.row
     at = ap (slice_get wires) (from_is way.from found.earlier found.place_is) ∙ found.is_row
 
-    wire : Wire
+    wire : LinkWire
     wire = wire_in way.to found.row
 
-    after : Wire
+    after : LinkWire
     after = advanced (through_line_feed wire.bytes) wire
 
     turned_is : turned way wires ≡ slice_set wires way.from (put_in way.to after found.row)
     turned_is = ap
-        (λ o. option_map_or (λ (row : Row). slice_set wires way.from
+        (λ o. option_map_or (λ (row : WireRow). slice_set wires way.from
         (put_in way.to
         (advanced (through_line_feed (option_map_or (wire_in way.to) o new_wire).bytes)
         (option_map_or (wire_in way.to) o new_wire)) row)) o wires)

@@ -14,11 +14,12 @@ use Rattle.std.specs.List.{find, list_any, slice_get}
 use Rattle.std.specs.Option.{option_and_then, option_map_or}
 use Rattle.std.specs.Ordering.{MatchOrdering, is_lt, nat_cmp}
 use Rattle.irc_stage.specs.Lemmas.Numbers.{one_number, same_number, same_number-refl}
-use Rattle.irc_network.specs.Network.{Direction as LineDirection, Site, direction, first_among}
+use Rattle.irc_network.specs.Network.{Node, direction, first_among}
 use Rattle.irc_network.specs.Network.{first_way, is_nothing, waiting, waits}
-use Rattle.irc_wires.specs.Wires.{Direction, Wire, Wires, first_from, first_in, has_byte, new_wire}
+use Rattle.irc_wires.specs.Wires.{Direction, LinkWire, Wires, first_from, first_in, has_byte}
+use Rattle.irc_wires.specs.Wires.{new_wire}
 use Rattle.irc_wires.specs.Wires.{wire_at, wire_in}
-use Rattle.irc_network.specs.Behind.{Ahead, site_behind, sites_behind}
+use Rattle.irc_network.specs.Behind.{Ahead, node_behind, nodes_behind}
 use Rattle.irc_network.specs.Lemmas.Ways.{get-each_way, none_waiting, waiting_behind}
 
 -- ---- the first of rising numbers that passes
@@ -151,42 +152,42 @@ module _ {X : Type 0} where
   keys_rise : (m : FinMap nat_cmp X) → Rise (keys m)
   keys_rise m = rise_of (entries m) (told (is_sorted nat_cmp (entries m)) (entries_sorted m))
 
--- ---- a row of wires, and the site that they are from
+-- ---- a row of wires, and the node that they are from
 
 some_front : (front lines : List (List ℕ)) → is_nothing front ≡ false
     → not (is_nothing (front ++ lines)) ≡ true
 some_front [] lines some = cc some
 some_front (first ∷ front) lines some = refl
 
-module _ (row : FinMap nat_cmp Wire) (site : Site) (ahead : ℕ → List (List ℕ))
+module _ (row : FinMap nat_cmp LinkWire) (node : Node) (ahead : ℕ → List (List ℕ))
     (only : (x : ℕ) → has_byte (wire_in x row) ≡ false → ahead x ≡ [])
-    (quiet : (x : ℕ) → waiting site x ≡ []) where
-  none_waits : (x : ℕ) → ahead x ≡ [] → waits (site_behind ahead site) x ≡ false
-  none_waits x none = by (get site.queues x) refl
+    (quiet : (x : ℕ) → waiting node x ≡ []) where
+  none_waits : (x : ℕ) → ahead x ≡ [] → waits (node_behind ahead node) x ≡ false
+  none_waits x none = by (get node.queues x) refl
     where
-      by : (o : Option (List (List ℕ))) → get site.queues x ≡ o
-          → waits (site_behind ahead site) x ≡ false
-      by None at = ap (λ lines. not (is_nothing lines)) (none_waiting ahead site x at)
+      by : (o : Option (List (List ℕ))) → get node.queues x ≡ o
+          → waits (node_behind ahead node) x ≡ false
+      by None at = ap (λ lines. not (is_nothing lines)) (none_waiting ahead node x at)
       by (Some lines) at =
           ap (λ all. not (is_nothing all))
-          (waiting_behind ahead site x lines at ∙ ap (λ front. front ++ lines) none
+          (waiting_behind ahead node x lines at ∙ ap (λ front. front ++ lines) none
           ∙ sym (ap (λ o. unwrap_or o []) at) ∙ quiet x)
 
-  one_waits : (x : ℕ) → is_some (get site.queues x) ≡ true → is_nothing (ahead x) ≡ false
-      → waits (site_behind ahead site) x ≡ true
-  one_waits x way some = by (get site.queues x) refl way
+  one_waits : (x : ℕ) → is_some (get node.queues x) ≡ true → is_nothing (ahead x) ≡ false
+      → waits (node_behind ahead node) x ≡ true
+  one_waits x way some = by (get node.queues x) refl way
     where
-      by : (o : Option (List (List ℕ))) → get site.queues x ≡ o → is_some o ≡ true
-          → waits (site_behind ahead site) x ≡ true
+      by : (o : Option (List (List ℕ))) → get node.queues x ≡ o → is_some o ≡ true
+          → waits (node_behind ahead node) x ≡ true
       by None at is = cc is
       by (Some lines) at is = ap (λ all. not (is_nothing all))
-          (waiting_behind ahead site x lines at) ∙ some_front (ahead x) lines some
+          (waiting_behind ahead node x lines at) ∙ some_front (ahead x) lines some
 
   -- no byte is on a wire that the row has not
   not_there : (x : ℕ) → is_some (get row x) ≡ false → has_byte (wire_in x row) ≡ false
   not_there x none = by (get row x) none
     where
-      by : (o : Option Wire) → is_some o ≡ false → has_byte (unwrap_or o new_wire) ≡ false
+      by : (o : Option LinkWire) → is_some o ≡ false → has_byte (unwrap_or o new_wire) ≡ false
       by None is = refl
       by (Some wire) is = cc is
 
@@ -198,20 +199,20 @@ module _ (row : FinMap nat_cmp Wire) (site : Site) (ahead : ℕ → List (List �
       by true is = if_there (sym (contains_key-keys row x) ∙ is)
       by false is = not_there x is
 
-  no_first_way : first_in row ≡ None → first_way (site_behind ahead site) ≡ None
+  no_first_way : first_in row ≡ None → first_way (node_behind ahead node) ≡ None
   no_first_way none =
-      none_found (waits (site_behind ahead site)) (keys (site_behind ahead site).queues) (λ x.
+      none_found (waits (node_behind ahead node)) (keys (node_behind ahead node).queues) (λ x.
       none_waits x
       (only x (no_byte x (none_passes (λ to. has_byte (wire_in to row)) (keys row) none x))))
 
-  first_way_is : (to : ℕ) → first_in row ≡ Some to → is_some (get site.queues to) ≡ true
-      → is_nothing (ahead to) ≡ false → first_way (site_behind ahead site) ≡ Some to
+  first_way_is : (to : ℕ) → first_in row ≡ Some to → is_some (get node.queues to) ≡ true
+      → is_nothing (ahead to) ≡ false → first_way (node_behind ahead node) ≡ Some to
   first_way_is to found way some =
-      first_found (waits (site_behind ahead site)) (keys (site_behind ahead site).queues) to
-      (keys_rise (site_behind ahead site).queues) (record {
-        there = sym (contains_key-keys (site_behind ahead site).queues to)
-            ∙ ap is_some (get-each_way (λ x lines. ahead x ++ lines) site.queues to)
-            ∙ still_way (get site.queues to) ∙ way;
+      first_found (waits (node_behind ahead node)) (keys (node_behind ahead node).queues) to
+      (keys_rise (node_behind ahead node).queues) (record {
+        there = sym (contains_key-keys (node_behind ahead node).queues to)
+            ∙ ap is_some (get-each_way (λ x lines. ahead x ++ lines) node.queues to)
+            ∙ still_way (get node.queues to) ∙ way;
         passes = one_waits to way some;
         before = λ x less there.
             none_waits x (only x (no_byte x ((is_first (λ y. has_byte (wire_in y row)) (keys row) to
@@ -225,45 +226,45 @@ module _ (row : FinMap nat_cmp Wire) (site : Site) (ahead : ℕ → List (List �
 
 -- ---- all of them
 
--- the site at a place has a way on which lines are ahead
-pub record HasAhead (at : Option Site) (to : ℕ) (lines : List (List ℕ)) : Type 0 where
-  pub way : is_some (option_and_then (λ (site : Site). get site.queues to) at) ≡ true
+-- the node at a place has a way on which lines are ahead
+pub record HasAhead (at : Option Node) (to : ℕ) (lines : List (List ℕ)) : Type 0 where
+  pub way : is_some (option_and_then (λ (node : Node). get node.queues to) at) ≡ true
   pub some : is_nothing lines ≡ false
 
-abbrev first_behind : ℕ → Ahead → List Site → Option LineDirection
-first_behind place ahead sites = first_among (place + 1) (sites_behind (λ n. ahead (suc n)) sites)
+abbrev first_behind : ℕ → Ahead → List Node → Option Direction
+first_behind place ahead nodes = first_among (place + 1) (nodes_behind (λ n. ahead (suc n)) nodes)
 
-pub first_is : (place : ℕ) (wires : Wires) (sites : List Site)
-    (ahead : Ahead) (d : Direction) → length wires ≡ length sites
+pub first_is : (place : ℕ) (wires : Wires) (nodes : List Node)
+    (ahead : Ahead) (d : Direction) → length wires ≡ length nodes
     → ((x to : ℕ) → has_byte (wire_at wires x to) ≡ false → ahead x to ≡ [])
-    → ((x to : ℕ) → option_map_or (λ site. waiting site to) (slice_get sites x) [] ≡ [])
-    → ((x : ℕ) → d.from ≡ place + x → HasAhead (slice_get sites x) d.to (ahead x d.to))
+    → ((x to : ℕ) → option_map_or (λ node. waiting node to) (slice_get nodes x) [] ≡ [])
+    → ((x : ℕ) → d.from ≡ place + x → HasAhead (slice_get nodes x) d.to (ahead x d.to))
     → first_from place wires ≡ Some d
-    → first_among place (sites_behind ahead sites) ≡ Some (direction d.from d.to)
-first_is place [] sites ahead d rows only quiet has found = cc found
+    → first_among place (nodes_behind ahead nodes) ≡ Some (direction d.from d.to)
+first_is place [] nodes ahead d rows only quiet has found = cc found
 first_is place (row ∷ wires) [] ahead d rows only quiet has found = absurd (omega (arith, rows))
-first_is place (row ∷ wires) (site ∷ sites) ahead d rows only quiet has found =
+first_is place (row ∷ wires) (node ∷ nodes) ahead d rows only quiet has found =
     by (first_in row) refl
-    (first_is (place + 1) wires sites (λ n. ahead (suc n)) d (omega (arith, rows))
+    (first_is (place + 1) wires nodes (λ n. ahead (suc n)) d (omega (arith, rows))
     (λ x. only (suc x)) (λ x. quiet (suc x))
     (λ x at. has (suc x) (omega (arith, at))))
     found
   where
     by : (o : Option ℕ) → first_in row ≡ o → (first_from (place + 1) wires ≡ Some d
-        → first_behind place ahead sites ≡ Some (direction d.from d.to)) → option_map_or
+        → first_behind place ahead nodes ≡ Some (direction d.from d.to)) → option_map_or
         (λ to. Some (record { from = place; to = to })) o (first_from (place + 1) wires) ≡ Some d
-        → option_map_or (λ to. Some (direction place to)) (first_way (site_behind (ahead 0) site))
-        (first_behind place ahead sites)
+        → option_map_or (λ to. Some (direction place to)) (first_way (node_behind (ahead 0) node))
+        (first_behind place ahead nodes)
         ≡ Some (direction d.from d.to)
     by None none later is =
-        ap (λ o. option_map_or (λ to. Some (direction place to)) o (first_behind place ahead sites))
-        (no_first_way row site (ahead 0) (only 0) (quiet 0) none)
+        ap (λ o. option_map_or (λ to. Some (direction place to)) o (first_behind place ahead nodes))
+        (no_first_way row node (ahead 0) (only 0) (quiet 0) none)
         ∙ later is
     by (Some to) here later is =
         let from_is : d.from ≡ place = ap (λ o. (unwrap_or o d).from) (sym is) in
         let to_is : d.to ≡ to = ap (λ o. (unwrap_or o d).to) (sym is) in
-        let ahead_here : HasAhead (Some site) to (ahead 0 to) = subst
-        (λ n. HasAhead (Some site) n (ahead 0 n)) to_is (has 0 (omega (arith, from_is))) in
-        ap (λ o. option_map_or (λ n. Some (direction place n)) o (first_behind place ahead sites))
-        (first_way_is row site (ahead 0) (only 0) (quiet 0) to here ahead_here.way ahead_here.some)
+        let ahead_here : HasAhead (Some node) to (ahead 0 to) = subst
+        (λ n. HasAhead (Some node) n (ahead 0 n)) to_is (has 0 (omega (arith, from_is))) in
+        ap (λ o. option_map_or (λ n. Some (direction place n)) o (first_behind place ahead nodes))
+        (first_way_is row node (ahead 0) (only 0) (quiet 0) to here ahead_here.way ahead_here.some)
         ∙ (λ i. Some (direction (sym from_is i) (sym to_is i)))

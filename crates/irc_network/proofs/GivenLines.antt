@@ -5,7 +5,7 @@ use Rattle.std.specs.FinMap.{get}
 use Rattle.std.specs.List.{AllByRecursion}
 use Rattle.std.specs.Option.{option_and_then, option_map_or}
 use Rattle.irc_line.specs.Lines.{HasTaken, IsLine, nothing_begun, stream_for}
-use Rattle.irc_network.specs.Network.{Course, Network, Site, given, site_at, waiting}
+use Rattle.irc_network.specs.Network.{Progress, Network, Node, given, node_at, waiting}
 use Rattle.irc_world.specs.Stepping.{Item}
 use Rattle.irc_wires.specs.Wires.{Wires, lines_to_come, new_wire, wire_at}
 use Rattle.irc_network.specs.Behind.{net_behind}
@@ -23,32 +23,32 @@ use Rattle.irc_network.proofs.StillWires.{all_new, nothing_lost}
 use Rattle.irc_network.proofs.WireLines.{IsKnownOfStreams, all_are_written, new_has_none}
 use Rattle.irc_network.proofs.WireLines.{new_is_whole}
 
-abbrev pub with_net : Course → Network → Course
-with_net course net = record course { net = net }
+abbrev pub with_net : Progress → Network → Progress
+with_net progress net = record progress { net = net }
 
 -- what waits at a place are lines
 pub lines_there : (net : Network) → AreLinesWaiting net → (from to : ℕ)
     → AllByRecursion IsLine (waiting_at net from to)
-lines_there net are from to = by (site_at net from) refl
+lines_there net are from to = by (node_at net from) refl
   where
-    by : (o : Option Site) → site_at net from ≡ o
-        → AllByRecursion IsLine (option_map_or (λ site. waiting site to) o [])
+    by : (o : Option Node) → node_at net from ≡ o
+        → AllByRecursion IsLine (option_map_or (λ node. waiting node to) o [])
     by None is = tt
-    by (Some site) is = are from to site is
+    by (Some node) is = are from to node is
 
 -- nothing waits where no way is
 pub none_there : (net : Network) (from to : ℕ) → has_way net from to ≡ false
     → waiting_at net from to ≡ []
-none_there net from to none = by_site (site_at net from) none
+none_there net from to none = by_node (node_at net from) none
   where
     by_way : (o : Option (List (List ℕ))) → is_some o ≡ false → unwrap_or o [] ≡ []
     by_way None none = refl
     by_way (Some lines) none = cc none
 
-    by_site : (o : Option Site) → is_some (option_and_then (λ (site : Site). get site.queues to) o)
-        ≡ false → option_map_or (λ site. waiting site to) o [] ≡ []
-    by_site None none = refl
-    by_site (Some site) none = by_way (get site.queues to) none
+    by_node : (o : Option Node) → is_some (option_and_then (λ (node : Node). get node.queues to) o)
+        ≡ false → option_map_or (λ node. waiting node to) o [] ≡ []
+    by_node None none = refl
+    by_node (Some node) none = by_way (get node.queues to) none
 
 module _ (known : IsKnownOfStreams) (real_new : HasTaken nothing_begun (stream_for nothing_begun))
     (old : ByteNetwork) (item : Item)

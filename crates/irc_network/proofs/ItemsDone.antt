@@ -5,18 +5,18 @@ use Rattle.std.specs.Option.{option_map_or}
 use Rattle.irc_relay.specs.Links.{Name, links_without}
 use Rattle.irc_server.specs.Served.{Occurrence, link_down, link_up}
 use Rattle.irc_forest.specs.Forests.{Forest, name_at}
-use Rattle.irc_forest.specs.declared.places.Ends.{Ends as KeptEnds}
+use Rattle.irc_forest.specs.declared.places.EndPlaces.{EndPlaces}
 use Rattle.irc_wires.specs.Wires.{SameWires, Wires}
 use Rattle.irc_world.specs.Stepping.{cut, link}
-use Rattle.irc_network.specs.ByteNetwork.{ByteCourse, ByteNetwork}
-use Rattle.irc_network.specs.ByteNetwork.{byte_begun, course_written, lost_along, wires_after}
+use Rattle.irc_network.specs.ByteNetwork.{ByteProgress, ByteNetwork}
+use Rattle.irc_network.specs.ByteNetwork.{byte_begun, progress_written, lost_along, wires_after}
 use Rattle.irc_network.specs.Histories.{Past}
-use Rattle.irc_network.specs.Lemmas.SitesStay.{asked_stays}
-use Rattle.irc_network.specs.Loops.Courses.{AreNamed, asked_out, ends_now, way_closed, way_opened}
-use Rattle.irc_network.specs.Network.{LinkPlaces, Site, begun, done_by}
+use Rattle.irc_network.specs.Lemmas.NodesStay.{asked_stays}
+use Rattle.irc_network.specs.Loops.Progress.{AreNamed, asked_out, ends_now, way_closed, way_opened}
+use Rattle.irc_network.specs.Network.{LinkPlaces, Node, begun, done_by}
 use Rattle.irc_network.specs.Network.{link_places}
 use Rattle.irc_network.specs.Network.{servers_linked, servers_parted}
-use Rattle.irc_network.specs.Network.{site_asked}
+use Rattle.irc_network.specs.Network.{node_asked}
 use Rattle.irc_network.specs.Whole.{IsTidy}
 use Rattle.irc_network.proofs.AskedOut.{written_between}
 use Rattle.irc_network.proofs.Places.{whole}
@@ -26,13 +26,13 @@ use Rattle.irc_network.proofs.StaysTidy.{closed_tidy, opened_tidy}
 -- ---- two servers, one after the other
 
 pub both_asked : SameWires → (near far : ℕ) (one other : Occurrence) (start : ByteNetwork)
-    (middle last : ByteCourse) → IsTidy start
+    (middle last : ByteProgress) → IsTidy start
     → middle ≡ asked_out near one (byte_begun start) → last ≡ asked_out far other middle
-    → last ≡ course_written (site_asked far other (site_asked near one (begun start.network)))
+    → last ≡ progress_written (node_asked far other (node_asked near one (begun start.network)))
     start.wires
 both_asked same near far one other start middle last tidy first then =
     then ∙ ap (asked_out far other) first
-    ∙ written_between same far other (site_asked near one (begun start.network)) start.wires
+    ∙ written_between same far other (node_asked near one (begun start.network)) start.wires
     tidy.lean (tidy.rows ∙ sym (asked_stays near one (begun start.network)))
 
 -- ---- a link more
@@ -56,24 +56,24 @@ opened_is_tidy near far ends net tidy =
     (record { quiet = tidy.quiet; rows = tidy.rows; lean = tidy.lean }))
 
 pub servers_were_linked : SameWires → (near far : Name) (ends : LinkPlaces) (net : ByteNetwork)
-    (middle last : ByteCourse) → IsTidy net
+    (middle last : ByteProgress) → IsTidy net
     → link_places net.network near far ≡ Some ends
     → middle ≡ asked_out ends.near (link_up ends.far (Some far))
     (byte_begun (opened near far ends net))
     → last ≡ asked_out ends.far (link_up ends.near None) middle
-    → last ≡ course_written (done_by (link near far) net.network) net.wires
+    → last ≡ progress_written (done_by (link near far) net.network) net.wires
 servers_were_linked same near far ends net middle last tidy are first then =
     both_asked same ends.near ends.far (link_up ends.far (Some far)) (link_up ends.near None)
     (opened near far ends net) middle last (opened_is_tidy near far ends net tidy) first then
-    ∙ sym (ap (λ o. course_written (option_map_or (servers_linked near far net.network) o
+    ∙ sym (ap (λ o. progress_written (option_map_or (servers_linked near far net.network) o
     (begun net.network)) net.wires) are)
 
 pub none_linked : (near far : Name) (net : ByteNetwork) → IsTidy net
     → link_places net.network near far ≡ None
-    → byte_begun net ≡ course_written (done_by (link near far) net.network) net.wires
+    → byte_begun net ≡ progress_written (done_by (link near far) net.network) net.wires
 none_linked near far net tidy none =
     sym (tidy_alone (byte_begun net) tidy)
-    ∙ sym (ap (λ o. course_written (option_map_or (servers_linked near far net.network) o
+    ∙ sym (ap (λ o. progress_written (option_map_or (servers_linked near far net.network) o
     (begun net.network)) net.wires) none)
 
 -- ---- a link fewer
@@ -94,69 +94,69 @@ closed_is_tidy near far ends net tidy =
     (record { quiet = tidy.quiet; rows = tidy.rows; lean = tidy.lean })
 
 pub servers_were_parted : SameWires → (near far : Name) (ends : LinkPlaces) (net : ByteNetwork)
-    (middle last : ByteCourse) → IsTidy net
+    (middle last : ByteProgress) → IsTidy net
     → link_places net.network near far ≡ Some ends
     → middle ≡ asked_out ends.near (link_down ends.far) (byte_begun (closed near far ends net))
     → last ≡ asked_out ends.far (link_down ends.near) middle
-    → last ≡ course_written (done_by (cut near far) net.network)
+    → last ≡ progress_written (done_by (cut near far) net.network)
     (wires_after net.network (cut near far) net.wires)
 servers_were_parted same near far ends net middle last tidy are first then =
     both_asked same ends.near ends.far (link_down ends.far) (link_down ends.near)
     (closed near far ends net) middle last (closed_is_tidy near far ends net tidy) first then
-    ∙ sym (ap (λ o. course_written (option_map_or (servers_parted near far net.network) o
+    ∙ sym (ap (λ o. progress_written (option_map_or (servers_parted near far net.network) o
     (begun net.network)) (lost_along o net.wires)) are)
 
 pub none_parted : (near far : Name) (net : ByteNetwork) → IsTidy net
     → link_places net.network near far ≡ None
-    → byte_begun net ≡ course_written (done_by (cut near far) net.network)
+    → byte_begun net ≡ progress_written (done_by (cut near far) net.network)
     (wires_after net.network (cut near far) net.wires)
 none_parted near far net tidy none =
     sym (tidy_alone (byte_begun net) tidy)
-    ∙ sym (ap (λ o. course_written (option_map_or (servers_parted near far net.network) o
+    ∙ sym (ap (λ o. progress_written (option_map_or (servers_parted near far net.network) o
     (begun net.network)) (lost_along o net.wires)) none)
 
 -- ---- as the code does it, field by field
 
-pub closed_so : (near far : Name) (ends : KeptEnds) (forest new : Forest) (sites : List Site)
+pub closed_so : (near far : Name) (ends : EndPlaces) (forest new : Forest) (nodes : List Node)
     (wires : Wires) (homes : List Name) (past : Past) (taken : ℕ) (old first second : ByteNetwork)
-    → whole forest sites wires homes past taken ≡ old
+    → whole forest nodes wires homes past taken ≡ old
     → new ≡ record forest {
       links = links_without forest.links (name_at forest.names ends.near)
           (name_at forest.names ends.far);
     }
     → AreNamed old.network ends near far
-    → first ≡ way_closed ends.near ends.far (whole new sites wires homes past taken)
+    → first ≡ way_closed ends.near ends.far (whole new nodes wires homes past taken)
     → second ≡ way_closed ends.far ends.near first → second ≡ closed near far (ends_now ends) old
-closed_so near far ends forest new sites wires homes past taken old first second is cut_is are one
+closed_so near far ends forest new nodes wires homes past taken old first second is cut_is are one
     other =
     let named = subst (λ (net : ByteNetwork). AreNamed net.network ends near far) (sym is) are in
     other ∙ ap (way_closed ends.far ends.near) (one
-    ∙ ap (λ (f : Forest). way_closed ends.near ends.far (whole f sites wires homes past taken))
+    ∙ ap (λ (f : Forest). way_closed ends.near ends.far (whole f nodes wires homes past taken))
     cut_is)
     ∙ (λ i. closed (named.near_named i) (named.far_named i) (ends_now ends)
-    (whole forest sites wires homes past taken))
+    (whole forest nodes wires homes past taken))
     ∙ ap (closed near far (ends_now ends)) is
 
-pub closed_tidily : (near far : Name) (ends : KeptEnds) (forest new : Forest) (sites : List Site)
+pub closed_tidily : (near far : Name) (ends : EndPlaces) (forest new : Forest) (nodes : List Node)
     (wires : Wires) (homes : List Name) (past : Past) (taken : ℕ) (old first second : ByteNetwork)
-    → whole forest sites wires homes past taken ≡ old
+    → whole forest nodes wires homes past taken ≡ old
     → new ≡ record forest {
       links = links_without forest.links (name_at forest.names ends.near)
           (name_at forest.names ends.far);
     }
     → AreNamed old.network ends near far
-    → first ≡ way_closed ends.near ends.far (whole new sites wires homes past taken)
+    → first ≡ way_closed ends.near ends.far (whole new nodes wires homes past taken)
     → second ≡ way_closed ends.far ends.near first → IsTidy old → IsTidy second
-closed_tidily near far ends forest new sites wires homes past taken old first second is
+closed_tidily near far ends forest new nodes wires homes past taken old first second is
     changed are one
     other tidy =
     subst IsTidy
-    (sym (closed_so near far ends forest new sites wires homes past taken old first second is
+    (sym (closed_so near far ends forest new nodes wires homes past taken old first second is
     changed are one other)) (closed_is_tidy near far (ends_now ends) old tidy)
 
-pub opened_so : (near far : Name) (ends : KeptEnds) (forest new : Forest) (sites : List Site)
+pub opened_so : (near far : Name) (ends : EndPlaces) (forest new : Forest) (nodes : List Node)
     (wires : Wires) (homes : List Name) (past : Past) (taken : ℕ) (old first second : ByteNetwork)
-    → whole forest sites wires homes past taken ≡ old
+    → whole forest nodes wires homes past taken ≡ old
     → new ≡ record forest {
       links = record {
         near = name_at forest.names ends.near;
@@ -164,21 +164,21 @@ pub opened_so : (near far : Name) (ends : KeptEnds) (forest new : Forest) (sites
       } ∷ forest.links;
     }
     → AreNamed old.network ends near far
-    → first ≡ way_opened ends.near ends.far (whole new sites wires homes past taken)
+    → first ≡ way_opened ends.near ends.far (whole new nodes wires homes past taken)
     → second ≡ way_opened ends.far ends.near first → second ≡ opened near far (ends_now ends) old
-opened_so near far ends forest new sites wires homes past taken old first second is linked_is are
+opened_so near far ends forest new nodes wires homes past taken old first second is linked_is are
     one other =
     let named = subst (λ (net : ByteNetwork). AreNamed net.network ends near far) (sym is) are in
     other ∙ ap (way_opened ends.far ends.near) (one
-    ∙ ap (λ (f : Forest). way_opened ends.near ends.far (whole f sites wires homes past taken))
+    ∙ ap (λ (f : Forest). way_opened ends.near ends.far (whole f nodes wires homes past taken))
     linked_is)
     ∙ (λ i. opened (named.near_named i) (named.far_named i) (ends_now ends)
-    (whole forest sites wires homes past taken))
+    (whole forest nodes wires homes past taken))
     ∙ ap (opened near far (ends_now ends)) is
 
-pub opened_tidily : (near far : Name) (ends : KeptEnds) (forest new : Forest) (sites : List Site)
+pub opened_tidily : (near far : Name) (ends : EndPlaces) (forest new : Forest) (nodes : List Node)
     (wires : Wires) (homes : List Name) (past : Past) (taken : ℕ) (old first second : ByteNetwork)
-    → whole forest sites wires homes past taken ≡ old
+    → whole forest nodes wires homes past taken ≡ old
     → new ≡ record forest {
       links = record {
         near = name_at forest.names ends.near;
@@ -186,11 +186,11 @@ pub opened_tidily : (near far : Name) (ends : KeptEnds) (forest new : Forest) (s
       } ∷ forest.links;
     }
     → AreNamed old.network ends near far
-    → first ≡ way_opened ends.near ends.far (whole new sites wires homes past taken)
+    → first ≡ way_opened ends.near ends.far (whole new nodes wires homes past taken)
     → second ≡ way_opened ends.far ends.near first → IsTidy old → IsTidy second
-opened_tidily near far ends forest new sites wires homes past taken old first second is
+opened_tidily near far ends forest new nodes wires homes past taken old first second is
     changed are one
     other tidy =
     subst IsTidy
-    (sym (opened_so near far ends forest new sites wires homes past taken old first second is
+    (sym (opened_so near far ends forest new nodes wires homes past taken old first second is
     changed are one other)) (opened_is_tidy near far (ends_now ends) old tidy)

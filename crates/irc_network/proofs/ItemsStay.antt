@@ -6,74 +6,75 @@ use Rattle.irc_batch.specs.Batches.{Sent, line_to, end_of, line_on, end_of_link}
 use Rattle.irc_server.specs.Served.{Occurrence}
 use Rattle.irc_stage.specs.View.{View}
 use Rattle.irc_world.specs.Stepping.{Item, connect, line, gone, link, cut}
-use Rattle.irc_network.specs.Network.{Course, LinkPlaces, Network, Site, all_sent_out, site_asked}
-use Rattle.irc_network.specs.Network.{asked_at, site_asked_if, begun, site_changed_at, done_by}
+use Rattle.irc_network.specs.Network.{Progress, LinkPlaces, Network, Node, all_sent_out, node_asked}
+use Rattle.irc_network.specs.Network.{asked_at, node_asked_if, begun, node_changed_at, done_by}
 use Rattle.irc_network.specs.Network.{link_places, has_received, has_received_at, home_place}
 use Rattle.irc_network.specs.Network.{servers_parted, servers_linked, server_place, reply, sent_out}
-use Rattle.irc_network.specs.Network.{site_at, with_reply, with_site}
+use Rattle.irc_network.specs.Network.{node_at, with_reply, with_node}
 
-abbrev pub items_of : Course → List Item
-items_of course = course.net.items
+abbrev pub items_of : Progress → List Item
+items_of progress = progress.net.items
 
-received_keeps : (client : ℕ) (text : List ℕ) (course : Course)
-    → items_of (has_received client text course) ≡ items_of course
-received_keeps zero text course = refl
-received_keeps (suc earlier) text course = by (slice_get course.net.received earlier)
+received_keeps : (client : ℕ) (text : List ℕ) (progress : Progress)
+    → items_of (has_received client text progress) ≡ items_of progress
+received_keeps zero text progress = refl
+received_keeps (suc earlier) text progress = by (slice_get progress.net.received earlier)
   where
-    by : (o : Option (List (List ℕ)))
-        → items_of (option_map_or (has_received_at earlier text course) o course) ≡ items_of course
+    by : (o : Option (List (List ℕ))) → items_of
+        (option_map_or (has_received_at earlier text progress) o progress) ≡ items_of progress
     by None = refl
     by (Some lines) = refl
 
-changed_keeps : (place : ℕ) (change : Site → Site) (net : Network)
-    → (site_changed_at place change net).items ≡ net.items
-changed_keeps place change net = by (site_at net place)
+changed_keeps : (place : ℕ) (change : Node → Node) (net : Network)
+    → (node_changed_at place change net).items ≡ net.items
+changed_keeps place change net = by (node_at net place)
   where
-    by : (o : Option Site) → (option_map_or (λ site. with_site place (change site) net) o net).items
+    by : (o : Option Node) → (option_map_or (λ node. with_node place (change node) net) o net).items
         ≡ net.items
     by None = refl
-    by (Some site) = refl
+    by (Some node) = refl
 
-sent_keeps : (place : ℕ) (sent : Sent) (course : Course)
-    → items_of (sent_out place sent course) ≡ items_of course
-sent_keeps place (line_to client text) course = received_keeps client text course
-sent_keeps place (end_of client) course = refl
-sent_keeps place (line_on to text) course = changed_keeps place _ course.net
-sent_keeps place (end_of_link to reason) course = refl
+sent_keeps : (place : ℕ) (sent : Sent) (progress : Progress)
+    → items_of (sent_out place sent progress) ≡ items_of progress
+sent_keeps place (line_to client text) progress = received_keeps client text progress
+sent_keeps place (end_of client) progress = refl
+sent_keeps place (line_on to text) progress = changed_keeps place _ progress.net
+sent_keeps place (end_of_link to reason) progress = refl
 
-all_keep : (place : ℕ) (out : List Sent) (course : Course)
-    → items_of (all_sent_out place out course) ≡ items_of course
-all_keep place [] course = refl
-all_keep place (sent ∷ more) course =
-    all_keep place more (sent_out place sent course) ∙ sent_keeps place sent course
+all_keep : (place : ℕ) (out : List Sent) (progress : Progress)
+    → items_of (all_sent_out place out progress) ≡ items_of progress
+all_keep place [] progress = refl
+all_keep place (sent ∷ more) progress =
+    all_keep place more (sent_out place sent progress) ∙ sent_keeps place sent progress
 
-asked_keeps : (place : ℕ) (occurrence : Occurrence) (course : Course)
-    → items_of (site_asked place occurrence course) ≡ items_of course
-unfolding site_asked
-asked_keeps place occurrence course = by (site_at course.net place)
+asked_keeps : (place : ℕ) (occurrence : Occurrence) (progress : Progress)
+    → items_of (node_asked place occurrence progress) ≡ items_of progress
+unfolding node_asked
+asked_keeps place occurrence progress = by (node_at progress.net place)
   where
-    by_view : (site : Site) (o : Option View) → items_of (option_map_or (λ (view : View).
-        with_reply place course site (reply view occurrence)) o course) ≡ items_of course
-    by_view site None = refl
-    by_view site (Some view) = all_keep place (reply view occurrence).out
-        (record course {
-          net = with_site place
-              (record site { server = Some (reply view occurrence).view }) course.net;
+    by_view : (node : Node) (o : Option View) → items_of (option_map_or (λ (view : View).
+        with_reply place progress node (reply view occurrence)) o progress) ≡ items_of progress
+    by_view node None = refl
+    by_view node (Some view) = all_keep place (reply view occurrence).out
+        (record progress {
+          net = with_node place
+              (record node { server = Some (reply view occurrence).view }) progress.net;
         })
 
-    by : (o : Option Site) → items_of (option_map_or (asked_at place occurrence course) o course)
-        ≡ items_of course
+    by : (o : Option Node)
+        → items_of (option_map_or (asked_at place occurrence progress) o progress)
+        ≡ items_of progress
     by None = refl
-    by (Some site) = by_view site site.server
+    by (Some node) = by_view node node.server
 
-asked_of_keeps : (place : Option ℕ) (occurrence : Occurrence) (course : Course)
-    → items_of (site_asked_if place occurrence course) ≡ items_of course
-asked_of_keeps None occurrence course = refl
-asked_of_keeps (Some place) occurrence course = asked_keeps place occurrence course
+asked_of_keeps : (place : Option ℕ) (occurrence : Occurrence) (progress : Progress)
+    → items_of (node_asked_if place occurrence progress) ≡ items_of progress
+asked_of_keeps None occurrence progress = refl
+asked_of_keeps (Some place) occurrence progress = asked_keeps place occurrence progress
 
-both_keep : (net : Network) (place other : ℕ) (change turn : Site → Site)
-    → (site_changed_at other turn (site_changed_at place change net)).items ≡ net.items
-both_keep net place other change turn = changed_keeps other turn (site_changed_at place change net)
+both_keep : (net : Network) (place other : ℕ) (change turn : Node → Node)
+    → (node_changed_at other turn (node_changed_at place change net)).items ≡ net.items
+both_keep net place other change turn = changed_keeps other turn (node_changed_at place change net)
     ∙ changed_keeps place change net
 
 pub same_items : (item : Item) (net : Network) → items_of (done_by item net) ≡ net.items

@@ -8,9 +8,10 @@ use Rattle.std.specs.List.{AllByRecursion, list_all, slice_get}
 use Rattle.std.specs.Map.{keys_of}
 use Rattle.std.specs.Option.{option_map_or}
 use Rattle.std.specs.Ordering.{nat_cmp}
-use Rattle.irc_links.specs.Lemmas.Listed.{listed}
-use Rattle.irc_network.specs.Network.{Site, waiting}
-use Rattle.irc_wires.specs.Wires.{AreLean, IsLean, Wire, Wires, are_still, are_still_in, is_still}
+use Rattle.irc_stage.specs.Lemmas.Listed.{listed}
+use Rattle.irc_network.specs.Network.{Node, waiting}
+use Rattle.irc_wires.specs.Wires.{AreLean, IsLean, LinkWire, Wires, are_still, are_still_in}
+use Rattle.irc_wires.specs.Wires.{is_still}
 use Rattle.irc_wires.specs.Wires.{lines_to_come, new_wire, wire_at, wire_in}
 use Rattle.irc_network.specs.ByteNetwork.{lines_ahead}
 use Rattle.irc_network.specs.Whole.{IsWhole, NewIsWhole}
@@ -20,7 +21,8 @@ use Rattle.irc_network.proofs.WireLines.{IsKnownOfStreams, new_has_none, new_is_
 use Rattle.irc_network.specs.Lemmas.NewFramer.{new_is_real}
 
 row_still : are_still_in (from_entries []) ≡ true
-row_still = ap (λ (es : List (ℕ × Wire)). list_all (λ to. is_still (wire_in to (from_entries [])))
+row_still =
+    ap (λ (es : List (ℕ × LinkWire)). list_all (λ to. is_still (wire_in to (from_entries [])))
     (keys_of es)) (listed [] tt)
 
 rows_still : (servers : ℕ) → are_still (replicate servers empty) ≡ true
@@ -35,27 +37,27 @@ rows_lean : (servers : ℕ) → AreLean (replicate servers empty)
 rows_lean zero = tt
 rows_lean (suc servers) = (row_lean, rows_lean servers)
 
-none_waits : (sites : List Site) → AllByRecursion (λ (site : Site). site.queues ≡ empty) sites
-    → (place to : ℕ) → option_map_or (λ site. waiting site to) (slice_get sites place) [] ≡ []
+none_waits : (nodes : List Node) → AllByRecursion (λ (node : Node). node.queues ≡ empty) nodes
+    → (place to : ℕ) → option_map_or (λ node. waiting node to) (slice_get nodes place) [] ≡ []
 none_waits [] none place to = refl
-none_waits (site ∷ sites) none zero to =
+none_waits (node ∷ nodes) none zero to =
     ap (λ ways. unwrap_or (get ways to) []) none.0
     ∙ ap (λ (o : Option (List (List ℕ))). unwrap_or o []) (get-empty nat_cmp to)
-none_waits (site ∷ sites) none (suc place) to = none_waits sites none.1 place to
+none_waits (node ∷ nodes) none (suc place) to = none_waits nodes none.1 place to
 
 pub is_as_new : IsKnownOfStreams → NewIsWhole
 is_as_new known net none =
-    let wires : Wires = replicate (length net.sites) empty in
-    let still : are_still wires ≡ true = rows_still (length net.sites) in
+    let wires : Wires = replicate (length net.nodes) empty in
+    let still : are_still wires ≡ true = rows_still (length net.nodes) in
     let wire_is : (from to : ℕ) → wire_at wires from to ≡ new_wire = all_new wires still in
     let no_line : (from to : ℕ) → lines_ahead wires from to ≡ [] =
     λ from to. ap lines_to_come (wire_is from to) ∙ new_has_none known new_is_real in
     record {
       whole = record {
         tidy = record {
-          quiet = none_waits net.sites none;
-          rows = length-replicate (length net.sites) empty;
-          lean = rows_lean (length net.sites);
+          quiet = none_waits net.nodes none;
+          rows = length-replicate (length net.nodes) empty;
+          lean = rows_lean (length net.nodes);
         };
         whole = λ from to. subst IsWhole (sym (wire_is from to)) (new_is_whole known new_is_real);
         ways = λ from to no_way. no_line from to;

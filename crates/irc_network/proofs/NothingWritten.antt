@@ -12,60 +12,60 @@ use Rattle.std.specs.Option.{option_map, option_map_or}
 use Rattle.std.specs.Ordering.{nat_cmp}
 use Rattle.irc_stage.specs.Lemmas.Numbers.{one_number, same_number, same_number-refl}
 use Rattle.irc_tables.specs.Lemmas.OrderedEntries.{above-is, find-above}
-use Rattle.irc_network.specs.Network.{Network, Site, waiting}
-use Rattle.irc_wires.specs.Wires.{AreLean, Direction, IsLean, Wire, Wires, advanced}
+use Rattle.irc_network.specs.Network.{Network, Node, waiting}
+use Rattle.irc_wires.specs.Wires.{AreLean, Direction, IsLean, LinkWire, Wires, advanced}
 use Rattle.irc_wires.specs.Wires.{first_direction, is_still, new_wire, put_in, wire_at, wire_in}
 use Rattle.irc_wires.specs.Lemmas.PutWires.{get-put}
-use Rattle.irc_network.specs.ByteNetwork.{ByteCourse, ByteNetwork, all_heard, all_written}
-use Rattle.irc_network.specs.ByteNetwork.{bytes_come, completed_in, course_without_wires}
-use Rattle.irc_network.specs.ByteNetwork.{course_written, row_written, rows_written}
+use Rattle.irc_network.specs.ByteNetwork.{ByteProgress, ByteNetwork, all_heard, all_written}
+use Rattle.irc_network.specs.ByteNetwork.{bytes_come, completed_in, progress_without_wires}
+use Rattle.irc_network.specs.ByteNetwork.{progress_written, row_written, rows_written}
 use Rattle.irc_network.specs.ByteNetwork.{waiting_at, wires_come, queues_written}
 use Rattle.irc_network.specs.Turns.{bytes_in_turn, lines_in, lines_in_turn, turn_in}
 use Rattle.irc_network.specs.Turns.{turn_taken}
 use Rattle.irc_network.specs.Whole.{IsTidy}
-use Rattle.irc_network.specs.Behind.{each_way, emptied, emptied_site}
+use Rattle.irc_network.specs.Behind.{each_way, emptied, emptied_node}
 use Rattle.irc_network.specs.Lemmas.Emptied.{no_line}
 use Rattle.irc_network.specs.Lemmas.RowsWritten.{lean_with}
 use Rattle.irc_network.specs.Lemmas.Ways.{get-each_way, same_ways}
 use Rattle.irc_network.specs.Lemmas.Rows.{rows_stay}
 
-abbrev Row : Type 0
-Row = FinMap nat_cmp Wire
+abbrev WireRow : Type 0
+WireRow = FinMap nat_cmp LinkWire
 
 -- ---- where nothing waits, it is as if emptied
 
 no_lines : (lines : List (List ℕ)) → lines ≡ [] → no_line lines ≡ lines
 no_lines lines none = sym none
 
-site_alone : (site : Site) → ((to : ℕ) → waiting site to ≡ []) → emptied_site site ≡ site
-site_alone site none = ap (λ ways. record site { queues = ways })
-    (same_ways (each_way (λ to lines. []) site.queues) site.queues (λ to.
-    get-each_way (λ q lines. []) site.queues to ∙ by to (get site.queues to) refl))
+node_alone : (node : Node) → ((to : ℕ) → waiting node to ≡ []) → emptied_node node ≡ node
+node_alone node none = ap (λ ways. record node { queues = ways })
+    (same_ways (each_way (λ to lines. []) node.queues) node.queues (λ to.
+    get-each_way (λ q lines. []) node.queues to ∙ by to (get node.queues to) refl))
   where
-    by : (to : ℕ) (o : Option (List (List ℕ))) → get site.queues to ≡ o → option_map no_line o ≡ o
+    by : (to : ℕ) (o : Option (List (List ℕ))) → get node.queues to ≡ o → option_map no_line o ≡ o
     by to None is = refl
     by to (Some lines) is = ap Some (no_lines lines (sym (ap (λ o. unwrap_or o []) is) ∙ none to))
 
-sites_alone : (sites : List Site)
-    → ((place to : ℕ) → option_map_or (λ site. waiting site to) (slice_get sites place) [] ≡ [])
-    → map emptied_site sites ≡ sites
-sites_alone [] none = refl
-sites_alone (site ∷ sites) none =
-    λ i. site_alone site (none 0) i ∷ sites_alone sites (λ place. none (suc place)) i
+nodes_alone : (nodes : List Node)
+    → ((place to : ℕ) → option_map_or (λ node. waiting node to) (slice_get nodes place) [] ≡ [])
+    → map emptied_node nodes ≡ nodes
+nodes_alone [] none = refl
+nodes_alone (node ∷ nodes) none =
+    λ i. node_alone node (none 0) i ∷ nodes_alone nodes (λ place. none (suc place)) i
 
 rest_is_emptied : (net : Network) → ((from to : ℕ) → waiting_at net from to ≡ [])
     → net ≡ emptied net
 rest_is_emptied net none =
-    sym (ap (λ sites. record net { sites = sites }) (sites_alone net.sites none))
+    sym (ap (λ nodes. record net { nodes = nodes }) (nodes_alone net.nodes none))
 
 -- ---- and nothing is written
 
-put_alone : (row : Row) (to : ℕ) → IsLean row → put_in to (wire_in to row) row ≡ row
+put_alone : (row : WireRow) (to : ℕ) → IsLean row → put_in to (wire_in to row) row ≡ row
 put_alone row to lean =
     same_map nat_cmp_total nat_cmp-IsAntisymmetric (put_in to (wire_in to row) row) row (λ q.
     get-put row to (wire_in to row) q ∙ by_key q (nat_eq q to) refl)
   where
-    kept : (o : Option Wire) → get row to ≡ o
+    kept : (o : Option LinkWire) → get row to ≡ o
         → (if is_still (unwrap_or o new_wire) then None else Some (unwrap_or o new_wire)) ≡ o
     kept None is = refl
     kept (Some wire) is = ap (λ b. if b then None else Some wire) (lean to wire is)
@@ -78,8 +78,8 @@ put_alone row to lean =
 abbrev HasNone : ℕ × List (List ℕ) → Type 0
 HasNone way = way.1 ≡ []
 
-row_alone : (ways : List (ℕ × List (List ℕ))) (row : Row) → IsLean row → AllByRecursion HasNone ways
-    → row_written ways row ≡ row
+row_alone : (ways : List (ℕ × List (List ℕ))) (row : WireRow) → IsLean row
+    → AllByRecursion HasNone ways → row_written ways row ≡ row
 row_alone [] row lean none = refl
 row_alone (way ∷ ways) row lean none =
     ap (row_written ways) (ap (λ lines. put_in way.0 (all_written lines (wire_in way.0 row)) row)
@@ -113,34 +113,34 @@ told : (b : Bool) → T b → b ≡ true
 told true h = refl
 told false h = absurd h
 
-ways_none : (site : Site) → ((to : ℕ) → waiting site to ≡ [])
-    → AllByRecursion HasNone (entries site.queues)
-ways_none site none =
-    none_listed (entries site.queues) (told _ (entries_sorted site.queues))
-    (λ to. ap (λ o. unwrap_or o []) (sym (get-entries site.queues to)) ∙ none to)
+ways_none : (node : Node) → ((to : ℕ) → waiting node to ≡ [])
+    → AllByRecursion HasNone (entries node.queues)
+ways_none node none =
+    none_listed (entries node.queues) (told _ (entries_sorted node.queues))
+    (λ to. ap (λ o. unwrap_or o []) (sym (get-entries node.queues to)) ∙ none to)
 
-rows_alone : (sites : List Site) (wires : Wires)
-    → ((place to : ℕ) → option_map_or (λ site. waiting site to) (slice_get sites place) [] ≡ [])
-    → AreLean wires → rows_written sites wires ≡ wires
+rows_alone : (nodes : List Node) (wires : Wires)
+    → ((place to : ℕ) → option_map_or (λ node. waiting node to) (slice_get nodes place) [] ≡ [])
+    → AreLean wires → rows_written nodes wires ≡ wires
 rows_alone [] wires none lean = refl
-rows_alone (site ∷ sites) [] none lean = refl
-rows_alone (site ∷ sites) (row ∷ wires) none lean =
-    λ i. row_alone (entries site.queues) row lean.0 (ways_none site (none 0)) i
-    ∷ rows_alone sites wires (λ place. none (suc place)) lean.1 i
+rows_alone (node ∷ nodes) [] none lean = refl
+rows_alone (node ∷ nodes) (row ∷ wires) none lean =
+    λ i. row_alone (entries node.queues) row lean.0 (ways_none node (none 0)) i
+    ∷ rows_alone nodes wires (λ place. none (suc place)) lean.1 i
 
 pub nothing_written : (net : Network) (wires : Wires)
     → ((from to : ℕ) → waiting_at net from to ≡ []) → AreLean wires
     → queues_written net wires ≡ record { network = net; wires = wires }
 nothing_written net wires none lean =
-    ap (λ (n : Network). record { network = n; wires = rows_written net.sites wires })
+    ap (λ (n : Network). record { network = n; wires = rows_written net.nodes wires })
     (sym (rest_is_emptied net none))
     ∙ ap (λ (ws : Wires). record { network = net; wires = ws })
-    (rows_alone net.sites wires none lean)
+    (rows_alone net.nodes wires none lean)
 
 -- ---- a turn
 
 -- the bytes through the next LF have come in the first direction, and that is all
-pub record MovesAlone (old new : ByteCourse) : Type 0 where
+pub record MovesAlone (old new : ByteProgress) : Type 0 where
   pub way : Direction
   pub is_first : first_direction old.net.wires ≡ Some way
   pub new_is : new ≡ record {
@@ -156,11 +156,11 @@ none_completed : (lines : List (List ℕ)) → length lines ≡ 0 → lines ≡ 
 none_completed [] none = refl
 none_completed (first ∷ lines) none = cc none
 
-module _ (old : ByteCourse) (tidy : IsTidy old.net) (way : Direction) where
+module _ (old : ByteProgress) (tidy : IsTidy old.net) (way : Direction) where
   abbrev come : Wires
   come = wires_come old.net way.from way.to (bytes_in_turn old.net way)
 
-  abbrev moved : ByteCourse
+  abbrev moved : ByteProgress
   moved =
       record { net = record { network = old.net.network; wires = come }; receipts = old.receipts }
 
@@ -171,7 +171,8 @@ module _ (old : ByteCourse) (tidy : IsTidy old.net) (way : Direction) where
   turn_moves : lines_in old.net way ≡ 0 → turn_in old way ≡ moved
   unfolding bytes_come
   turn_moves none =
-      ap (λ lines. course_written (all_heard way.from way.to (course_without_wires old) lines) come)
+      ap (λ lines. progress_written
+      (all_heard way.from way.to (progress_without_wires old) lines) come)
       (none_completed (completed_in old.net way.from way.to (bytes_in_turn old.net way)) none)
       ∙ ap (λ (net : ByteNetwork). record { net = net; receipts = old.receipts })
       (nothing_written old.net.network come tidy.quiet come_lean)
@@ -184,17 +185,17 @@ module _ (old : ByteCourse) (tidy : IsTidy old.net) (way : Direction) where
     lean = come_lean;
   }
 
-  moves : (new : ByteCourse) → first_direction old.net.wires ≡ Some way → turn_in old way ≡ new
+  moves : (new : ByteProgress) → first_direction old.net.wires ≡ Some way → turn_in old way ≡ new
       → lines_in old.net way ≡ 0 → MovesAlone old new
   moves new is taken none = record {
     way = way;
     is_first = is;
     new_is = sym taken ∙ turn_moves none;
-    tidy = subst (λ (course : ByteCourse). IsTidy course.net)
+    tidy = subst (λ (progress : ByteProgress). IsTidy progress.net)
         (sym (turn_moves none) ∙ taken) moved_tidy;
   }
 
-pub moves_alone : (old new : ByteCourse) → IsTidy old.net → turn_taken old ≡ Some new
+pub moves_alone : (old new : ByteProgress) → IsTidy old.net → turn_taken old ≡ Some new
     → lines_in_turn old.net ≡ 0 → MovesAlone old new
 moves_alone old new tidy taken none = by (first_direction old.net.wires) refl taken none
   where

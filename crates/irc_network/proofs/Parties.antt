@@ -9,33 +9,33 @@ use Rattle.irc_server.specs.Loops.Acting.{room_kept, room_of}
 use Rattle.irc_stage.specs.View.{View}
 use Rattle.irc_network.specs.declared.refusing.Party.{Party}
 use Rattle.irc_network.specs.Loops.Parties.{IsPartyOf}
-use Rattle.irc_network.specs.Network.{Network, Site, server_place, site_at, site_view}
+use Rattle.irc_network.specs.Network.{Network, Node, server_place, node_at, node_view}
 
 view_there : (net : Network) (party : Party) (view : View) → server_place net party.name.now
-    ≡ Some party.place → site_at net party.place ≡ Some party.site.now
-    → party.site.now.server ≡ Some view → site_view net party.name.now ≡ Some view
-view_there net party view place site is =
-    ap (λ o. option_and_then (λ (s : Site). s.server) (option_and_then (site_at net) o)) place
-    ∙ ap (option_and_then (λ (s : Site). s.server)) site ∙ is
+    ≡ Some party.place → node_at net party.place ≡ Some party.node.now
+    → party.node.now.server ≡ Some view → node_view net party.name.now ≡ Some view
+view_there net party view place node is =
+    ap (λ o. option_and_then (λ (s : Node). s.server) (option_and_then (node_at net) o)) place
+    ∙ ap (option_and_then (λ (s : Node). s.server)) node ∙ is
 
-room_there : (party : Party) (view : View) → party.site.now.server ≡ Some view
-    → option_map room_of party.site.now.server ≡ Some party.room.now.room
+room_there : (party : Party) (view : View) → party.node.now.server ≡ Some view
+    → option_map room_of party.node.now.server ≡ Some party.room.now.room
     → party.room.now.room ≡ view.room
 room_there party view is room =
     sym (same_some (room_of view) party.room.now.room (sym (ap (option_map room_of) is) ∙ room))
 
 party_there : (net : Network) (party : Party) → server_place net party.name.now ≡ Some party.place
     → party.place < length net.names → name_at net.names party.place ≡ party.name.now
-    → site_at net party.place ≡ Some party.site.now → option_map room_of party.site.now.server
+    → node_at net party.place ≡ Some party.node.now → option_map room_of party.node.now.server
     ≡ Some party.room.now.room → IsPartyOf net party.name.now party
-party_there net party place within named site room = by party.site.now.server refl room
+party_there net party place within named node room = by party.node.now.server refl room
   where
-    by : (o : Option View) → party.site.now.server ≡ o
+    by : (o : Option View) → party.node.now.server ≡ o
         → option_map room_of o ≡ Some party.room.now.room → IsPartyOf net party.name.now party
     by None is none = cc none
     by (Some view) is some = record {
       view = view;
-      is_view = view_there net party view place site is;
+      is_view = view_there net party view place node is;
       named = refl;
       within = within;
       place = named;
@@ -44,12 +44,12 @@ party_there net party place within named site room = by party.site.now.server re
     }
 
 -- it is what the code finds by its name, at its place, and in it
-pub is_party : (net : Network) (party : Party) (places : Option ℕ) (sites : Option (Bor Site))
+pub is_party : (net : Network) (party : Party) (places : Option ℕ) (nodes : Option (Bor Node))
     (rooms : Option (Bor Kept)) → places ≡ server_place net party.name.now
     → places ≡ Some party.place → party.place < length net.names → name_at net.names party.place
-    ≡ party.name.now → option_copied sites ≡ site_at net party.place → sites ≡ Some party.site
-    → option_map room_kept (option_copied rooms) ≡ option_map room_of party.site.now.server
+    ≡ party.name.now → option_copied nodes ≡ node_at net party.place → nodes ≡ Some party.node
+    → option_map room_kept (option_copied rooms) ≡ option_map room_of party.node.now.server
     → rooms ≡ Some party.room → IsPartyOf net party.name.now party
-is_party net party places sites rooms place found within named site found_site room found_room =
-    party_there net party (sym place ∙ found) within named (sym site ∙ ap option_copied found_site)
+is_party net party places nodes rooms place found within named node found_node room found_room =
+    party_there net party (sym place ∙ found) within named (sym node ∙ ap option_copied found_node)
     (sym room ∙ ap (λ o. option_map room_kept (option_copied o)) found_room)

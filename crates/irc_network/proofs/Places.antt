@@ -10,18 +10,18 @@ use Rattle.irc_forest.specs.Forests.{Forest}
 use Rattle.irc_relay.specs.Links.{Name}
 use Rattle.irc_network.specs.declared.receipt.Receipt.{Receipt as KeptReceipt}
 use Rattle.irc_network.specs.Histories.{Becomes, Past, line_behind, with_line}
-use Rattle.irc_network.specs.Loops.Courses.{course}
+use Rattle.irc_network.specs.Loops.Progress.{progress}
 use Rattle.irc_wires.specs.Wires.{Wires}
 use Rattle.irc_network.specs.ByteNetwork.{ByteNetwork}
-use Rattle.irc_network.specs.Network.{Network, Receipt, Site, has_received}
+use Rattle.irc_network.specs.Network.{Network, Receipt, Node, has_received}
 use Rattle.irc_network.specs.Network.{has_received_at, receipt}
 use Rattle.irc_network.specs.Views.{receipt_of, receipts_of}
 
 -- a network as its code has it
-abbrev pub seen : Forest → List Site → List Name → Past → ℕ → Network
-seen forest sites homes past taken = record {
+abbrev pub seen : Forest → List Node → List Name → Past → ℕ → Network
+seen forest nodes homes past taken = record {
   names = forest.names;
-  sites = sites;
+  nodes = nodes;
   links = forest.links;
   homes = homes;
   received = past.received;
@@ -29,9 +29,9 @@ seen forest sites homes past taken = record {
   taken = taken;
 }
 
-abbrev pub whole : Forest → List Site → Wires → List Name → Past → ℕ → ByteNetwork
-whole forest sites wires homes past taken =
-    record { network = seen forest sites homes past taken; wires = wires }
+abbrev pub whole : Forest → List Node → Wires → List Name → Past → ℕ → ByteNetwork
+whole forest nodes wires homes past taken =
+    record { network = seen forest nodes homes past taken; wires = wires }
 
 pub none_here : {X : Type 0} (xs : List X) (i : ℕ) → length xs ≤ i → slice_get xs i ≡ None
 none_here [] i behind = refl
@@ -70,7 +70,7 @@ pub received_one : (net : Network) (receipts more : List KeptReceipt) (client ea
     (text : List ℕ) (past : Past) (kept : KeptReceipt) → length net.received ≡ length net.homes
     → client ≡ suc earlier → earlier < length net.homes → past ≡ with_line earlier text
     (past_of net) → more ≡ receipts ++ kept ∷ [] → receipt_of kept ≡ receipt client text
-    → course (with_past past net) more ≡ has_received client text (course net receipts)
+    → progress (with_past past net) more ≡ has_received client text (progress net receipts)
 received_one net receipts more client earlier text past kept each number within put behind kept_is =
     by (slice_get net.received earlier) refl
   where
@@ -80,19 +80,19 @@ received_one net receipts more client earlier text past kept each number within 
         ∙ ap (λ r. receipts_of receipts ++ r ∷ []) (kept_is ∙ ap (λ n. receipt n text) number)
 
     by : (o : Option (List (List ℕ))) → slice_get net.received earlier ≡ o
-        → course (with_past past net) more ≡ has_received client text (course net receipts)
+        → progress (with_past past net) more ≡ has_received client text (progress net receipts)
     by None none = absurd (not_none net.received earlier none (omega (arith, each, within)))
     by (Some lines) is =
-        ap (λ (p : Past). course (with_past p net) more) (put
+        ap (λ (p : Past). progress (with_past p net) more) (put
         ∙ ap (λ o. option_map_or (line_behind earlier text (past_of net)) o (past_of net)) is)
         ∙ ap (λ (rs : List Receipt). record {
           net = with_past
               (line_behind earlier text (past_of net) lines) net;
           receipts = rs;
         }) told
-        ∙ sym (ap (λ o. option_map_or (has_received_at earlier text (course net receipts)) o
-        (course net receipts)) is)
-        ∙ ap (λ n. has_received n text (course net receipts)) (sym number)
+        ∙ sym (ap (λ o. option_map_or (has_received_at earlier text (progress net receipts)) o
+        (progress net receipts)) is)
+        ∙ ap (λ n. has_received n text (progress net receipts)) (sym number)
 
 -- a line is put behind those of a client, or memory ran out
 pub put_behind : {E : Type 0} (result : Result (Unit {0}) E) (past : Past) (earlier : ℕ)

@@ -1,4 +1,4 @@
--- What clients receive while something is done to a network is what its course has among its
+-- What clients receive while something is done to a network is what its progress has among its
 -- receipts.
 use Rattle.std.proofs.Common.{◌≡◌, ℕ, zero, suc, nat_eq, Bool, true, false, Option, Some, None}
 use Rattle.std.proofs.Common.{List, [], ◌∷◌, ◌++◌, unwrap_or, ap, sym, subst, refl, ◌∙◌, append-nil}
@@ -10,23 +10,23 @@ use Rattle.std.specs.Option.{option_and_then, option_map_or}
 use Rattle.irc_batch.specs.Batches.{Sent, line_to as line_out, end_of, line_on, end_of_link}
 use Rattle.irc_line.specs.Reading.{read_of}
 use Rattle.irc_network.specs.Laws.{ReceiptsAreReceived}
-use Rattle.irc_network.specs.Network.{Course, LinkPlaces, Network, Receipt, Site, TakesInTurn}
-use Rattle.irc_network.specs.Network.{all_sent_out, site_asked, asked_at, site_asked_if, begun}
-use Rattle.irc_network.specs.Network.{site_changed_at, line_counted, delivered, done_by}
+use Rattle.irc_network.specs.Network.{Progress, LinkPlaces, Network, Receipt, Node, TakesInTurn}
+use Rattle.irc_network.specs.Network.{all_sent_out, node_asked, asked_at, node_asked_if, begun}
+use Rattle.irc_network.specs.Network.{node_changed_at, line_counted, delivered, done_by}
 use Rattle.irc_network.specs.Network.{link_places, given, has_received, has_received_at, home_place}
 use Rattle.irc_network.specs.Network.{left, servers_parted, servers_linked, none_yet, server_place}
-use Rattle.irc_network.specs.Network.{line_queued, receipt, received_by, reply, sent_out, site_at}
+use Rattle.irc_network.specs.Network.{line_queued, receipt, received_by, reply, sent_out, node_at}
 use Rattle.irc_network.specs.Network.{taken_of, then_one, waiting, with_client, with_reply}
-use Rattle.irc_network.specs.Network.{with_site, line_received, lines_of_client}
+use Rattle.irc_network.specs.Network.{with_node, line_received, lines_of_client}
 use Rattle.irc_relay.specs.Links.{Name}
 use Rattle.irc_server.specs.Served.{Occurrence, link_says}
 use Rattle.irc_stage.specs.View.{View}
 use Rattle.irc_world.specs.Stepping.{Item, connect, line, gone, link, cut}
 
 -- since clients had received so much
-abbrev pub IsTold : (ℕ → List (List ℕ)) → Course → Type 0
-IsTold before course = (client : ℕ) → received_by course.net client ≡ before client
-    ++ lines_of_client client course.receipts
+abbrev pub IsTold : (ℕ → List (List ℕ)) → Progress → Type 0
+IsTold before progress = (client : ℕ) → received_by progress.net client ≡ before client
+    ++ lines_of_client client progress.receipts
 
 pub nothing_told : (net : Network) → IsTold (received_by net) (begun net)
 nothing_told net client = sym (append-nil (received_by net client))
@@ -38,7 +38,7 @@ same_received old new same (suc earlier) =
     ap (λ (inboxes : List (List (List ℕ))). unwrap_or (slice_get inboxes earlier) []) same
 
 -- nothing is received
-told_still : (before : ℕ → List (List ℕ)) (old new : Course) → new.net.received ≡ old.net.received
+told_still : (before : ℕ → List (List ℕ)) (old new : Progress) → new.net.received ≡ old.net.received
     → new.receipts ≡ old.receipts → IsTold before old → IsTold before new
 told_still before old new same receipts told client =
     same_received old.net new.net same client ∙ told client
@@ -78,15 +78,15 @@ put_behind (inbox ∷ inboxes) (suc earlier) (suc other) lines text is =
     put_behind inboxes earlier other lines text is
     ∙ next_there (unwrap_or (slice_get inboxes other) []) earlier other text
 
-received_behind : (course : Course) (earlier : ℕ) (text : List ℕ) (lines : List (List ℕ))
-    → slice_get course.net.received earlier ≡ Some lines → (client : ℕ)
-    → received_by (has_received_at earlier text course lines).net client
-    ≡ received_by course.net client ++ if_there (suc earlier) client text
-received_behind course earlier text lines is zero =
+received_behind : (progress : Progress) (earlier : ℕ) (text : List ℕ) (lines : List (List ℕ))
+    → slice_get progress.net.received earlier ≡ Some lines → (client : ℕ)
+    → received_by (has_received_at earlier text progress lines).net client
+    ≡ received_by progress.net client ++ if_there (suc earlier) client text
+received_behind progress earlier text lines is zero =
     not_there (nat_eq (suc earlier) 0) [] text (eqb-suc-zero earlier)
-received_behind course earlier text lines is (suc other) =
-    put_behind course.net.received earlier other lines text is
-    ∙ next_there (unwrap_or (slice_get course.net.received other) []) earlier other text
+received_behind progress earlier text lines is (suc other) =
+    put_behind progress.net.received earlier other lines text is
+    ∙ next_there (unwrap_or (slice_get progress.net.received other) []) earlier other text
 
 told_behind : (client earlier : ℕ) (text : List ℕ) (receipts : List Receipt)
     → lines_of_client client (receipts ++ receipt (suc earlier) text ∷ [])
@@ -94,109 +94,112 @@ told_behind : (client earlier : ℕ) (text : List ℕ) (receipts : List Receipt)
 told_behind client earlier text receipts =
     filter_map-append (line_received client) receipts (receipt (suc earlier) text ∷ [])
 
-told_at : (before : ℕ → List (List ℕ)) (course : Course) (earlier : ℕ) (text : List ℕ)
-    (lines : List (List ℕ)) → slice_get course.net.received earlier ≡ Some lines
-    → IsTold before course → IsTold before (has_received_at earlier text course lines)
-told_at before course earlier text lines is told client =
-    received_behind course earlier text lines is client
+told_at : (before : ℕ → List (List ℕ)) (progress : Progress) (earlier : ℕ) (text : List ℕ)
+    (lines : List (List ℕ)) → slice_get progress.net.received earlier ≡ Some lines
+    → IsTold before progress → IsTold before (has_received_at earlier text progress lines)
+told_at before progress earlier text lines is told client =
+    received_behind progress earlier text lines is client
     ∙ ap (λ ls. ls ++ if_there (suc earlier) client text) (told client)
-    ∙ append_assoc (before client) (lines_of_client client course.receipts)
+    ∙ append_assoc (before client) (lines_of_client client progress.receipts)
     (if_there (suc earlier) client text)
-    ∙ ap (λ ls. before client ++ ls) (sym (told_behind client earlier text course.receipts))
+    ∙ ap (λ ls. before client ++ ls) (sym (told_behind client earlier text progress.receipts))
 
-client_told : (before : ℕ → List (List ℕ)) (client : ℕ) (text : List ℕ) (course : Course)
-    → IsTold before course → IsTold before (has_received client text course)
-client_told before zero text course told = told
-client_told before (suc earlier) text course told = by (slice_get course.net.received earlier) refl
+client_told : (before : ℕ → List (List ℕ)) (client : ℕ) (text : List ℕ) (progress : Progress)
+    → IsTold before progress → IsTold before (has_received client text progress)
+client_told before zero text progress told = told
+client_told before (suc earlier) text progress told =
+    by (slice_get progress.net.received earlier) refl
   where
-    by : (o : Option (List (List ℕ))) → slice_get course.net.received earlier ≡ o
-        → IsTold before (option_map_or (has_received_at earlier text course) o course)
+    by : (o : Option (List (List ℕ))) → slice_get progress.net.received earlier ≡ o
+        → IsTold before (option_map_or (has_received_at earlier text progress) o progress)
     by None is = told
-    by (Some lines) is = told_at before course earlier text lines is told
+    by (Some lines) is = told_at before progress earlier text lines is told
 
 -- ---- what a server puts out
 
-changed_received : (place : ℕ) (change : Site → Site) (net : Network)
-    → (site_changed_at place change net).received ≡ net.received
-changed_received place change net = by (site_at net place)
+changed_received : (place : ℕ) (change : Node → Node) (net : Network)
+    → (node_changed_at place change net).received ≡ net.received
+changed_received place change net = by (node_at net place)
   where
-    by : (o : Option Site) → (option_map_or
-        (λ (site : Site). with_site place (change site) net) o net).received ≡ net.received
+    by : (o : Option Node) → (option_map_or
+        (λ (node : Node). with_node place (change node) net) o net).received ≡ net.received
     by None = refl
-    by (Some site) = refl
+    by (Some node) = refl
 
-sent_told : (before : ℕ → List (List ℕ)) (place : ℕ) (sent : Sent) (course : Course)
-    → IsTold before course → IsTold before (sent_out place sent course)
-sent_told before place (line_out client text) course told =
-    client_told before client text course told
-sent_told before place (end_of client) course told = told
-sent_told before place (line_on to text) course told =
-    told_still before course (sent_out place (line_on to text) course)
-    (changed_received place (line_queued to text) course.net) refl told
-sent_told before place (end_of_link to reason) course told = told
+sent_told : (before : ℕ → List (List ℕ)) (place : ℕ) (sent : Sent) (progress : Progress)
+    → IsTold before progress → IsTold before (sent_out place sent progress)
+sent_told before place (line_out client text) progress told =
+    client_told before client text progress told
+sent_told before place (end_of client) progress told = told
+sent_told before place (line_on to text) progress told =
+    told_still before progress (sent_out place (line_on to text) progress)
+    (changed_received place (line_queued to text) progress.net) refl told
+sent_told before place (end_of_link to reason) progress told = told
 
-all_told : (before : ℕ → List (List ℕ)) (place : ℕ) (out : List Sent) (course : Course)
-    → IsTold before course → IsTold before (all_sent_out place out course)
-all_told before place [] course told = told
-all_told before place (sent ∷ out) course told =
-    all_told before place out (sent_out place sent course) (sent_told before place sent course told)
+all_told : (before : ℕ → List (List ℕ)) (place : ℕ) (out : List Sent) (progress : Progress)
+    → IsTold before progress → IsTold before (all_sent_out place out progress)
+all_told before place [] progress told = told
+all_told before place (sent ∷ out) progress told =
+    all_told before place out (sent_out place sent progress)
+    (sent_told before place sent progress told)
 
 replied_told : (before : ℕ → List (List ℕ)) (place : ℕ) (occurrence : Occurrence)
-    (course : Course) (site : Site) (view : View) → IsTold before course
-    → IsTold before (with_reply place course site (reply view occurrence))
-replied_told before place occurrence course site view told =
-    all_told before place (reply view occurrence).out (put site)
-    (told_still before course (put site) refl refl told)
+    (progress : Progress) (node : Node) (view : View) → IsTold before progress
+    → IsTold before (with_reply place progress node (reply view occurrence))
+replied_told before place occurrence progress node view told =
+    all_told before place (reply view occurrence).out (put node)
+    (told_still before progress (put node) refl refl told)
   where
-    put : Site → Course
-    put site = record course {
-      net = with_site place
-          (record site { server = Some (reply view occurrence).view }) course.net;
+    put : Node → Progress
+    put node = record progress {
+      net = with_node place
+          (record node { server = Some (reply view occurrence).view }) progress.net;
     }
 
-asked_told : (before : ℕ → List (List ℕ)) (place : ℕ) (occurrence : Occurrence) (course : Course)
-    → IsTold before course → IsTold before (site_asked place occurrence course)
-unfolding site_asked
-asked_told before place occurrence course told = by (site_at course.net place)
+asked_told : (before : ℕ → List (List ℕ)) (place : ℕ)
+    (occurrence : Occurrence) (progress : Progress) → IsTold before progress
+    → IsTold before (node_asked place occurrence progress)
+unfolding node_asked
+asked_told before place occurrence progress told = by (node_at progress.net place)
   where
-    at : (site : Site) (o : Option View) → IsTold before (option_map_or
-        (λ (view : View). with_reply place course site (reply view occurrence)) o course)
-    at site None = told
-    at site (Some view) = replied_told before place occurrence course site view told
+    at : (node : Node) (o : Option View) → IsTold before (option_map_or
+        (λ (view : View). with_reply place progress node (reply view occurrence)) o progress)
+    at node None = told
+    at node (Some view) = replied_told before place occurrence progress node view told
 
-    by : (o : Option Site)
-        → IsTold before (option_map_or (asked_at place occurrence course) o course)
+    by : (o : Option Node)
+        → IsTold before (option_map_or (asked_at place occurrence progress) o progress)
     by None = told
-    by (Some site) = at site site.server
+    by (Some node) = at node node.server
 
 -- ---- lines that are delivered
 
-delivered_told : (before : ℕ → List (List ℕ)) (from to : ℕ) (old new : Course)
+delivered_told : (before : ℕ → List (List ℕ)) (from to : ℕ) (old new : Progress)
     → delivered from to old ≡ Some new → IsTold before old → IsTold before new
 unfolding delivered
-delivered_told before from to old new is told = by (site_at old.net from) is
+delivered_told before from to old new is told = by (node_at old.net from) is
   where
-    same_course : (a b : Course) → Some a ≡ Some b → a ≡ b
-    same_course a b e = cc e
+    same_progress : (a b : Progress) → Some a ≡ Some b → a ≡ b
+    same_progress a b e = cc e
 
-    took : (site : Site) (lines : List (List ℕ)) → taken_of from to old site lines ≡ Some new
+    took : (node : Node) (lines : List (List ℕ)) → taken_of from to old node lines ≡ Some new
         → IsTold before new
-    took site [] e = absurd (cc e)
-    took site (first ∷ rest) e =
-        let between : Course =
-        record old { net = record (with_site from (left to rest site) old.net) { taken = _ } }
+    took node [] e = absurd (cc e)
+    took node (first ∷ rest) e =
+        let between : Progress =
+        record old { net = record (with_node from (left to rest node) old.net) { taken = _ } }
         in
         subst (IsTold before)
-        (same_course (site_asked to (link_says from (read_of first)) between) new e)
+        (same_progress (node_asked to (link_says from (read_of first)) between) new e)
         (asked_told before to (link_says from (read_of first)) between
         (told_still before old between refl refl told))
 
-    by : (o : Option Site) → option_and_then (λ (site : Site).
-        taken_of from to old site (waiting site to)) o ≡ Some new → IsTold before new
+    by : (o : Option Node) → option_and_then (λ (node : Node).
+        taken_of from to old node (waiting node to)) o ≡ Some new → IsTold before new
     by None e = absurd (cc e)
-    by (Some site) e = took site (waiting site to) e
+    by (Some node) e = took node (waiting node to) e
 
-pub taken_told : (before : ℕ → List (List ℕ)) {count : ℕ} {old new : Course}
+pub taken_told : (before : ℕ → List (List ℕ)) {count : ℕ} {old new : Progress}
     → TakesInTurn count old new → IsTold before old → IsTold before new
 taken_told before none_yet told = told
 taken_told before (then_one {between = between} {last = last} {direction = d} earlier way is) told =
@@ -217,17 +220,18 @@ client_more net home zero = refl
 client_more net home (suc earlier) = one_inbox_more net.received earlier
 
 asked_of_told : (before : ℕ → List (List ℕ)) (place : Option ℕ) (occurrence : Occurrence)
-    (course : Course) → IsTold before course → IsTold before (site_asked_if place occurrence course)
-asked_of_told before None occurrence course told = told
-asked_of_told before (Some place) occurrence course told =
-    asked_told before place occurrence course told
+    (progress : Progress) → IsTold before progress
+    → IsTold before (node_asked_if place occurrence progress)
+asked_of_told before None occurrence progress told = told
+asked_of_told before (Some place) occurrence progress told =
+    asked_told before place occurrence progress told
 
 -- both ends are asked, once the network is changed so
 both_told : (net between : Network) (near far : ℕ) (one other : Occurrence)
     → between.received ≡ net.received
-    → IsTold (received_by net) (site_asked far other (site_asked near one (begun between)))
+    → IsTold (received_by net) (node_asked far other (node_asked near one (begun between)))
 both_told net between near far one other same =
-    asked_told (received_by net) far other (site_asked near one (begun between))
+    asked_told (received_by net) far other (node_asked near one (begun between))
     (asked_told (received_by net) near one (begun between)
     (told_still (received_by net) (begun net) (begun between) same refl (nothing_told net)))
 

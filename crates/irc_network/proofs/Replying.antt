@@ -13,8 +13,8 @@ use Rattle.irc_server.specs.declared.event.Event.TheVariants.{LinkDown}
 use Rattle.irc_server.specs.declared.event.ServerFault.{ServerFault}
 use Rattle.irc_stage.specs.declared.clients.Client.{Client}
 use Rattle.irc_stage.specs.View.{End, View}
-use Rattle.irc_network.specs.Site.{Replies, Reply, Site, serves_occurrence, reply}
-use Rattle.irc_network.specs.Loops.Sites.{is_want}
+use Rattle.irc_network.specs.Node.{Replies, Served, Node, serves_occurrence, reply}
+use Rattle.irc_network.specs.Loops.Nodes.{is_want}
 
 -- ---- what is refused is not taken, and what is not refused is
 
@@ -75,7 +75,7 @@ refused_then view (LinkDown link) f e = end_not_some (get view.ends link) f e
 
 -- ---- so a server that is asked replies
 
-abbrev pub served_reply : View → Occurrence → Reply
+abbrev pub served_reply : View → Occurrence → Served
 served_reply view occurrence =
     record { view = (served view occurrence).view; out = (served view occurrence).out }
 
@@ -93,22 +93,22 @@ still_reply view event f e =
 
 pub answered : {old new : Option View} {event : Event} {out : List Sent}
     {result : Result (Unit {0}) ServerFault}
-    (site : Site) → site.server ≡ old → IsHandled old event [] result new out
+    (node : Node) → node.server ≡ old → IsHandled old event [] result new out
     → is_want result ≡ false
-    → Replies site (occurrence_of event) (record site { server = new }) out
-answered site at (takes_it {old = view} {event = event} none does) want = record {
+    → Replies node (occurrence_of event) (record node { server = new }) out
+answered node at (takes_it {old = view} {event = event} none does) want = record {
   view = view;
   is_view = at;
-  new_is = ap (λ (v : View). record site { server = Some v })
-      (does.view_is ∙ ap (λ (r : Reply). r.view) (sym (taken_reply view event none)));
-  out_is = does.out_is ∙ ap (λ (r : Reply). r.out) (sym (taken_reply view event none));
+  new_is = ap (λ (v : View). record node { server = Some v })
+      (does.view_is ∙ ap (λ (r : Served). r.view) (sym (taken_reply view event none)));
+  out_is = does.out_is ∙ ap (λ (r : Served). r.out) (sym (taken_reply view event none));
 }
-answered site at (refuses_it {old = view} {event = event} {fault = fault} is) want = record {
+answered node at (refuses_it {old = view} {event = event} {fault = fault} is) want = record {
   view = view;
   is_view = at;
-  new_is = ap (λ (v : View). record site { server = Some v })
-      (ap (λ (r : Reply). r.view) (sym (still_reply view event fault is)));
-  out_is = ap (λ (r : Reply). r.out) (sym (still_reply view event fault is));
+  new_is = ap (λ (v : View). record node { server = Some v })
+      (ap (λ (r : Served). r.view) (sym (still_reply view event fault is)));
+  out_is = ap (λ (r : Served). r.out) (sym (still_reply view event fault is));
 }
-answered site at (wants_memory none) want = cc want
-answered site at has_failed want = cc want
+answered node at (wants_memory none) want = cc want
+answered node at has_failed want = cc want

@@ -8,8 +8,8 @@ use Rattle.std.specs.Option.{option_map_or}
 use Rattle.std.specs.Ordering.{nat_cmp}
 use Rattle.std.specs.Cmp.{first_so, second_so}
 use Rattle.irc_line.specs.Lines.{begun_behind, has_nothing}
-use Rattle.irc_network.specs.Network.{Site, is_at_rest, is_nothing, is_quiet, waiting, waits}
-use Rattle.irc_wires.specs.Wires.{Direction, Wire, Wires, are_still, are_still_in, first_from}
+use Rattle.irc_network.specs.Network.{Node, is_at_rest, is_nothing, is_quiet, waiting, waits}
+use Rattle.irc_wires.specs.Wires.{Direction, LinkWire, Wires, are_still, are_still_in, first_from}
 use Rattle.irc_wires.specs.Wires.{first_in, has_byte, is_none, is_still, lines_to_come, wire_at}
 use Rattle.irc_wires.specs.Wires.{wire_in}
 use Rattle.irc_network.specs.ByteNetwork.{lines_ahead}
@@ -22,8 +22,8 @@ use Rattle.irc_network.specs.Lemmas.NewFramer.{new_is_real}
 abbrev way : ℕ → ℕ → Direction
 way place to = record { from = place; to = to }
 
-abbrev Row : Type 0
-Row = FinMap nat_cmp Wire
+abbrev WireRow : Type 0
+WireRow = FinMap nat_cmp LinkWire
 
 -- ---- no line waits
 
@@ -31,16 +31,16 @@ none_of : (p : ℕ → Bool) (numbers : List ℕ) → ((n : ℕ) → p n ≡ fal
 none_of p [] none = refl
 none_of p (n ∷ numbers) none = ap (λ b. b || list_any p numbers) (none n) ∙ none_of p numbers none
 
-quiet : (site : Site) → ((to : ℕ) → waiting site to ≡ []) → is_quiet site ≡ true
-quiet site none = ap not (none_of (waits site) (keys site.queues)
+quiet : (node : Node) → ((to : ℕ) → waiting node to ≡ []) → is_quiet node ≡ true
+quiet node none = ap not (none_of (waits node) (keys node.queues)
     (λ to. ap (λ lines. not (is_nothing lines)) (none to)))
 
-all_quiet : (sites : List Site)
-    → ((place to : ℕ) → option_map_or (λ site. waiting site to) (slice_get sites place) [] ≡ [])
-    → list_all is_quiet sites ≡ true
+all_quiet : (nodes : List Node)
+    → ((place to : ℕ) → option_map_or (λ node. waiting node to) (slice_get nodes place) [] ≡ [])
+    → list_all is_quiet nodes ≡ true
 all_quiet [] none = refl
-all_quiet (site ∷ sites) none = and_from (is_quiet site) (list_all is_quiet sites)
-    (quiet site (none 0)) (all_quiet sites (λ place. none (suc place)))
+all_quiet (node ∷ nodes) none = and_from (is_quiet node) (list_all is_quiet nodes)
+    (quiet node (none 0)) (all_quiet nodes (λ place. none (suc place)))
 
 -- ---- no byte is on its way
 
@@ -55,11 +55,11 @@ none_found p (n ∷ numbers) none = by (p n) (none_found p numbers) none
     by true later none = cc none
     by false later none = later none
 
-moves_not : (wire : Wire) → is_still wire ≡ true → not (has_byte wire) ≡ true
+moves_not : (wire : LinkWire) → is_still wire ≡ true → not (has_byte wire) ≡ true
 moves_not wire still =
     ap (λ b. not (not b)) (first_so (is_none wire.bytes) (has_nothing wire.begun) still)
 
-none_moves : (row : Row) (numbers : List ℕ) → list_all (λ to. is_still (wire_in to row)) numbers
+none_moves : (row : WireRow) (numbers : List ℕ) → list_all (λ to. is_still (wire_in to row)) numbers
     ≡ true → list_all (λ to. not (has_byte (wire_in to row))) numbers ≡ true
 none_moves row [] still = refl
 none_moves row (to ∷ numbers) still =
@@ -85,7 +85,7 @@ rest_as_lines known net whole rest =
     ap lines_to_come (all_new net.wires rest from to) ∙ new_has_none known new_is_real) in
     record {
       as_lines = same;
-      at_rest = ap is_at_rest same ∙ all_quiet net.network.sites whole.tidy.quiet;
+      at_rest = ap is_at_rest same ∙ all_quiet net.network.nodes whole.tidy.quiet;
       no_byte = no_direction 0 net.wires rest;
     }
 
@@ -99,8 +99,8 @@ not_found p (n ∷ numbers) none = by (p n) (not_found p numbers) none
     by true later found = cc found
     by false later left = later left
 
-nothing_left : (known : IsKnownOfStreams) (wire : Wire) → IsWhole wire → not (has_byte wire) ≡ true
-    → is_still wire ≡ true
+nothing_left : (known : IsKnownOfStreams) (wire : LinkWire) → IsWhole wire
+    → not (has_byte wire) ≡ true → is_still wire ≡ true
 nothing_left known wire whole none = by wire.bytes refl
   where
     by : (bytes : List ℕ) → wire.bytes ≡ bytes → is_still wire ≡ true
@@ -110,7 +110,7 @@ nothing_left known wire whole none = by wire.bytes refl
         (ap has_nothing (sym ((known.pieces wire.begun whole.real).none_begun)
         ∙ ap (begun_behind wire.begun) (sym is) ∙ whole.ends))
 
-all_still : IsKnownOfStreams → (row : Row) (numbers : List ℕ)
+all_still : IsKnownOfStreams → (row : WireRow) (numbers : List ℕ)
     → ((to : ℕ) → IsWhole (wire_in to row)) → list_all
     (λ to. not (has_byte (wire_in to row))) numbers ≡ true
     → list_all (λ to. is_still (wire_in to row)) numbers ≡ true

@@ -8,18 +8,19 @@ use Rattle.std.specs.Option.{option_map_or}
 use Rattle.std.specs.Ordering.{nat_cmp}
 use Rattle.irc_network.specs.Network.{LinkPlaces}
 use Rattle.irc_stage.specs.Lemmas.Numbers.{get-without, same_number}
-use Rattle.irc_wires.specs.Wires.{Wire, Wires, are_still, are_still_in, is_still, new_wire, wire_at}
+use Rattle.irc_wires.specs.Wires.{LinkWire, Wires, are_still, are_still_in, is_still, new_wire}
+use Rattle.irc_wires.specs.Wires.{wire_at}
 use Rattle.irc_wires.specs.Wires.{wire_in, without_wire}
 use Rattle.irc_wires.specs.Lemmas.StillWires.{one_of, still_is_new}
 use Rattle.irc_network.specs.ByteNetwork.{lost_along}
 
-abbrev Row : Type 0
-Row = FinMap nat_cmp Wire
+abbrev WireRow : Type 0
+WireRow = FinMap nat_cmp LinkWire
 
-still_in : (row : Row) → are_still_in row ≡ true → (to : ℕ) → wire_in to row ≡ new_wire
+still_in : (row : WireRow) → are_still_in row ≡ true → (to : ℕ) → wire_in to row ≡ new_wire
 still_in row still to = by (get row to) refl
   where
-    by : (o : Option Wire) → get row to ≡ o → unwrap_or o new_wire ≡ new_wire
+    by : (o : Option LinkWire) → get row to ≡ o → unwrap_or o new_wire ≡ new_wire
     by None is = refl
     by (Some wire) is =
         ap (λ o. unwrap_or o new_wire) (sym is)
@@ -37,7 +38,7 @@ all_new (row ∷ wires) still (suc from) to =
 
 -- ---- what is lost of nothing
 
-new_without : (row : Row) (lost : ℕ) → ((to : ℕ) → wire_in to row ≡ new_wire) → (to : ℕ)
+new_without : (row : WireRow) (lost : ℕ) → ((to : ℕ) → wire_in to row ≡ new_wire) → (to : ℕ)
     → wire_in to (remove row lost) ≡ new_wire
 new_without row lost none to =
     ap (λ o. unwrap_or o new_wire) (get-without row lost to) ∙ by (same_number to lost)
@@ -46,7 +47,7 @@ new_without row lost none to =
     by true = refl
     by false = none to
 
-set_new : (wires : Wires) (from : ℕ) (row : Row) → ((to : ℕ) → wire_in to row ≡ new_wire)
+set_new : (wires : Wires) (from : ℕ) (row : WireRow) → ((to : ℕ) → wire_in to row ≡ new_wire)
     → ((x to : ℕ) → wire_at wires x to ≡ new_wire) → (x to : ℕ)
     → wire_at (slice_set wires from row) x to ≡ new_wire
 set_new [] from row none all x to = refl
@@ -60,7 +61,7 @@ one_lost : (wires : Wires) (from lost : ℕ) → ((x to : ℕ) → wire_at wires
     → (x to : ℕ) → wire_at (without_wire from lost wires) x to ≡ new_wire
 one_lost wires from lost all x to = by (slice_get wires from) refl
   where
-    by : (o : Option Row) → slice_get wires from ≡ o → wire_at
+    by : (o : Option WireRow) → slice_get wires from ≡ o → wire_at
         (option_map_or (λ row. slice_set wires from (remove row lost)) o wires) x to ≡ new_wire
     by None is = all x to
     by (Some row) is =

@@ -4,12 +4,12 @@ use Rattle.std.proofs.Common.{None, List, [], ◌∷◌, ◌++◌, length, take,
 use Rattle.std.proofs.Common.{arith, option_map, unwrap_or}
 use Rattle.std.specs.Option.{option_and_then, option_map_or}
 use Rattle.irc_line.specs.Lines.{completed}
-use Rattle.irc_network.specs.Network.{Course, Direction as LineDirection, delivered, direction}
-use Rattle.irc_network.specs.Network.{first_among, is_nothing, next_in_turn, site_at}
-use Rattle.irc_wires.specs.Wires.{Direction, Wire, first_direction, has_byte, is_none}
+use Rattle.irc_network.specs.Network.{Progress, delivered, direction}
+use Rattle.irc_network.specs.Network.{first_among, is_nothing, next_in_turn, node_at}
+use Rattle.irc_wires.specs.Wires.{Direction, LinkWire, first_direction, has_byte, is_none}
 use Rattle.irc_wires.specs.Wires.{lines_to_come, wire_at}
-use Rattle.irc_network.specs.Behind.{Ahead, sites_behind}
-use Rattle.irc_network.specs.ByteNetwork.{ByteCourse, completed_in, course_in_lines}
+use Rattle.irc_network.specs.Behind.{Ahead, nodes_behind}
+use Rattle.irc_network.specs.ByteNetwork.{ByteProgress, completed_in, progress_in_lines}
 use Rattle.irc_network.specs.ByteNetwork.{net_in_lines, lines_ahead}
 use Rattle.irc_network.specs.Turns.{bytes_in_turn, lines_in, lines_in_turn, turn_in}
 use Rattle.irc_network.specs.Whole.{AreLinesWaiting, BytesComeAsLines, ComeAsLines, Delivers}
@@ -20,12 +20,12 @@ use Rattle.irc_network.proofs.WireLines.{IsKnownOfStreams, lines_parted}
 
 -- ---- no line is delivered, or one
 
-none_is : {from to count : ℕ} {old last : Course} → Delivers from to count old last → count ≡ 0
+none_is : {from to count : ℕ} {old last : Progress} → Delivers from to count old last → count ≡ 0
     → last ≡ old
 none_is no_more none = refl
 none_is (one_first {count = count} first rest) none = absurd (omega (arith, none))
 
-one_is : {from to count : ℕ} {old last : Course} → Delivers from to count old last → count ≡ 1
+one_is : {from to count : ℕ} {old last : Progress} → Delivers from to count old last → count ≡ 1
     → delivered from to old ≡ Some last
 one_is no_more one = absurd (omega (arith, one))
 one_is (one_first {count = count} first rest) one =
@@ -33,7 +33,7 @@ one_is (one_first {count = count} first rest) one =
 
 -- ---- a direction in which a byte is on its way
 
-none_to_come : (known : IsKnownOfStreams) (wire : Wire) → IsWhole wire → has_byte wire ≡ false
+none_to_come : (known : IsKnownOfStreams) (wire : LinkWire) → IsWhole wire → has_byte wire ≡ false
     → lines_to_come wire ≡ []
 none_to_come known wire whole none = by wire.bytes refl
   where
@@ -46,10 +46,10 @@ some_to_come : (all lines rest : List (List ℕ)) → all ≡ lines ++ rest → 
 some_to_come all [] rest is one = absurd (omega (arith, one))
 some_to_come all (first ∷ lines) rest is one = ap is_nothing is
 
-module _ (known : IsKnownOfStreams) (come : BytesComeAsLines) (old : ByteCourse)
+module _ (known : IsKnownOfStreams) (come : BytesComeAsLines) (old : ByteProgress)
     (whole : IsWholeNet old.net) (are : AreLinesWaiting (net_in_lines old.net))
     (d : Direction) (first : first_direction old.net.wires ≡ Some d) where
-  abbrev wire : Wire
+  abbrev wire : LinkWire
   wire = wire_at old.net.wires d.from d.to
 
   abbrev count : ℕ
@@ -88,22 +88,22 @@ module _ (known : IsKnownOfStreams) (come : BytesComeAsLines) (old : ByteCourse)
         by false is = cc (sym some_ahead ∙ ap is_nothing (whole.ways d.from d.to is))
 
     ahead_there : (x : ℕ) → d.from ≡ 0 + x
-        → HasAhead (site_at old.net.network x) d.to (ahead x d.to)
+        → HasAhead (node_at old.net.network x) d.to (ahead x d.to)
     ahead_there x at =
         let x_is : d.from ≡ x = omega (arith, at) in
-        subst (λ n. HasAhead (site_at old.net.network n) d.to (ahead n d.to)) x_is
+        subst (λ n. HasAhead (node_at old.net.network n) d.to (ahead n d.to)) x_is
         (record { way = way_there; some = some_ahead })
 
-    first_line : first_among 0 (sites_behind ahead old.net.network.sites)
+    first_line : first_among 0 (nodes_behind ahead old.net.network.nodes)
         ≡ Some (direction d.from d.to)
     first_line =
-        first_is 0 old.net.wires old.net.network.sites ahead d whole.tidy.rows
+        first_is 0 old.net.wires old.net.network.nodes ahead d whole.tidy.rows
         (λ x to none. none_to_come known (wire_at old.net.wires x to) (whole.whole x to) none)
         whole.tidy.quiet ahead_there first
 
-    next_is : next_in_turn (course_in_lines old) ≡ Some comes.last
+    next_is : next_in_turn (progress_in_lines old) ≡ Some comes.last
     next_is =
-        ap (option_and_then (λ (e : LineDirection). delivered e.from e.to (course_in_lines old)))
+        ap (option_and_then (λ (e : Direction). delivered e.from e.to (progress_in_lines old)))
         first_line ∙ one_is comes.delivers one
 
   -- ---- none, or one
@@ -113,9 +113,9 @@ module _ (known : IsKnownOfStreams) (come : BytesComeAsLines) (old : ByteCourse)
     where
       by : (n : ℕ) → length lines ≡ n → TurnsAsLines old (turn_in old d)
       by zero none =
-          let same : comes.last ≡ course_in_lines old = none_is comes.delivers none in
+          let same : comes.last ≡ progress_in_lines old = none_is comes.delivers none in
           let are_last : AreLinesWaiting comes.last.net =
-          subst (λ (c : Course). AreLinesWaiting c.net) (sym same) are in
+          subst (λ (c : Progress). AreLinesWaiting c.net) (sym same) are in
           no_line (lines_are 0 none) (comes.as_lines are_last ∙ same) (comes.whole are_last)
       by (suc zero) one =
           one_line comes.last (lines_are 1 one) (next_is one) comes.as_lines comes.whole

@@ -9,112 +9,115 @@ use Rattle.irc_line.specs.Reading.{read_of}
 use Rattle.irc_server.specs.Served.{Occurrence, link_says}
 use Rattle.irc_stage.specs.View.{View}
 use Rattle.irc_stage.specs.Lemmas.Numbers.{get-with, one_number, same_number}
-use Rattle.irc_network.specs.Network.{Course, Network, Site, all_sent_out, site_asked, asked_at}
-use Rattle.irc_network.specs.Network.{line_body, site_changed_at, line_counted, has_received}
-use Rattle.irc_network.specs.Network.{has_received_at, line_queued, reply, sent_out, site_at}
-use Rattle.irc_network.specs.Network.{with_reply, with_site, heard}
+use Rattle.irc_network.specs.Network.{Progress, Network, Node, all_sent_out, node_asked, asked_at}
+use Rattle.irc_network.specs.Network.{line_body, node_changed_at, line_counted, has_received}
+use Rattle.irc_network.specs.Network.{has_received_at, line_queued, reply, sent_out, node_at}
+use Rattle.irc_network.specs.Network.{with_reply, with_node, heard}
 use Rattle.irc_network.specs.Whole.{has_way}
 
 abbrev KeepsWays : Network → Network → Type 0
 KeepsWays old new = (from to : ℕ) → has_way new from to ≡ has_way old from to
 
-abbrev site_has : ℕ → Option Site → Bool
-site_has to o = is_some (option_and_then (λ (site : Site). get site.queues to) o)
+abbrev node_has : ℕ → Option Node → Bool
+node_has to o = is_some (option_and_then (λ (node : Node). get node.queues to) o)
 
--- a site is put where one was that has the same ways
-put_keeps : (net : Network) (place : ℕ) (site new : Site) → site_at net place ≡ Some site →
-    ((to : ℕ) → is_some (get new.queues to) ≡ is_some (get site.queues to))
-    → KeepsWays net (with_site place new net)
-put_keeps net place site new at alike from to = by net.sites place from at
+-- a node is put where one was that has the same ways
+put_keeps : (net : Network) (place : ℕ) (node new : Node) → node_at net place ≡ Some node →
+    ((to : ℕ) → is_some (get new.queues to) ≡ is_some (get node.queues to))
+    → KeepsWays net (with_node place new net)
+put_keeps net place node new at alike from to = by net.nodes place from at
   where
-    by : (sites : List Site) (place from : ℕ) → slice_get sites place ≡ Some site
-        → site_has to (slice_get (slice_set sites place new) from) ≡ site_has to
-        (slice_get sites from)
+    by : (nodes : List Node) (place from : ℕ) → slice_get nodes place ≡ Some node
+        → node_has to (slice_get (slice_set nodes place new) from) ≡ node_has to
+        (slice_get nodes from)
     by [] place from is = cc is
-    by (first ∷ sites) zero zero is = alike to ∙ ap (site_has to) (sym is)
-    by (first ∷ sites) zero (suc from) is = refl
-    by (first ∷ sites) (suc place) zero is = refl
-    by (first ∷ sites) (suc place) (suc from) is = by sites place from is
+    by (first ∷ nodes) zero zero is = alike to ∙ ap (node_has to) (sym is)
+    by (first ∷ nodes) zero (suc from) is = refl
+    by (first ∷ nodes) (suc place) zero is = refl
+    by (first ∷ nodes) (suc place) (suc from) is = by nodes place from is
 
-queued_keeps : (to : ℕ) (text : List ℕ) (site : Site) (q : ℕ)
-    → is_some (get (line_queued to text site).queues q) ≡ is_some (get site.queues q)
-queued_keeps to text site q = by (get site.queues to) refl
+queued_keeps : (to : ℕ) (text : List ℕ) (node : Node) (q : ℕ)
+    → is_some (get (line_queued to text node).queues q) ≡ is_some (get node.queues q)
+queued_keeps to text node q = by (get node.queues to) refl
   where
-    by : (o : Option (List (List ℕ))) → get site.queues to ≡ o
-        → is_some (get (option_map_or (λ lines. record site {
-          queues = insert site.queues to
+    by : (o : Option (List (List ℕ))) → get node.queues to ≡ o
+        → is_some (get (option_map_or (λ lines. record node {
+          queues = insert node.queues to
               (lines ++ line_body text ∷ []);
-        }) o site).queues q) ≡ is_some
-        (get site.queues q)
+        }) o node).queues q) ≡ is_some
+        (get node.queues q)
     by None is = refl
-    by (Some lines) is = ap is_some (get-with site.queues to (lines ++ line_body text ∷ []) q)
+    by (Some lines) is = ap is_some (get-with node.queues to (lines ++ line_body text ∷ []) q)
         ∙ one (same_number q to) refl
       where
         one : (b : Bool) → same_number q to ≡ b
-            → is_some (cond b (Some (lines ++ line_body text ∷ [])) (get site.queues q))
-            ≡ is_some (get site.queues q)
+            → is_some (cond b (Some (lines ++ line_body text ∷ [])) (get node.queues q))
+            ≡ is_some (get node.queues q)
         one true same =
-            ap is_some (sym is) ∙ ap (λ n. is_some (get site.queues n)) (sym (one_number q to same))
+            ap is_some (sym is) ∙ ap (λ n. is_some (get node.queues n)) (sym (one_number q to same))
         one false two = refl
 
 changed_keeps : (place to : ℕ) (text : List ℕ) (net : Network)
-    → KeepsWays net (site_changed_at place (line_queued to text) net)
-changed_keeps place to text net from q = by (site_at net place) refl
+    → KeepsWays net (node_changed_at place (line_queued to text) net)
+changed_keeps place to text net from q = by (node_at net place) refl
   where
-    by : (o : Option Site) → site_at net place ≡ o → has_way (option_map_or (λ site.
-        with_site place (line_queued to text site) net) o net) from q ≡ has_way net from q
+    by : (o : Option Node) → node_at net place ≡ o → has_way (option_map_or (λ node.
+        with_node place (line_queued to text node) net) o net) from q ≡ has_way net from q
     by None is = refl
-    by (Some site) is =
-        put_keeps net place site (line_queued to text site) is (queued_keeps to text site) from q
+    by (Some node) is =
+        put_keeps net place node (line_queued to text node) is (queued_keeps to text node) from q
 
-received_keeps : (client : ℕ) (text : List ℕ) (course : Course)
-    → KeepsWays course.net (has_received client text course).net
-received_keeps zero text course from to = refl
-received_keeps (suc earlier) text course from to = by (slice_get course.net.received earlier)
+received_keeps : (client : ℕ) (text : List ℕ) (progress : Progress)
+    → KeepsWays progress.net (has_received client text progress).net
+received_keeps zero text progress from to = refl
+received_keeps (suc earlier) text progress from to = by (slice_get progress.net.received earlier)
   where
     by : (o : Option (List (List ℕ))) → has_way (option_map_or
-        (has_received_at earlier text course) o course).net from to ≡ has_way course.net from to
+        (has_received_at earlier text progress) o progress).net from to
+        ≡ has_way progress.net from to
     by None = refl
     by (Some lines) = refl
 
-pub sent_keeps : (place : ℕ) (sent : Sent) (course : Course)
-    → KeepsWays course.net (sent_out place sent course).net
-sent_keeps place (line_to client text) course from to = received_keeps client text course from to
-sent_keeps place (end_of client) course from to = refl
-sent_keeps place (line_on link text) course from to =
-    changed_keeps place link text course.net from to
-sent_keeps place (end_of_link link reason) course from to = refl
+pub sent_keeps : (place : ℕ) (sent : Sent) (progress : Progress)
+    → KeepsWays progress.net (sent_out place sent progress).net
+sent_keeps place (line_to client text) progress from to =
+    received_keeps client text progress from to
+sent_keeps place (end_of client) progress from to = refl
+sent_keeps place (line_on link text) progress from to =
+    changed_keeps place link text progress.net from to
+sent_keeps place (end_of_link link reason) progress from to = refl
 
-pub all_keep : (place : ℕ) (out : List Sent) (course : Course)
-    → KeepsWays course.net (all_sent_out place out course).net
-all_keep place [] course from to = refl
-all_keep place (sent ∷ out) course from to = all_keep place out (sent_out place sent course) from to
-    ∙ sent_keeps place sent course from to
+pub all_keep : (place : ℕ) (out : List Sent) (progress : Progress)
+    → KeepsWays progress.net (all_sent_out place out progress).net
+all_keep place [] progress from to = refl
+all_keep place (sent ∷ out) progress from to =
+    all_keep place out (sent_out place sent progress) from to
+    ∙ sent_keeps place sent progress from to
 
-pub asked_keeps : (place : ℕ) (occurrence : Occurrence) (course : Course)
-    → KeepsWays course.net (site_asked place occurrence course).net
-unfolding site_asked
-asked_keeps place occurrence course from to = by_site (site_at course.net place) refl
+pub asked_keeps : (place : ℕ) (occurrence : Occurrence) (progress : Progress)
+    → KeepsWays progress.net (node_asked place occurrence progress).net
+unfolding node_asked
+asked_keeps place occurrence progress from to = by_node (node_at progress.net place) refl
   where
-    by_view : (site : Site) → site_at course.net place ≡ Some site → (o : Option View)
-        → has_way (option_map_or (λ (view : View). with_reply place course site
-        (reply view occurrence)) o course).net from to ≡ has_way course.net from to
-    by_view site at None = refl
-    by_view site at (Some view) =
+    by_view : (node : Node) → node_at progress.net place ≡ Some node → (o : Option View)
+        → has_way (option_map_or (λ (view : View). with_reply place progress node
+        (reply view occurrence)) o progress).net from to ≡ has_way progress.net from to
+    by_view node at None = refl
+    by_view node at (Some view) =
         let r = reply view occurrence in
-        all_keep place r.out (record course {
-          net = with_site place
-              (record site { server = Some r.view }) course.net;
+        all_keep place r.out (record progress {
+          net = with_node place
+              (record node { server = Some r.view }) progress.net;
         }) from to
-        ∙ put_keeps course.net place site (record site { server = Some r.view }) at
+        ∙ put_keeps progress.net place node (record node { server = Some r.view }) at
         (λ q. refl) from to
 
-    by_site : (o : Option Site) → site_at course.net place ≡ o → has_way (option_map_or
-        (asked_at place occurrence course) o course).net from to ≡ has_way course.net from to
-    by_site None at = refl
-    by_site (Some site) at = by_view site at site.server
+    by_node : (o : Option Node) → node_at progress.net place ≡ o → has_way (option_map_or
+        (asked_at place occurrence progress) o progress).net from to ≡ has_way progress.net from to
+    by_node None at = refl
+    by_node (Some node) at = by_view node at node.server
 
-pub heard_ways : (x y : ℕ) (course : Course) (line : List ℕ) (from to : ℕ)
-    → has_way (heard x y course line).net from to ≡ has_way course.net from to
-heard_ways x y course line from to = asked_keeps y (link_says x (read_of line))
-    (record course { net = line_counted course.net }) from to
+pub heard_ways : (x y : ℕ) (progress : Progress) (line : List ℕ) (from to : ℕ)
+    → has_way (heard x y progress line).net from to ≡ has_way progress.net from to
+heard_ways x y progress line from to = asked_keeps y (link_says x (read_of line))
+    (record progress { net = line_counted progress.net }) from to

@@ -9,7 +9,7 @@ use Rattle.irc_line.specs.Bytes.{crlf}
 use Rattle.irc_line.specs.Laws.{LinesAreCompleted, PiecesCompleteTheSame}
 use Rattle.irc_line.specs.Lines.{Begun, HasTaken, IsLine, begun_behind, completed, nothing_begun}
 use Rattle.irc_line.specs.Lines.{stream_for}
-use Rattle.irc_wires.specs.Wires.{Wire, advanced, is_none, lines_by, lines_to_come, new_wire}
+use Rattle.irc_wires.specs.Wires.{LinkWire, advanced, is_none, lines_by, lines_to_come, new_wire}
 use Rattle.irc_wires.specs.Wires.{through_line_feed, written}
 use Rattle.irc_network.specs.ByteNetwork.{all_written}
 use Rattle.irc_network.specs.Whole.{IsWhole, ends_in_feed}
@@ -27,13 +27,13 @@ abbrev IsReal : Begun → Type 0
 IsReal begun = HasTaken begun (stream_for begun)
 
 -- what is through the next LF completes one line at most
-abbrev pub IsSingle : Wire → Type 0
+abbrev pub IsSingle : LinkWire → Type 0
 IsSingle wire = length (lines_by (through_line_feed wire.bytes) wire) ≤ 1
 
 module _ (known : IsKnownOfStreams) where
   -- ---- bytes that come to a framer to which some stream led
 
-  module _ (wire : Wire) (real : IsReal wire.begun) where
+  module _ (wire : LinkWire) (real : IsReal wire.begun) where
     real_advanced : (count : ℕ) → IsReal (advanced count wire).begun
     real_advanced count = (known.pieces wire.begun real).taken (take count wire.bytes)
 
@@ -65,7 +65,7 @@ module _ (known : IsKnownOfStreams) where
       )
 
   -- where all that is on its way completes one line at most, so does each part
-  part_single : (wire : Wire) (real : IsReal wire.begun) (count : ℕ)
+  part_single : (wire : LinkWire) (real : IsReal wire.begun) (count : ℕ)
       → length (lines_to_come wire) ≤ 1 → IsSingle (advanced count wire)
   part_single wire real count single =
       let next = through_line_feed (drop count wire.bytes) in
@@ -98,7 +98,7 @@ module _ (known : IsKnownOfStreams) where
 
   -- ---- all that is on its way has come
 
-  module _ (wire : Wire) (whole : IsWhole wire) where
+  module _ (wire : LinkWire) (whole : IsWhole wire) where
     all_advanced : advanced (length wire.bytes) wire ≡ new_wire
     all_advanced = λ i. record {
       begun = (ap (begun_behind wire.begun) (take_all (length wire.bytes) wire.bytes (omega arith))
@@ -108,7 +108,7 @@ module _ (known : IsKnownOfStreams) where
 
   -- ---- a line is written
 
-  module _ (wire : Wire) (whole : IsWhole wire) (line : List ℕ) (is : IsLine line) where
+  module _ (wire : LinkWire) (whole : IsWhole wire) (line : List ℕ) (is : IsLine line) where
     one_more : lines_to_come (written line wire) ≡ lines_to_come wire ++ line ∷ []
     one_more =
         ((known.pieces wire.begun whole.real).in_turn wire.bytes (line ++ crlf)).lines
@@ -171,11 +171,11 @@ module _ (known : IsKnownOfStreams) where
       singly = λ come. still_single come (is_of come wire.bytes);
     }
 
-  pub record AreWritten (wire : Wire) (lines : List (List ℕ)) : Type 0 where
+  pub record AreWritten (wire : LinkWire) (lines : List (List ℕ)) : Type 0 where
     pub lines_are : lines_to_come (all_written lines wire) ≡ lines_to_come wire ++ lines
     pub whole : IsWhole (all_written lines wire)
 
-  pub all_are_written : (wire : Wire) (lines : List (List ℕ)) → IsWhole wire
+  pub all_are_written : (wire : LinkWire) (lines : List (List ℕ)) → IsWhole wire
       → AllByRecursion IsLine lines → AreWritten wire lines
   all_are_written wire [] whole all =
       record { lines_are = sym (append-nil (lines_to_come wire)); whole = whole }
@@ -190,7 +190,7 @@ module _ (known : IsKnownOfStreams) where
 
   -- ---- bytes come
 
-  module _ (wire : Wire) (whole : IsWhole wire) (count : ℕ) where
+  module _ (wire : LinkWire) (whole : IsWhole wire) (count : ℕ) where
     pub lines_parted : lines_to_come wire ≡ lines_by count wire
         ++ lines_to_come (advanced count wire)
     lines_parted = real_parted wire whole.real count

@@ -2,8 +2,8 @@
 -- a line comes to the server at the other end once its bytes have come, however they are cut.
 --
 -- a.net and b.net are linked; al says hi at a.net, in a channel with bo at b.net:
--- given a.net is asked for the line; the bytes of `:al PRIVMSG #c :hi` and CR LF are on their way
--- to b.net
+--   given     a.net is asked for the line; the bytes of `:al PRIVMSG #c :hi` and CR LF are on their
+--             way to b.net
 --   20 bytes  come to b.net: `:al PRIVMSG #c :hi` is begun there, and bo has received nothing
 --   1 byte    more, the CR: the line is complete, b.net is asked for it, and bo has received it
 --   1 byte    more, the LF: it completes nothing
@@ -12,9 +12,10 @@ use Rattle.std.specs.FinMap.{FinMap, entries}
 use Rattle.std.specs.Option.{option_map_or}
 use Rattle.std.specs.Ordering.{nat_cmp}
 use Rattle.irc_world.specs.Stepping.{Item, cut}
-use Rattle.irc_network.specs.Network.{Course, LinkPlaces, Network, Receipt, Site, link_places}
-use Rattle.irc_network.specs.Network.{given, heard, site_at, waiting}
-use Rattle.irc_wires.specs.Wires.{Wire, Wires, advanced, are_still, lines_by, lines_to_come, put_in}
+use Rattle.irc_network.specs.Network.{Progress, LinkPlaces, Network, Receipt, Node, link_places}
+use Rattle.irc_network.specs.Network.{given, heard, node_at, waiting}
+use Rattle.irc_wires.specs.Wires.{LinkWire, Wires, advanced, are_still, lines_by, lines_to_come}
+use Rattle.irc_wires.specs.Wires.{put_in}
 use Rattle.irc_wires.specs.Wires.{wire_at, wire_in, with_wire, without_wire, written}
 use Rattle.irc_network.specs.Behind.{Ahead, net_behind, emptied}
 
@@ -25,17 +26,17 @@ pub record ByteNetwork : Type 0 where
   pub wires : Wires
 
 -- a network while something is done to it, and what clients have received by that so far, in order
-pub record ByteCourse : Type 0 where
+pub record ByteProgress : Type 0 where
   pub net : ByteNetwork
   pub receipts : List Receipt
 
 -- nothing has been done to it yet, and nothing received by that
-abbrev pub byte_begun : ByteNetwork → ByteCourse
+abbrev pub byte_begun : ByteNetwork → ByteProgress
 byte_begun net = record { net = net; receipts = [] }
 
 -- each server has a row of wires
 abbrev pub HasRows : ByteNetwork → Type 0
-HasRows net = length net.wires ≡ length net.network.sites
+HasRows net = length net.wires ≡ length net.network.nodes
 
 -- ---- what it is as a network whose links carry lines
 
@@ -46,8 +47,9 @@ lines_ahead wires from to = lines_to_come (wire_at wires from to)
 abbrev pub net_in_lines : ByteNetwork → Network
 net_in_lines net = net_behind (lines_ahead net.wires) net.network
 
-abbrev pub course_in_lines : ByteCourse → Course
-course_in_lines course = record { net = net_in_lines course.net; receipts = course.receipts }
+abbrev pub progress_in_lines : ByteProgress → Progress
+progress_in_lines progress =
+    record { net = net_in_lines progress.net; receipts = progress.receipts }
 
 -- ---- at rest
 
@@ -58,34 +60,35 @@ is_byte_rest net = are_still net.wires
 -- ---- what is put out is written
 
 -- one line after another
-abbrev pub all_written : List (List ℕ) → Wire → Wire
+abbrev pub all_written : List (List ℕ) → LinkWire → LinkWire
 all_written [] wire = wire
 all_written (line ∷ lines) wire = all_written lines (written line wire)
 
 abbrev pub waiting_at : Network → ℕ → ℕ → List (List ℕ)
-waiting_at net from to = option_map_or (λ site. waiting site to) (site_at net from) []
+waiting_at net from to = option_map_or (λ node. waiting node to) (node_at net from) []
 
 -- of one server, way by way, each under the place where it goes
-abbrev pub row_written : List (ℕ × List (List ℕ)) → FinMap nat_cmp Wire → FinMap nat_cmp Wire
+abbrev pub row_written : List (ℕ × List (List ℕ)) → FinMap nat_cmp LinkWire
+    → FinMap nat_cmp LinkWire
 row_written [] row = row
 row_written (way ∷ ways) row =
     row_written ways (put_in way.0 (all_written way.1 (wire_in way.0 row)) row)
 
 -- of all servers, by their places
-abbrev pub rows_written : List Site → Wires → Wires
+abbrev pub rows_written : List Node → Wires → Wires
 rows_written [] wires = wires
-rows_written (site ∷ sites) [] = []
-rows_written (site ∷ sites) (row ∷ wires) =
-    row_written (entries site.queues) row ∷ rows_written sites wires
+rows_written (node ∷ nodes) [] = []
+rows_written (node ∷ nodes) (row ∷ wires) =
+    row_written (entries node.queues) row ∷ rows_written nodes wires
 
 -- What waits is written along these wires, and waits no more.
 abbrev pub queues_written : Network → Wires → ByteNetwork
-queues_written net wires = record { network = emptied net; wires = rows_written net.sites wires }
+queues_written net wires = record { network = emptied net; wires = rows_written net.nodes wires }
 
 -- what servers have put out for each other is written; what clients received is theirs already
-abbrev pub course_written : Course → Wires → ByteCourse
-course_written course wires =
-    record { net = queues_written course.net wires; receipts = course.receipts }
+abbrev pub progress_written : Progress → Wires → ByteProgress
+progress_written progress wires =
+    record { net = queues_written progress.net wires; receipts = progress.receipts }
 
 -- ---- what is given
 
@@ -104,16 +107,16 @@ lost_along (Some ends) wires =
 abbrev pub wires_after : Network → Item → Wires → Wires
 wires_after net item wires = lost_along (cut_ends net item) wires
 
-unfoldable pub item_given : Item → ByteNetwork → ByteCourse
+unfoldable pub item_given : Item → ByteNetwork → ByteProgress
 item_given item net =
-    course_written (given item net.network) (wires_after net.network item net.wires)
+    progress_written (given item net.network) (wires_after net.network item net.wires)
 
 -- ---- bytes come
 
 -- a server is asked for lines that have come from another, in turn
-abbrev pub all_heard : ℕ → ℕ → Course → List (List ℕ) → Course
-all_heard from to course [] = course
-all_heard from to course (line ∷ lines) = all_heard from to (heard from to course line) lines
+abbrev pub all_heard : ℕ → ℕ → Progress → List (List ℕ) → Progress
+all_heard from to progress [] = progress
+all_heard from to progress (line ∷ lines) = all_heard from to (heard from to progress line) lines
 
 -- the lines that so many bytes complete which come from one server to another
 abbrev pub completed_in : ByteNetwork → ℕ → ℕ → ℕ → List (List ℕ)
@@ -125,12 +128,13 @@ wires_come net from to count =
     with_wire from to (advanced count (wire_at net.wires from to)) net.wires
 
 -- servers are asked as in a network of lines: what is on its way is nothing to them
-abbrev pub course_without_wires : ByteCourse → Course
-course_without_wires course = record { net = course.net.network; receipts = course.receipts }
+abbrev pub progress_without_wires : ByteProgress → Progress
+progress_without_wires progress =
+    record { net = progress.net.network; receipts = progress.receipts }
 
 -- So many bytes come from one server to another, or all that are on their way where there are
 -- fewer. The server that they come to is asked for each line that they complete, in turn.
-unfoldable pub bytes_come : ℕ → ℕ → ℕ → ByteCourse → ByteCourse
-bytes_come from to count course =
-    course_written (all_heard from to (course_without_wires course)
-    (completed_in course.net from to count)) (wires_come course.net from to count)
+unfoldable pub bytes_come : ℕ → ℕ → ℕ → ByteProgress → ByteProgress
+bytes_come from to count progress =
+    progress_written (all_heard from to (progress_without_wires progress)
+    (completed_in progress.net from to count)) (wires_come progress.net from to count)

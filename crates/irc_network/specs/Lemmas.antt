@@ -5,5 +5,5 @@ pub mod NewFramer
 pub mod Outcomes
 pub mod Rows
 pub mod RowsWritten
-pub mod SitesStay
+pub mod NodesStay
 pub mod Ways

@@ -1,5 +1,5 @@
 pub mod Histories
-pub mod Site
+pub mod Node
 pub mod Network
 pub mod ByteNetwork
 pub mod Behind

@@ -1,11 +1,11 @@
 -- Words of this crate's code alone. No rule stands here.
 pub mod Codes
 pub mod Coming
-pub mod Courses
+pub mod Progress
 pub mod Keeping
-pub mod News
+pub mod HistoryEntry
 pub mod Parties
-pub mod SiteCodes
-pub mod Sites
+pub mod NodeCodes
+pub mod Nodes
 pub mod Turning
 pub mod Writing

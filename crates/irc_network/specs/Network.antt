@@ -3,10 +3,10 @@
 --
 -- a.net and b.net are linked; al is client 1 at a.net, bo client 2 at b.net, both in #c. al says
 -- hi:
--- given a.net is asked for the line; `:al PRIVMSG #c :hi` waits on the way from a.net to b.net; bo
--- has received nothing yet
--- delivered from a.net to b.net: b.net is asked for that line, the oldest that waits there, and bo
--- has received `:al!u@h PRIVMSG #c :hi`
+--   given      a.net is asked for the line; `:al PRIVMSG #c :hi` waits on the way from a.net to
+--              b.net; bo has received nothing yet
+--   delivered  from a.net to b.net: b.net is asked for that line, the oldest that waits there, and
+--              bo has received `:al!u@h PRIVMSG #c :hi`
 --   at rest    no line is on its way
 use Rattle.std.specs.Prelude.{◌≡◌, ℕ, zero, suc, ◌+◌, min, Bool, Option, Some, None, List, [], ◌∷◌}
 use Rattle.std.specs.Prelude.{◌++◌, length, unwrap_or, nat_eq, if◌then◌else◌}
@@ -21,16 +21,17 @@ use Rattle.irc_stage.specs.View.{View}
 use Rattle.irc_server.specs.Served.{Occurrence, of_client, link_up, link_says, link_down}
 use Rattle.irc_world.specs.Stepping.{Item, connect, line, gone, link, cut}
 use Rattle.irc_world.specs.World.{home_in}
-pub use Rattle.irc_network.specs.Site.{Reply, Site, line_body, first_way, is_nothing, is_quiet}
-pub use Rattle.irc_network.specs.Site.{serves_occurrence, left, line_queued, reply, waiting, waits}
-pub use Rattle.irc_network.specs.Site.{with_way, without_way}
+pub use Rattle.irc_wires.specs.Wires.{Direction}
+pub use Rattle.irc_network.specs.Node.{Served, Node, line_body, first_way, is_nothing, is_quiet}
+pub use Rattle.irc_network.specs.Node.{serves_occurrence, left, line_queued, reply, waiting, waits}
+pub use Rattle.irc_network.specs.Node.{with_way, without_way}
 
 -- The servers' names in order, and the servers in the order of their names; the links, the newest
 -- first; the home of each client, in the order of their numbers, which begin with 1, and what it
 -- has received, whole lines; what was given, in turn; how many lines were taken since.
 pub record Network : Type 0 where
   pub names : List Name
-  pub sites : List Site
+  pub nodes : List Node
   pub links : List Link
   pub homes : List Name
   pub received : List (List (List ℕ))
@@ -38,11 +39,11 @@ pub record Network : Type 0 where
   pub taken : ℕ
 
 -- these servers as they begin: no client, and nothing given yet
-abbrev pub new_network : Forest → List Site → Network
-new_network forest sites =
+abbrev pub new_network : Forest → List Node → Network
+new_network forest nodes =
     record {
       names = forest.names;
-      sites = sites;
+      nodes = nodes;
       links = forest.links;
       homes = [];
       received = [];
@@ -56,12 +57,12 @@ pub record Receipt : Type 0 where
   pub text : List ℕ
 
 -- a network while something is done to it, and what clients have received by that so far, in order
-pub record Course : Type 0 where
+pub record Progress : Type 0 where
   pub net : Network
   pub receipts : List Receipt
 
 -- nothing has been done to it yet, and nothing received by that
-abbrev pub begun : Network → Course
+abbrev pub begun : Network → Progress
 begun net = record { net = net; receipts = [] }
 
 -- ---- who is where
@@ -71,31 +72,31 @@ abbrev pub server_place : Network → Name → Option ℕ
 server_place net name = place_in net.names name
 
 -- the server at this place, with the lines that wait on its ways
-abbrev pub site_at : Network → ℕ → Option Site
-site_at net place = slice_get net.sites place
+abbrev pub node_at : Network → ℕ → Option Node
+node_at net place = slice_get net.nodes place
 
 -- the same by its name
-abbrev pub site_of : Network → Name → Option Site
-site_of net name = option_and_then (site_at net) (server_place net name)
+abbrev pub node_of : Network → Name → Option Node
+node_of net name = option_and_then (node_at net) (server_place net name)
 
 -- what the server of this name knows and holds, where one is there
-abbrev pub site_view : Network → Name → Option View
-site_view net name = option_and_then (λ (site : Site). site.server) (site_of net name)
+abbrev pub node_view : Network → Name → Option View
+node_view net name = option_and_then (λ (node : Node). node.server) (node_of net name)
 
 -- ---- lines on their way
 
 -- no line is on its way
 abbrev pub is_at_rest : Network → Bool
-is_at_rest net = list_all is_quiet net.sites
+is_at_rest net = list_all is_quiet net.nodes
 
 -- a server is changed, where there is one at this place
-abbrev pub with_site : ℕ → Site → Network → Network
-with_site place site net = record net { sites = slice_set net.sites place site }
+abbrev pub with_node : ℕ → Node → Network → Network
+with_node place node net = record net { nodes = slice_set net.nodes place node }
 
 -- where no server is at the place, nothing is changed
-abbrev pub site_changed_at : ℕ → (Site → Site) → Network → Network
-site_changed_at place change net =
-    option_map_or (λ site. with_site place (change site) net) (site_at net place) net
+abbrev pub node_changed_at : ℕ → (Node → Node) → Network → Network
+node_changed_at place change net =
+    option_map_or (λ node. with_node place (change node) net) (node_at net place) net
 
 -- ---- what a server puts out
 
@@ -103,45 +104,48 @@ site_changed_at place change net =
 abbrev pub receipt : ℕ → List ℕ → Receipt
 receipt client text = record { client = client; text = text }
 
-abbrev pub has_received_at : ℕ → List ℕ → Course → List (List ℕ) → Course
-has_received_at earlier text course lines = record {
-  net = record course.net { received = slice_set course.net.received earlier (lines ++ text ∷ []) };
-  receipts = course.receipts ++ receipt (suc earlier) text ∷ [];
+abbrev pub has_received_at : ℕ → List ℕ → Progress → List (List ℕ) → Progress
+has_received_at earlier text progress lines = record {
+  net = record progress.net {
+    received = slice_set progress.net.received earlier
+        (lines ++ text ∷ []);
+  };
+  receipts = progress.receipts ++ receipt (suc earlier) text ∷ [];
 }
 
 -- behind all that the client has received
-abbrev pub has_received : ℕ → List ℕ → Course → Course
-has_received zero text course = course
-has_received (suc earlier) text course =
-    option_map_or (has_received_at earlier text course)
-    (slice_get course.net.received earlier) course
+abbrev pub has_received : ℕ → List ℕ → Progress → Progress
+has_received zero text progress = progress
+has_received (suc earlier) text progress =
+    option_map_or (has_received_at earlier text progress)
+    (slice_get progress.net.received earlier) progress
 
 -- a line to a client is received, one on a link waits there; of an end nothing is left to be done
-abbrev pub sent_out : ℕ → Sent → Course → Course
-sent_out place (line_to client text) course = has_received client text course
-sent_out place (end_of client) course = course
-sent_out place (line_on to text) course =
-    record course { net = site_changed_at place (line_queued to text) course.net }
-sent_out place (end_of_link to reason) course = course
+abbrev pub sent_out : ℕ → Sent → Progress → Progress
+sent_out place (line_to client text) progress = has_received client text progress
+sent_out place (end_of client) progress = progress
+sent_out place (line_on to text) progress =
+    record progress { net = node_changed_at place (line_queued to text) progress.net }
+sent_out place (end_of_link to reason) progress = progress
 
-abbrev pub all_sent_out : ℕ → List Sent → Course → Course
-all_sent_out place [] course = course
-all_sent_out place (sent ∷ more) course = all_sent_out place more (sent_out place sent course)
+abbrev pub all_sent_out : ℕ → List Sent → Progress → Progress
+all_sent_out place [] progress = progress
+all_sent_out place (sent ∷ more) progress = all_sent_out place more (sent_out place sent progress)
 
-abbrev pub with_reply : ℕ → Course → Site → Reply → Course
-with_reply place course site r =
+abbrev pub with_reply : ℕ → Progress → Node → Served → Progress
+with_reply place progress node r =
     all_sent_out place r.out
-    (record course { net = with_site place (record site { server = Some r.view }) course.net })
+    (record progress { net = with_node place (record node { server = Some r.view }) progress.net })
 
-abbrev pub asked_at : ℕ → Occurrence → Course → Site → Course
-asked_at place occurrence course site =
+abbrev pub asked_at : ℕ → Occurrence → Progress → Node → Progress
+asked_at place occurrence progress node =
     option_map_or
-    (λ (view : View). with_reply place course site (reply view occurrence)) site.server course
+    (λ (view : View). with_reply place progress node (reply view occurrence)) node.server progress
 
 -- a server is asked for something that happens, and what it puts out goes its way
-unfoldable pub site_asked : ℕ → Occurrence → Course → Course
-site_asked place occurrence course =
-    option_map_or (asked_at place occurrence course) (site_at course.net place) course
+unfoldable pub node_asked : ℕ → Occurrence → Progress → Progress
+node_asked place occurrence progress =
+    option_map_or (asked_at place occurrence progress) (node_at progress.net place) progress
 
 -- ---- a line is delivered
 
@@ -154,56 +158,54 @@ abbrev pub line_counted : Network → Network
 line_counted net = record net { taken = min (net.taken + 1) max_count }
 
 -- a server is asked for a line that has come from another, and the line is counted
-abbrev pub heard : ℕ → ℕ → Course → List ℕ → Course
-heard from to course bytes =
-    site_asked to (link_says from (read_of bytes)) (record course { net = line_counted course.net })
+abbrev pub heard : ℕ → ℕ → Progress → List ℕ → Progress
+heard from to progress bytes =
+    node_asked to (link_says from (read_of bytes))
+    (record progress { net = line_counted progress.net })
 
-abbrev pub taken_of : ℕ → ℕ → Course → Site → List (List ℕ) → Option Course
-taken_of from to course site [] = None
-taken_of from to course site (first ∷ rest) =
-    Some (site_asked to (link_says from (read_of first))
-    (record course { net = line_counted (with_site from (left to rest site) course.net) }))
+abbrev pub taken_of : ℕ → ℕ → Progress → Node → List (List ℕ) → Option Progress
+taken_of from to progress node [] = None
+taken_of from to progress node (first ∷ rest) =
+    Some (node_asked to (link_says from (read_of first))
+    (record progress { net = line_counted (with_node from (left to rest node) progress.net) }))
 
 -- The oldest line from one server to another is taken, and the other is asked for it. None: no line
 -- waits there.
-unfoldable pub delivered : ℕ → ℕ → Course → Option Course
-delivered from to course = option_and_then
-    (λ (site : Site). taken_of from to course site (waiting site to)) (site_at course.net from)
-
-pub record Direction : Type 0 where
-  pub from : ℕ
-  pub to : ℕ
+unfoldable pub delivered : ℕ → ℕ → Progress → Option Progress
+delivered from to progress = option_and_then
+    (λ (node : Node). taken_of from to progress node (waiting node to)) (node_at progress.net from)
 
 abbrev pub direction : ℕ → ℕ → Direction
 direction from to = record { from = from; to = to }
 
 -- the first way on which a line waits, by the place that it is from and then the one where it goes
-abbrev pub first_among : ℕ → List Site → Option Direction
+abbrev pub first_among : ℕ → List Node → Option Direction
 first_among place [] = None
-first_among place (site ∷ sites) =
-    option_map_or (λ to. Some (direction place to)) (first_way site) (first_among (place + 1) sites)
+first_among place (node ∷ nodes) =
+    option_map_or (λ to. Some (direction place to)) (first_way node) (first_among (place + 1) nodes)
 
 abbrev pub first_direction : Network → Option Direction
-first_direction net = first_among 0 net.sites
+first_direction net = first_among 0 net.nodes
 
 -- the oldest line of the first direction is taken; None: no line waits
-abbrev pub next_in_turn : Course → Option Course
-next_in_turn course =
-    option_and_then (λ (d : Direction). delivered d.from d.to course) (first_direction course.net)
+abbrev pub next_in_turn : Progress → Option Progress
+next_in_turn progress =
+    option_and_then (λ (d : Direction). delivered d.from d.to progress)
+    (first_direction progress.net)
 
 -- how many lines can be taken in turn, of a number at most
-abbrev pub lines_left : ℕ → Course → ℕ
-lines_left zero course = 0
-lines_left (suc most) course =
-    option_map_or (λ next. suc (lines_left most next)) (next_in_turn course) 0
+abbrev pub lines_left : ℕ → Progress → ℕ
+lines_left zero progress = 0
+lines_left (suc most) progress =
+    option_map_or (λ next. suc (lines_left most next)) (next_in_turn progress) 0
 
 -- So many lines are taken, each time the oldest of the first direction.
-pub data TakesInTurn : ℕ → Course → Course → Type 0 where
-  none_yet : {course : Course} → TakesInTurn 0 course course
-  then_one : {count : ℕ} {course between last : Course} {direction : Direction}
-      → TakesInTurn count course between → first_direction between.net ≡ Some direction
+pub data TakesInTurn : ℕ → Progress → Progress → Type 0 where
+  none_yet : {progress : Progress} → TakesInTurn 0 progress progress
+  then_one : {count : ℕ} {progress between last : Progress} {direction : Direction}
+      → TakesInTurn count progress between → first_direction between.net ≡ Some direction
       → delivered direction.from direction.to between ≡ Some last
-      → TakesInTurn (suc count) course last
+      → TakesInTurn (suc count) progress last
 
 -- ---- what is given
 
@@ -213,9 +215,9 @@ with_client home net =
     record net { homes = net.homes ++ home ∷ []; received = net.received ++ [] ∷ [] }
 
 -- a server is asked, if it is there
-abbrev pub site_asked_if : Option ℕ → Occurrence → Course → Course
-site_asked_if None occurrence course = course
-site_asked_if (Some place) occurrence course = site_asked place occurrence course
+abbrev pub node_asked_if : Option ℕ → Occurrence → Progress → Progress
+node_asked_if None occurrence progress = progress
+node_asked_if (Some place) occurrence progress = node_asked place occurrence progress
 
 -- the place of the server that a client connected to
 abbrev pub home_place : Network → ℕ → Option ℕ
@@ -234,19 +236,19 @@ link_places net near far =
 
 -- Two servers are linked, the first connecting; a link between two is lost, at the first of them
 -- first.
-abbrev pub servers_linked : Name → Name → Network → LinkPlaces → Course
+abbrev pub servers_linked : Name → Name → Network → LinkPlaces → Progress
 servers_linked near far net ends =
-    site_asked ends.far (link_up ends.near None) (site_asked ends.near (link_up ends.far (Some far))
-    (begun (site_changed_at ends.far (with_way ends.near)
-    (site_changed_at ends.near (with_way ends.far)
+    node_asked ends.far (link_up ends.near None) (node_asked ends.near (link_up ends.far (Some far))
+    (begun (node_changed_at ends.far (with_way ends.near)
+    (node_changed_at ends.near (with_way ends.far)
     (record net { links = record { near = near; far = far } ∷ net.links })))))
 
 -- The way between them is gone before they are asked, with what waits on it.
-abbrev pub servers_parted : Name → Name → Network → LinkPlaces → Course
+abbrev pub servers_parted : Name → Name → Network → LinkPlaces → Progress
 servers_parted near far net ends =
-    site_asked ends.far (link_down ends.near) (site_asked ends.near (link_down ends.far)
-    (begun (site_changed_at ends.far (without_way ends.near)
-    (site_changed_at ends.near (without_way ends.far)
+    node_asked ends.far (link_down ends.near) (node_asked ends.near (link_down ends.far)
+    (begun (node_changed_at ends.far (without_way ends.near)
+    (node_changed_at ends.near (without_way ends.far)
     (record net { links = links_without net.links near far })))))
 
 -- clients are numbered from 1, in the order in which they connect
@@ -254,25 +256,26 @@ abbrev pub next_client : Network → ℕ
 next_client net = length net.homes + 1
 
 -- what an item does at once; the lines that it sets on their way are delivered later
-abbrev pub done_by : Item → Network → Course
+abbrev pub done_by : Item → Network → Progress
 done_by (connect server host) net =
-    site_asked_if (server_place net server) (of_client (connects (next_client net) host))
+    node_asked_if (server_place net server) (of_client (connects (next_client net) host))
     (begun (with_client server net))
 done_by (line client bytes) net =
-    site_asked_if (home_place net client) (of_client (says client (read_of bytes))) (begun net)
+    node_asked_if (home_place net client) (of_client (says client (read_of bytes))) (begun net)
 done_by (gone client) net =
-    site_asked_if (home_place net client) (of_client (goes client)) (begun net)
+    node_asked_if (home_place net client) (of_client (goes client)) (begun net)
 done_by (link near far) net =
     option_map_or (servers_linked near far net) (link_places net near far) (begun net)
 done_by (cut near far) net =
     option_map_or (servers_parted near far net) (link_places net near far) (begun net)
 
 -- it is kept, and lines are counted anew
-abbrev pub item_kept : Item → Course → Course
-item_kept item course =
-    record course { net = record course.net { items = course.net.items ++ item ∷ []; taken = 0 } }
+abbrev pub item_kept : Item → Progress → Progress
+item_kept item progress =
+    record progress
+    { net = record progress.net { items = progress.net.items ++ item ∷ []; taken = 0 } }
 
-unfoldable pub given : Item → Network → Course
+unfoldable pub given : Item → Network → Progress
 given item net = item_kept item (done_by item net)
 
 -- the number that it gives to a client
@@ -299,6 +302,6 @@ lines_of_client client = filter_map (line_received client)
 
 -- By something that is done to a network each client has received just its lines among the
 -- receipts, behind all that it had.
-abbrev pub AreReceived : Network → Course → Type 0
+abbrev pub AreReceived : Network → Progress → Type 0
 AreReceived old new = (client : ℕ) → received_by new.net client ≡ received_by old client
     ++ lines_of_client client new.receipts

@@ -11,7 +11,7 @@ use Rattle.irc_world.specs.Refused.{Refusal, are_equal, link_refused, no_such_cl
 use Rattle.irc_world.specs.Refused.{no_such_server, not_linked}
 use Rattle.irc_world.specs.Stepping.{Item, connect, line, gone, link, cut}
 use Rattle.irc_world.specs.World.{home_in}
-use Rattle.irc_network.specs.Network.{Network, server_place, site_view}
+use Rattle.irc_network.specs.Network.{Network, server_place, node_view}
 
 -- whether a client is connected
 abbrev pub has_client : ℕ → View → Bool
@@ -20,7 +20,7 @@ has_client client view = is_some (get view.clients client)
 -- whether a client of this number is connected at its home
 abbrev pub is_there : Network → ℕ → Bool
 is_there net client = option_map_or (has_client client)
-    (option_and_then (site_view net) (home_in net.homes client)) false
+    (option_and_then (node_view net) (home_in net.homes client)) false
 
 -- only a client that is connected says something, or goes
 abbrev pub client_fault : Network → ℕ → Option Refusal
@@ -62,7 +62,7 @@ abbrev pub fault_at_rest : Network → Item → Option Refusal
 fault_at_rest net (connect server host) = server_fault net server
 fault_at_rest net (line client bytes) = client_fault net client
 fault_at_rest net (gone client) = client_fault net client
-fault_at_rest net (link near far) = link_fault net near far (site_view net near) (site_view net far)
+fault_at_rest net (link near far) = link_fault net near far (node_view net near) (node_view net far)
 fault_at_rest net (cut near far) = way_fault net near far
 
 -- Whether two servers are there, and agree. Nothing is refused for it.

@@ -7,13 +7,14 @@ use Rattle.std.specs.List.{AllByRecursion}
 use Rattle.std.specs.Option.{option_and_then}
 use Rattle.irc_line.specs.Bytes.{line_feed}
 use Rattle.irc_line.specs.Lines.{HasTaken, IsLine, begun_behind, nothing_begun, stream_for}
-use Rattle.irc_network.specs.Network.{Course, Network, Site, delivered, given, is_at_rest}
-use Rattle.irc_network.specs.Network.{next_in_turn, site_at, waiting}
+use Rattle.irc_network.specs.Network.{Progress, Network, Node, delivered, given, is_at_rest}
+use Rattle.irc_network.specs.Network.{next_in_turn, node_at, waiting}
 use Rattle.irc_world.specs.Stepping.{Item}
-use Rattle.irc_wires.specs.Wires.{AreLean, Wire, advanced, first_direction, lines_by, lines_to_come}
+use Rattle.irc_wires.specs.Wires.{AreLean, LinkWire, advanced, first_direction, lines_by}
+use Rattle.irc_wires.specs.Wires.{lines_to_come}
 use Rattle.irc_wires.specs.Wires.{through_line_feed, wire_at}
-use Rattle.irc_network.specs.ByteNetwork.{ByteCourse, ByteNetwork, HasRows, bytes_come}
-use Rattle.irc_network.specs.ByteNetwork.{completed_in, course_in_lines, net_in_lines}
+use Rattle.irc_network.specs.ByteNetwork.{ByteProgress, ByteNetwork, HasRows, bytes_come}
+use Rattle.irc_network.specs.ByteNetwork.{completed_in, progress_in_lines, net_in_lines}
 use Rattle.irc_network.specs.ByteNetwork.{is_byte_rest, item_given, waiting_at}
 use Rattle.irc_network.specs.Turns.{ComesToLine, lines_in_turn, turn_taken}
 
@@ -27,7 +28,7 @@ ends_in_feed (byte ∷ next ∷ bytes) = ends_in_feed (next ∷ bytes)
 
 -- Some stream led to the framer at the far end, and all that is on its way ends lines. From
 -- wherever it comes, what is through the next LF completes one line at most.
-pub record IsWhole (wire : Wire) : Type 0 where
+pub record IsWhole (wire : LinkWire) : Type 0 where
   pub real : HasTaken wire.begun (stream_for wire.begun)
   pub ends : begun_behind wire.begun wire.bytes ≡ nothing_begun
   pub feed : ends_in_feed wire.bytes ≡ true
@@ -38,7 +39,7 @@ pub record IsWhole (wire : Wire) : Type 0 where
 
 abbrev pub has_way : Network → ℕ → ℕ → Bool
 has_way net from to =
-    is_some (option_and_then (λ (site : Site). get site.queues to) (site_at net from))
+    is_some (option_and_then (λ (node : Node). get node.queues to) (node_at net from))
 
 -- No line waits in the network. Each server has its row of wires, and no wire is kept along which
 -- nothing is on its way.
@@ -55,8 +56,8 @@ pub record IsWholeNet (net : ByteNetwork) : Type 0 where
 
 -- each line that waits on a way is one
 abbrev pub AreLinesWaiting : Network → Type 0
-AreLinesWaiting net = (place to : ℕ) (site : Site) → site_at net place ≡ Some site
-    → AllByRecursion IsLine (waiting site to)
+AreLinesWaiting net = (place to : ℕ) (node : Node) → node_at net place ≡ Some node
+    → AllByRecursion IsLine (waiting node to)
 
 -- ---- a new one
 
@@ -67,17 +68,17 @@ pub record IsAsNew (net : ByteNetwork) : Type 0 where
   pub at_rest : is_byte_rest net ≡ true
 
 abbrev pub no_wires : Network → ByteNetwork
-no_wires net = record { network = net; wires = replicate (length net.sites) empty }
+no_wires net = record { network = net; wires = replicate (length net.nodes) empty }
 
 abbrev pub NewIsWhole : Type 0
-NewIsWhole = (net : Network) → AllByRecursion (λ (site : Site). site.queues ≡ empty) net.sites
+NewIsWhole = (net : Network) → AllByRecursion (λ (node : Node). node.queues ≡ empty) net.nodes
     → IsAsNew (no_wires net)
 
 -- ---- an item that is given at rest
 
 -- It does what it does where links carry lines.
 pub record IsGivenAsLines (old : ByteNetwork) (item : Item) : Type 0 where
-  pub as_lines : course_in_lines (item_given item old) ≡ given item (net_in_lines old)
+  pub as_lines : progress_in_lines (item_given item old) ≡ given item (net_in_lines old)
   pub whole : IsWholeNet (item_given item old).net
 
 abbrev pub GivenAsLines : Type 0
@@ -88,45 +89,46 @@ GivenAsLines = (old : ByteNetwork) (item : Item) → IsWholeNet old → is_byte_
 -- ---- bytes that come
 
 -- so many lines are delivered from one server to another
-pub data Delivers (from to : ℕ) : ℕ → Course → Course → Type 0 where
-  no_more : {course : Course} → Delivers from to 0 course course
-  one_first : {count : ℕ} {course between last : Course} → delivered from to course ≡ Some between
-      → Delivers from to count between last → Delivers from to (suc count) course last
+pub data Delivers (from to : ℕ) : ℕ → Progress → Progress → Type 0 where
+  no_more : {progress : Progress} → Delivers from to 0 progress progress
+  one_first : {count : ℕ} {progress between last : Progress}
+      → delivered from to progress ≡ Some between → Delivers from to count between last
+      → Delivers from to (suc count) progress last
 
 -- They deliver the lines that they complete, where links carry lines.
-pub record ComeAsLines (from to count : ℕ) (old : ByteCourse) : Type 0 where
-  pub last : Course
+pub record ComeAsLines (from to count : ℕ) (old : ByteProgress) : Type 0 where
+  pub last : Progress
   pub delivers : Delivers from to (length (completed_in old.net from to count))
-      (course_in_lines old) last
-  pub as_lines : AreLinesWaiting last.net → course_in_lines (bytes_come from to count old) ≡ last
+      (progress_in_lines old) last
+  pub as_lines : AreLinesWaiting last.net → progress_in_lines (bytes_come from to count old) ≡ last
   pub whole : AreLinesWaiting last.net → IsWholeNet (bytes_come from to count old).net
 
 abbrev pub BytesComeAsLines : Type 0
-BytesComeAsLines = (from to count : ℕ) (old : ByteCourse) → IsWholeNet old.net
+BytesComeAsLines = (from to count : ℕ) (old : ByteProgress) → IsWholeNet old.net
     → ComeAsLines from to count old
 
 -- ---- a turn
 
 -- By a turn no line is completed, or one, which is the next in turn where links carry lines.
-pub data TurnsAsLines (old new : ByteCourse) : Type 0 where
-  no_line : lines_in_turn old.net ≡ 0 → course_in_lines new ≡ course_in_lines old
+pub data TurnsAsLines (old new : ByteProgress) : Type 0 where
+  no_line : lines_in_turn old.net ≡ 0 → progress_in_lines new ≡ progress_in_lines old
       → IsWholeNet new.net → TurnsAsLines old new
-  one_line : (last : Course) → lines_in_turn old.net ≡ 1 → next_in_turn (course_in_lines old)
-      ≡ Some last → (AreLinesWaiting last.net → course_in_lines new ≡ last)
+  one_line : (last : Progress) → lines_in_turn old.net ≡ 1 → next_in_turn (progress_in_lines old)
+      ≡ Some last → (AreLinesWaiting last.net → progress_in_lines new ≡ last)
       → (AreLinesWaiting last.net → IsWholeNet new.net) → TurnsAsLines old new
 
 abbrev pub TurnAsLines : Type 0
-TurnAsLines = (old new : ByteCourse) → IsWholeNet old.net → AreLinesWaiting (net_in_lines old.net)
+TurnAsLines = (old new : ByteProgress) → IsWholeNet old.net → AreLinesWaiting (net_in_lines old.net)
     → turn_taken old ≡ Some new → TurnsAsLines old new
 
 -- a line comes in the end, or there is none
-pub record ComesToSome (old : ByteCourse) : Type 0 where
+pub record ComesToSome (old : ByteProgress) : Type 0 where
   pub lines : Option ℕ
-  pub new : ByteCourse
+  pub new : ByteProgress
   pub comes : ComesToLine lines old new
 
 abbrev pub EachComesToLine : Type 0
-EachComesToLine = (old : ByteCourse) → IsTidy old.net → ComesToSome old
+EachComesToLine = (old : ByteProgress) → IsTidy old.net → ComesToSome old
 
 -- ---- at rest
 

@@ -1,17 +1,17 @@
 //! A server of a network is asked for something, and what it puts out goes its way.
 ghost use Rattle.std.specs.Prelude.{◌≡◌, ◌≤◌, length, OnOk};
 ghost use Rattle.irc_line.specs.Limits.{max_line, max_text};
-ghost use Rattle.irc_network.specs.Loops.Courses.{AreSentOut, IsAskedOut, IsLineHeard, IsReceived};
-ghost use Rattle.irc_network.specs.Loops.Courses.{IsSentAt, line_sent};
-ghost use Rattle.irc_network.specs.Site.{line_body};
+ghost use Rattle.irc_network.specs.Loops.Progress.{AreSentOut, IsAskedOut, IsLineHeard, IsReceived};
+ghost use Rattle.irc_network.specs.Loops.Progress.{IsSentAt, line_sent};
+ghost use Rattle.irc_network.specs.Node.{line_body};
 ghost use Rattle.irc_network.specs.Whole.{IsTidy, has_way};
 
-use crate::desk::Desk;
+use crate::call_output::CallOutput;
 use crate::history::History;
 use crate::network::{Network, earlier};
 use crate::receipt::Receipt;
 use irc_batch::Out;
-use irc_forest::Place;
+use irc_forest::ServerPlace;
 use irc_line::Line;
 use irc_names::copied;
 use irc_server::Event;
@@ -27,41 +27,46 @@ impl<H: History> Network<H> {
     /// Where memory runs out, here and below.
     pub(crate) fn ask(
         &mut self,
-        place: Place,
+        place: ServerPlace,
         event: &Event,
-        desk: &mut Desk,
+        output: &mut CallOutput,
     ) -> Result<(), AllocError>
         requires tidy { IsTidy self.old }
-        ensures { OnOk result (IsAskedOut place event.now self.old desk.old self.new desk.new) }
+        ensures { OnOk result (IsAskedOut place event.now self.old output.old self.new output.new) }
     {
-        desk.out.clear();
-        let Some(site) = self.sites.get_mut(place.index()) else {
+        output.out.clear();
+        let Some(node) = self.nodes.get_mut(place.index()) else {
             return Ok(());
         };
-        site.serve(event, &mut desk.out)?;
-        self.send_out(place, desk)
+        node.serve(event, &mut output.out)?;
+        self.send_out(place, output)
     }
 
     /// What a server has put out goes its way.
-    fn send_out(&mut self, place: Place, desk: &mut Desk) -> Result<(), AllocError>
+    fn send_out(&mut self, place: ServerPlace, output: &mut CallOutput) -> Result<(), AllocError>
         requires tidy { IsTidy self.old }
-        ensures { OnOk result (AreSentOut place self.old desk.old self.new desk.new) }
+        ensures { OnOk result (AreSentOut place self.old output.old self.new output.new) }
     {
         irc_wires::laws::same_wires();
-        for at in 0..desk.out.len() {
-            self.send(place, at, desk)?;
+        for at in 0..output.out.len() {
+            self.send(place, at, output)?;
         }
         Ok(())
     }
 
     /// One thing that a server has put out goes its way.
-    fn send(&mut self, place: Place, at: usize, desk: &mut Desk) -> Result<(), AllocError>
-        ensures sent { OnOk result (IsSentAt place at self.old desk.old self.new desk.new) }
-        ensures out { desk.new.out ≡ desk.old.out }
+    fn send(
+        &mut self,
+        place: ServerPlace,
+        at: usize,
+        output: &mut CallOutput,
+    ) -> Result<(), AllocError>
+        ensures sent { OnOk result (IsSentAt place at self.old output.old self.new output.new) }
+        ensures out { output.new.out ≡ output.old.out }
     {
-        match desk.out.get(at) {
-            Some(Out::Line(client, text)) => self.receive(client, text, &mut desk.lines),
-            Some(Out::LinkLine(to, text)) => self.write(place, Place::of_link(to), text),
+        match output.out.get(at) {
+            Some(Out::Line(client, text)) => self.receive(client, text, &mut output.lines),
+            Some(Out::LinkLine(to, text)) => self.write(place, ServerPlace::of_link(to), text),
             _ => Ok(()),
         }
     }
@@ -91,7 +96,7 @@ impl<H: History> Network<H> {
     }
 
     /// A line is written on its way, if there is one.
-    fn write(&mut self, from: Place, to: Place, text: &[u8]) -> Result<(), AllocError>
+    fn write(&mut self, from: ServerPlace, to: ServerPlace, text: &[u8]) -> Result<(), AllocError>
         requires fits { length text.now ≤ max_text }
         ensures { OnOk result (self.new ≡ line_sent from to text.now self.old) }
     {
@@ -103,33 +108,34 @@ impl<H: History> Network<H> {
     }
 
     /// Whether a way goes from one server to another.
-    fn has_way(&self, from: Place, to: Place) -> bool
+    fn has_way(&self, from: ServerPlace, to: ServerPlace) -> bool
         ensures { result ≡ has_way self.now.network from to }
     {
-        match self.site_at(from) {
-            Some(site) => site.has_way(to.link()),
+        match self.node_at(from) {
+            Some(node) => node.has_way(to.link()),
             None => false,
         }
     }
 
     /// A server is asked for a line that has come from another, and the line is counted. What
-    /// clients receive by it is on the desk, behind what was there.
+    /// clients receive by it is in the output, behind what was there.
     ///
     /// # Errors
     /// Where memory runs out: nothing is promised of the network then, and nothing more is to be
     /// asked of it.
     pub(crate) fn hear(
         &mut self,
-        from: Place,
-        to: Place,
+        from: ServerPlace,
+        to: ServerPlace,
         line: Line,
-        desk: &mut Desk,
+        output: &mut CallOutput,
     ) -> Result<(), AllocError>
         requires tidy { IsTidy self.old }
-        ensures { OnOk result (IsLineHeard from to line.items self.old desk.old self.new desk.new) }
+        ensures { OnOk result
+            (IsLineHeard from to line.items self.old output.old self.new output.new) }
     {
         self.taken = self.taken.saturating_add(1);
-        self.ask(to, &Event::LinkLine(from.link(), line), desk)
+        self.ask(to, &Event::LinkLine(from.link(), line), output)
     }
 }
 

@@ -23,7 +23,7 @@ impl Model for Forgotten {
 
 /// What is new.
 #[derive(Clone, Copy, Drop)]
-enum News<'a> {
+enum HistoryEntry<'a> {
     /// An item was given.
     Given(&'a Item),
     /// A client has connected.
@@ -33,7 +33,7 @@ enum News<'a> {
 }
 
 impl Forgotten {
-    ghost use Rattle.irc_network.specs.Loops.News.{noted};
+    ghost use Rattle.irc_network.specs.Loops.HistoryEntry.{noted};
 
     /// Nothing has been.
     fn nothing() -> Self
@@ -43,7 +43,7 @@ impl Forgotten {
     }
 
     /// The same, and what is new.
-    fn with(_before: &Self, _news: &News<'_>) -> Self
+    fn with(_before: &Self, _news: &HistoryEntry<'_>) -> Self
         ensures { result.past ≡ noted _news.now _before.now.past }
     {
         Forgotten {}
@@ -58,17 +58,17 @@ impl History for Forgotten {
     }
 
     fn add_item(&mut self, item: Item) -> Result<(), AllocError> {
-        *self = Forgotten::with(self, &News::Given(&item));
+        *self = Forgotten::with(self, &HistoryEntry::Given(&item));
         Ok(())
     }
 
     fn add_client(&mut self) -> Result<(), AllocError> {
-        *self = Forgotten::with(self, &News::Newcomer);
+        *self = Forgotten::with(self, &HistoryEntry::Newcomer);
         Ok(())
     }
 
     fn add_line(&mut self, earlier: usize, text: &[u8]) -> Result<(), AllocError> {
-        *self = Forgotten::with(self, &News::Received(earlier, text));
+        *self = Forgotten::with(self, &HistoryEntry::Received(earlier, text));
         Ok(())
     }
 }

@@ -2,9 +2,9 @@
 //! and what each client has received. Definitions are in `specs/`.
 #![tactic(auto)]
 
-mod came;
+mod call_output;
 mod coming;
-mod desk;
+mod delivery_counts;
 mod doing;
 mod forgotten;
 mod giving;
@@ -14,18 +14,18 @@ mod item;
 mod kept;
 pub mod laws;
 mod network;
+mod node;
 mod receipt;
 mod refusal;
 mod refusing;
-mod site;
 
-pub use came::Came;
-pub use desk::Desk;
+pub use call_output::CallOutput;
+pub use delivery_counts::DeliveryCounts;
 pub use forgotten::Forgotten;
 pub use history::History;
 pub use item::Item;
 pub use kept::Kept;
 pub use network::Network;
+pub use node::Node;
 pub use receipt::Receipt;
 pub use refusal::Refusal;
-pub use site::Site;

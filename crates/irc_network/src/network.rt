@@ -2,11 +2,11 @@
 ghost use Rattle.std.specs.Prelude.{◌≡◌, ◌<◌, length, map, IfOk, IfSome};
 ghost use Rattle.std.specs.Option.{option_copied, option_map};
 ghost use Rattle.irc_forest.specs.Forests.{name_at};
-ghost use Rattle.irc_network.specs.Loops.Courses.{AreNamed, AreWithin, IsEarlier};
-ghost use Rattle.irc_network.specs.Loops.Courses.{ends_now, inbox_of};
+ghost use Rattle.irc_network.specs.Loops.Progress.{AreNamed, AreWithin, IsEarlier};
+ghost use Rattle.irc_network.specs.Loops.Progress.{ends_now, inbox_of};
 ghost use Rattle.irc_network.specs.Views.{line_bytes};
 ghost use Rattle.irc_network.specs.Network.{home_place, link_places, new_network, next_client};
-ghost use Rattle.irc_network.specs.Network.{number_given, received_by, server_place, site_at};
+ghost use Rattle.irc_network.specs.Network.{number_given, received_by, server_place, node_at};
 ghost use Rattle.irc_network.specs.Views.{item_of, items_of};
 ghost use Rattle.irc_network.specs.Whole.{no_wires};
 ghost use Rattle.irc_world.specs.World.{home_in};
@@ -15,8 +15,8 @@ use crate::history::History;
 use crate::inbox::Inbox;
 use crate::item::Item;
 use crate::kept::Kept;
-use crate::site::Site;
-use irc_forest::{Ends, Forest, Place};
+use crate::node::Node;
+use irc_forest::{EndPlaces, Forest, ServerPlace};
 use irc_line::Text;
 use irc_names::ServerName;
 use irc_wires::Wires;
@@ -31,7 +31,7 @@ pub struct Network<H: History> {
     pub(crate) alloc: Global,
     pub(crate) forest: Forest,
     /// In the order of their names.
-    pub(crate) sites: Vec<Site, Global>,
+    pub(crate) nodes: Vec<Node, Global>,
     pub(crate) wires: Wires,
     /// The home of each client, in the order of their numbers.
     pub(crate) homes: Vec<ServerName, Global>,
@@ -54,7 +54,7 @@ impl<H: History> Model for Network<H> {
     ghost view = { λ n. record {
       network = record {
         names = n.forest.names;
-        sites = n.sites.items;
+        nodes = n.nodes.items;
         links = n.forest.links;
         homes = n.homes.items;
         received = (H.past n.history).received;
@@ -94,19 +94,19 @@ impl Network<Kept> {
 }
 
 impl<H: History> Network<H> {
-    /// Servers that are not linked, and no client. The sites are in turn those of the forest's
+    /// Servers that are not linked, and no client. The nodes are in turn those of the forest's
     /// names, in the order of the names.
     ///
     /// # Errors
     /// Where memory runs out.
-    pub fn new(alloc: Global, forest: Forest, sites: Vec<Site, Global>) -> Result<Self, AllocError>
-        ensures { IfOk result (λ net. net ≡ no_wires (new_network forest sites.items)) }
+    pub fn new(alloc: Global, forest: Forest, nodes: Vec<Node, Global>) -> Result<Self, AllocError>
+        ensures { IfOk result (λ net. net ≡ no_wires (new_network forest nodes.items)) }
     {
-        let wires = Wires::new(alloc, sites.len())?;
+        let wires = Wires::new(alloc, nodes.len())?;
         Ok(Network {
             alloc,
             forest,
-            sites,
+            nodes,
             wires,
             homes: Vec::new(alloc),
             history: H::new(alloc),
@@ -140,7 +140,7 @@ impl<H: History> Network<H> {
     }
 
     /// Where the server is that a client has connected to.
-    pub(crate) fn home_place(&self, client: u64) -> Option<Place>
+    pub(crate) fn home_place(&self, client: u64) -> Option<ServerPlace>
         ensures { result ≡ home_place self.now.network client }
     {
         self.forest.place_of(self.home(client)?)
@@ -153,7 +153,7 @@ impl<H: History> Network<H> {
     }
 
     /// Where the server of a name is.
-    pub(crate) fn place_of(&self, name: &ServerName) -> Option<Place>
+    pub(crate) fn place_of(&self, name: &ServerName) -> Option<ServerPlace>
         ensures value { result ≡ server_place self.now.network name.now }
         ensures within { IfSome result (λ place. place < length self.now.network.names) }
         ensures named { IfSome result (λ place. name_at self.now.network.names place ≡ name.now) }
@@ -162,19 +162,19 @@ impl<H: History> Network<H> {
     }
 
     /// The server at a place.
-    pub(crate) fn site_at(&self, place: Place) -> Option<&Site>
-        ensures { option_copied result ≡ site_at self.now.network place }
+    pub(crate) fn node_at(&self, place: ServerPlace) -> Option<&Node>
+        ensures { option_copied result ≡ node_at self.now.network place }
     {
-        self.sites.get(place.index())
+        self.nodes.get(place.index())
     }
 
     /// Where two servers are, if both are there.
-    pub fn ends_of(&self, near: &ServerName, far: &ServerName) -> Option<Ends>
+    pub fn ends_of(&self, near: &ServerName, far: &ServerName) -> Option<EndPlaces>
         ensures ends { option_map ends_now result ≡ link_places self.now.network near.now far.now }
         ensures within { IfSome result (λ ends. AreWithin self.now.network ends) }
         ensures named { IfSome result (λ ends. AreNamed self.now.network ends near.now far.now) }
     {
-        Some(Ends {
+        Some(EndPlaces {
             near: self.place_of(near)?,
             far: self.place_of(far)?,
         })

@@ -3,18 +3,17 @@ ghost use Rattle.std.specs.Prelude.{◌≡◌};
 ghost use Rattle.std.specs.Option.{option_copied, option_map};
 ghost use Rattle.irc_network.specs.Refusing.{are_agreed, client_fault, fault_at_rest, is_there};
 ghost use Rattle.irc_network.specs.Refusing.{server_fault, way_fault};
-ghost use Rattle.irc_network.specs.Loops.Parties.{home_site, linking_fault, parties_fault};
+ghost use Rattle.irc_network.specs.Loops.Parties.{home_node, linking_fault, parties_fault};
 ghost use Rattle.irc_network.specs.Loops.Parties.{have_one_password, IsParty, IsPartyOf};
-ghost use Rattle.irc_network.specs.Network.{site_view};
+ghost use Rattle.irc_network.specs.Network.{node_view};
 ghost use Rattle.irc_network.specs.Views.{item_of, refusal_of};
 
 use crate::history::History;
 use crate::item::Item;
 use crate::network::Network;
+use crate::node::Node;
 use crate::refusal::Refusal;
-use crate::site::Site;
-use irc_agreement::agree;
-use irc_forest::Place;
+use irc_forest::{ServerPlace, agree};
 use irc_names::ServerName;
 use irc_room::Room;
 
@@ -23,7 +22,7 @@ use irc_room::Room;
 struct Party<'a> {
     name: &'a ServerName,
     place: usize,
-    site: &'a Site,
+    node: &'a Node,
     room: &'a Room,
 }
 
@@ -66,17 +65,17 @@ impl<H: History> Network<H> {
     pub(crate) fn is_there(&self, client: u64) -> bool
         ensures { result ≡ is_there self.now.network client }
     {
-        match self.home_site(client) {
-            Some(site) => site.has_client(client),
+        match self.home_node(client) {
+            Some(node) => node.has_client(client),
             None => false,
         }
     }
 
     /// The server that a client has connected to.
-    fn home_site(&self, client: u64) -> Option<&Site>
-        ensures { option_copied result ≡ home_site self.now.network client }
+    fn home_node(&self, client: u64) -> Option<&Node>
+        ensures { option_copied result ≡ home_node self.now.network client }
     {
-        self.sites.get(self.home_place(client)?.index())
+        self.nodes.get(self.home_place(client)?.index())
     }
 
     /// Why no line goes from one server to another, if none does: one of them is not there, or no
@@ -111,7 +110,7 @@ impl<H: History> Network<H> {
         ensures { option_map refusal_of result
             ≡ parties_fault self.now.network one.entry other.entry }
     {
-        let (near, far) = (Place::at(one.place), Place::at(other.place));
+        let (near, far) = (ServerPlace::at(one.place), ServerPlace::at(other.place));
         if self.forest.are_joined(near, far) || !are_peers(one, other) {
             Some(Refusal::LinkRefused)
         } else {
@@ -122,8 +121,8 @@ impl<H: History> Network<H> {
     /// Whether two servers are there, and agree on all channels that both would have if they were
     /// linked. Nothing is refused for it.
     pub fn agrees(&self, one: &ServerName, other: &ServerName) -> bool
-        ensures { result ≡ are_agreed (site_view self.now.network one.now)
-            (site_view self.now.network other.now) }
+        ensures { result ≡ are_agreed (node_view self.now.network one.now)
+            (node_view self.now.network other.now) }
     {
         match self.party(one) {
             Some(one) => match self.party(other) {
@@ -139,12 +138,12 @@ impl<H: History> Network<H> {
         ensures { IsParty self.now.network name.now result }
     {
         let place = self.place_of(name)?;
-        let site = self.site_at(place)?;
-        let room = site.room()?;
+        let node = self.node_at(place)?;
+        let room = node.room()?;
         Some(Party {
             name,
             place: place.index(),
-            site,
+            node,
             room,
         })
     }
@@ -154,8 +153,8 @@ impl<H: History> Network<H> {
 fn are_peers(one: Party<'_>, other: Party<'_>) -> bool
     ensures { result ≡ have_one_password one.entry other.entry }
 {
-    match one.site.password_for(other.name.as_bytes()) {
-        Some(password) => other.site.password_for(one.name.as_bytes()) == Some(password),
+    match one.node.password_for(other.name.as_bytes()) {
+        Some(password) => other.node.password_for(one.name.as_bytes()) == Some(password),
         None => false,
     }
 }

@@ -10,14 +10,14 @@ use Rattle.irc_merge.specs.Deeds.{Deed, does, gains, loses, kills, brings, sets,
 use Rattle.irc_merge.specs.Quits.{collision_text}
 use Rattle.irc_burst.specs.DeedsMeant.{Told, a_deed, a_server}
 use Rattle.irc_burst_lines.specs.DeedLines.{deed_parts}
-use Rattle.irc_links.specs.Ends.{End}
+use Rattle.irc_stage.specs.Ends.{End}
 use Rattle.irc_routes.specs.Known.{names_behind}
 use Rattle.irc_stage.specs.View.{View, without_end}
 use Rattle.irc_stage.specs.EffectTold.{Served, all_changed, taken_out}
 use Rattle.irc_stage.specs.Linked.{is_taken, told_on_all, unlinked, with_row}
-use Rattle.irc_deeds.specs.DeedTold.{all_told, arrival_of, deed_told, deeds_told, forgotten}
-use Rattle.irc_deeds.specs.DeedTold.{gain_told, link_lost, losses, lost_behind, titled_view}
-use Rattle.irc_deeds.specs.DeedTold.{told_by}
+use Rattle.irc_server.specs.DeedTold.{all_told, arrival_of, deed_told, deeds_told, forgotten}
+use Rattle.irc_server.specs.DeedTold.{gain_told, link_lost, losses, lost_behind, titled_view}
+use Rattle.irc_server.specs.DeedTold.{told_by}
 use Rattle.irc_numbers.specs.Alike.{AreAlike, AreApart, Numbers}
 use Rattle.irc_numbers.specs.ServedAlike.{AreArrivalsAlike, AreServedAlike, StaysAlike}
 use Rattle.irc_numbers.proofs.Effects.{all_changed_alike, came_alike, end_at, known_of}

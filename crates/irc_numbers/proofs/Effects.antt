@@ -24,10 +24,10 @@ use Rattle.irc_room.specs.Readers.{home_under}
 use Rattle.irc_room.specs.Seen.{Showing, seen}
 use Rattle.irc_routes.specs.declared.server_row.ServerRow.{ServerRow}
 use Rattle.irc_routes.specs.Known.{link_key, next_hop, row_of}
-use Rattle.irc_registering.specs.Closing.{error_line}
+use Rattle.irc_commands.specs.Closing.{error_line}
 use Rattle.irc_link_writer.specs.Written.{wire}
-use Rattle.irc_links.specs.Ends.{End, is_met}
-use Rattle.irc_links.specs.Ways.{but, met_links, told_homes, ways_toward}
+use Rattle.irc_stage.specs.Ends.{End, is_met}
+use Rattle.irc_stage.specs.Ways.{but, met_links, told_homes, ways_toward}
 use Rattle.irc_stage.specs.declared.clients.Client.{Client}
 use Rattle.irc_stage.specs.RoomMachine.{Clients}
 use Rattle.irc_stage.specs.Handle.{clients_after, is_client, renamed_in, to_viewer}

@@ -3,7 +3,7 @@
 use Rattle.std.proofs.Common.{◌≡◌, ℕ, true, is_some, Option, Some, None, List, sym, subst}
 use Rattle.std.specs.FinMap.{get, insert, remove}
 use Rattle.std.specs.Option.{option_and_then, option_map_or}
-use Rattle.irc_links.specs.Ends.{End, Ends, fresh_end}
+use Rattle.irc_stage.specs.Ends.{End, Ends, fresh_end}
 use Rattle.irc_room.specs.Room.{Room}
 use Rattle.irc_routes.specs.Known.{Known}
 use Rattle.irc_stage.specs.View.{View, with_end, without_end}

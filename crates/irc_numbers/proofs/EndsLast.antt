@@ -28,10 +28,10 @@ use Rattle.irc_acts.specs.declared.act.Act.TheVariants.{Answer, Raw, Do}
 use Rattle.irc_burst.specs.DeedsMeant.{Told, a_deed, a_server}
 use Rattle.irc_burst_lines.specs.DeedLines.{deed_parts}
 use Rattle.irc_commands.specs.Decide.{decide}
-use Rattle.irc_registering.specs.Closing.{error_line}
-use Rattle.irc_registering.specs.Register.{register}
+use Rattle.irc_commands.specs.Closing.{error_line}
+use Rattle.irc_commands.specs.Register.{register}
 use Rattle.irc_link_writer.specs.Written.{wire}
-use Rattle.irc_links.specs.Ways.{but, met_links}
+use Rattle.irc_stage.specs.Ways.{but, met_links}
 use Rattle.irc_stage.specs.declared.clients.Client.{Client}
 use Rattle.irc_stage.specs.declared.clients.Client.TheVariants.{Registering, Registered}
 use Rattle.irc_stage.specs.Lemmas.Counting.{get-kept}
@@ -47,11 +47,11 @@ use Rattle.irc_stage.specs.EffectTold.{taken_out, view_after, ways_at, with_sent
 use Rattle.irc_stage.specs.Linked.{is_taken, told_on_all, with_far, with_password, with_row}
 use Rattle.irc_stage.specs.ClientTold.{client_told, closed_told, message_told, quit_told, seated}
 use Rattle.irc_stage.specs.ClientTold.{step_told, steps_told, unseated, user_told}
-use Rattle.irc_deeds.specs.DeedTold.{all_told, arrival_of, deed_told, deeds_told, forgotten}
-use Rattle.irc_deeds.specs.DeedTold.{gain_told, link_lost, lost_behind, titled_view, told_by}
-use Rattle.irc_deeds.specs.Heard.{Heard, ignored, closes, password, meets, tells, heard}
-use Rattle.irc_deeds.specs.LinkServed.{after_heard, line_served, link_opened, on_link}
-use Rattle.irc_deeds.specs.LinkServed.{opening_parts, owes}
+use Rattle.irc_server.specs.DeedTold.{all_told, arrival_of, deed_told, deeds_told, forgotten}
+use Rattle.irc_server.specs.DeedTold.{gain_told, link_lost, lost_behind, titled_view, told_by}
+use Rattle.irc_server.specs.Heard.{Heard, ignored, closes, password, meets, tells, heard}
+use Rattle.irc_server.specs.LinkServed.{after_heard, line_served, link_opened, on_link}
+use Rattle.irc_server.specs.LinkServed.{opening_parts, owes}
 use Rattle.irc_server.specs.Served.{of_client, link_up, link_says, link_down, served}
 use Rattle.irc_numbers.specs.EndsLast.{NothingIsBehindAnEnd, ends_last}
 use Rattle.irc_numbers.specs.ServedAlike.{client_part}

@@ -4,8 +4,8 @@ use Rattle.std.proofs.Common.{◌∙◌, ap, option_map}
 use Rattle.std.specs.FinMap.{FinMap, get}
 use Rattle.std.specs.Option.{option_and_then}
 use Rattle.std.specs.Ordering.{nat_cmp}
-use Rattle.irc_links.specs.Ends.{End}
-use Rattle.irc_links.specs.Ways.{AreEnds, IsMetEnd}
+use Rattle.irc_stage.specs.Ends.{End}
+use Rattle.irc_stage.specs.Ways.{AreEnds, IsMetEnd}
 use Rattle.irc_routes.specs.declared.server_row.ServerRow.{ServerRow}
 use Rattle.irc_routes.specs.Known.{row_of}
 use Rattle.irc_stage.specs.View.{View}

@@ -10,16 +10,16 @@ use Rattle.irc_line.specs.Messages.{Parsed, Written, text}
 use Rattle.irc_batch.specs.Batches.{end_of_link}
 use Rattle.irc_batch.specs.declared.close_reason.CloseReason.{CloseReason}
 use Rattle.irc_batch.specs.declared.close_reason.CloseReason.TheVariants as reason
-use Rattle.irc_handshake.specs.GreetingLines.{from_nobody, pass_parts}
+use Rattle.irc_link_words.specs.GreetingLines.{from_nobody, pass_parts}
 use Rattle.irc_burst.specs.DeedsMeant.{a_server}
 use Rattle.irc_burst_lines.specs.BurstLines.{burst_parts}
 use Rattle.irc_stage.specs.View.{End, KnownPeer, View, is_named, password_for, with_end}
 use Rattle.irc_stage.specs.EffectTold.{in_silence, with_sent}
 use Rattle.irc_stage.specs.Linked.{with_far}
-use Rattle.irc_deeds.specs.DeedTold.{link_lost, told_by}
-use Rattle.irc_deeds.specs.Heard.{Heard, ignored, closes, password, meets, tells, heard}
-use Rattle.irc_deeds.specs.LinkServed.{after_heard, line_served, link_opened, met_by, on_link}
-use Rattle.irc_deeds.specs.LinkServed.{opening_parts, owed_by, owes}
+use Rattle.irc_server.specs.DeedTold.{link_lost, told_by}
+use Rattle.irc_server.specs.Heard.{Heard, ignored, closes, password, meets, tells, heard}
+use Rattle.irc_server.specs.LinkServed.{after_heard, line_served, link_opened, met_by, on_link}
+use Rattle.irc_server.specs.LinkServed.{opening_parts, owed_by, owes}
 use Rattle.irc_numbers.specs.Alike.{AreAlike, AreApart, IsAmong, Numbers}
 use Rattle.irc_numbers.specs.ServedAlike.{ArePutOutAlike, AreServedAlike, client_part, link_part}
 use Rattle.irc_numbers.proofs.DeedsAlike.{all_told_alike, lost_alike, told_by_alike}

@@ -23,17 +23,17 @@ use Rattle.irc_routes.specs.Known.{distance_of, is_full, is_known, token_in}
 use Rattle.irc_link_words.specs.Words.{are_words, is_command}
 use Rattle.irc_link_reader.specs.Means.{read_by}
 use Rattle.irc_link_reader.specs.Reader.{Reader, is_behind_link, reader_of}
-use Rattle.irc_handshake.specs.declared.openings.Opening.{Opening}
-use Rattle.irc_handshake.specs.declared.openings.Opening.TheVariants as opening
-use Rattle.irc_handshake.specs.Openings.{opening_of}
-use Rattle.irc_handshake.specs.Peers.{not_taken, refusal}
-use Rattle.irc_links.specs.Ends.{is_met}
+use Rattle.irc_link_words.specs.declared.openings.Opening.{Opening}
+use Rattle.irc_link_words.specs.declared.openings.Opening.TheVariants as opening
+use Rattle.irc_link_words.specs.Openings.{opening_of}
+use Rattle.irc_link_words.specs.Peers.{not_taken, refusal}
+use Rattle.irc_stage.specs.Ends.{is_met}
 use Rattle.irc_burst.specs.DeedsMeant.{BurstRow, burst_row_of, burst_table, deeds_meant}
 use Rattle.irc_burst.specs.DeedsMeant.{effects_told, first_reason, later_server, of_server}
 use Rattle.irc_burst.specs.DeedsMeant.{read_burst_row, server_line, squit_line}
 use Rattle.irc_burst.specs.HandshakeMeant.{handshake_meant, out_of_place}
 use Rattle.irc_stage.specs.View.{End, KnownPeer, View, is_named, password_for}
-use Rattle.irc_deeds.specs.Heard.{heard, message_heard, met_unless, of_met, opened}
+use Rattle.irc_server.specs.Heard.{heard, message_heard, met_unless, of_met, opened}
 use Rattle.irc_numbers.specs.Alike.{AreAlike, AreApart, Numbers}
 use Rattle.irc_numbers.specs.Meaning.{LinesAreHeardAlike}
 use Rattle.irc_numbers.proofs.Effects.{known_of}

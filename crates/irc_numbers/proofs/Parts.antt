@@ -16,8 +16,8 @@ use Rattle.irc_line.specs.Messages.{Written, text}
 use Rattle.irc_tables.specs.Lemmas.OrderedEntries.{above-is, find-above}
 use Rattle.irc_batch.specs.declared.close_reason.CloseReason.{CloseReason}
 use Rattle.irc_batch.specs.Batches.{Sent, is_number}
-use Rattle.irc_links.specs.Ends.{End, Ends, is_met}
-use Rattle.irc_links.specs.Ways.{but, met_links}
+use Rattle.irc_stage.specs.Ends.{End, Ends, is_met}
+use Rattle.irc_stage.specs.Ways.{but, met_links}
 use Rattle.irc_routes.specs.Known.{link_key}
 use Rattle.irc_stage.specs.declared.clients.Client.{Client}
 use Rattle.irc_stage.specs.EffectTold.{on_links}

@@ -5,7 +5,7 @@
 -- and who is gone.
 use Rattle.std.specs.Prelude.{◌≡◌, ℕ, true, ◌||◌, ◌↔◌, is_some, Some}
 use Rattle.std.specs.FinMap.{get}
-use Rattle.irc_links.specs.Ways.{AreEnds}
+use Rattle.irc_stage.specs.Ways.{AreEnds}
 use Rattle.irc_stage.specs.View.{View}
 use Rattle.irc_numbers.specs.Alike.{AreAlike, Numbers}
 

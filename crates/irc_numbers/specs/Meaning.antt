@@ -3,7 +3,7 @@ use Rattle.std.specs.Prelude.{◌≡◌, ℕ, Some, Result}
 use Rattle.irc_line.specs.declared.reading.LineFault.{LineFault}
 use Rattle.irc_line.specs.Messages.{Parsed}
 use Rattle.irc_stage.specs.View.{End, View}
-use Rattle.irc_deeds.specs.Heard.{heard}
+use Rattle.irc_server.specs.Heard.{heard}
 use Rattle.irc_numbers.specs.Alike.{AreAlike, AreApart, Numbers}
 
 -- It is the same to both, at an end of which both know the same: the first half of serving it

@@ -3,8 +3,8 @@
 --
 -- a.net (place 0) has the link 7 to b.net (place 1) and the link 5 to c.net (place 2), and al as
 -- connection 9, which is client 1 of the network:
--- al says hi in #c the engine's server puts the line out on 5 and then on 7, the network's on 1 and
--- then on 2: on each link the same, in another order
+--   al says hi in #c  the engine's server puts the line out on 5 and then on 7, the network's on 1
+--                     and then on 2: on each link the same, in another order
 use Rattle.std.specs.Prelude.{◌≡◌, ℕ, ⊤, nat_eq, Option, Some, None, Result, Ok, Err, List, [], ◌∷◌}
 use Rattle.std.specs.Prelude.{if◌then◌else◌}
 use Rattle.std.specs.List.{flat_map}

@@ -86,7 +86,7 @@ pub struct Listed {
 
 /// A blank, such as stands behind the last member in the storage of a list.
 impl Default for Listed {
-    #[tactic(auto, unfolding(irc_rules::specs::Names::is_nick))]
+    #[tactic(auto, unfolding(irc_names::specs::Names::is_nick))]
     fn default() -> Self
         ensures { result ≡ blank_member }
     {
@@ -111,7 +111,7 @@ pub struct OnChannel {
 
 /// A blank, such as stands behind the last channel in the storage of a list.
 impl Default for OnChannel {
-    #[tactic(auto, unfolding(irc_rules::specs::Names::is_channel))]
+    #[tactic(auto, unfolding(irc_names::specs::Names::is_channel))]
     fn default() -> Self
         ensures { result ≡ blank_place }
     {

@@ -9,7 +9,7 @@ use Rattle.irc_tables.specs.declared.table.Row.{Row}
 use Rattle.irc_tables.specs.RowViews.{row_entry}
 use Rattle.irc_channels.specs.declared.flags.Flags.{Flags}
 use Rattle.irc_acts.specs.declared.act.Act.{Act}
-use Rattle.irc_answers.specs.Lemmas.CameLines.{rows_more}
+use Rattle.irc_acts.specs.Lemmas.CameLines.{rows_more}
 
 -- what is said of some rows, and of the next
 pub said_more : (say : Act → List Sent) (find : List ℕ × Flags → Option Act)

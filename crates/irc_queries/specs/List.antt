@@ -14,7 +14,7 @@ use Rattle.irc_acts.specs.declared.act.Act.TheVariants.{Answer}
 use Rattle.irc_acts.specs.Acts.{bytes_kept}
 use Rattle.irc_acts.specs.CommaLists.{entries}
 use Rattle.irc_acts.specs.Standing.{is_listed, is_known}
-use Rattle.irc_answers.specs.Names.{named_members}
+use Rattle.irc_acts.specs.Names.{named_members}
 
 -- a channel, how many of its members NAMES would name to this user, and its topic
 abbrev pub channel_entry : Table User → User → Channel → Act

@@ -20,7 +20,7 @@ use Rattle.irc_acts.specs.Acts.{bytes_kept, client_words}
 use Rattle.irc_acts.specs.CommaLists.{entries}
 use Rattle.irc_acts.specs.Moves.{own_channels}
 use Rattle.irc_acts.specs.Standing.{is_listed, mark_of}
-use Rattle.irc_answers.specs.Names.{in_lines}
+use Rattle.irc_acts.specs.Names.{in_lines}
 
 -- how the server of a name describes itself
 abbrev pub info_of : Place → List ℕ → List ℕ

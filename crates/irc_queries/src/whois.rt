@@ -29,7 +29,7 @@ use irc_users::User;
 use std::alloc::{AllocError, Global};
 
 /// The channels of the line that is being filled.
-type Held = ArrayVec<OnChannel, MAX_WHOIS_CHANNELS>;
+type LineChannels = ArrayVec<OnChannel, MAX_WHOIS_CHANNELS>;
 
 /// What a WHOIS does (RFC 2812 section 3.6.2).
 ///
@@ -164,7 +164,7 @@ fn put_channels(
 /// Adds those of some channels of a user that are listed for the asker.
 fn add_channels(
     steps: &mut Vec<Act, Global>,
-    held: &mut Held,
+    held: &mut LineChannels,
     me: &User,
     user: &User,
     rows: &[&Row<Stored>],
@@ -181,7 +181,7 @@ fn add_channels(
 /// Adds a channel of a user, if it is listed for the asker.
 fn add_channel(
     steps: &mut Vec<Act, Global>,
-    held: &mut Held,
+    held: &mut LineChannels,
     me: &User,
     user: &User,
     channel: &Channel,
@@ -211,7 +211,7 @@ fn place_in(me: &User, user: &User, channel: &Channel) -> Option<OnChannel>
 /// Adds a channel to the line; one that is full is sent before.
 fn add_place(
     steps: &mut Vec<Act, Global>,
-    held: &mut Held,
+    held: &mut LineChannels,
     user: &User,
     place: OnChannel,
 ) -> Result<(), AllocError>
@@ -226,7 +226,7 @@ fn add_place(
 }
 
 /// Sends the last line, if there is a channel for it.
-fn finish(steps: &mut Vec<Act, Global>, held: Held, user: &User) -> Result<(), AllocError>
+fn finish(steps: &mut Vec<Act, Global>, held: LineChannels, user: &User) -> Result<(), AllocError>
     ensures { OnOk result (AddsSteps (lines_of user.now held.items) steps.old steps.new) }
 {
     if held.as_slice().is_empty() {
@@ -236,7 +236,7 @@ fn finish(steps: &mut Vec<Act, Global>, held: Held, user: &User) -> Result<(), A
 }
 
 /// A line of channels.
-fn channels_line(user: &User, channels: Held) -> Act
+fn channels_line(user: &User, channels: LineChannels) -> Act
     ensures { result ≡ channels_line user.now channels.items }
 {
     Act::Answer(Reply::WhoisChannels {

@@ -22,14 +22,16 @@ use Rattle.irc_tables.specs.Lemmas.OrderedEntries.{less_is}
 use Rattle.irc_tables.specs.Lemmas.RowsAsTable.{alter_alike, alter-absent}
 use Rattle.irc_users.specs.declared.user.User.{User}
 use Rattle.irc_users.specs.UserTable.{is_home, with_nick, with_invisible}
-use Rattle.irc_shown.specs.effect.Effect.{Effect}
-use Rattle.irc_shown.specs.effect.Effect.TheVariants.{AddUser, Rename, Quit, Join, Part, Kick}
-use Rattle.irc_shown.specs.effect.Effect.TheVariants.{ChangeModes, SetTopic, Say, Invite, UserMode}
-use Rattle.irc_shown.specs.Room.{Room}
-use Rattle.irc_shown.specs.After.{after}
-use Rattle.irc_shown.specs.Effects.{brings_free}
+use Rattle.irc_effects.specs.declared.effect.Effect.{Effect}
+use Rattle.irc_effects.specs.declared.effect.Effect.TheVariants.{AddUser, Rename, Quit, Join, Part}
+use Rattle.irc_effects.specs.declared.effect.Effect.TheVariants.{Kick}
+use Rattle.irc_effects.specs.declared.effect.Effect.TheVariants.{ChangeModes, SetTopic, Say, Invite}
+use Rattle.irc_effects.specs.declared.effect.Effect.TheVariants.{UserMode}
+use Rattle.irc_effects.specs.Room.{Room}
+use Rattle.irc_effects.specs.After.{after}
+use Rattle.irc_effects.specs.Effects.{brings_free}
 use Rattle.irc_room.specs.Loops.HomeCount.{home_count, one_of, gone, come}
-use Rattle.irc_shown.specs.Lemmas.Rows.{not_true, alter_same}
+use Rattle.irc_effects.specs.Lemmas.Rows.{not_true, alter_same}
 
 told : (b : Bool) → T b → b ≡ true
 told true h = refl

@@ -1,3 +1,14 @@
+pub mod AudienceLaw
+pub mod ModeLine
+pub mod RowValues
+pub mod WhoSees
+pub mod Alone
+pub mod EachInTurn
+pub mod IndexChanges
+pub mod Invitations
+pub mod Keeping
+pub mod KeptWell
+pub mod Memberships
 pub mod CountedUsers
 pub mod NamesRead
 pub mod Refusals

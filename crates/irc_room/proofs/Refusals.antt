@@ -1,18 +1,25 @@
 -- What a refusal of an effect leaves.
-use Rattle.std.proofs.Common.{◌≡◌, Bool, true, false, cond, not, Some, None, Result, Ok, Err, []}
-use Rattle.std.proofs.Common.{refl, sym, ◌∙◌, ap}
+use Rattle.std.proofs.Common.{◌≡◌, Bool, true, false, cond, not, Some, None, Err}
+use Rattle.std.proofs.Common.{refl, sym, ◌∙◌, ap, subst}
 use Rattle.std.specs.List.{list_all}
 use Rattle.std.specs.Option.{option_map_or}
-use Rattle.irc_shown.specs.effect.Effect.{Effect}
-use Rattle.irc_shown.specs.fault.RoomFault.{RoomFault}
-use Rattle.irc_shown.specs.fault.RoomFault.TheVariants.{NoSuchUser, NoSuchChannel, Memory, Failed}
-use Rattle.irc_shown.specs.shown_line.ShownLine.{ShownLine}
-use Rattle.irc_shown.specs.Room.{Room}
-use Rattle.irc_shown.specs.After.{after}
-use Rattle.irc_shown.specs.Effects.{has_user, has_channel, is_idle, needs_users, needs_channel}
-use Rattle.irc_shown.specs.Applying.{Kept, room_fault, Applied, Changed, IdleKeeps, IdleStays}
-use Rattle.irc_shown.specs.Lemmas.IdleLaw.{idle_changes_nothing}
-use Rattle.irc_shown.specs.ToldLaws.{idle_tells_nothing}
+use Rattle.irc_effects.specs.declared.effect.Effect.{Effect}
+use Rattle.irc_effects.specs.declared.fault.RoomFault.{RoomFault}
+use Rattle.irc_effects.specs.declared.fault.RoomFault.TheVariants.{NoSuchUser, NoSuchChannel}
+use Rattle.irc_effects.specs.declared.fault.RoomFault.TheVariants.{Memory, Failed}
+use Rattle.irc_effects.specs.Room.{Room}
+use Rattle.irc_effects.specs.After.{after}
+use Rattle.irc_effects.specs.Effects.{has_user, has_channel, is_idle, needs_users, needs_channel}
+use Rattle.irc_effects.specs.Applying.{Kept, room_fault, Changed}
+use Rattle.irc_effects.specs.Lemmas.IdleLaw.{idle_changes_nothing}
+use Rattle.irc_room.specs.Loops.Naming.{IsNamed}
+use Rattle.irc_room.specs.declared.named.Named.{Named}
+
+-- what was found in a room as it lies
+pub named_in : (inside now : Kept) (effect : Effect) (named : Named) → inside ≡ now
+    → IsNamed inside.room effect named → IsNamed now.room effect named
+named_in inside now effect named is found =
+    subst (λ (k : Kept). IsNamed k.room effect named) is found
 
 -- want of memory is no cause that is looked for
 by_causes : (failed no_user no_channel : Bool) → cond failed (Some Failed)
@@ -28,13 +35,6 @@ never_memory kept effect =
     (not (option_map_or (has_channel kept.room) (needs_channel effect) true))
 
 -- a refusal for a cause leaves all as it was
-pub refused : (old : Kept) (effect : Effect) (fault : RoomFault) (shown : ShownLine) → Some fault
-    ≡ room_fault old effect → shown.viewers.items ≡ [] → Applied old effect (Err fault) old shown
-refused old effect NoSuchUser shown is none = (sym is, refl, none)
-refused old effect NoSuchChannel shown is none = (sym is, refl, none)
-refused old effect Memory shown is none = absurd (never_memory old effect (sym is))
-refused old effect Failed shown is none = (sym is, refl, none)
-
 pub unchanged : (old : Kept) (effect : Effect) (fault : RoomFault)
     → Some fault ≡ room_fault old effect → Changed old effect (Err fault) old
 unchanged old effect NoSuchUser is = (sym is, refl)
@@ -42,22 +42,13 @@ unchanged old effect NoSuchChannel is = (sym is, refl)
 unchanged old effect Memory is = absurd (never_memory old effect (sym is))
 unchanged old effect Failed is = (sym is, refl)
 
--- a change that was refused is shown to nobody
-pub shown_none : (old : Kept) (effect : Effect) (fault : RoomFault) (new : Kept) (shown : ShownLine)
-    → Changed old effect (Err fault) new → shown.viewers.items ≡ []
-    → Applied old effect (Err fault) new shown
-shown_none old effect NoSuchUser new shown changed none = (changed.0, changed.1, none)
-shown_none old effect NoSuchChannel new shown changed none = (changed.0, changed.1, none)
-shown_none old effect Memory new shown changed none = (changed.0, changed.1, none)
-shown_none old effect Failed new shown changed none = (changed.0, changed.1, none)
-
 -- what is so where an effect is not refused
 pub record IsServed (kept : Kept) (effect : Effect) : Type 0 where
   pub alive : kept.failed ≡ false
   pub users_there : list_all (has_user kept.room) (needs_users effect) ≡ true
   pub channel_there : option_map_or (has_channel kept.room) (needs_channel effect) true ≡ true
 
-not_so : (b : Bool) → not b ≡ false → b ≡ true
+pub not_so : (b : Bool) → not b ≡ false → b ≡ true
 not_so true e = refl
 not_so false e = cc
 
@@ -93,20 +84,8 @@ kept_refused inside now room is same =
     ap (λ (r : Room). record { own = inside.own; failed = true; room = r }) same
     ∙ ap (λ (k : Kept). record k { failed = true }) is
 
-not_done : {U E A : Type 0} (e : E) (u : U) → ◌≡◌ {A = Result U E} (Err e) (Ok u) → A
-not_done e u is = cc
-
--- an effect that does nothing leaves all as it was, and shows nothing
+-- an effect that does nothing leaves all as it was
 pub idle_kept : (old : Kept) (effect : Effect) → is_idle old.room effect ≡ true
     → old ≡ record old { room = after old.room effect }
 idle_kept old effect idle =
     ap (λ (r : Room). record old { room = r }) (sym (idle_changes_nothing old.room effect idle))
-
-pub idle_stays : (old : Kept) (effect : Effect) (result : Result (Unit {0}) RoomFault) (new : Kept)
-    (shown : ShownLine) → Applied old effect result new shown → IdleKeeps old effect result new
-    → IdleStays old effect result new shown
-idle_stays old effect (Ok tt) new shown applied keeps = λ idle none.
-    let kept = keeps idle none in
-    (kept.0, kept.1, applied.2 ∙ idle_tells_nothing old.own old.room effect idle)
-idle_stays old effect (Err fault) new shown applied keeps =
-    λ idle none. not_done fault tt (keeps idle none).0

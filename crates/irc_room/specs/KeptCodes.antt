@@ -1,13 +1,13 @@
 -- How a room is stored as a server keeps it.
 use Rattle.std.specs.Prelude.{ℕ, Bool, List, refl}
-use Rattle.std.specs.Coded.{Coded, code_by, coded×, coded_ℕ, coded_bool, coded_list}
+use Rattle.std.specs.Coded.{Coded, code_by, coded×, coded_bool}
 use Rattle.std.specs.FinMap.{code}
 use Rattle.irc_names.specs.Tables.{Table}
 use Rattle.irc_users.specs.declared.user.User.{User}
 use Rattle.irc_channels.specs.declared.channel.Channel.{Channel}
-use Rattle.irc_shown.specs.Applying.{Kept}
-use Rattle.irc_shown.specs.Room.{Room}
-use Rattle.irc_shown.specs.Codes.{coded_name}
+use Rattle.irc_effects.specs.Applying.{Kept}
+use Rattle.irc_effects.specs.Room.{Room}
+use Rattle.irc_room.specs.Codes.{coded_name}
 
 -- as its fields
 abbrev pub kept_code : Coded (Table User) → Coded Channel → Coded Kept

@@ -5,8 +5,8 @@ ghost use Rattle.irc_names.specs.Tables.{row};
 ghost use Rattle.irc_users.specs.UserTable.{is_home};
 ghost use Rattle.irc_room.specs.Loops.HomeCount.{come, gone, home_count, one_of};
 
+use crate::{Effect, Tables};
 use irc_names::{Nick, ServerName};
-use irc_shown::{Effect, Tables};
 use irc_users::User;
 
 /// How many of the users of a server stay through an effect: all, but for one that quits.

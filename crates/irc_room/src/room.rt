@@ -1,6 +1,6 @@
 //! One room.
 ghost use Rattle.std.specs.Prelude.{◌≡◌, ◌≤◌, ◌++◌, false, true, Some, None, length, map, IfOk};
-ghost use Rattle.std.specs.Prelude.{OnOk, OnErr, if◌then◌else◌};
+ghost use Rattle.std.specs.Prelude.{[], OnOk, OnErr, if◌then◌else◌};
 ghost use Rattle.std.specs.Option.{option_copied};
 ghost use Rattle.std.specs.Result.{result_err};
 ghost use Rattle.std.specs.FinMap.{entries, values};
@@ -12,29 +12,32 @@ ghost use Rattle.irc_names.specs.Limits.{max_channel};
 ghost use Rattle.irc_names.specs.Tables.{row};
 ghost use Rattle.irc_tables.specs.RowViews.{row_entry};
 ghost use Rattle.irc_channels.specs.ChannelTable.{members_in};
-ghost use Rattle.irc_shown.specs.After.{after, titled_by};
-ghost use Rattle.irc_shown.specs.Applying.{Kept, Applied, Changed, IdleKeeps, IdleStays, ShowsHere};
-ghost use Rattle.irc_shown.specs.Applying.{does, pairs_of, respelling_fault, room_fault};
-ghost use Rattle.irc_shown.specs.Applying.{shown_here};
-ghost use Rattle.irc_shown.specs.Effects.{brings_free, IsPossible};
-ghost use Rattle.irc_shown.specs.Laws.{no_room};
-ghost use Rattle.irc_shown.specs.Readers.{user_at, channel_at, channels_of, flags_at};
-ghost use Rattle.irc_shown.specs.Readers.{is_invited_at, is_visible_at, names_of, nicks_in};
-ghost use Rattle.irc_shown.specs.Readers.{rows_now, spelling_at, users_now, users_of, viewers_of};
-ghost use Rattle.irc_shown.specs.Room.{IsWellFormed};
-ghost use Rattle.irc_shown.specs.Seen.{changes_text, stored_channel, stored_nick, target_name};
+ghost use Rattle.irc_effects.specs.After.{after, titled_by};
+ghost use Rattle.irc_effects.specs.Applying.{Kept, Applied, Changed, IdleKeeps, IdleStays};
+ghost use Rattle.irc_effects.specs.Applying.{ShowsHere};
+ghost use Rattle.irc_effects.specs.Applying.{does, pairs_of, respelling_fault, room_fault};
+ghost use Rattle.irc_effects.specs.Applying.{shown_here};
+ghost use Rattle.irc_effects.specs.Effects.{brings_free, IsPossible};
+ghost use Rattle.irc_effects.specs.Laws.{no_room};
+ghost use Rattle.irc_room.specs.Loops.Naming.{IsNamed};
+ghost use Rattle.irc_room.specs.Loops.Telling.{IsTold};
+ghost use Rattle.irc_effects.specs.Readers.{user_at, channel_at, channels_of, flags_at};
+ghost use Rattle.irc_effects.specs.Readers.{is_invited_at, is_visible_at, names_of, nicks_in};
+ghost use Rattle.irc_effects.specs.Readers.{rows_now, spelling_at, users_now, users_of, viewers_of};
+ghost use Rattle.irc_effects.specs.Room.{IsWellFormed};
+ghost use Rattle.irc_effects.specs.Seen.{changes_text, stored_channel, stored_nick, target_name};
 
 use crate::home_count::{staying, with_newcomer};
 use crate::performing::put_out;
-use crate::refusing::{missing, refusal};
+use crate::refusing::refusal;
+use crate::{
+    Effect, Named, RoomFault, ShownLine, Tables, Target, audience, does, effect_line, is_idle,
+    member_nicks, push_changes,
+};
 use irc_channels::{Channel, Flags, Stored};
 use irc_line::Text;
 use irc_modes::ModeChange;
 use irc_names::{ChannelName, Nick, ServerName};
-use irc_shown::{
-    Effect, IndexedChannels, RoomFault, ShownLine, Tables, Target, audience, effect_line, is_idle,
-    member_nicks, push_changes,
-};
 use irc_tables::Row;
 use irc_users::User;
 use std::alloc::{AllocError, Global};
@@ -52,7 +55,7 @@ pub struct Room {
 
 /// In a clause it is whose room it is, whether memory ran out, and the room, which is well formed.
 impl Model for Room {
-    ghost use Rattle.irc_shown.specs.Applying.{Kept};
+    ghost use Rattle.irc_effects.specs.Applying.{Kept};
     ghost use Rattle.irc_room.specs.Loops.HomeCount.{IsCounted};
     ghost use Rattle.irc_room.specs.KeptCodes.{kept_code};
     ghost use Rattle.irc_users.specs.UserTable.{users_code};
@@ -226,7 +229,14 @@ impl Room {
     pub fn does(&self, effect: &Effect) -> bool
         ensures { result ≡ does self.now.room effect.now }
     {
-        missing(&self.tables, effect).is_none() && !is_idle(&self.tables, effect)
+        does(effect, self.tables.named(effect))
+    }
+
+    /// Finds what an effect names in the room.
+    pub fn named(&self, effect: &Effect) -> Named<'_>
+        ensures { IsNamed self.now.room effect.now result }
+    {
+        self.tables.named(effect)
     }
 
     /// The nicknames of all who see an effect, on whichever server, in folded order (RFC 2812
@@ -257,7 +267,15 @@ impl Room {
     pub fn write_line(&self, effect: &Effect, line: &mut Text) -> bool
         ensures { ShowsHere self.now effect.now (if result then Some line.new.items else None) }
     {
-        effect_line(self.own.as_bytes(), &self.tables, effect, line)
+        self.write_named(effect, self.tables.named(effect), line)
+    }
+
+    /// The same line, of an effect that is known to name this in the room.
+    pub fn write_named(&self, effect: &Effect, named: Named<'_>, line: &mut Text) -> bool
+        ensures { IsNamed self.now.room effect.now named.entry
+            → ShowsHere self.now effect.now (if result then Some line.new.items else None) }
+    {
+        effect_line(self.own.as_bytes(), &self.tables, effect, named, line)
     }
 
     /// The nickname that these bytes are under the fold, as it is stored, or the bytes as given
@@ -313,16 +331,15 @@ impl Room {
         ensures idle { IdleStays self.old effect.now result self.new shown.new }
     {
         shown.viewers.clear();
-        if let Some(fault) = self.fault_of(effect) {
-            return Err(fault);
-        }
-        match put_out(self.own.as_bytes(), &self.tables, effect, shown) {
-            Ok(()) => self.change_shown(effect, shown),
-            Err(_) => {
+        match self.tell(effect, shown) {
+            Ok(true) => self.make_shown(effect, shown),
+            Ok(false) => Ok(()),
+            Err(RoomFault::Memory) => {
                 shown.viewers.clear();
                 self.failed = true;
                 Err(RoomFault::Memory)
             }
+            Err(fault) => Err(fault),
         }
     }
 
@@ -342,10 +359,11 @@ impl Room {
         ensures changed { Changed self.old effect.now result self.new }
         ensures idle { IdleKeeps self.old effect.now result self.new }
     {
-        if let Some(fault) = self.fault_of(effect) {
+        let named = self.tables.named(effect);
+        if let Some(fault) = self.fault_of(effect, named) {
             return Err(fault);
         }
-        if is_idle(&self.tables, effect) {
+        if is_idle(effect, named) {
             return Ok(());
         }
         match self.make(effect) {
@@ -380,28 +398,46 @@ impl Room {
         }
     }
 
-    /// Why the room refuses an effect, if it does.
-    fn fault_of(&self, effect: &Effect) -> Option<RoomFault>
-        ensures { result ≡ room_fault self.now effect.now }
+    /// Why the room refuses an effect that names this in it, if it does.
+    fn fault_of(&self, effect: &Effect, named: Named<'_>) -> Option<RoomFault>
+        ensures { IsNamed self.now.room effect.now named.entry
+            → result ≡ room_fault self.now effect.now }
     {
-        refusal(self.failed, &self.tables, effect)
+        refusal(self.failed, effect, named)
+    }
+
+    /// Puts out what an effect shows, where the room does not refuse it, and tells whether it does
+    /// anything: what it names is found once.
+    ///
+    /// # Errors
+    /// Those of [`Room::apply`]. Where memory runs out nothing is promised of `shown`.
+    fn tell(&self, effect: &Effect, shown: &mut ShownLine) -> Result<bool, RoomFault>
+        requires { shown.old.viewers.items ≡ [] }
+        ensures { IsTold self.now effect.now result shown.new }
+    {
+        let named = self.tables.named(effect);
+        if let Some(fault) = self.fault_of(effect, named) {
+            return Err(fault);
+        }
+        let Ok(busy) = put_out(self.own.as_bytes(), &self.tables, effect, named, shown) else {
+            return Err(RoomFault::Memory);
+        };
+        Ok(busy)
     }
 
     /// Makes the change of an effect that `shown` shows; where memory runs out it is shown to
     /// nobody.
-    fn change_shown(&mut self, effect: &Effect, shown: &mut ShownLine) -> Result<(), RoomFault>
+    fn make_shown(&mut self, effect: &Effect, shown: &mut ShownLine) -> Result<(), RoomFault>
+        requires served { room_fault self.old effect.now ≡ None }
         requires free { brings_free self.old.room effect.now ≡ true }
         requires shown { pairs_of shown.old ≡ shown_here self.old effect.now }
-        ensures applied { Applied self.old effect.now result self.new shown.new }
-        ensures idle { IdleKeeps self.old effect.now result self.new }
+        ensures { Applied self.old effect.now result self.new shown.new }
     {
-        match self.change(effect) {
-            Ok(()) => Ok(()),
-            Err(fault) => {
-                shown.viewers.clear();
-                Err(fault)
-            }
+        match self.make(effect) {
+            Ok(()) => return Ok(()),
+            Err(_) => shown.viewers.clear(),
         }
+        Err(RoomFault::Memory)
     }
 
     /// A channel's name is spelled as given, where that is greater by bytes than the stored

@@ -13,15 +13,15 @@ use Rattle.std.specs.declared.cmp.Ordering.{Ordering}
 use Rattle.std.specs.declared.cmp.Ordering.TheVariants.{Less, Equal, Greater}
 use Rattle.irc_net.specs.ByteNetwork.{ByteNetwork}
 use Rattle.irc_net.specs.Whole.{no_wires}
-use Rattle.irc_net.specs.Making.{IsMadeOf, config_name, new_site}
-use Rattle.irc_net.specs.Network.{Network, Site}
+use Rattle.irc_net.specs.Making.{IsMadeOf, config_name, new_node}
+use Rattle.irc_net.specs.Network.{Network, Node}
 use Rattle.irc_relay.specs.Links.{Name}
 use Rattle.irc_routes.specs.Known.{Known, alone_known}
 use Rattle.irc_room.specs.Laws.{no_room}
 use Rattle.irc_net.specs.config.Config.{Config}
 use Rattle.irc_net.specs.View.{KnownPeer, known_peer}
 use Rattle.irc_script.specs.Loops.Configs.{AreConfigured, IsOwnConfig}
-use Rattle.irc_script.specs.Networks.{exceeds, first_net, first_site, in_name_order, is_greater}
+use Rattle.irc_script.specs.Networks.{exceeds, first_net, first_node, in_name_order, is_greater}
 use Rattle.irc_script.specs.RunLaws.{are_ordered}
 use Rattle.irc_script.proofs.InOrder.{both_so, exceeds_one, is_in_order, neither, none_less}
 use Rattle.irc_script.proofs.InOrder.{none_less_too, one_order, order_moves, turned}
@@ -65,8 +65,8 @@ names_in_order (config ∷ next ∷ configs) sorted =
     (none_less_too (config_name config) (config_name next) (map config_name configs) first
     (none_less (config_name next) (map config_name configs) rest)))) rest
 
-abbrev site_of : Known → List KnownPeer → Site
-site_of routes peers = record {
+abbrev node_of : Known → List KnownPeer → Node
+node_of routes peers = record {
   server = Some (record {
     routes = routes;
     peers = peers;
@@ -77,27 +77,27 @@ site_of routes peers = record {
   queues = empty;
 }
 
-site_is : (names : List Name) (config : Config) → IsOwnConfig names config
-    → new_site config ≡ first_site names (config_name config)
-site_is names config own =
-    ap (λ info. site_of (alone_known (config_name config) info config.own.created.items)
+node_is : (names : List Name) (config : Config) → IsOwnConfig names config
+    → new_node config ≡ first_node names (config_name config)
+node_is names config own =
+    ap (λ info. node_of (alone_known (config_name config) info config.own.created.items)
     (map known_peer config.peers.items)) own.info
-    ∙ ap (λ created. site_of (alone_known (config_name config) (codes "Test server") created)
+    ∙ ap (λ created. node_of (alone_known (config_name config) (codes "Test server") created)
     (map known_peer config.peers.items)) own.created
-    ∙ ap (site_of (alone_known (config_name config) (codes "Test server") (codes "2024-01-01")))
+    ∙ ap (node_of (alone_known (config_name config) (codes "Test server") (codes "2024-01-01")))
     own.peers
 
-sites_are : (names : List Name) (configs : List Config) → AllByRecursion (IsOwnConfig names) configs
-    → map new_site configs ≡ map (first_site names) (map config_name configs)
-sites_are names [] all = refl
-sites_are names (config ∷ configs) all =
-    ap (λ site. site ∷ map new_site configs) (site_is names config all.0)
-    ∙ ap (λ sites. first_site names (config_name config) ∷ sites) (sites_are names configs all.1)
+nodes_are : (names : List Name) (configs : List Config) → AllByRecursion (IsOwnConfig names) configs
+    → map new_node configs ≡ map (first_node names) (map config_name configs)
+nodes_are names [] all = refl
+nodes_are names (config ∷ configs) all =
+    ap (λ node. node ∷ map new_node configs) (node_is names config all.0)
+    ∙ ap (λ nodes. first_node names (config_name config) ∷ nodes) (nodes_are names configs all.1)
 
-abbrev with_names : List Name → List Site → Network
-with_names names sites = record {
+abbrev with_names : List Name → List Node → Network
+with_names names nodes = record {
   names = names;
-  sites = sites;
+  nodes = nodes;
   links = [];
   homes = [];
   received = [];
@@ -120,6 +120,6 @@ made_first names configs net are made =
     recursion_from_All (IsOwnConfig names) made.ordered
     (All-permutation (IsOwnConfig names) configs made.ordered made.same_ones
     (All-from_recursion (IsOwnConfig names) configs are.each)) in
-    made.network_is ∙ ap (λ sites. no_wires (with_names (map config_name made.ordered) sites))
-    (sites_are names made.ordered all)
-    ∙ ap (λ ns. no_wires (with_names ns (map (first_site names) ns))) ordered
+    made.network_is ∙ ap (λ nodes. no_wires (with_names (map config_name made.ordered) nodes))
+    (nodes_are names made.ordered all)
+    ∙ ap (λ ns. no_wires (with_names ns (map (first_node names) ns))) ordered

@@ -5,7 +5,7 @@ use Rattle.std.proofs.lemmas.Grind.{flat_map-append}
 use Rattle.std.proofs.lemmas.List.Elements.{filter_map-append}
 use Rattle.std.proofs.lemmas.List.Folds.{flat_map-map}
 use Rattle.std.specs.List.{cons_option, flat_map}
-use Rattle.irc_net.specs.ByteNetwork.{ByteCourse, ByteNetwork, item_given}
+use Rattle.irc_net.specs.ByteNetwork.{ByteProgress, ByteNetwork, item_given}
 use Rattle.irc_net.specs.declared.fault.NetFault.{NetFault}
 use Rattle.irc_net.specs.Calls.{Delivers, delivers_it, delivery, piece, piece_count, settles_it}
 use Rattle.irc_net.specs.Calls.{standing, takes_them}
@@ -15,7 +15,8 @@ use Rattle.irc_net.specs.NetworkLaws.{ReceiptsAreReceived}
 use Rattle.irc_net.specs.Network.{Receipt, lines_of_client, received_by}
 use Rattle.irc_net.specs.Stepping.{Item}
 use Rattle.irc_script.specs.Moves.{Move, gives, delivers_line, takes_bytes, settles_all}
-use Rattle.irc_script.specs.OneRoom.{Entry, counts, entry_text, line_to, lines_shown_to, receives}
+use Rattle.irc_script.specs.OneRoom.{ScriptEntry, counts, entry_text, line_to, lines_shown_to}
+use Rattle.irc_script.specs.OneRoom.{receives}
 use Rattle.irc_script.specs.OneRoom.{refuses}
 use Rattle.irc_script.specs.Printing.{count_line, fault_number, printed, refusal_line, taken_text}
 use Rattle.irc_script.specs.Runs.{Comes, MoveOutcome, Plays, Runs, delivered_by, delivered_or, end}
@@ -24,7 +25,7 @@ use Rattle.irc_script.specs.Scripts.{Request}
 
 -- what was printed between two moments, and what clients received by it
 pub record Shows (first last : ByteNetwork) (text : List ℕ) : Type 0 where
-  pub entries : List Entry
+  pub entries : List ScriptEntry
   pub text_is : text ≡ flat_map entry_text entries
   pub received : (client : ℕ) → received_by last.network client ≡ received_by first.network client
       ++ lines_shown_to client entries
@@ -71,22 +72,22 @@ receipts_shown client [] = refl
 receipts_shown client (receipt ∷ receipts) =
     ap (cons_option (line_to client (receives receipt))) (receipts_shown client receipts)
 
-course_shown : (first : ByteNetwork) (course : ByteCourse)
-    → HasReceived first course.net course.receipts
-    → Shows first course.net (flat_map printed course.receipts)
-course_shown first course are = record {
-  entries = map receives course.receipts;
-  text_is = sym (flat_map-map entry_text receives course.receipts);
+progress_shown : (first : ByteNetwork) (progress : ByteProgress)
+    → HasReceived first progress.net progress.receipts
+    → Shows first progress.net (flat_map printed progress.receipts)
+progress_shown first progress are = record {
+  entries = map receives progress.receipts;
+  text_is = sym (flat_map-map entry_text receives progress.receipts);
   received = λ client. are client ∙ ap (λ lines. received_by first.network client ++ lines)
-      (sym (receipts_shown client course.receipts));
+      (sym (receipts_shown client progress.receipts));
 }
 
 -- lines were taken, and their number is printed behind
-taken_shown : (first : ByteNetwork) (course : ByteCourse) (count : ℕ)
-    → HasReceived first course.net course.receipts
-    → Shows first course.net (taken_text count course.receipts)
-taken_shown first course count are =
-    shows_both (course_shown first course are) (count_shown course.net count)
+taken_shown : (first : ByteNetwork) (progress : ByteProgress) (count : ℕ)
+    → HasReceived first progress.net progress.receipts
+    → Shows first progress.net (taken_text count progress.receipts)
+taken_shown first progress count are =
+    shows_both (progress_shown first progress are) (count_shown progress.net count)
 
 -- ---- what comes of a move
 
@@ -106,23 +107,24 @@ module _ (law : ReceiptsAreReceived) (answers : AnswersAreReceived) where
     where
       by : (o : Option NetFault) → outcome ≡ given_or o item first → ShowsOutcome first outcome
       by None e = subst (ShowsOutcome first) (sym e)
-          (course_shown first (item_given item first) (given_received law item first))
+          (progress_shown first (item_given item first) (given_received law item first))
       by (Some fault) e = subst (ShowsOutcome first) (sym e) (refusal_shown first fault)
   comes_shown first (delivers_line from to) outcome is = by (deliver_fault first from to) refl is
     where
-      came : deliver_fault first from to ≡ None → (course : ByteCourse)
-          → delivery first from to ≡ Some course → HasReceived first course.net course.receipts
-      came none course some =
-          answers.delivered (standing first) (standing course.net) from to true course.receipts
+      came : deliver_fault first from to ≡ None → (progress : ByteProgress) → delivery first from to
+          ≡ Some progress → HasReceived first progress.net progress.receipts
+      came none progress some =
+          answers.delivered (standing first) (standing progress.net) from to true progress.receipts
           (delivers_it refl none
-          (subst (λ o. Delivers o first true course.receipts (standing course.net)) (sym some)
+          (subst (λ o. Delivers o first true progress.receipts (standing progress.net)) (sym some)
           (refl, refl, refl)))
 
-      took : deliver_fault first from to ≡ None → (o : Option ByteCourse)
+      took : deliver_fault first from to ≡ None → (o : Option ByteProgress)
           → delivery first from to ≡ o → outcome ≡ delivered_by o first → ShowsOutcome first outcome
       took none None nothing_there e = subst (ShowsOutcome first) (sym e) (count_shown first 0)
-      took none (Some course) some e =
-          subst (ShowsOutcome first) (sym e) (taken_shown first course 1 (came none course some))
+      took none (Some progress) some e =
+          subst (ShowsOutcome first) (sym e)
+          (taken_shown first progress 1 (came none progress some))
 
       by : (o : Option NetFault) → deliver_fault first from to ≡ o
           → outcome ≡ delivered_or o from to first → ShowsOutcome first outcome

@@ -20,13 +20,13 @@ use Rattle.irc_net.specs.SetUp.{named_at, no_view, view_at, HasPassword, IsConfi
 use Rattle.irc_net.specs.SetUp.{IsNewServer}
 use Rattle.irc_net.specs.ItemLemmas.SetUpFacts.{placed_if}
 use Rattle.irc_names.specs.Names.{IsServer, is_server}
-use Rattle.irc_net.specs.Network.{Site, server_place, site_at}
+use Rattle.irc_net.specs.Network.{Node, server_place, node_at}
 use Rattle.irc_relay.specs.Distances.{IsAmong}
 use Rattle.irc_relay.specs.Links.{Name, same}
 use Rattle.irc_relay.specs.Lemmas.TellingNames.{Telling, alike, unlike, tell}
 use Rattle.irc_net.specs.View.{View}
 use Rattle.irc_script.specs.Limits.{max_script_servers}
-use Rattle.irc_script.specs.Networks.{first_network, first_site, first_view, in_name_order}
+use Rattle.irc_script.specs.Networks.{first_network, first_node, first_view, in_name_order}
 use Rattle.irc_script.specs.Networks.{peers_for, script_password}
 use Rattle.irc_script.specs.Scripts.{Cut, another_server, cut_at_space, if_another, is_word}
 use Rattle.irc_script.specs.Scripts.{named_in, server_declared, servers_behind, servers_of}
@@ -223,22 +223,22 @@ all_new names (server ∷ ordered) = (
   all_new names ordered,
 )
 
-sites_named : (names ordered : List Name)
-    → map named_at (map (first_site names) ordered) ≡ map Some ordered
-sites_named names [] = refl
-sites_named names (server ∷ ordered) =
-    ap (λ servers. Some server ∷ servers) (sites_named names ordered)
+nodes_named : (names ordered : List Name)
+    → map named_at (map (first_node names) ordered) ≡ map Some ordered
+nodes_named names [] = refl
+nodes_named names (server ∷ ordered) =
+    ap (λ servers. Some server ∷ servers) (nodes_named names ordered)
 
 none_queued : (names ordered : List Name)
-    → AllByRecursion (λ (site : Site). site.queues ≡ empty) (map (first_site names) ordered)
+    → AllByRecursion (λ (node : Node). node.queues ≡ empty) (map (first_node names) ordered)
 none_queued names [] = tt
 none_queued names (server ∷ ordered) = (refl, none_queued names ordered)
 
 -- what is so of each server at a place is so of the one of each name
 at_place : (P : View → Type 0) (names ordered : List Name) (place : ℕ)
     → AllByRecursion (λ (server : Name). P (first_view names server)) ordered
-    → place < length ordered → P (unwrap_or (option_and_then (λ (site : Site). site.server)
-    (slice_get (map (first_site names) ordered) place)) no_view)
+    → place < length ordered → P (unwrap_or (option_and_then (λ (node : Node). node.server)
+    (slice_get (map (first_node names) ordered) place)) no_view)
 at_place P names [] place all within = absurd (omega (arith, within))
 at_place P names (server ∷ ordered) zero all within = all.0
 at_place P names (server ∷ ordered) (suc place) all within =
@@ -246,8 +246,8 @@ at_place P names (server ∷ ordered) (suc place) all within =
 
 -- the server at a place that was found
 abbrev seen : List Name → Option ℕ → View
-seen names o = unwrap_or (option_and_then (λ (site : Site). site.server)
-    (option_and_then (site_at (first_network names)) o)) no_view
+seen names o = unwrap_or (option_and_then (λ (node : Node). node.server)
+    (option_and_then (node_at (first_network names)) o)) no_view
 
 at_name : (P : View → Type 0) (names : List Name) (server : Name)
     → AllByRecursion (λ (server : Name). P (first_view names server)) (in_name_order names)
@@ -269,7 +269,7 @@ few_servers n few = few
 pub first_is_new : (names : List Name) → AreServers names → IsNew (first_network names)
 first_is_new names are = record {
   set_up = record {
-    named = sites_named names (in_name_order names);
+    named = nodes_named names (in_name_order names);
     once = ordered.once;
     few = few_servers (length (in_name_order names)) ordered.few;
     configured = λ server among. at_name IsConfigured names server

@@ -2,7 +2,7 @@
 use Rattle.std.proofs.Common.{◌≡◌, ℕ, Bool, true, false, cond, Option, Some, None, Result, Ok, Err}
 use Rattle.std.proofs.Common.{List, [], ◌∷◌, ap, sym, subst, refl, ◌∙◌}
 use Rattle.std.specs.List.{flat_map}
-use Rattle.irc_net.specs.ByteNetwork.{ByteCourse, ByteNetwork, item_given}
+use Rattle.irc_net.specs.ByteNetwork.{ByteProgress, ByteNetwork, item_given}
 use Rattle.irc_net.specs.declared.answer.Answer.{Answer}
 use Rattle.irc_net.specs.receipt.Receipt.{Receipt as KeptReceipt}
 use Rattle.irc_net.specs.declared.fault.NetFault.{NetFault}
@@ -83,18 +83,18 @@ refusal_played r first last item fault old new (given_to_failed failed) p =
 
 taken_so : (r : Result (Unit {0}) Trouble) (first last : NetView)
     (from to : Name) (was_taken : Bool) (receipts : List Receipt) (old new : Sink)
-    → deliver_fault first.network from to ≡ None → (o : Option ByteCourse)
+    → deliver_fault first.network from to ≡ None → (o : Option ByteProgress)
     → delivery first.network from to ≡ o → Delivers o first.network was_taken receipts last
     → IsPut r old new (taken_text (taken_count was_taken) receipts)
     → IsPlayed r first.network (delivers_line from to ∷ []) last.network old new
 taken_so r first last from to was_taken receipts old new none o is so p = by o is so
   where
-    comes : (o : Option ByteCourse) → delivery first.network from to ≡ o
+    comes : (o : Option ByteProgress) → delivery first.network from to ≡ o
         → Comes first.network (delivers_line from to) (delivered_by o first.network)
     comes o is = sym (ap (λ (f : Option NetFault). delivered_or f from to first.network) none
-        ∙ ap (λ (c : Option ByteCourse). delivered_by c first.network) is)
+        ∙ ap (λ (c : Option ByteProgress). delivered_by c first.network) is)
 
-    by : (o : Option ByteCourse) → delivery first.network from to ≡ o
+    by : (o : Option ByteProgress) → delivery first.network from to ≡ o
         → Delivers o first.network was_taken receipts last
         → IsPlayed r first.network (delivers_line from to ∷ []) last.network old new
     by None is so =
@@ -103,10 +103,11 @@ taken_so r first last from to was_taken receipts old new none o is so p = by o i
         (comes None is)
         (ap (λ b. taken_text (taken_count b) receipts) so.0 ∙ ap (taken_text 0) so.1)
         (ap (λ (v : NetView). v.network) so.2) p
-    by (Some course) is so =
-        played_as r first.network (delivers_line from to) (delivered_by (Some course) first.network)
+    by (Some progress) is so =
+        played_as r first.network (delivers_line from to)
+        (delivered_by (Some progress) first.network)
         (taken_text (taken_count was_taken) receipts) last.network old new
-        (comes (Some course) is) (ap (λ b. taken_text (taken_count b) receipts) so.0
+        (comes (Some progress) is) (ap (λ b. taken_text (taken_count b) receipts) so.0
         ∙ ap (taken_text 1) so.1) (ap (λ (v : NetView). v.network) so.2) p
 
 pub delivered_played : (r : Result (Unit {0}) Trouble) (first last : NetView) (from to : Name)

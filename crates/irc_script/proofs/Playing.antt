@@ -20,7 +20,7 @@ use Rattle.irc_script.specs.Runs.{Comes, MoveOutcome, Plays, nothing, move, Runs
 use Rattle.irc_script.specs.Runs.{StopsIn, in_first, in_later}
 use Rattle.irc_script.specs.Scripts.{Request}
 use Rattle.irc_script.specs.ScriptViews.{requests, request as request_now}
-use Rattle.irc_script.specs.declared.commands.Command.{Command}
+use Rattle.irc_script.specs.declared.commands.ScriptCommand.{ScriptCommand}
 use Rattle.std.proofs.lemmas.List.{take_more, map-append, take-append-drop, drop_more}
 use Rattle.irc_script.specs.Sinks.{Sink, sink, Prints, Loses, IsPrinted}
 use Rattle.irc_script.specs.Lemmas.Sinking.{prints_nothing, prints_both, prints_loses, no_loss}
@@ -215,7 +215,7 @@ run_flushed r (Err fault) {a = a} {b = b} {xs = xs} {old = old} new is p k =
     })
 
 -- one command more
-pub requests_more : (commands : List Command) (i : ℕ) (d : Command)
+pub requests_more : (commands : List ScriptCommand) (i : ℕ) (d : ScriptCommand)
     → i < length commands → d ≡ get_or commands i d
     → requests (take (i + 1) commands) ≡ requests (take i commands) ++ request_now d ∷ []
 requests_more commands i d within is =
@@ -224,8 +224,8 @@ requests_more commands i d within is =
     ∙ ap (λ c. requests (take i commands) ++ request_now c ∷ []) (sym is)
 
 -- the commands before one, that one, and those behind it
-pub requests_around : (commands : List Command) (i : ℕ) (d : Command) → i < length commands
-    → d ≡ get_or commands i d → requests commands ≡ requests (take i commands)
+pub requests_around : (commands : List ScriptCommand) (i : ℕ) (d : ScriptCommand)
+    → i < length commands → d ≡ get_or commands i d → requests commands ≡ requests (take i commands)
     ++ request_now d ∷ requests (drop (i + 1) commands)
 requests_around commands i d within is =
     ap requests (sym (take-append-drop i commands)

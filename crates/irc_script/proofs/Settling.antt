@@ -7,19 +7,19 @@ use Rattle.std.specs.List.{find, list_all}
 use Rattle.std.specs.Option.{option_map, option_map_or}
 use Rattle.std.specs.Ordering.{nat_cmp}
 use Rattle.irc_line.specs.Lines.{has_nothing}
-use Rattle.irc_net.specs.ByteNetwork.{ByteCourse, ByteNetwork, is_byte_rest}
+use Rattle.irc_net.specs.ByteNetwork.{ByteProgress, ByteNetwork, is_byte_rest}
 use Rattle.irc_net.specs.Turns.{TurnsGo, lines_in_turn, none_yet, turn_first, turn_in, turn_taken}
 use Rattle.irc_net.specs.Calls.{NetView, Settles, standing}
 use Rattle.irc_net.specs.Network.{Receipt, max_count}
 use Rattle.irc_room.specs.Lemmas.Rows.{same_some}
-use Rattle.irc_wires.specs.Wires.{Direction, Wire, Wires, are_still, are_still_in, first_from}
+use Rattle.irc_wires.specs.Wires.{Direction, LinkWire, Wires, are_still, are_still_in, first_from}
 use Rattle.irc_wires.specs.Wires.{first_in, has_byte, is_none, is_still, wire_in}
 use Rattle.irc_script.specs.RunLaws.{SettlesToRest}
 use Rattle.irc_script.specs.Runs.{end, move, nothing, request}
 
 -- ---- at rest no turn is taken
 
-still_has_none : (wire : Wire) → is_still wire ≡ true → has_byte wire ≡ false
+still_has_none : (wire : LinkWire) → is_still wire ≡ true → has_byte wire ≡ false
 still_has_none wire still = ap not (first_so (is_none wire.bytes) (has_nothing wire.begun) still)
 
 none_found : (p q : ℕ → Bool) → ((n : ℕ) → p n ≡ true → q n ≡ false) → (numbers : List ℕ)
@@ -29,7 +29,7 @@ none_found p q not_so (n ∷ numbers) all =
     ap (λ b. cond b (Some n) (find q numbers)) (not_so n (first_so (p n) (list_all p numbers) all))
     ∙ none_found p q not_so numbers (second_so (p n) (list_all p numbers) all)
 
-none_in : (row : FinMap nat_cmp Wire) → are_still_in row ≡ true → first_in row ≡ None
+none_in : (row : FinMap nat_cmp LinkWire) → are_still_in row ≡ true → first_in row ≡ None
 none_in row still =
     none_found (λ to. is_still (wire_in to row)) (λ to. has_byte (wire_in to row))
     (λ to. still_has_none (wire_in to row)) (keys row) still
@@ -45,33 +45,34 @@ none_from place (row ∷ wires) still =
     way : ℕ → ℕ → Direction
     way from to = record { from = from; to = to }
 
-no_turn : (course : ByteCourse) → is_byte_rest course.net ≡ true → turn_taken course ≡ None
-no_turn course rest = ap (option_map (turn_in course)) (none_from 0 course.net.wires rest)
+no_turn : (progress : ByteProgress) → is_byte_rest progress.net ≡ true → turn_taken progress ≡ None
+no_turn progress rest = ap (option_map (turn_in progress)) (none_from 0 progress.net.wires rest)
 
-never_on : (course : ByteCourse) {between : ByteCourse} → is_byte_rest course.net ≡ true
-    → turn_taken course ≡ Some between → ⊥
-never_on course rest turn = cc (sym (no_turn course rest) ∙ turn)
+never_on : (progress : ByteProgress) {between : ByteProgress} → is_byte_rest progress.net ≡ true
+    → turn_taken progress ≡ Some between → ⊥
+never_on progress rest turn = cc (sym (no_turn progress rest) ∙ turn)
 
 -- ---- one end
 
-record SameTurns (count other : ℕ) (last next : ByteCourse) : Type 0 where
+record SameTurns (count other : ℕ) (last next : ByteProgress) : Type 0 where
   count_is : count ≡ other
   last_is : last ≡ next
 
-turns_one : {count other : ℕ} {course last next : ByteCourse} → TurnsGo count course last
-    → is_byte_rest last.net ≡ true → TurnsGo other course next → is_byte_rest next.net ≡ true
+turns_one : {count other : ℕ} {progress last next : ByteProgress} → TurnsGo count progress last
+    → is_byte_rest last.net ≡ true → TurnsGo other progress next → is_byte_rest next.net ≡ true
     → SameTurns count other last next
 turns_one none_yet rest none_yet rest' = record { count_is = refl; last_is = refl }
-turns_one {course = course} none_yet rest (turn_first turn all goes) rest' =
-    absurd (never_on course rest turn)
-turns_one {course = course} (turn_first turn all goes) rest none_yet rest' =
-    absurd (never_on course rest' turn)
-turns_one {course = course} {next = next} (turn_first {count = n} {between = a} turn all goes) rest
+turns_one {progress = progress} none_yet rest (turn_first turn all goes) rest' =
+    absurd (never_on progress rest turn)
+turns_one {progress = progress} (turn_first turn all goes) rest none_yet rest' =
+    absurd (never_on progress rest' turn)
+turns_one {progress = progress} {next = next}
+    (turn_first {count = n} {between = a} turn all goes) rest
     (turn_first {count = m} {between = b} turn' all' goes') rest' =
     let one : a ≡ b = same_some a b (sym turn ∙ turn') in
     let same = turns_one goes rest (subst (λ c. TurnsGo m c next) (sym one) goes') rest' in
     record {
-      count_is = all ∙ ap (λ k. lines_in_turn course.net + k) same.count_is ∙ sym all';
+      count_is = all ∙ ap (λ k. lines_in_turn progress.net + k) same.count_is ∙ sym all';
       last_is = same.last_is;
     }
 
@@ -93,9 +94,9 @@ settles_one one another =
     record {
       count_is = one.counts ∙ ap (λ n. min n max_count) same.count_is ∙ sym another.counts;
       receipts_are =
-          one.received ∙ ap (λ (c : ByteCourse). c.receipts) same.last_is ∙ sym another.received;
+          one.received ∙ ap (λ (c : ByteProgress). c.receipts) same.last_is ∙ sym another.received;
       last_is =
-          ap (λ (v : NetView). v.network) one.after ∙ ap (λ (c : ByteCourse). c.net) same.last_is
+          ap (λ (v : NetView). v.network) one.after ∙ ap (λ (c : ByteProgress). c.net) same.last_is
           ∙ sym (ap (λ (v : NetView). v.network) another.after);
     }
 

@@ -3,7 +3,7 @@ use Rattle.std.proofs.Common.{◌≡◌, ℕ, Bool, true, false, Option, Some, N
 use Rattle.std.proofs.Common.{sym, refl, ◌∙◌, ap, if◌then◌else◌}
 use Rattle.std.specs.List.{filter_map}
 use Rattle.std.specs.Option.{option_and_then, option_map_or}
-use Rattle.irc_net.specs.ByteNetwork.{ByteCourse, ByteNetwork, byte_begun}
+use Rattle.irc_net.specs.ByteNetwork.{ByteProgress, ByteNetwork, byte_begun}
 use Rattle.irc_net.specs.declared.fault.NetFault.{NetFault}
 use Rattle.irc_net.specs.Calls.{delivery, line_between, piece_between, wire_between}
 use Rattle.irc_net.specs.Faults.{deliver_fault, item_fault}
@@ -14,7 +14,7 @@ use Rattle.irc_net.specs.World.{Setting}
 use Rattle.irc_relay.specs.Links.{Name}
 use Rattle.irc_wires.specs.Wires.{has_byte, through_line_feed}
 use Rattle.irc_script.specs.Moves.{Move, gives, delivers_line, takes_bytes, settles_all}
-use Rattle.irc_script.specs.Networks.{first_net, first_site, in_name_order, script_setting}
+use Rattle.irc_script.specs.Networks.{first_net, first_node, in_name_order, script_setting}
 use Rattle.irc_script.specs.Networks.{script_settings}
 use Rattle.irc_script.specs.Runs.{Comes, MoveOutcome, Plays, Runs, delivered_by, delivered_or, end}
 use Rattle.irc_script.specs.Runs.{given_or, move, nothing, request, taken_or}
@@ -22,15 +22,15 @@ use Rattle.irc_script.specs.Scripts.{Request}
 
 -- ---- as it begins
 
-sites_set_up : (names ordered : List Name)
-    → filter_map setting_at (map (first_site names) ordered) ≡ map (script_setting names) ordered
-sites_set_up names [] = refl
-sites_set_up names (name ∷ ordered) =
-    ap (λ settings. script_setting names name ∷ settings) (sites_set_up names ordered)
+nodes_set_up : (names ordered : List Name)
+    → filter_map setting_at (map (first_node names) ordered) ≡ map (script_setting names) ordered
+nodes_set_up names [] = refl
+nodes_set_up names (name ∷ ordered) =
+    ap (λ settings. script_setting names name ∷ settings) (nodes_set_up names ordered)
 
 pub first_set_up : (names : List Name)
     → settings_of (first_net names).network ≡ script_settings names
-first_set_up names = sites_set_up names (in_name_order names)
+first_set_up names = nodes_set_up names (in_name_order names)
 
 -- ---- move by move
 
@@ -38,22 +38,23 @@ abbrev settings_at : MoveOutcome → List Setting
 settings_at outcome = settings_of outcome.network.network
 
 module _ (law : SettingsStay) where
-  line_set_up : (first : ByteNetwork) (o : Option LinkPlaces) (course : ByteCourse)
-      → option_and_then (line_between first) o ≡ Some course
-      → settings_of course.net.network ≡ settings_of first.network
-  line_set_up first None course is = absurd (cc is)
-  line_set_up first (Some ends) course is = by (has_byte (wire_between first ends)) is
+  line_set_up : (first : ByteNetwork) (o : Option LinkPlaces) (progress : ByteProgress)
+      → option_and_then (line_between first) o ≡ Some progress
+      → settings_of progress.net.network ≡ settings_of first.network
+  line_set_up first None progress is = absurd (cc is)
+  line_set_up first (Some ends) progress is = by (has_byte (wire_between first ends)) is
     where
       count : ℕ
       count = through_line_feed (wire_between first ends).bytes
 
-      same_some : (a b : ByteCourse) → Some a ≡ Some b → a ≡ b
+      same_some : (a b : ByteProgress) → Some a ≡ Some b → a ≡ b
       same_some a b e = cc e
 
-      by : (b : Bool) → ◌≡◌ {A = Option ByteCourse} (if b then Some (piece_between count first ends)
-          else None) (Some course) → settings_of course.net.network ≡ settings_of first.network
-      by true e = ap (λ (c : ByteCourse). settings_of c.net.network)
-          (sym (same_some (piece_between count first ends) course e))
+      by : (b : Bool)
+          → ◌≡◌ {A = Option ByteProgress} (if b then Some (piece_between count first ends)
+          else None) (Some progress) → settings_of progress.net.network ≡ settings_of first.network
+      by true e = ap (λ (c : ByteProgress). settings_of c.net.network)
+          (sym (same_some (piece_between count first ends) progress e))
           ∙ (law.come first ends.near ends.far count).settings
       by false e = absurd (cc e)
 
@@ -73,10 +74,11 @@ module _ (law : SettingsStay) where
   comes_set_up first (delivers_line from to) outcome is =
       ap settings_at is ∙ by (deliver_fault first from to)
     where
-      took : (o : Option ByteCourse) → delivery first from to ≡ o
+      took : (o : Option ByteProgress) → delivery first from to ≡ o
           → settings_at (delivered_by o first) ≡ settings_of first.network
       took None none = refl
-      took (Some course) some = line_set_up first (link_places first.network from to) course some
+      took (Some progress) some =
+          line_set_up first (link_places first.network from to) progress some
 
       by : (o : Option NetFault)
           → settings_at (delivered_or o from to first) ≡ settings_of first.network

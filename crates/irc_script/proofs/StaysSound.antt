@@ -4,7 +4,7 @@ use Rattle.std.proofs.Common.{if◌then◌else◌}
 use Rattle.std.specs.Bool.{⊤}
 use Rattle.std.specs.List.{AllByRecursion}
 use Rattle.std.specs.Option.{option_and_then, option_map_or}
-use Rattle.irc_net.specs.ByteNetwork.{ByteCourse, ByteNetwork, byte_begun}
+use Rattle.irc_net.specs.ByteNetwork.{ByteProgress, ByteNetwork, byte_begun}
 use Rattle.irc_net.specs.declared.fault.NetFault.{NetFault}
 use Rattle.irc_net.specs.Calls.{delivery, line_between, piece_between, wire_between}
 use Rattle.irc_net.specs.Faults.{deliver_fault, item_fault}
@@ -34,20 +34,20 @@ abbrev IsKeptIn : MoveOutcome → Type 0
 IsKeptIn outcome = IsKeptSound outcome.network
 
 -- the line that comes between two servers, if one does
-line_kept : StaysKept → (first : ByteNetwork) (o : Option LinkPlaces) (course : ByteCourse)
-    → option_and_then (line_between first) o ≡ Some course → IsKeptSound first
-    → IsKeptSound course.net
-line_kept laws first None course is kept = absurd (cc is)
-line_kept laws first (Some ends) course is kept = by (has_byte (wire_between first ends)) is
+line_kept : StaysKept → (first : ByteNetwork) (o : Option LinkPlaces) (progress : ByteProgress)
+    → option_and_then (line_between first) o ≡ Some progress → IsKeptSound first
+    → IsKeptSound progress.net
+line_kept laws first None progress is kept = absurd (cc is)
+line_kept laws first (Some ends) progress is kept = by (has_byte (wire_between first ends)) is
   where
     count : ℕ
     count = through_line_feed (wire_between first ends).bytes
 
-    by : (b : Bool) → ◌≡◌ {A = Option ByteCourse} (if b then Some (piece_between count first ends)
-        else None) (Some course) → IsKeptSound course.net
+    by : (b : Bool) → ◌≡◌ {A = Option ByteProgress} (if b then Some (piece_between count first ends)
+        else None) (Some progress) → IsKeptSound progress.net
     by true e =
-        subst (λ (c : ByteCourse). IsKeptSound c.net) (same_some (piece_between count first ends)
-        course e) (laws.come first ends.near ends.far count kept)
+        subst (λ (c : ByteProgress). IsKeptSound c.net) (same_some (piece_between count first ends)
+        progress e) (laws.come first ends.near ends.far count kept)
     by false e = absurd (cc e)
 
 -- the bytes that come between two servers, if there are such
@@ -68,11 +68,11 @@ comes_kept laws first (gives item) outcome within is kept = by (item_fault first
 comes_kept laws first (delivers_line from to) outcome within is kept =
     by (deliver_fault first from to) is
   where
-    took : (o : Option ByteCourse) → delivery first from to ≡ o → outcome ≡ delivered_by o first
+    took : (o : Option ByteProgress) → delivery first from to ≡ o → outcome ≡ delivered_by o first
         → IsKeptSound outcome.network
     took None none e = subst IsKeptIn (sym e) kept
-    took (Some course) some e = subst IsKeptIn (sym e)
-        (line_kept laws first (link_places first.network from to) course some kept)
+    took (Some progress) some e = subst IsKeptIn (sym e)
+        (line_kept laws first (link_places first.network from to) progress some kept)
 
     by : (o : Option NetFault) → outcome ≡ delivered_or o from to first
         → IsKeptSound outcome.network

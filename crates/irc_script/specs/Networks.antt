@@ -9,7 +9,7 @@ use Rattle.std.specs.declared.cmp.Ordering.{Ordering}
 use Rattle.std.specs.declared.cmp.Ordering.TheVariants.{Greater}
 use Rattle.irc_net.specs.ByteNetwork.{ByteNetwork}
 use Rattle.irc_net.specs.Whole.{no_wires}
-use Rattle.irc_net.specs.Network.{Network, Site}
+use Rattle.irc_net.specs.Network.{Network, Node}
 use Rattle.irc_relay.specs.Links.{Name, same}
 use Rattle.irc_room.specs.Laws.{no_room}
 use Rattle.irc_routes.specs.Known.{alone_known}
@@ -48,8 +48,8 @@ first_view names server = record {
   room = no_room;
 }
 
-abbrev pub first_site : List Name → Name → Site
-first_site names server = record { server = Some (first_view names server); queues = empty }
+abbrev pub first_node : List Name → Name → Node
+first_node names server = record { server = Some (first_view names server); queues = empty }
 
 abbrev pub is_greater : Ordering → Bool
 is_greater Greater = true
@@ -78,7 +78,7 @@ script_settings names = map (script_setting names) (in_name_order names)
 abbrev pub first_network : List Name → Network
 first_network names = record {
   names = in_name_order names;
-  sites = map (first_site names) (in_name_order names);
+  nodes = map (first_node names) (in_name_order names);
   links = [];
   homes = [];
   received = [];

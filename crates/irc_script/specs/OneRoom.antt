@@ -14,24 +14,24 @@ use Rattle.irc_script.specs.Printing.{count_line, fault_number, printed, refusal
 
 -- What is printed, entry by entry: a line that a client receives; how many lines or bytes came, `=
 -- K`; a refusal, `! NUMBER`.
-pub data Entry : Type 0 where
-  receives : (receipt : Receipt) → Entry
-  counts : (count : ℕ) → Entry
-  refuses : (fault : NetFault) → Entry
+pub data ScriptEntry : Type 0 where
+  receives : (receipt : Receipt) → ScriptEntry
+  counts : (count : ℕ) → ScriptEntry
+  refuses : (fault : NetFault) → ScriptEntry
 
-abbrev pub entry_text : Entry → List ℕ
+abbrev pub entry_text : ScriptEntry → List ℕ
 entry_text (receives receipt) = printed receipt
 entry_text (counts count) = count_line count
 entry_text (refuses fault) = refusal_line (fault_number fault)
 
 -- the line of an entry that is one for this client
-abbrev pub line_to : ℕ → Entry → Option (List ℕ)
+abbrev pub line_to : ℕ → ScriptEntry → Option (List ℕ)
 line_to client (receives receipt) = if nat_eq receipt.client client then Some receipt.text else None
 line_to client (counts count) = None
 line_to client (refuses fault) = None
 
 -- all that a client receives among these, in turn
-abbrev pub lines_shown_to : ℕ → List Entry → List (List ℕ)
+abbrev pub lines_shown_to : ℕ → List ScriptEntry → List (List ℕ)
 lines_shown_to client entries = filter_map (line_to client) entries
 
 -- what a client is owed by all that was given, where servers of these names are set up as those of
@@ -43,7 +43,7 @@ owed_in names net client = owed_by_network (script_settings names) net.network.i
 -- front of what it is owed there, line by line, and at rest all of it. Servers are set up as they
 -- were. What is on its way as bytes is the lines that these will complete (net_in_lines).
 pub record IsPrintedOf (names : List Name) (net : ByteNetwork) (text : List ℕ) : Type 0 where
-  pub entries : List Entry
+  pub entries : List ScriptEntry
   pub text_is : text ≡ flat_map entry_text entries
   pub received : (client : ℕ) → lines_shown_to client entries ≡ received_by net.network client
   pub front : (client : ℕ) → IsFront (lines_shown_to client entries) (owed_in names net client)

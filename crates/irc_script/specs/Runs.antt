@@ -5,7 +5,7 @@ use Rattle.std.specs.Prelude.{IfSome}
 use Rattle.std.specs.Io.KnownBytes.{Appends}
 use Rattle.std.specs.List.{flat_map}
 use Rattle.irc_net.specs.declared.fault.NetFault.{NetFault}
-use Rattle.irc_net.specs.ByteNetwork.{ByteCourse, ByteNetwork, item_given}
+use Rattle.irc_net.specs.ByteNetwork.{ByteProgress, ByteNetwork, item_given}
 use Rattle.irc_net.specs.Calls.{Settles, delivery, piece, piece_count, standing}
 use Rattle.irc_net.specs.Faults.{deliver_fault, item_fault}
 use Rattle.irc_net.specs.Network.{Receipt}
@@ -28,18 +28,19 @@ pub record MoveOutcome : Type 0 where
 abbrev pub move_refused : NetFault → ByteNetwork → MoveOutcome
 move_refused fault net = record { text = refusal_line (fault_number fault); network = net }
 
-abbrev pub lines_received : ByteCourse → MoveOutcome
-lines_received course = record { text = flat_map printed course.receipts; network = course.net }
+abbrev pub lines_received : ByteProgress → MoveOutcome
+lines_received progress =
+    record { text = flat_map printed progress.receipts; network = progress.net }
 
 abbrev pub given_or : Option NetFault → Item → ByteNetwork → MoveOutcome
 given_or None item net = lines_received (item_given item net)
 given_or (Some fault) item net = move_refused fault net
 
 -- bytes came, or none is on its way
-abbrev pub delivered_by : Option ByteCourse → ByteNetwork → MoveOutcome
+abbrev pub delivered_by : Option ByteProgress → ByteNetwork → MoveOutcome
 delivered_by None net = record { text = taken_text 0 []; network = net }
-delivered_by (Some course) net =
-    record { text = taken_text 1 course.receipts; network = course.net }
+delivered_by (Some progress) net =
+    record { text = taken_text 1 progress.receipts; network = progress.net }
 
 abbrev pub delivered_or : Option NetFault → Name → Name → ByteNetwork → MoveOutcome
 delivered_or None from to net = delivered_by (delivery net from to) net

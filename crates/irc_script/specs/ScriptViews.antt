@@ -3,8 +3,8 @@ use Rattle.std.specs.Prelude.{◌≡◌, ℕ, Option, Result, Ok, Err, List, map
 use Rattle.std.specs.Option.{option_copied}
 use Rattle.irc_script.specs.declared.fault.SimFault.{SimFault}
 use Rattle.irc_script.specs.declared.fault.SimFault.TheVariants.{BadScript, Failed, Device}
-use Rattle.irc_script.specs.declared.commands.Command.{Command}
-use Rattle.irc_script.specs.declared.commands.Command.TheVariants as command
+use Rattle.irc_script.specs.declared.commands.ScriptCommand.{ScriptCommand}
+use Rattle.irc_script.specs.declared.commands.ScriptCommand.TheVariants as command
 use Rattle.irc_script.specs.declared.script.Script.{Script}
 use Rattle.irc_script.specs.Scripts.{Request, connects, says, goes, links, cuts, delivers, takes}
 use Rattle.irc_script.specs.Scripts.{settles, Cut, Pair, ScriptAsked, script_read}
@@ -22,7 +22,7 @@ pair_now names = record { near = names.0; far = names.1 }
 abbrev pub name_now : Option (Bor (List ℕ)) → Option (List ℕ)
 name_now = option_copied
 
-abbrev pub request : Command → Request
+abbrev pub request : ScriptCommand → Request
 request (command.Connect server host) = connects server host
 request (command.Say client rest) = says client rest.now
 request (command.Gone client) = goes client
@@ -32,7 +32,7 @@ request (command.Deliver from to) = delivers from to
 request (command.Bytes from to count) = takes from to count
 request command.Settle = settles
 
-abbrev pub requests : List Command → List Request
+abbrev pub requests : List ScriptCommand → List Request
 requests = map request
 
 abbrev pub script_asked : Script → ScriptAsked

@@ -15,7 +15,7 @@ const SPACE: u8 = b' ';
 
 /// What a line of a script asks for, behind the `server` lines.
 #[derive(Drop)]
-pub enum Command<'a> {
+pub enum ScriptCommand<'a> {
     /// A client connects to this server from this host.
     Connect(ServerName, Host),
     /// The client with this number sends these bytes and an LF.
@@ -38,18 +38,18 @@ pub enum Command<'a> {
 /// The command that a line is: `connect NAME HOST`, `say N REST`, `gone N`, `link NAME NAME`, `cut
 /// NAME NAME`, `deliver NAME NAME`, `bytes NAME NAME N` or `settle`.
 #[tactic(auto, unfolding(crate::specs::Scripts::request_of))]
-pub fn read_command(line: &[u8]) -> Option<Command<'_>>
+pub fn read_command(line: &[u8]) -> Option<ScriptCommand<'_>>
     ensures { option_map request result ≡ request_of line.now }
 {
     if is_word(line, b"settle") {
-        return Some(Command::Settle);
+        return Some(ScriptCommand::Settle);
     }
     let (word, rest) = cut_at_space(line)?;
     read_words(word, rest)
 }
 
 /// The command of a word with words behind it.
-fn read_words<'a>(word: &[u8], rest: &'a [u8]) -> Option<Command<'a>>
+fn read_words<'a>(word: &[u8], rest: &'a [u8]) -> Option<ScriptCommand<'a>>
     ensures { option_map request result ≡ request_by word.now rest.now }
 {
     if is_word(word, b"connect") {
@@ -72,44 +72,44 @@ fn read_words<'a>(word: &[u8], rest: &'a [u8]) -> Option<Command<'a>>
 }
 
 /// What follows `connect`: the name of a server, and a host.
-fn read_connect(words: &[u8]) -> Option<Command<'_>>
+fn read_connect(words: &[u8]) -> Option<ScriptCommand<'_>>
     ensures { option_map request result ≡ connect_of words.now }
 {
     let (name, host) = cut_at_space(words)?;
-    Some(Command::Connect(ServerName::read(name)?, Host::read(host)?))
+    Some(ScriptCommand::Connect(ServerName::read(name)?, Host::read(host)?))
 }
 
 /// What follows `link`: the names of two servers.
-fn read_link(words: &[u8]) -> Option<Command<'_>>
+fn read_link(words: &[u8]) -> Option<ScriptCommand<'_>>
     ensures { option_map request result ≡ link_request words.now }
 {
     let (near, far) = read_pair(words)?;
-    Some(Command::Link(near, far))
+    Some(ScriptCommand::Link(near, far))
 }
 
 /// What follows `cut`, which is the same.
-fn read_cut(words: &[u8]) -> Option<Command<'_>>
+fn read_cut(words: &[u8]) -> Option<ScriptCommand<'_>>
     ensures { option_map request result ≡ cut_of words.now }
 {
     let (near, far) = read_pair(words)?;
-    Some(Command::Cut(near, far))
+    Some(ScriptCommand::Cut(near, far))
 }
 
 /// What follows `deliver`, which is the same too.
-fn read_deliver(words: &[u8]) -> Option<Command<'_>>
+fn read_deliver(words: &[u8]) -> Option<ScriptCommand<'_>>
     ensures { option_map request result ≡ deliver_of words.now }
 {
     let (from, to) = read_pair(words)?;
-    Some(Command::Deliver(from, to))
+    Some(ScriptCommand::Deliver(from, to))
 }
 
 /// What follows `bytes`: the names of two servers, a space, and a number.
-fn read_bytes(words: &[u8]) -> Option<Command<'_>>
+fn read_bytes(words: &[u8]) -> Option<ScriptCommand<'_>>
     ensures { option_map request result ≡ bytes_asked words.now }
 {
     let (from, rest) = cut_at_space(words)?;
     let (to, count) = cut_at_space(rest)?;
-    Some(Command::Bytes(
+    Some(ScriptCommand::Bytes(
         ServerName::read(from)?,
         ServerName::read(to)?,
         read_number(count)?,
@@ -125,18 +125,18 @@ fn read_pair(words: &[u8]) -> Option<(ServerName, ServerName)>
 }
 
 /// What follows `say`: the number of a client, a space, and bytes.
-fn read_say(words: &[u8]) -> Option<Command<'_>>
+fn read_say(words: &[u8]) -> Option<ScriptCommand<'_>>
     ensures { option_map request result ≡ say_of words.now }
 {
     let (number, rest) = cut_at_space(words)?;
-    Some(Command::Say(read_number(number)?, rest))
+    Some(ScriptCommand::Say(read_number(number)?, rest))
 }
 
 /// What follows `gone`: the number of a client.
-fn read_gone(word: &[u8]) -> Option<Command<'_>>
+fn read_gone(word: &[u8]) -> Option<ScriptCommand<'_>>
     ensures { option_map request result ≡ gone_of word.now }
 {
-    Some(Command::Gone(read_number(word)?))
+    Some(ScriptCommand::Gone(read_number(word)?))
 }
 
 /// Whether two texts are the same.

@@ -6,7 +6,7 @@ ghost use Rattle.irc_script.specs.Loops.Steps.{receipts_text};
 ghost use Rattle.irc_script.specs.Printing.{body_of, count_line, refusal_line, refusal_number};
 
 use crate::fault::{Trouble, Unwritten};
-use crate::sink::{Waiting, print_pieces};
+use crate::sink::{PrintBuffer, print_pieces};
 use irc_net::{NetFault, Receipt};
 use itoa::Buffer;
 use std::io::Write;
@@ -32,7 +32,7 @@ fn refusal_number(fault: NetFault) -> Option<u64>
 /// nothing is printed then.
 pub fn print_fault<W: Write>(
     fault: NetFault,
-    waiting: &mut Waiting,
+    waiting: &mut PrintBuffer,
     output: &mut W,
 ) -> Result<(), Trouble>
     ensures { PrintsFault W.contents result fault output.old waiting.old output.new waiting.new }
@@ -55,7 +55,7 @@ pub fn written(printed: Result<(), Unwritten>) -> Result<(), Trouble>
 
 fn print_refusal<W: Write>(
     number: u64,
-    waiting: &mut Waiting,
+    waiting: &mut PrintBuffer,
     output: &mut W,
 ) -> Result<(), Unwritten>
     ensures { PrintsText W.contents result (refusal_line number)
@@ -71,7 +71,7 @@ fn print_refusal<W: Write>(
 pub fn print_taken<W: Write>(
     count: u64,
     lines: &[Receipt],
-    waiting: &mut Waiting,
+    waiting: &mut PrintBuffer,
     output: &mut W,
 ) -> Result<(), Unwritten>
     ensures { PrintsText W.contents result (came_text count lines.now)
@@ -81,7 +81,11 @@ pub fn print_taken<W: Write>(
     print_count(count, waiting, output)
 }
 
-fn print_count<W: Write>(count: u64, waiting: &mut Waiting, output: &mut W) -> Result<(), Unwritten>
+fn print_count<W: Write>(
+    count: u64,
+    waiting: &mut PrintBuffer,
+    output: &mut W,
+) -> Result<(), Unwritten>
     ensures { PrintsText W.contents result (count_line count)
         output.old waiting.old output.new waiting.new }
 {
@@ -93,7 +97,7 @@ fn print_count<W: Write>(count: u64, waiting: &mut Waiting, output: &mut W) -> R
 /// Prints each line that a client has received, in order.
 pub fn print_receipts<W: Write>(
     lines: &[Receipt],
-    waiting: &mut Waiting,
+    waiting: &mut PrintBuffer,
     output: &mut W,
 ) -> Result<(), Unwritten>
     ensures { PrintsText W.contents result (receipts_text lines.now)
@@ -108,7 +112,7 @@ pub fn print_receipts<W: Write>(
 /// Prints a line that a client has received: the number of the client, a space, and the line.
 fn print_receipt<W: Write>(
     line: &Receipt,
-    waiting: &mut Waiting,
+    waiting: &mut PrintBuffer,
     output: &mut W,
 ) -> Result<(), Unwritten>
     ensures { PrintsText W.contents result (receipt_text line.now)

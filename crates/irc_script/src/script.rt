@@ -1,14 +1,13 @@
 //! Scripts: their lines, and the servers that the first of these name.
-ghost use Rattle.std.specs.Prelude.{◌≡◌, ◌≤◌, IfOk, length, option_to_list, position, ◌++◌, OnOk};
-ghost use Rattle.std.specs.List.{filter_map, list_any, slice_split};
-ghost use Rattle.std.specs.Option.{option_map};
+ghost use Rattle.std.specs.Prelude.{◌≡◌, ◌≤◌, IfOk, length, position, OnOk};
+ghost use Rattle.std.specs.List.{list_any, slice_split};
 ghost use Rattle.std.specs.Str.{bytes_eq};
 ghost use Rattle.irc_script.specs.Scripts.{is_line_feed, ended, is_bad_line, server_declared};
-ghost use Rattle.irc_script.specs.Scripts.{may_be_named, another_server, servers_of, request_of};
+ghost use Rattle.irc_script.specs.Scripts.{may_be_named, another_server, servers_of};
 ghost use Rattle.irc_script.specs.Loops.Commands.{AddsCommand, requests_in};
 ghost use Rattle.irc_script.specs.ScriptViews.{lines_now, requests, IsScriptRead};
 
-use crate::commands::{Command, cut_at_space, is_word, read_command};
+use crate::commands::{ScriptCommand, cut_at_space, is_word, read_command};
 use crate::fault::SimFault;
 use irc_names::ServerName;
 use std::alloc::{AllocError, Global};
@@ -24,7 +23,7 @@ pub struct Script<'a> {
     /// The servers, in the order in which the script names them.
     pub servers: Vec<ServerName, Global>,
     /// What is asked for, in order.
-    pub commands: Vec<Command<'a>, Global>,
+    pub commands: Vec<ScriptCommand<'a>, Global>,
 }
 
 /// Reads a script: lines `server NAME`, at most [`MAX_SERVERS`] and no name twice, and behind them
@@ -138,7 +137,7 @@ fn is_bad(line: &[u8]) -> bool
 fn commands_of<'a>(
     alloc: Global,
     lines: &[&'a [u8]],
-) -> Result<Vec<Command<'a>, Global>, AllocError>
+) -> Result<Vec<ScriptCommand<'a>, Global>, AllocError>
     ensures { IfOk result (λ commands. requests commands.items ≡ requests_in lines.now) }
 {
     let mut commands = Vec::new(alloc);
@@ -150,8 +149,8 @@ fn commands_of<'a>(
 
 /// Appends the command, if there is one.
 fn push_found<'a>(
-    commands: &mut Vec<Command<'a>, Global>,
-    command: Option<Command<'a>>,
+    commands: &mut Vec<ScriptCommand<'a>, Global>,
+    command: Option<ScriptCommand<'a>>,
 ) -> Result<(), AllocError>
     ensures { OnOk result (AddsCommand command.entry commands.old commands.new) }
 {

@@ -8,12 +8,12 @@ ghost use Rattle.irc_script.specs.Moves.{takes_bytes};
 ghost use Rattle.irc_script.specs.Networks.{first_net};
 ghost use Rattle.irc_script.specs.ScriptViews.{request};
 
-use crate::commands::Command;
+use crate::commands::ScriptCommand;
 use crate::configs::configs_of;
 use crate::fault::Trouble;
 use crate::lines::lines_said;
 use crate::printing::{print_fault, print_receipts, print_taken, written};
-use crate::sink::Waiting;
+use crate::sink::PrintBuffer;
 use irc_names::ServerName;
 use irc_net::{Forgotten, Item, Net};
 use std::alloc::Global;
@@ -47,30 +47,30 @@ impl ScriptRun {
     /// Here and below: where memory runs out, and where the writer fails.
     pub fn perform<W: Write>(
         &mut self,
-        command: &Command<'_>,
-        waiting: &mut Waiting,
+        command: &ScriptCommand<'_>,
+        waiting: &mut PrintBuffer,
         output: &mut W,
     ) -> Result<(), Trouble>
         ensures { PlaysMoves W.contents result (moves_of (request command.now))
             self.old output.old waiting.old self.new output.new waiting.new }
     {
         match command {
-            Command::Connect(server, host) => {
+            ScriptCommand::Connect(server, host) => {
                 self.give(Item::Connect(server.copy(), host.copy()), waiting, output)
             }
-            Command::Say(client, rest) => self.say(*client, rest, waiting, output),
-            Command::Gone(client) => self.give(Item::Gone(*client), waiting, output),
-            Command::Link(near, far) => {
+            ScriptCommand::Say(client, rest) => self.say(*client, rest, waiting, output),
+            ScriptCommand::Gone(client) => self.give(Item::Gone(*client), waiting, output),
+            ScriptCommand::Link(near, far) => {
                 self.give(Item::Link(near.copy(), far.copy()), waiting, output)
             }
-            Command::Cut(near, far) => {
+            ScriptCommand::Cut(near, far) => {
                 self.give(Item::Cut(near.copy(), far.copy()), waiting, output)
             }
-            Command::Deliver(from, to) => self.deliver(from, to, waiting, output),
-            Command::Bytes(from, to, count) => {
+            ScriptCommand::Deliver(from, to) => self.deliver(from, to, waiting, output),
+            ScriptCommand::Bytes(from, to, count) => {
                 self.deliver_bytes(from, to, *count, waiting, output)
             }
-            Command::Settle => self.settle(waiting, output),
+            ScriptCommand::Settle => self.settle(waiting, output),
         }
     }
 
@@ -79,7 +79,7 @@ impl ScriptRun {
         &mut self,
         client: u64,
         rest: &[u8],
-        waiting: &mut Waiting,
+        waiting: &mut PrintBuffer,
         output: &mut W,
     ) -> Result<(), Trouble>
         ensures { PlaysMoves W.contents result (lines_said client rest.now)
@@ -98,7 +98,7 @@ impl ScriptRun {
     fn give<W: Write>(
         &mut self,
         item: Item,
-        waiting: &mut Waiting,
+        waiting: &mut PrintBuffer,
         output: &mut W,
     ) -> Result<(), Trouble>
         requires { IsGivable (item_of item) }
@@ -117,7 +117,7 @@ impl ScriptRun {
         &mut self,
         from: &ServerName,
         to: &ServerName,
-        waiting: &mut Waiting,
+        waiting: &mut PrintBuffer,
         output: &mut W,
     ) -> Result<(), Trouble>
         ensures { PlaysMoves W.contents result (delivers_line from.now to.now ∷ [])
@@ -139,7 +139,7 @@ impl ScriptRun {
         from: &ServerName,
         to: &ServerName,
         count: u64,
-        waiting: &mut Waiting,
+        waiting: &mut PrintBuffer,
         output: &mut W,
     ) -> Result<(), Trouble>
         ensures { PlaysMoves W.contents result (takes_bytes from.now to.now count ∷ [])
@@ -153,7 +153,7 @@ impl ScriptRun {
 
     /// Lets bytes come in turn until nothing is on its way, and prints the lines that clients
     /// receive by them and how many lines they completed, at most 2^64 - 1.
-    fn settle<W: Write>(&mut self, waiting: &mut Waiting, output: &mut W) -> Result<(), Trouble>
+    fn settle<W: Write>(&mut self, waiting: &mut PrintBuffer, output: &mut W) -> Result<(), Trouble>
         ensures { PlaysMoves W.contents result (settles_all ∷ [])
             self.old output.old waiting.old self.new output.new waiting.new }
     {

@@ -6,13 +6,13 @@ ghost use Rattle.irc_script.specs.Loops.Reading.{Draws, IsReadTo};
 ghost use Rattle.irc_script.specs.Loops.Steps.{PerformsAll, RunsAll};
 ghost use Rattle.irc_script.specs.Runs.{Ran, IsTextOf};
 
-use crate::commands::Command;
+use crate::commands::ScriptCommand;
 use crate::fault::{SimFault, Trouble};
 use crate::laws;
 use crate::printing::written;
 use crate::script::read_script;
 use crate::script_run::ScriptRun;
-use crate::sink::{Waiting, flush, write_waiting};
+use crate::sink::{PrintBuffer, flush, write_waiting};
 use std::alloc::Global;
 use std::io::{Read, Write};
 
@@ -96,12 +96,12 @@ fn read_some<R: Read>(input: &mut R, piece: &mut [u8]) -> Result<usize, Trouble>
 /// before that.
 fn run_all<W: Write>(
     run: &mut ScriptRun,
-    commands: &[Command<'_>],
+    commands: &[ScriptCommand<'_>],
     output: &mut W,
 ) -> Result<(), Trouble>
     ensures { RunsAll W.contents result commands.now run.old output.old run.new output.new }
 {
-    let mut waiting = Waiting::new();
+    let mut waiting = PrintBuffer::new();
     let performed = perform_all(run, commands, &mut waiting, output);
     write_waiting(&mut waiting, output)?;
     performed?;
@@ -110,8 +110,8 @@ fn run_all<W: Write>(
 
 fn perform_all<W: Write>(
     run: &mut ScriptRun,
-    commands: &[Command<'_>],
-    waiting: &mut Waiting,
+    commands: &[ScriptCommand<'_>],
+    waiting: &mut PrintBuffer,
     output: &mut W,
 ) -> Result<(), Trouble>
     ensures { PerformsAll W.contents result commands.now

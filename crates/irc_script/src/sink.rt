@@ -17,7 +17,7 @@ pub const WAITING_ROOM: usize = 16_384;
 pub const MAX_WRITES: u32 = 16_777_216;
 
 /// What is printed and not yet written.
-pub type Waiting = ArrayVec<u8, WAITING_ROOM>;
+pub type PrintBuffer = ArrayVec<u8, WAITING_ROOM>;
 
 /// Prints pieces of a text, one behind another.
 ///
@@ -25,7 +25,7 @@ pub type Waiting = ArrayVec<u8, WAITING_ROOM>;
 /// Here and below: where a write fails.
 pub fn print_pieces<W: Write>(
     pieces: &[&[u8]],
-    waiting: &mut Waiting,
+    waiting: &mut PrintBuffer,
     output: &mut W,
 ) -> Result<(), Unwritten>
     ensures { PrintsText W.contents result (pieces_text pieces.now)
@@ -41,7 +41,7 @@ pub fn print_pieces<W: Write>(
 /// they are.
 fn print_bytes<W: Write>(
     bytes: &[u8],
-    waiting: &mut Waiting,
+    waiting: &mut PrintBuffer,
     output: &mut W,
 ) -> Result<(), Unwritten>
     ensures { PrintsText W.contents result bytes.now output.old waiting.old output.new waiting.new }
@@ -59,7 +59,7 @@ fn print_bytes<W: Write>(
 ///
 /// # Errors
 /// Where the write fails. Then nothing waits either.
-pub fn write_waiting<W: Write>(waiting: &mut Waiting, output: &mut W) -> Result<(), Unwritten>
+pub fn write_waiting<W: Write>(waiting: &mut PrintBuffer, output: &mut W) -> Result<(), Unwritten>
     ensures prints { PrintsText W.contents result [] output.old waiting.old output.new waiting.new }
     ensures none { waiting.new.items ≡ [] }
     ensures len { array_vec_len waiting.new ≡ 0 }

@@ -3,7 +3,7 @@ use crate::fault::SimFault;
 use crate::script::read_script;
 use crate::script_run::ScriptRun;
 use crate::sim::run_sim;
-use crate::sink::Waiting;
+use crate::sink::PrintBuffer;
 use irc_names::ServerName;
 use itoa::Buffer;
 use std::alloc::{AllocError, Global};
@@ -283,7 +283,7 @@ fn network_behind(alloc: Global, front: &[u8], behind: &[u8]) -> Result<ScriptRu
     text.extend_from_slice(behind)?;
     let script = read_script(alloc, &text)?;
     let mut run = ScriptRun::new(alloc, &script.servers)?;
-    let mut waiting = Waiting::new();
+    let mut waiting = PrintBuffer::new();
     let mut output = Vec::new(alloc);
     for command in &script.commands {
         run.perform(command, &mut waiting, &mut output)?;

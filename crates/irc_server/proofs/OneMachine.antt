@@ -13,8 +13,8 @@ use Rattle.irc_stage.specs.Handle.{Happening, handled}
 use Rattle.irc_stage.specs.Matched.{StaysMatched}
 use Rattle.irc_stage.specs.Lemmas.Alone.{place_is_kept, told_back}
 use Rattle.irc_stage.specs.Lemmas.Twins.{matched_there, told_twins}
-use Rattle.irc_deeds.specs.Lemmas.Matched.{line_served_matched, link_lost_matched}
-use Rattle.irc_deeds.specs.Lemmas.Matched.{link_opened_matched}
+use Rattle.irc_server.specs.Lemmas.Matched.{line_served_matched, link_lost_matched}
+use Rattle.irc_server.specs.Lemmas.Matched.{link_opened_matched}
 use Rattle.irc_server.specs.Owed.{lines_to, lines_owed, owed_by_machine, LoneServerOwesTheSame}
 use Rattle.irc_server.specs.Served.{of_client, link_up, link_says, link_down, served}
 use Rattle.irc_server.specs.Served.{LoneServerIsOneRoom, ServedStaysMatched}

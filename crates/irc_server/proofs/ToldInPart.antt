@@ -1,9 +1,12 @@
 -- A decision whose query is answered before its steps are taken comes to the same.
-use Rattle.std.proofs.Common.{◌≡◌, ℕ, Option, Some, None, List, [], ◌∷◌, ◌++◌, refl, sym, ◌∙◌, ap}
+use Rattle.std.proofs.Common.{◌≡◌, ℕ, Bool, Option, Some, None, List, [], ◌∷◌, ◌++◌, refl, sym, ◌∙◌}
+use Rattle.std.proofs.Common.{ap}
 use Rattle.std.proofs.Common.{append-nil, append_assoc, subst}
+use Rattle.std.specs.Borrow.{Bor}
 use Rattle.irc_numerics.specs.Replies.{reply_text}
 use Rattle.irc_users.specs.declared.user.User.{User}
 use Rattle.irc_line.specs.Messages.{Parsed}
+use Rattle.irc_line.specs.MessageViews.{optional_now}
 use Rattle.irc_room.specs.Room.{Room}
 use Rattle.irc_room.specs.effect.Effect.{Effect}
 use Rattle.irc_routes.specs.Known.{Known, place_of}
@@ -18,23 +21,24 @@ use Rattle.irc_commands.specs.declared.decision.Decision.{Decision}
 use Rattle.irc_commands.specs.CodeViews.{asked_steps, IsDecision}
 use Rattle.irc_commands.specs.Decide.{decide}
 use Rattle.irc_commands.specs.Decisions.{Decided}
-use Rattle.irc_batch.specs.Batches.{Sent, line_to}
+use Rattle.irc_batch.specs.Batches.{line_to}
+use Rattle.irc_stage.specs.declared.origin.Speaker.{Speaker}
 use Rattle.irc_stage.specs.RoomMachine.{RoomMachine}
-use Rattle.irc_stage.specs.View.{View}
 use Rattle.irc_stage.specs.ClientTold.{closed_told, decision_told, step_told, steps_told}
-use Rattle.irc_stage.specs.EffectTold.{Served, in_silence}
+use Rattle.irc_stage.specs.EffectTold.{Served, in_silence, with_sent}
+use Rattle.irc_stage.specs.View.{View}
+use Rattle.irc_stage.specs.Loops.Handling.{answered_to}
 use Rattle.irc_stage.specs.Loops.Asking.{nick_under, user_under}
-use Rattle.irc_stage.specs.Loops.Stage.{behind_sent, AreInTurn}
-use Rattle.irc_stage.specs.Lemmas.Steps.{carried_behind}
+use Rattle.irc_stage.specs.Loops.Parts.{AreInTurn}
 
 -- What is decided is told in part: the first steps, which only say something to the client, are put
 -- out, and the others are left to do.
-pub record IsToldInPart (place : Place) (name : Option (List ℕ)) (conn : ℕ) (want : Decided)
-    (old new : List Sent) (left : Decided) : Type 0 where
+pub record IsToldInPart (name : Option (List ℕ)) (conn : ℕ) (want : Decided) (old new : Served)
+    (left : Decided) : Type 0 where
   pub told : List Act
   pub is_only_said : effects_among told ≡ []
   pub want_is : want ≡ record left { steps = told ++ left.steps }
-  pub out_is : new ≡ old ++ all_said place name conn told
+  pub new_is : new ≡ with_sent (all_said (place_of old.view.routes) name conn told) old
 
 -- the steps of a decision, without its query
 abbrev pub decided_of : Decision → Decided
@@ -74,49 +78,56 @@ so_left IsSo machine (Raw line ∷ told) rest none are = so_left IsSo machine to
 so_left IsSo machine (Do effect ∷ told) rest none are = cc none
 
 pub carried_in_part : (after : Served) (conn : ℕ) (name known : Option (List ℕ)) (acts : List Act)
-    (view : View) (want left : Decided) (out between : List Sent) → acts ≡ left.steps → known ≡ name
-    → IsToldInPart (place_of view.routes) known conn want out between left → after ≡ closed_told
-    left.close conn (steps_told conn name acts (record { view = view; out = between }))
-    → after ≡ behind_sent out (decision_told conn name want (in_silence view))
-carried_in_part after conn name known acts view want left out between acts_are known_is part is =
+    (want left : Decided) (old between : Served) → acts ≡ left.steps → known ≡ name
+    → IsToldInPart known conn want old between left
+    → after ≡ closed_told left.close conn (steps_told conn name acts between)
+    → after ≡ decision_told conn name want old
+carried_in_part after conn name known acts want left old between acts_are known_is part is =
     is
-    ∙ ap (λ a. closed_told left.close conn
-    (steps_told conn name a (record { view = view; out = between }))) acts_are
-    ∙ ap (λ o. closed_told left.close conn
-    (steps_told conn name left.steps (record { view = view; out = o }))) part.out_is
-    ∙ ap (λ n. closed_told left.close conn
-    (steps_told conn name left.steps (record {
-      view = view;
-      out = out ++ all_said (place_of view.routes) n conn part.told;
-    }))) known_is
-    ∙ ap (closed_told left.close conn) (sym (said_first conn name part.told left.steps
-    (record { view = view; out = out }) part.is_only_said))
-    ∙ ap (λ (d : Decided). closed_told d.close conn
-    (steps_told conn name d.steps (record { view = view; out = out }))) (sym part.want_is)
-    ∙ carried_behind out conn name want.steps want.close view
+    ∙ ap (λ a. closed_told left.close conn (steps_told conn name a between)) acts_are
+    ∙ ap (λ (s : Served). closed_told left.close conn (steps_told conn name left.steps s))
+    part.new_is
+    ∙ ap (λ n. closed_told left.close conn (steps_told conn name left.steps
+    (with_sent (all_said (place_of old.view.routes) n conn part.told) old))) known_is
+    ∙ ap (closed_told left.close conn)
+    (sym (said_first conn name part.told left.steps old part.is_only_said))
+    ∙ ap (λ (d : Decided). closed_told d.close conn (steps_told conn name d.steps old))
+    (sym part.want_is)
 
 -- a decision whose query is answered is told in part
-pub answered_first : (room room' : Room) (known known' : Known) (who : List ℕ) (conn : ℕ)
-    (message : Parsed) (params : List (List ℕ)) (d : Decision) (out between : List Sent)
-    → room ≡ room' → known ≡ known' → params ≡ message.params
-    → IsDecision room (place_of known) who message d
-    → between ≡ out ++ all_said (place_of known') (nick_under room' (Some who)) conn
-    (asked_steps room' (place_of known') (user_under room' (Some who)) params d.query)
-    → IsToldInPart (place_of known') (nick_under room' (Some who)) conn
-    (decide room' (place_of known') who message) out between (decided_of d)
-answered_first room room' known known' who conn message params d out between room_is known_is
-    params_are is answered = record {
-      told =
-          asked_steps room' (place_of known') (user_under room' (Some who)) message.params d.query;
-      is_only_said =
-          only_said room' (place_of known') (user_under room' (Some who)) message.params d.query;
+pub answered_first : (view : View) (room : Room) (known : Known) (nick : Bor (List ℕ)) (conn : ℕ)
+    (speaker : Speaker) (message : Parsed) (params : List (List ℕ)) (d : Decision)
+    (before between : Served) → room ≡ view.room → known ≡ view.routes
+    → speaker ≡ record { conn = conn; nick = Some nick } → params ≡ message.params
+    → IsDecision room (place_of known) nick.now message d → before ≡ in_silence view
+    → between ≡ answered_to speaker d.query params before
+    → IsToldInPart (nick_under view.room (Some nick.now)) conn
+    (decide view.room (place_of view.routes) nick.now message) (in_silence view) between
+    (decided_of d)
+answered_first view room known nick conn speaker message params d before between room_is known_is
+    speaker_is params_are is silent answered =
+    let here = view.room in
+    let place = place_of view.routes in
+    let me = user_under here (Some nick.now) in
+    record {
+      told = asked_steps here place me message.params d.query;
+      is_only_said = only_said here place me message.params d.query;
       want_is =
-          subst (λ (k : Known). IsDecision room' (place_of k) who message d) known_is
-          (subst (λ (r : Room). IsDecision r (place_of known) who message d) room_is is);
-      out_is =
-          answered
-          ∙ ap (λ (words : List (List ℕ)). out ++ all_said (place_of known')
-          (nick_under room' (Some who)) conn
-          (asked_steps room' (place_of known') (user_under room' (Some who)) words d.query))
-          params_are;
+          subst (λ (k : Known). IsDecision here (place_of k) nick.now message d) known_is
+          (subst (λ (r : Room). IsDecision r (place_of known) nick.now message d) room_is is);
+      new_is =
+          answered ∙ ap (λ (who : Speaker). answered_to who d.query params before) speaker_is
+          ∙ ap (answered_to (record { conn = conn; nick = Some nick }) d.query params) silent
+          ∙ ap (λ words. answered_to (record { conn = conn; nick = Some nick }) d.query words
+          (in_silence view)) params_are;
     }
+
+-- what a speaker does is done by its connection and its nickname
+pub carried_by : (speaker : Speaker) (nick : Bor (List ℕ)) (conn : ℕ) (acts : List Act)
+    (close : Bool) (before after : Served) → speaker ≡ record { conn = conn; nick = Some nick }
+    → after ≡ closed_told close speaker.conn
+    (steps_told speaker.conn (optional_now speaker.nick) acts before)
+    → after ≡ closed_told close conn (steps_told conn (Some nick.now) acts before)
+carried_by speaker nick conn acts close before after speaker_is is =
+    is ∙ ap (λ (who : Speaker). closed_told close who.conn
+    (steps_told who.conn (optional_now who.nick) acts before)) speaker_is

@@ -8,7 +8,7 @@ use Rattle.irc_names.specs.Names.{is_server, fits}
 use Rattle.irc_routes.specs.declared.own.Own.{Own}
 use Rattle.irc_routes.specs.Info.{is_info, is_text_byte}
 use Rattle.irc_routes.specs.Known.{alone_known}
-use Rattle.irc_handshake.specs.Passwords.{is_password}
+use Rattle.irc_link_words.specs.Passwords.{is_password}
 use Rattle.irc_stage.specs.declared.peer.Peer.{Peer}
 use Rattle.irc_server.specs.declared.config.Config.{Config}
 use Rattle.irc_server.specs.declared.config.ConfigFault.{ConfigFault}

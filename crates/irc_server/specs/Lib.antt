@@ -1,3 +1,12 @@
+pub mod Own
+pub mod LineEnds
+pub mod Closings
+pub mod Connected
+pub mod DeedTold
+pub mod Heard
+pub mod LinkServed
+pub mod Laws
+pub mod Lemmas
 pub mod Configuring
 pub mod Served
 pub mod Happening

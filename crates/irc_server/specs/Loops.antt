@@ -1,1 +1,4 @@
+pub mod Hearing
+pub mod Telling
+pub mod Serving
 pub mod Acting

@@ -18,8 +18,8 @@ use Rattle.irc_stage.specs.View.{End, View, machine_of, IsAlone}
 use Rattle.irc_stage.specs.ClientTold.{client_told}
 use Rattle.irc_stage.specs.Handle.{Happening, handled}
 use Rattle.irc_stage.specs.Matched.{IsDue, IsMatched}
-use Rattle.irc_deeds.specs.DeedTold.{link_lost}
-use Rattle.irc_deeds.specs.LinkServed.{line_served, link_opened}
+use Rattle.irc_server.specs.DeedTold.{link_lost}
+use Rattle.irc_server.specs.LinkServed.{line_served, link_opened}
 pub use Rattle.irc_stage.specs.EffectTold.{Served, put_back, in_silence}
 
 -- What happens to a server: something by one of its clients; a link that this end opened to a peer,

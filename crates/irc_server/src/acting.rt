@@ -1,48 +1,47 @@
 //! What each event does to a server.
-ghost use Rattle.std.specs.Prelude.{◌≡◌, ⊤, Some, OnOk, IfOk};
-ghost use Rattle.irc_line.specs.Messages.{Parsed};
+ghost use Rattle.std.specs.Prelude.{◌≡◌, None, Some, IfOk};
+ghost use Rattle.std.specs.FinMap.{get};
 ghost use Rattle.irc_line.specs.MessageViews.{parsed};
 ghost use Rattle.irc_line.specs.Reading.{read_of};
-ghost use Rattle.irc_batch.specs.Growing.{Grew};
-ghost use Rattle.irc_stage.specs.Matched.{IsMatched};
-ghost use Rattle.irc_stage.specs.RoomMachine.{client_of};
+ghost use Rattle.irc_commands.specs.RegisteringViews.{registered_of};
+ghost use Rattle.irc_names.specs.Fold.{key};
+ghost use Rattle.irc_names.specs.Tables.{row};
+ghost use Rattle.irc_stage.specs.ClientTold.{given_told, gone_told, line_told, message_told};
+ghost use Rattle.irc_stage.specs.ClientTold.{seated, user_told};
+ghost use Rattle.irc_stage.specs.EffectTold.{in_silence};
+ghost use Rattle.irc_stage.specs.Handle.{fresh, user_of};
 ghost use Rattle.irc_stage.specs.Loops.Speaking.{AreSpokenAt};
-ghost use Rattle.irc_stage.specs.Loops.Stage.{machine_at, view_of, AreFitAt, IsFreeOf, IsNoUser};
-ghost use Rattle.irc_stage.specs.Loops.Stage.{IsReady, IsServing, Keeps};
+ghost use Rattle.irc_stage.specs.Loops.Parts.{AreFitAt, IsFreeOf, IsNoUser};
 ghost use Rattle.irc_stage.specs.declared.clients.Client.TheVariants.{Registered};
-ghost use Rattle.irc_server.specs.Served.{not_there};
-ghost use Rattle.irc_server.specs.Loops.Acting.{given_client, given_view, nick_of, user_on};
-ghost use Rattle.irc_server.specs.Loops.Acting.{IsDoneOrRefused, Decides, IsActed, IsConnected};
-ghost use Rattle.irc_server.specs.Loops.Acting.{IsGone, IsHeard, IsLinked, IsSaid, IsUnlinked};
-ghost use Rattle.irc_server.specs.Loops.Acting.{Leaves, Registers, Stands};
+ghost use Rattle.irc_server.specs.Happening.{occurrence_of};
+ghost use Rattle.irc_server.specs.Served.{fault_of, link_there, no_link, not_there, served, there};
+ghost use Rattle.irc_server.specs.Loops.Acting.{given_client, given_view, nick_of};
 
 use crate::event::{Event, ServerFault};
-use irc_batch::Batch;
+use crate::laws as server_laws;
+use crate::losing::lose_link;
+use crate::serving::{hear_line, open_link};
 use irc_channels::Words;
 use irc_commands::{Pending, Registration, decide, laws, register};
-use irc_deeds::{hear_line, lose_link, open_link};
-use irc_line::{Message, parse};
+use irc_line::{Line, Message, parse};
 use irc_names::{Host, Nick, ServerName};
 use irc_room::{Effect, invitation_laws};
-use irc_stage::{Client, Origin, Speaker, Stage, Waiting};
+use irc_stage::{Client, Conn, Handling, Link, Origin, Serving, Speaker, Stage, View, Waiting};
 use std::alloc::{AllocError, Global};
 
 /// The text of a registered user's Quit whose connection is lost (our own).
 const LOST: &[u8] = b"Connection closed";
 
 /// A client connects, and has given nothing.
-fn on_connect(stage: &mut Stage, conn: u64, host: Host) -> Result<(), ServerFault>
-    requires ready { IsReady stage.old }
-    ensures acted { IsConnected conn host stage.old result stage.new }
-    ensures ready { Stands result (IsReady stage.new) }
-    ensures keeps { Keeps stage.old stage.new }
+fn on_connect(stage: Stage, conn: Conn, host: Host) -> Result<Handling, AllocError>
+    requires new { get stage.clients conn ≡ None }
+    ensures { IfOk result (λ done. done ≡ in_silence (seated conn (fresh host) stage)) }
 {
-    if stage.client_of(conn).is_some() {
-        return Err(ServerFault::ConnectionThere);
-    }
-    let waiting = Waiting::new(stage.alloc(), Pending::new(host))?;
-    stage.seat(conn, Client::Registering(waiting))?;
-    Ok(())
+    let waiting = Waiting::new(stage.view().alloc(), Pending::new(host))?;
+    stage
+        .begin()
+        .handling()
+        .seat(conn, Client::Registering(waiting))
 }
 
 /// What a connection is after a line before registration.
@@ -62,45 +61,30 @@ fn client_after(alloc: Global, given: &Registration) -> Result<Client, AllocErro
 }
 
 /// What a line of a connection does that is not registered.
-fn on_registration(
-    stage: &mut Stage,
-    conn: u64,
-    given: &Registration,
-    out: &mut Batch,
-) -> Result<(), AllocError>
-    requires ready { IsReady stage.old }
-    requires no_user { IsNoUser (client_of (machine_at stage.old) conn) }
-    requires free { IsFreeOf (given_client given.now) (machine_at stage.old).clients }
-    requires fit { AreFitAt (given_view stage.old conn given.now) given.now.steps.items }
-    requires spoken { AreSpokenAt conn (given_view stage.old conn given.now) given.now.steps.items }
-    ensures ok { OnOk result (Registers conn given.now stage.old out.old stage.new out.new) }
-    ensures ready { OnOk result (IsReady stage.new) }
-    ensures keeps { Keeps stage.old stage.new }
-    ensures grew { Grew out.old.outs out.new.outs }
+fn on_registration(stage: Stage, conn: Conn, given: &Registration) -> Result<Handling, AllocError>
+    requires no_user { IsNoUser (get stage.clients conn) }
+    requires free { IsFreeOf (given_client given.now) stage.clients }
+    requires fit { AreFitAt (given_view stage conn given.now) given.now.steps.items }
+    requires spoken { AreSpokenAt conn (given_view stage conn given.now) given.now.steps.items }
+    ensures { IfOk result (λ done. done ≡ given_told conn (registered_of given.now) stage) }
 {
-    let client = client_after(stage.alloc(), given)?;
-    stage.seat(conn, client)?;
+    let client = client_after(stage.view().alloc(), given)?;
     let nick = given.pending.nick.as_ref();
-    stage.carry_out(Speaker { conn, nick }, &given.steps, given.close, out)
+    let handling = stage.begin().handling().seat(conn, client)?;
+    handling.carry_out(Speaker::new(conn, nick), &given.steps, given.close)
 }
 
 /// What a line of a user does, by the nickname that its client is known by. What it asks of the
 /// room is answered from the room as it is.
 fn on_user_message(
-    stage: &mut Stage,
-    conn: u64,
+    stage: Stage,
+    conn: Conn,
     nick: &Nick,
     message: &Message<'_>,
-    out: &mut Batch,
-) -> Result<(), AllocError>
-    requires ready { IsReady stage.old }
-    requires matched { IsMatched (machine_at stage.old) }
-    requires speaks { client_of (machine_at stage.old) conn ≡ Some (Registered nick.now) }
-    ensures ok { OnOk result
-        (Decides conn nick.now (parsed message.now) stage.old out.old stage.new out.new) }
-    ensures ready { OnOk result (IsReady stage.new) }
-    ensures keeps { Keeps stage.old stage.new }
-    ensures grew { Grew out.old.outs out.new.outs }
+) -> Result<Handling, AllocError>
+    requires speaks { get stage.clients conn ≡ Some (Registered nick.now) }
+    ensures { IfOk result (λ done. done
+        ≡ user_told stage conn (row stage.room.users (key nick.now)) (parsed message.now)) }
 {
     invitation_laws::alike_take_alike();
     invitation_laws::alike_stay_alike();
@@ -108,28 +92,19 @@ fn on_user_message(
     laws::decided_by_itself();
     laws::who_stays_is_user();
     laws::who_is_closed_quits();
-    let decision = decide(stage.alloc(), stage.room(), stage.routes(), nick, message)?;
-    let speaker = Speaker {
-        conn,
-        nick: Some(nick),
-    };
-    stage.answer(speaker, decision.query, message.params.as_slice(), out)?;
-    stage.carry_out(speaker, &decision.steps, decision.close, out)
+    stage.know_serving();
+    let view = stage.view();
+    let decision = decide(view.alloc(), view.room(), view.routes(), nick, message)?;
+    let speaker = Speaker::new(conn, Some(nick));
+    let handling = stage.begin().handling();
+    let handling = handling.answer(speaker, decision.query, message.params.as_slice())?;
+    handling.carry_out(speaker, &decision.steps, decision.close)
 }
 
 /// What a message of a client does. Its connection is looked up here, and nowhere else.
-fn on_message(
-    stage: &mut Stage,
-    conn: u64,
-    message: &Message<'_>,
-    out: &mut Batch,
-) -> Result<(), ServerFault>
-    requires ready { IsReady stage.old }
-    requires matched { IsMatched (machine_at stage.old) }
-    ensures acted { IsSaid conn (parsed message.now) stage.old out.old result stage.new out.new }
-    ensures ready { Stands result (IsReady stage.new) }
-    ensures keeps { Keeps stage.old stage.new }
-    ensures grew { Grew out.old.outs out.new.outs }
+fn on_message(stage: Stage, conn: Conn, message: &Message<'_>) -> Result<Handling, AllocError>
+    ensures { IfOk result (λ done. done
+        ≡ message_told stage conn (get stage.clients conn) (parsed message.now)) }
 {
     invitation_laws::alike_take_alike();
     invitation_laws::alike_stay_alike();
@@ -137,35 +112,30 @@ fn on_message(
     laws::registered_is_added();
     laws::unregistered_changes_nothing();
     laws::registered_stays();
-    match stage.client_of(conn) {
-        None => Err(ServerFault::NoSuchConnection),
+    stage.know_serving();
+    let view = stage.view();
+    match view.client_of(conn) {
+        None => Ok(stage.begin().handling()),
         Some(Client::Registering(waiting)) => {
             let pending = waiting.pending();
-            let given = register(
-                stage.alloc(),
-                stage.room(),
-                stage.routes(),
-                pending,
-                message,
-            )?;
-            on_registration(stage, conn, &given, out)?;
-            Ok(())
+            let given = register(view.alloc(), view.room(), view.routes(), pending, message)?;
+            on_registration(stage, conn, &given)
         }
         Some(Client::Registered(nick)) => {
             let nick = nick.copy();
-            on_user_message(stage, conn, &nick, message, out)?;
-            Ok(())
+            on_user_message(stage, conn, &nick, message)
         }
     }
 }
 
-/// A line that says nothing: an empty one, or a prefix alone.
-fn on_no_message(stage: &Stage, conn: u64) -> Result<(), ServerFault>
-    ensures { IsDoneOrRefused (not_there (client_of (machine_at stage.now) conn)) ⊤ ⊤ result }
+/// What a line of a client does. One that says nothing, as an empty one or a prefix alone, does
+/// nothing.
+fn on_line(stage: Stage, conn: Conn, line: &Line) -> Result<Handling, AllocError>
+    ensures { IfOk result (λ done. done ≡ line_told stage conn (read_of line.now.items)) }
 {
-    match stage.client_of(conn) {
-        None => Err(ServerFault::NoSuchConnection),
-        Some(_) => Ok(()),
+    match parse(line) {
+        Ok(message) => on_message(stage, conn, &message),
+        Err(_) => Ok(stage.begin().handling()),
     }
 }
 
@@ -179,97 +149,30 @@ fn nick_of(client: &Client) -> Option<Nick>
     }
 }
 
-/// A client leaves: the user that it is quits, and it is told nothing.
-fn leave(
-    stage: &mut Stage,
-    conn: u64,
-    user: Option<Nick>,
-    out: &mut Batch,
-) -> Result<(), AllocError>
-    requires ready { IsReady stage.old }
-    requires matched { IsMatched (machine_at stage.old) }
-    requires user { user ≡ user_on conn stage.old }
-    ensures ok { OnOk result (Leaves conn stage.old out.old stage.new out.new) }
-    ensures ready { OnOk result (IsReady stage.new) }
-    ensures keeps { Keeps stage.old stage.new }
-    ensures grew { Grew out.old.outs out.new.outs }
+/// The nickname of the user that whoever is on a connection is, if it is one.
+fn user_on(stage: &Stage, conn: Conn) -> Option<Nick>
+    ensures { result ≡ user_of stage.now.room (get stage.now.clients conn) }
 {
-    stage.take_out(conn);
+    stage.know_serving();
+    match stage.view().client_of(conn) {
+        Some(client) => nick_of(client),
+        None => None,
+    }
+}
+
+/// A client is gone: the user that it is quits, and it is told nothing.
+fn on_gone(stage: Stage, conn: Conn) -> Result<Handling, AllocError>
+    ensures { IfOk result (λ done. done ≡ gone_told stage conn) }
+{
+    stage.know_serving();
+    let user = user_on(&stage, conn);
+    let handling = stage.begin().handling().take_out(conn);
     let Some(nick) = user else {
-        return Ok(());
+        return Ok(handling);
     };
     let text = Words::cut(LOST);
-    let leaver = Origin::Client(Speaker { conn, nick: None });
-    stage.apply(leaver, &Effect::Quit { nick, text }, out)
-}
-
-/// A client is gone.
-fn on_gone(stage: &mut Stage, conn: u64, out: &mut Batch) -> Result<(), ServerFault>
-    requires ready { IsReady stage.old }
-    requires matched { IsMatched (machine_at stage.old) }
-    ensures acted { IsGone conn stage.old out.old result stage.new out.new }
-    ensures ready { Stands result (IsReady stage.new) }
-    ensures keeps { Keeps stage.old stage.new }
-    ensures grew { Grew out.old.outs out.new.outs }
-{
-    let Some(client) = stage.client_of(conn) else {
-        return Err(ServerFault::NoSuchConnection);
-    };
-    let user = nick_of(client);
-    leave(stage, conn, user, out)?;
-    Ok(())
-}
-
-/// A link is open.
-fn on_link_up(
-    stage: &mut Stage,
-    link: u64,
-    starts: Option<ServerName>,
-    out: &mut Batch,
-) -> Result<(), ServerFault>
-    requires serving { IsServing stage.old }
-    ensures acted { IsLinked link starts stage.old out.old result stage.new out.new }
-    ensures ready { Stands result (IsReady stage.new) }
-    ensures grew { Grew out.old.outs out.new.outs }
-{
-    if stage.end(link).is_some() {
-        return Err(ServerFault::LinkThere);
-    }
-    open_link(stage, link, starts, out)?;
-    Ok(())
-}
-
-/// A line comes by a link.
-fn on_link_line(
-    stage: &mut Stage,
-    link: u64,
-    line: &[u8],
-    out: &mut Batch,
-) -> Result<(), ServerFault>
-    requires serving { IsServing stage.old }
-    ensures acted { IsHeard link (read_of line.now) stage.old out.old result stage.new out.new }
-    ensures ready { Stands result (IsReady stage.new) }
-    ensures grew { Grew out.old.outs out.new.outs }
-{
-    if stage.end(link).is_none() {
-        return Err(ServerFault::NoSuchLink);
-    }
-    hear_line(stage, link, line, out)?;
-    Ok(())
-}
-
-/// A link is lost.
-fn on_link_down(stage: &mut Stage, link: u64, out: &mut Batch) -> Result<(), ServerFault>
-    requires serving { IsServing stage.old }
-    ensures acted { IsUnlinked link stage.old out.old result stage.new out.new }
-    ensures ready { Stands result (IsReady stage.new) }
-    ensures grew { Grew out.old.outs out.new.outs }
-{
-    if stage.end(link).is_none() {
-        return Err(ServerFault::NoSuchLink);
-    }
-    lose_link(stage, link, out)?;
-    Ok(())
+    let leaver = Origin::Client(Speaker::new(conn, None));
+    handling.apply(leaver, &Effect::Quit { nick, text })
 }
 
 /// The same server's name once more, where there is one.
@@ -282,27 +185,78 @@ fn copied(name: &Option<ServerName>) -> Option<ServerName>
     }
 }
 
-/// What an event does, or why it is refused.
+/// What an event does that is not refused.
 ///
 /// # Errors
-/// [`ServerFault::Memory`] where memory runs out; any other where nothing is done.
-pub(crate) fn act(stage: &mut Stage, event: &Event, out: &mut Batch) -> Result<(), ServerFault>
-    requires ready { IsReady stage.old }
-    requires matched { IsMatched (machine_at stage.old) }
-    ensures acted { IsActed (view_of stage.old) event.now out.old.outs result
-        (view_of stage.new) out.new.outs }
-    ensures ready { Stands result (IsReady stage.new) }
-    ensures grew { Grew out.old.outs out.new.outs }
+/// Where memory runs out.
+pub(crate) fn act(stage: Stage, event: &Event) -> Result<Serving, AllocError>
+    requires granted { fault_of stage event.now ≡ None }
+    ensures { IfOk result (λ done. done ≡ served stage (occurrence_of event.now)) }
+{
+    server_laws::stays_matched();
+    stage.know_serving();
+    match event {
+        Event::Connect(conn, host) => {
+            Ok(on_connect(stage, Conn::of(*conn), host.copy())?.settle())
+        }
+        Event::Line(conn, line) => Ok(on_line(stage, Conn::of(*conn), line)?.settle()),
+        Event::Gone(conn) => Ok(on_gone(stage, Conn::of(*conn))?.settle()),
+        Event::LinkUp(link, starts) => open_link(stage, Link::of(*link), copied(starts)),
+        Event::LinkLine(link, line) => hear_line(stage, Link::of(*link), line),
+        Event::LinkDown(link) => lose_link(stage.begin(), Link::of(*link)),
+    }
+}
+
+/// Why an event is refused, if it is.
+pub(crate) fn refusal(view: &View<'_>, event: &Event) -> Option<ServerFault>
+    ensures { result ≡ fault_of view.now event.now }
 {
     match event {
-        Event::Connect(conn, host) => on_connect(stage, *conn, host.copy()),
-        Event::Line(conn, line) => match parse(line) {
-            Ok(message) => on_message(stage, *conn, &message, out),
-            Err(_) => on_no_message(stage, *conn),
-        },
-        Event::Gone(conn) => on_gone(stage, *conn, out),
-        Event::LinkUp(link, starts) => on_link_up(stage, *link, copied(starts), out),
-        Event::LinkLine(link, line) => on_link_line(stage, *link, line, out),
-        Event::LinkDown(link) => on_link_down(stage, *link, out),
+        Event::Connect(conn, _) => if_there(view, Conn::of(*conn)),
+        Event::Line(conn, _) => unless_there(view, Conn::of(*conn)),
+        Event::Gone(conn) => unless_there(view, Conn::of(*conn)),
+        Event::LinkUp(link, _) => if_open(view, Link::of(*link)),
+        Event::LinkLine(link, _) => unless_open(view, Link::of(*link)),
+        Event::LinkDown(link) => unless_open(view, Link::of(*link)),
+    }
+}
+
+/// A connection that connects is not to be there yet.
+fn if_there(view: &View<'_>, conn: Conn) -> Option<ServerFault>
+    ensures { result ≡ there (get view.now.clients conn) }
+{
+    match view.client_of(conn) {
+        Some(_) => Some(ServerFault::ConnectionThere),
+        None => None,
+    }
+}
+
+/// A connection that says something or is lost is to be there.
+fn unless_there(view: &View<'_>, conn: Conn) -> Option<ServerFault>
+    ensures { result ≡ not_there (get view.now.clients conn) }
+{
+    match view.client_of(conn) {
+        Some(_) => None,
+        None => Some(ServerFault::NoSuchConnection),
+    }
+}
+
+/// A link that is opened is not to be open yet.
+fn if_open(view: &View<'_>, link: Link) -> Option<ServerFault>
+    ensures { result ≡ link_there (get view.now.ends link) }
+{
+    match view.end(link) {
+        Some(_) => Some(ServerFault::LinkThere),
+        None => None,
+    }
+}
+
+/// A link by which something comes, or that is lost, is to be open.
+fn unless_open(view: &View<'_>, link: Link) -> Option<ServerFault>
+    ensures { result ≡ no_link (get view.now.ends link) }
+{
+    match view.end(link) {
+        Some(_) => None,
+        None => Some(ServerFault::NoSuchLink),
     }
 }

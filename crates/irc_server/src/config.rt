@@ -4,7 +4,7 @@ ghost use Rattle.std.specs.List.{list_all};
 ghost use Rattle.irc_routes.specs.Info.{is_text_byte};
 ghost use Rattle.irc_server.specs.Configuring.{config_fault, has_double, is_among, is_own, is_peer};
 
-use irc_handshake::is_password;
+use irc_link_words::is_password;
 use irc_names::{MAX_CREATED, MAX_INFO, is_server};
 use irc_routes::Own;
 use irc_stage::Peer;
@@ -35,7 +35,7 @@ pub enum ConfigFault {
     /// A peer is there twice, or the server is its own peer.
     #[error("a peer is there twice")]
     DoubleName,
-    /// Memory ran out.
+    /// Memory ran out. Making a server takes none, so this is never answered.
     #[error("out of memory")]
     Memory,
 }
@@ -101,7 +101,7 @@ fn has_double(peers: &[Peer]) -> bool
     false
 }
 
-/// Why no server is made of a configuration, if it is not for want of memory.
+/// Why no server is made of a configuration, if none is.
 pub fn config_fault(config: &Config) -> Option<ConfigFault>
     ensures { result ≡ config_fault config.now }
 {

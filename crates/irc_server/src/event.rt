@@ -21,8 +21,9 @@ pub enum Event {
     LinkDown(u64),
 }
 
-/// Why an event is refused, in the order in which causes are looked for after
-/// [`ServerFault::Failed`], and [`ServerFault::Memory`] last.
+/// Why an event is refused. [`ServerFault::Failed`] is looked for first, whatever the event; then
+/// the one cause that this kind of event can have, as [`crate::Server::handle`] names it for each;
+/// [`ServerFault::Memory`] comes of an event that is being handled.
 #[derive(Clone, Copy, Debug, Drop, Error, PartialEq, Eq)]
 pub enum ServerFault {
     /// Memory ran out. The server answers [`ServerFault::Failed`] from then on.

@@ -1,5 +1,10 @@
-//! What holds of a server, whatever happens. Each law is a function that does nothing, and its
-//! contract is the law: the check proves it, and a crate above may cite it.
+//! What holds of a server with links, whatever happens. Each law is a function that does nothing,
+//! and its contract is the law: the check proves it, and a crate above may cite it.
+ghost use Rattle.irc_server.specs.Closings.{ServedClosesItsOwn};
+ghost use Rattle.irc_server.specs.Connected.{WhoIsConnected};
+ghost use Rattle.irc_server.specs.LineEnds.{ServedLinesEnd};
+ghost use Rattle.irc_server.specs.Own.{ServedGoesToItsOwn, ServedKeepsEnds};
+ghost use Rattle.irc_server.specs.Laws.{NeverBack, NeverBackOfAll};
 ghost use Rattle.irc_commands.specs.Comings.{RegisteredIsAdded, RegisteredStays};
 ghost use Rattle.irc_commands.specs.Comings.{UnregisteredChangesNothing, WhoIsClosedQuits};
 ghost use Rattle.irc_commands.specs.Comings.{WhoStaysIsUser};
@@ -8,6 +13,41 @@ ghost use Rattle.irc_stage.specs.Matched.{StaysMatched};
 ghost use Rattle.irc_server.specs.Owed.{LoneServerOwesTheSame};
 ghost use Rattle.irc_server.specs.Served.{LoneServerIsOneRoom, ServedKeepsItsSetting};
 ghost use Rattle.irc_server.specs.Served.{ServedStaysMatched};
+
+/// Each server that a server knows stays behind a link that counts.
+pub fn served_keeps_ends()
+    ensures { ServedKeepsEnds }
+{}
+
+/// What a server puts out goes to its own clients and on its open links alone, or on the link that
+/// is being opened.
+pub fn served_goes_to_its_own()
+    ensures { ServedGoesToItsOwn }
+{}
+
+/// Each line that a server puts out on a link ends in CR LF.
+pub fn served_lines_end()
+    ensures { ServedLinesEnd }
+{}
+
+/// A server closes just the link by which a line came that has a reason to be closed, for that
+/// reason, or one that it is told to open to a name that no peer has (RFC 2813 section 4.1).
+/// Whatever else happens closes no link.
+pub fn served_closes_its_own()
+    ensures { ServedClosesItsOwn }
+{}
+
+/// A client or a link is there from when it comes until it goes or is closed, and nobody else comes
+/// or goes.
+pub fn who_is_connected()
+    ensures { WhoIsConnected }
+{}
+
+/// A deed that came by a link never goes back on it, nor do deeds one after another.
+pub fn never_back()
+    ensures one { NeverBack }
+    ensures all { NeverBackOfAll }
+{}
 
 /// By what is decided a user is one from when it registers to when it quits, on a line of its own;
 /// nobody else becomes a user or ceases to be one.

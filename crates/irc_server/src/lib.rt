@@ -1,11 +1,20 @@
-//! One server: what each event does to it, and what it puts out.
+//! One server: what each event does to it, and what it puts out. A client says something, or a line
+//! comes by a link, which is heard, done and told on. What holds of a server with links, whatever
+//! happens, are the [`laws`]. Definitions are in `specs/`.
 #![tactic(auto)]
 
 mod acting;
 mod config;
 mod event;
+mod heard;
+mod hearing;
 pub mod laws;
+mod losing;
+mod members;
+mod quitting;
 mod server;
+mod serving;
+mod telling;
 
 pub use config::{Config, ConfigFault, config_fault};
 pub use event::{Event, ServerFault};

@@ -5,48 +5,42 @@ ghost use Rattle.std.specs.Option.{option_and_then, option_copied, option_map, o
 ghost use Rattle.irc_server.specs.Configuring.{IsMade};
 ghost use Rattle.irc_server.specs.Happening.{AreHandled, IsHandled};
 ghost use Rattle.irc_server.specs.Owed.{AllReceive};
-ghost use Rattle.irc_server.specs.Loops.Acting.{is_want_of_memory, room_kept, room_of};
+ghost use Rattle.irc_server.specs.Loops.Acting.{room_kept, room_of};
 ghost use Rattle.irc_stage.specs.View.{password_for, View};
 
-use crate::acting::act;
+use crate::acting::{act, refusal};
 use crate::config::{Config, ConfigFault, config_fault};
 use crate::event::{Event, ServerFault};
-use crate::laws;
 use irc_batch::Batch;
 use irc_room::Room;
 use irc_routes::Routes;
-use irc_stage::Stage;
+use irc_stage::{Conn, Stage, View};
 use std::alloc::Global;
 use std::marker::Model;
 
 /// One server.
 #[derive(Drop)]
 pub struct Server {
-    failed: bool,
-    stage: Stage,
+    /// None once memory ran out.
+    stage: Option<Stage>,
 }
 
 /// In a clause it is what a server is to those above, or nothing once memory ran out.
 impl Model for Server {
-    ghost use Rattle.std.specs.Prelude.{◌≡◌, false, Option, Some, None, if◌then◌else◌};
-    ghost use Rattle.irc_stage.specs.View.{View};
-    ghost use Rattle.irc_stage.specs.Loops.Codes.{view_code};
-
-    ghost Value = { Option View };
-
+    ghost use Rattle.std.specs.Prelude.{Option};
     ghost use Rattle.std.specs.Coded.{coded_option};
     ghost use Rattle.irc_users.specs.UserTable.{users_code};
     ghost use Rattle.irc_channels.specs.contracts.channel.Channel.{the_row as channel_row};
     ghost use Rattle.irc_routes.specs.contracts.routes.Routes.{the_row as routes_row};
     ghost use Rattle.irc_stage.specs.contracts.clients.Client.{the_row as client_row};
-    ghost use Rattle.irc_stage.specs.Loops.Stage.{view_of, IsReady};
-    ghost use Rattle.irc_server.specs.Served.{AreMatched};
+    ghost use Rattle.irc_stage.specs.View.{View};
+    ghost use Rattle.irc_stage.specs.Loops.Codes.{view_code};
+
+    ghost Value = { Option View };
 
     ghost coded = { coded_option (view_code routes_row.coded client_row.coded users_code channel_row.coded) };
 
-    ghost view = { λ s. if s.failed then None else Some (view_of s.stage) };
-
-    ghost invariant = { λ s. s.failed ≡ false → IsReady s.stage × AreMatched (view_of s.stage) };
+    ghost view = { λ s. s.stage };
 }
 
 impl Server {
@@ -64,19 +58,27 @@ impl Server {
         }
         let routes = Routes::new(config.own);
         Ok(Server {
-            failed: false,
-            stage: Stage::new(alloc, routes, config.peers),
+            stage: Some(Stage::new(alloc, routes, config.peers)),
         })
+    }
+
+    /// What it is now; nothing once memory ran out.
+    fn view(&self) -> Option<View<'_>>
+        ensures { result ≡ self.now }
+    {
+        match &self.stage {
+            Some(stage) => Some(stage.view()),
+            None => None,
+        }
     }
 
     /// Its room; none once memory ran out.
     pub fn room(&self) -> Option<&Room>
         ensures { option_map room_kept (option_copied result) ≡ option_map room_of self.now }
     {
-        if self.failed {
-            None
-        } else {
-            Some(self.stage.room())
+        match self.view() {
+            Some(view) => Some(view.room()),
+            None => None,
         }
     }
 
@@ -84,10 +86,9 @@ impl Server {
     pub fn routes(&self) -> Option<&Routes>
         ensures { option_copied result ≡ option_map (λ (view : View). view.routes) self.now }
     {
-        if self.failed {
-            None
-        } else {
-            Some(self.stage.routes())
+        match self.view() {
+            Some(view) => Some(view.routes()),
+            None => None,
         }
     }
 
@@ -97,10 +98,9 @@ impl Server {
         ensures { option_copied result ≡ option_and_then
             (λ (view : View). password_for view name.now) self.now }
     {
-        if self.failed {
-            None
-        } else {
-            self.stage.password_for(name)
+        match self.view() {
+            Some(view) => view.password_for(name),
+            None => None,
         }
     }
 
@@ -109,7 +109,10 @@ impl Server {
         ensures { result ≡ option_map_or
             (λ (view : View). is_some (get view.clients conn)) self.now false }
     {
-        !self.failed && self.stage.client_of(conn).is_some()
+        match self.view() {
+            Some(view) => view.client_of(Conn::of(conn)).is_some(),
+            None => false,
+        }
     }
 
     /// Handles an event: what it puts out is appended to `out`, in order.
@@ -124,19 +127,15 @@ impl Server {
     pub fn handle(&mut self, event: &Event, out: &mut Batch) -> Result<(), ServerFault>
         ensures { IsHandled self.old event.now out.old.outs result self.new out.new.outs }
     {
-        laws::stays_matched();
-        if self.failed {
+        let Some(stage) = self.stage.take() else {
             return Err(ServerFault::Failed);
+        };
+        if let Some(fault) = refusal(&stage.view(), event) {
+            self.stage = Some(stage);
+            return Err(fault);
         }
-        let before = out.len();
-        self.failed = true;
-        let result = act(&mut self.stage, event, out);
-        if is_want_of_memory(result) {
-            out.truncate(before);
-        } else {
-            self.failed = false;
-        }
-        result
+        self.stage = Some(act(stage, event)?.end(out)?);
+        Ok(())
     }
 
     /// Handles events one after another, up to the first that is refused. Where they are clients'
@@ -159,15 +158,5 @@ impl Server {
             self.handle(&event, out)?;
         }
         Ok(())
-    }
-}
-
-/// Whether memory ran out.
-fn is_want_of_memory(answer: Result<(), ServerFault>) -> bool
-    ensures { result ≡ is_want_of_memory answer }
-{
-    match answer {
-        Err(ServerFault::Memory) => true,
-        _ => false,
     }
 }

@@ -35,7 +35,7 @@ struct Calling {
 }
 
 /// How a call stands.
-enum Standing {
+enum CallState {
     UnderWay,
     Through,
     Failed(io::Error),
@@ -180,12 +180,12 @@ impl Calls {
         let mut at = 0;
         while at < self.under_way.len() {
             match self.under_way[at].standing() {
-                Standing::UnderWay => at += 1,
-                Standing::Through => {
+                CallState::UnderWay => at += 1,
+                CallState::Through => {
                     let calling = self.under_way.swap_remove(at);
                     return Some((calling.stream, calling.place));
                 }
-                Standing::Failed(error) => {
+                CallState::Failed(error) => {
                     let calling = self.under_way.swap_remove(at);
                     self.fail(calling.place, error);
                 }
@@ -241,20 +241,20 @@ impl Calls {
 
 impl Calling {
     /// How the call stands. The system tells an error once.
-    fn standing(&self) -> Standing {
+    fn standing(&self) -> CallState {
         match self.stream.take_error() {
             Ok(None) => self.reached(),
-            Ok(Some(error)) | Err(error) => Standing::Failed(error),
+            Ok(Some(error)) | Err(error) => CallState::Failed(error),
         }
     }
 
     /// Whether a call without an error has reached anybody: only then there is an address at the
     /// other end.
-    fn reached(&self) -> Standing {
+    fn reached(&self) -> CallState {
         match self.stream.peer_addr() {
-            Ok(_) => Standing::Through,
-            Err(error) if error.kind() == ErrorKind::NotConnected => Standing::UnderWay,
-            Err(error) => Standing::Failed(error),
+            Ok(_) => CallState::Through,
+            Err(error) if error.kind() == ErrorKind::NotConnected => CallState::UnderWay,
+            Err(error) => CallState::Failed(error),
         }
     }
 }

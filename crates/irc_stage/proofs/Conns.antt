@@ -29,7 +29,7 @@ use Rattle.irc_stage.specs.Lemmas.Matching.{named_is}
 use Rattle.irc_stage.specs.Loops.Hearing.{conns_who, is_nick_of}
 use Rattle.irc_stage.specs.Loops.Listening.{Conns, Lists, conn_in, conns_in, conns_of, kept_at}
 use Rattle.irc_stage.specs.Loops.Listening.{AreSo}
-use Rattle.irc_stage.specs.Loops.Stage.{IsIndex}
+use Rattle.irc_stage.specs.Loops.Parts.{IsIndex}
 use Rattle.irc_stage.proofs.ListsKept.{none_behind}
 
 -- what holds of each row holds of each entry

@@ -20,21 +20,25 @@ use Rattle.irc_room.specs.Effects.{has_user, needs_users, IsPossible}
 use Rattle.irc_room.specs.Room.{Room, IsWellFormed}
 use Rattle.irc_room.specs.Seen.{seen, shown_line}
 use Rattle.irc_batch.specs.Batches.{Batch, Sent, batch_of, is_number, line_to}
-use Rattle.irc_links.specs.Loops.Branching.{KnowsNothing}
-use Rattle.irc_links.specs.declared.ways.Ways.{Ways}
+use Rattle.irc_stage.specs.Loops.Around.{machine_in, StaysRight}
+use Rattle.irc_stage.specs.Loops.Branching.{IsRightIn, KnowsNothing}
+use Rattle.irc_stage.specs.declared.listeners.Listeners.{Listeners}
+use Rattle.irc_stage.specs.declared.ways.Around.{Around}
+use Rattle.irc_stage.specs.EffectTold.{changed, is_elsewhere}
+use Rattle.irc_stage.specs.declared.ways.Ways.{Ways}
 use Rattle.irc_stage.specs.declared.clients.ClientTable.{ClientTable}
 use Rattle.irc_stage.specs.declared.origin.Origin.{Origin}
-use Rattle.irc_stage.specs.declared.stage.Stage.{Stage}
+use Rattle.irc_stage.specs.declared.parts.Parts.{Parts}
 use Rattle.irc_stage.specs.RoomMachine.{Clients, RoomMachine}
-use Rattle.irc_stage.specs.Handle.{clients_after, machine_after, to_viewer, with_effect}
+use Rattle.irc_stage.specs.Handle.{Handled, clients_after, machine_after, to_viewer, with_effect}
 use Rattle.irc_stage.specs.Loops.Hearing.{hearers, is_nick_of, line_of, sees_fold, to_each}
 use Rattle.irc_stage.specs.Loops.Hearing.{IsLineOf, SendsTo}
 use Rattle.irc_stage.specs.Loops.Listening.{Conns, Lists, conn_as, conn_in, conns_at, conns_in}
 use Rattle.irc_stage.specs.Loops.Listening.{index_after, is_in, AreSo}
 use Rattle.irc_stage.specs.Loops.Listening.{IsSaid, IsSaidIn, IsSaidTo}
 use Rattle.irc_stage.specs.Loops.Speaking.{conn_of, IsSpoken}
-use Rattle.irc_stage.specs.Loops.Stage.{clients_of, machine_at, so_far, IsFit, IsIndex, IsIndexed}
-use Rattle.irc_stage.specs.Loops.Stage.{IsReady, IsSound}
+use Rattle.irc_stage.specs.Loops.Parts.{clients_of, served_at, view_of, IsFit, IsIndex, IsIndexed}
+use Rattle.irc_stage.specs.Loops.Parts.{IsReady, IsSound}
 use Rattle.irc_stage.proofs.Conns.{but_one, nick_is}
 use Rattle.irc_stage.proofs.Followed.{so_in}
 use Rattle.irc_stage.proofs.HeardLines.{heard_out, sent}
@@ -138,7 +142,7 @@ module _ (machine : RoomMachine) (by_nick : Table ℕ) (index : IsIndex machine.
   nothing_else IsFor said =
       said_is IsFor effect said (λ by notice target words is for. ap (machine_after machine) is)
 
-  pub said_out : (IsFor : Target → Type 0) → IsSaid IsFor effect → IsFit machine effect
+  said_out : (IsFor : Target → Type 0) → IsSaid IsFor effect → IsFit machine effect
       → (line : Option (List ℕ)) → ((viewer : Person) (conn : ℕ) → sees_fold machine.room effect
       (key viewer.nick) ≡ true → row by_nick (key viewer.nick) ≡ Some conn
       → viewer.home ≡ machine.place.name → shown_line machine.room effect viewer ≡ line)
@@ -153,6 +157,17 @@ module _ (machine : RoomMachine) (by_nick : Table ℕ) (index : IsIndex machine.
       fit.at_home line
       (λ viewer conn sees at home. said_line IsFor said viewer
       ∙ shows viewer conn sees at home) well))
+
+  -- and what is put out is what the clients are shown
+  pub said_heard : (IsFor : Target → Type 0) → IsSaid IsFor effect → IsFit machine effect
+      → (line : Option (List ℕ)) → ((viewer : Person) (conn : ℕ) → sees_fold machine.room effect
+      (key viewer.nick) ≡ true → row by_nick (key viewer.nick) ≡ Some conn
+      → viewer.home ≡ machine.place.name → shown_line machine.room effect viewer ≡ line)
+      → (conns : List ℕ) → conns ≡ hearers machine.room by_nick effect
+      → (out out_after : List Sent) → out_after ≡ out ++ sent line conns → out_after
+      ≡ out ++ flat_map (to_viewer machine.clients) (seen machine.room effect)
+  said_heard IsFor said fit line shows conns are out out_after is =
+      is ∙ ap (λ (h : Handled). h.out) (said_out IsFor said fit line shows conns are out)
 
 -- ---- what is put out
 
@@ -172,68 +187,96 @@ put_to_one out after conn line line' conns after_is line_is are =
 -- ---- what changes the room
 
 -- whichever line there is, it goes to those that hear it
-pub shown_to_hearers : (stage : Stage) (effect : Effect) → IsReady stage
-    → IsFit (machine_at stage) effect → (line : Option (List ℕ)) → IsLineOf stage.room effect line
-    → flat_map (to_viewer (clients_of stage.clients)) (seen stage.room.room effect)
-    ≡ sent line (hearers stage.room.room stage.clients.by_nick effect)
-shown_to_hearers stage effect ready fit line shows =
-    heard_out stage.room.room (clients_of stage.clients) stage.clients.by_nick ready.indexed effect
-    stage.routes.name fit.at_home line
-    (λ viewer conn sees at home. shows viewer (home ∙ sym ready.own_is)) ready.sound.well_formed
+pub shown_to_hearers : (around : Around) (effect : Effect) → IsIndexed around.clients.now
+    → IsWellFormed around.room.now.room → around.room.now.own ≡ around.routes.now.name
+    → IsFit (machine_in around) effect → (line : Option (List ℕ))
+    → IsLineOf around.room.now effect line
+    → flat_map (to_viewer (clients_of around.clients.now)) (seen around.room.now.room effect)
+    ≡ sent line (hearers around.room.now.room around.clients.now.by_nick effect)
+shown_to_hearers around effect indexed well own fit line shows =
+    heard_out around.room.now.room (clients_of around.clients.now) around.clients.now.by_nick
+    indexed effect around.routes.now.name fit.at_home line
+    (λ viewer conn sees at home. shows viewer (home ∙ sym own)) well
 
--- the machine after it
-pub effect_applied : (old mid : Stage) → mid
-    ≡ record old { listeners = mid.listeners; line = mid.line } → (effect : Effect) (kept : Kept)
-    → kept ≡ record mid.room { room = after mid.room.room effect } → (clients : Clients)
-    → clients ≡ clients_after effect (clients_of mid.clients) → (out out_after : List Sent)
-    → out_after ≡ out ++ flat_map (to_viewer (clients_of old.clients)) (seen old.room.room effect)
-    → record {
-      machine = record (machine_at mid) { clients = clients; room = kept.room };
-      out = out_after;
-    } ≡ with_effect effect (so_far old out)
-effect_applied old mid mid_is effect kept kept_is clients clients_are out out_after out_is =
-    ap (λ (s : Stage). record {
-      machine = record (machine_at s) {
+-- what is said leaves the room as it is
+pub nothing_said : (kept : Kept) (effect : Effect) (by : List ℕ) (notice : Bool) (target : Target)
+    (words : ArrayVec ℕ) → effect ≡ Say by notice target words
+    → kept ≡ record kept { room = after kept.room effect }
+unfolding after
+nothing_said kept effect by notice target words is =
+    ap (λ e. record kept { room = after kept.room e }) (sym is)
+
+pub right_by_none : (old new : Ways) (before now : Room) → KnowsNothing new
+    → StaysRight old before new now
+right_by_none old new before now none = λ known is channel at. cc (sym none ∙ at)
+
+module _ (old : Parts) (effect : Effect) (kept : Kept)
+    (kept_is : kept ≡ record old.room { room = after old.room.room effect }) where
+  -- the server after it
+  pub changed_by : (clients : Clients) → clients ≡ clients_after effect (clients_of old.clients)
+      → (out out_after : List Sent) → out_after
+      ≡ out ++ flat_map (to_viewer (clients_of old.clients)) (seen old.room.room effect)
+      → is_elsewhere (view_of old) effect ≡ false → record {
+        view = record (view_of old) { clients = clients; room = kept.room };
+        out = out_after;
+      } ≡ changed effect (served_at old out)
+  changed_by clients clients_are out out_after out_is here =
+      ap (λ (k : Kept). record {
+        view = record (view_of old) { clients = clients; room = k.room };
+        out = out_after;
+      }) kept_is
+      ∙ ap (λ (cs : Clients). record {
+        view = record (view_of old) {
+          clients = cs;
+          room = after old.room.room effect;
+        };
+        out = out_after;
+      }) clients_are
+      ∙ ap (λ o. record {
+        view = record (view_of old) {
+          clients = clients_after effect (clients_of old.clients);
+          room = after old.room.room effect;
+        };
+        out = o;
+      }) out_is
+      ∙ ap (λ b. record {
+        view = record (view_of old) {
+          clients = clients_after effect (clients_of old.clients);
+          room = if b then old.room.room else after old.room.room effect;
+        };
+        out = out ++ (if b then []
+            else flat_map (to_viewer (clients_of old.clients)) (seen old.room.room effect));
+      }) (sym here)
+
+  -- and it is ready still
+  pub ready_after : IsReady old → IsSound kept → (clients : ClientTable) → IsIndexed clients
+      → clients.by_nick ≡ index_after effect old.clients.by_nick → (listeners : Listeners)
+      → AreSo listeners.lists (after old.room.room effect) (index_after effect old.clients.by_nick)
+      → (ways : Ways) → IsRightIn ways kept.room old.routes → (line : ArrayVec ℕ)
+      → IsReady (record old {
         clients = clients;
-        room = kept.room;
-      };
-      out = out_after;
-    }) mid_is
-    ∙ ap (λ (r : Room). record {
-      machine = record (machine_at old) { clients = clients; room = r };
-      out = out_after;
-    })
-    (ap (λ (k : Kept). k.room) kept_is ∙ ap (λ (s : Stage). after s.room.room effect) mid_is)
-    ∙ ap (λ (cs : Clients). record {
-      machine = record (machine_at old) {
-        clients = cs;
-        room = after old.room.room effect;
-      };
-      out = out_after;
-    })
-    (clients_are ∙ ap (λ (s : Stage). clients_after effect (clients_of s.clients)) mid_is)
-    ∙ ap (λ o. record { machine = machine_after (machine_at old) effect; out = o }) out_is
+        room = kept;
+        listeners = listeners;
+        ways = ways;
+        line = line;
+      })
+  ready_after ready sound clients indexed by_nick listeners so ways right line = record {
+    own_is = ap (λ (k : Kept). k.own) kept_is ∙ ready.own_is;
+    sound = sound;
+    indexed = indexed;
+    heard = so_in listeners.lists old.room kept effect _ _ kept_is by_nick so;
+    branches = right;
+    met = ready.met;
+  }
 
--- and it is ready still
-pub ready_after : (old mid : Stage)
-    → mid ≡ record old { listeners = mid.listeners; line = mid.line } → IsReady old
-    → (effect : Effect) (kept : Kept) → kept ≡ record mid.room { room = after mid.room.room effect }
-    → IsSound kept → (ways : Ways) → KnowsNothing ways → (clients : ClientTable) → IsIndexed clients
-    → clients.by_nick ≡ index_after effect mid.clients.by_nick → AreSo mid.listeners.lists
-    (after old.room.room effect) (index_after effect old.clients.by_nick)
-    → IsReady (record mid { room = kept; ways = ways; clients = clients })
-ready_after old mid mid_is ready effect kept kept_is sound ways none clients indexed by_nick so =
-    subst (λ (s : Stage). IsReady (record s { room = kept; ways = ways; clients = clients }))
-    (sym mid_is)
-    (record {
-      own_is =
-          ap (λ (k : Kept). k.own) kept_is ∙ ap (λ (s : Stage). s.room.own) mid_is ∙ ready.own_is;
-      sound = sound;
-      indexed = indexed;
-      heard = so_in mid.listeners.lists old.room kept effect _ _
-          (kept_is ∙ ap (λ (s : Stage). record s.room { room = after s.room.room effect }) mid_is)
-          (by_nick ∙ ap (λ (s : Stage). index_after effect s.clients.by_nick) mid_is)
-          so;
-      branches = λ channel is. cc (sym none ∙ is);
-      met = ready.met;
-    })
+-- with other links at hand it is ready too
+pub ready_with : (old : Parts) → IsReady old → (ways : Ways)
+    → IsRightIn ways old.room.room old.routes → IsReady (record old { ways = ways })
+ready_with old ready ways right = record {
+  own_is = ready.own_is;
+  sound = ready.sound;
+  indexed = ready.indexed;
+  heard = ready.heard;
+  branches = right;
+  met = ready.met;
+}

@@ -10,17 +10,17 @@ use Rattle.irc_users.specs.declared.user.User.{User}
 use Rattle.irc_names.specs.Fold.{key}
 use Rattle.irc_names.specs.Tables.{Table, row}
 use Rattle.irc_batch.specs.Batches.{Batch, Sent, batch_of, end_of, line_to}
-use Rattle.irc_links.specs.Ends.{End}
+use Rattle.irc_stage.specs.Ends.{End}
 use Rattle.irc_stage.specs.declared.peer.Peer.{Peer}
-use Rattle.irc_stage.specs.declared.stage.Stage.{Stage}
+use Rattle.irc_stage.specs.declared.parts.Parts.{Parts}
 use Rattle.irc_stage.specs.EffectTold.{Served, client_ended, ends_of}
 use Rattle.irc_stage.specs.Handle.{to_viewer}
 use Rattle.irc_stage.specs.RoomMachine.{Clients, RoomMachine, without_client}
 use Rattle.irc_stage.specs.View.{known_peer}
-use Rattle.irc_stage.specs.Loops.Stage.{machine_at, numbered, served_at, view_of, IsIndex}
-use Rattle.irc_stage.specs.Loops.Stage.{IsIndexed, Keeps}
+use Rattle.irc_stage.specs.Loops.Handling.{unseated_in}
+use Rattle.irc_stage.specs.Loops.Parts.{served_at, IsIndex, IsIndexed}
 use Rattle.irc_stage.proofs.Showings.{all_kept, indexed, no_ends, not_indexed, one_end, one_left}
-use Rattle.irc_registering.specs.Closing.{error_line}
+use Rattle.irc_commands.specs.Closing.{error_line}
 
 module _ (s : Served) (by_nick : Table ℕ) (index : IsIndex s.view.clients by_nick)
     (nick text : List ℕ) where
@@ -64,45 +64,16 @@ module _ (s : Served) (by_nick : Table ℕ) (index : IsIndex s.view.clients by_n
       }) (one_left s.view.clients by_nick index nick conn is)
 
 -- the code: its line, its end, and then it is taken out
-pub ended_one : (old new : Stage) → IsIndexed old.clients → (nick text : List ℕ) (conn : ℕ)
+pub ended_one : (old : Parts) → IsIndexed old.clients → (nick text : List ℕ) (conn : ℕ)
     → row old.clients.by_nick (key nick) ≡ Some conn → (out put closed : Batch) (line : List ℕ)
     → line ≡ error_line text → put ≡ batch_of (out.outs ++ line_to conn line ∷ []) line
     → closed ≡ record put { outs = put.outs ++ end_of conn ∷ [] }
-    → machine_at new ≡ without_client (machine_at old) conn → Keeps old new
-    → served_at new closed.outs ≡ client_ended nick text (served_at old out.outs)
-ended_one old new index nick text conn is out put closed line line_is put_is closed_is
-    machine_is keeps =
-    ap (λ o. record { view = view_of new; out = o })
+    → unseated_in conn (served_at old closed.outs) ≡ client_ended nick text (served_at old out.outs)
+ended_one old index nick text conn is out put closed line line_is put_is closed_is =
+    ap (λ o. unseated_in conn (served_at old o))
     (ap (λ (b : Batch). b.outs) closed_is ∙ ap (λ (b : Batch). b.outs ++ end_of conn ∷ []) put_is
     ∙ ap (λ l. (out.outs ++ line_to conn l ∷ []) ++ end_of conn ∷ []) line_is)
-    ∙ ap (λ routes. record { view = record (view_of new) { routes = routes }; out = sent })
-    keeps.routes
-    ∙ ap (λ (peers : Vec Peer). record {
-      view = record (view_of new) {
-        routes = old.routes;
-        peers = map known_peer peers.items;
-      };
-      out = sent;
-    }) keeps.peers
-    ∙ ap (λ (ends : BTreeMap ℕ End). record {
-      view = record (view_of new) {
-        routes = old.routes;
-        peers = (view_of old).peers;
-        ends = numbered ends;
-      };
-      out = sent;
-    }) keeps.ends
-    ∙ ap (λ (m : RoomMachine). record {
-      view = record (view_of old) {
-        clients = m.clients;
-        room = m.room;
-      };
-      out = sent;
-    }) machine_is
     ∙ ended_by (served_at old out.outs) old.clients.by_nick index nick text conn is
-  where
-    sent : List Sent
-    sent = (out.outs ++ line_to conn (error_line text) ∷ []) ++ end_of conn ∷ []
 
 -- a user that the code has found is there
 pub some_there : (found : Option (Bor User)) (o : Option User) → option_copied found ≡ o

@@ -14,7 +14,7 @@ use Rattle.irc_stage.specs.RoomMachine.{Clients}
 use Rattle.irc_stage.specs.Lemmas.Matching.{named_is}
 use Rattle.irc_stage.specs.Loops.Listening.{Lists, AreSo, BringsNone, IsListenerGone}
 use Rattle.irc_stage.specs.Loops.Listening.{IsListenerSeated}
-use Rattle.irc_stage.specs.Loops.Stage.{departed, entered, IsIndex, LeavesApart}
+use Rattle.irc_stage.specs.Loops.Parts.{departed, entered, IsIndex, LeavesApart}
 use Rattle.irc_stage.proofs.ListsKept.{left_so, own_gone, seated_so}
 
 module _ (room : Room) (by_nick : Table ℕ) (old new : Lists) (so : AreSo old room by_nick) where

@@ -24,7 +24,7 @@ use Rattle.irc_stage.specs.Handle.{to_viewer}
 use Rattle.irc_stage.specs.Lemmas.Matching.{named_is}
 use Rattle.irc_stage.specs.Loops.Hearing.{hearers, is_beside, line_of, sees_fold, to_each}
 use Rattle.irc_stage.specs.Loops.Listening.{conns_of, is_in}
-use Rattle.irc_stage.specs.Loops.Stage.{IsIndex}
+use Rattle.irc_stage.specs.Loops.Parts.{IsIndex}
 use Rattle.irc_stage.proofs.Conns.{each_entry}
 use Rattle.irc_stage.proofs.Showings.{indexed, not_indexed}
 

@@ -30,7 +30,7 @@ use Rattle.irc_stage.specs.Loops.Hearing.{SendsTo}
 use Rattle.irc_stage.specs.Loops.Listening.{Lists, conn_as, conns_at, conns_in}
 use Rattle.irc_stage.specs.Loops.Listening.{conns_of, is_in, is_named, AreSo}
 use Rattle.irc_stage.specs.Loops.Merging.{Entry, merged, with_lists}
-use Rattle.irc_stage.specs.Loops.Stage.{IsIndex}
+use Rattle.irc_stage.specs.Loops.Parts.{IsIndex}
 use Rattle.irc_stage.proofs.Conns.{but_one, conns_alike, in_list, in_order}
 use Rattle.irc_stage.proofs.Conns.{nick_as_fold, nick_is, OnlyUsers}
 use Rattle.irc_stage.proofs.ListsKept.{named_in}

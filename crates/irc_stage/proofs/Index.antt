@@ -12,8 +12,8 @@ use Rattle.irc_stage.specs.declared.clients.Client.{Client}
 use Rattle.irc_stage.specs.declared.clients.Client.TheVariants.{Registering, Registered}
 use Rattle.irc_stage.specs.RoomMachine.{Clients, each_client}
 use Rattle.irc_stage.specs.Handle.{renamed_in}
-use Rattle.irc_stage.specs.Loops.Stage.{entered, departed, IsIndex, IsRegisteredAs, IsNoUser}
-use Rattle.irc_stage.specs.Loops.Stage.{IsFreeFor, IsFreeOf}
+use Rattle.irc_stage.specs.Loops.Parts.{entered, departed, IsIndex, IsRegisteredAs, IsNoUser}
+use Rattle.irc_stage.specs.Loops.Parts.{IsFreeFor, IsFreeOf}
 use Rattle.irc_stage.specs.Lemmas.Numbers.{same_number, one_number, same_number-refl, same_clients}
 use Rattle.irc_stage.specs.Lemmas.Numbers.{get-with, get-without, get-each}
 use Rattle.irc_stage.specs.Lemmas.Matching.{named_is, nick_in, never_registered, same_by_key}

@@ -1,3 +1,4 @@
+pub mod Branching
 pub mod Index
 pub mod Showings
 pub mod PassedOver
@@ -13,5 +14,6 @@ pub mod Peers
 pub mod ToldOnLinks
 pub mod LinkEnds
 pub mod EndedClients
-pub mod Serving
+pub mod ServesStill
 pub mod Respelling
+pub mod NewServer

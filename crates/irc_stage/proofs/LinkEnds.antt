@@ -9,19 +9,19 @@ use Rattle.std.specs.Ordering.{nat_cmp}
 use Rattle.irc_names.specs.Tables.{Table, fold_cmp, row}
 use Rattle.irc_names.specs.TableLaws.{same_fold, row-alter, row-each}
 use Rattle.irc_room.specs.Lemmas.Rows.{same_some}
-use Rattle.irc_links.specs.Ends.{End, Ends, is_met}
-use Rattle.irc_links.specs.Ways.{AreEnds, IsMetEnd}
-use Rattle.irc_links.specs.Loops.Branching.{IsRightIn, KnowsNothing}
-use Rattle.irc_links.specs.declared.ways.Ways.{Ways}
+use Rattle.irc_stage.specs.Ends.{End, Ends, is_met}
+use Rattle.irc_stage.specs.Ways.{AreEnds, IsMetEnd}
+use Rattle.irc_stage.specs.Loops.Branching.{IsRightIn, KnowsNothing}
+use Rattle.irc_stage.specs.declared.ways.Ways.{Ways}
 use Rattle.irc_routes.specs.declared.server_row.ServerRow.{ServerRow}
 use Rattle.irc_routes.specs.Known.{Known, added, others, smallest_free, unless_behind, without_link}
 use Rattle.irc_routes.specs.Known.{without_server}
-use Rattle.irc_stage.specs.declared.stage.Stage.{Stage}
+use Rattle.irc_stage.specs.declared.parts.Parts.{Parts}
 use Rattle.irc_stage.specs.Linked.{with_far, with_password}
 use Rattle.irc_stage.specs.View.{View}
 use Rattle.irc_stage.specs.Lemmas.Numbers.{get-numbered, get-with, get-without, one_number}
 use Rattle.irc_stage.specs.Lemmas.Numbers.{same_number}
-use Rattle.irc_stage.specs.Loops.Stage.{numbered, IsServing}
+use Rattle.irc_stage.specs.Loops.Parts.{numbered, IsServing}
 
 -- an end is put in: it counts where one counted
 pub put_met : (ends : Ends) (known : Known) (link : ℕ) (end : End) → AreEnds ends known
@@ -163,7 +163,7 @@ module _ (view : View) (link : ℕ) (name : List ℕ) where
 
 -- ---- a server that serves goes on to
 
-module _ (stage : Stage) (serving : IsServing stage) where
+module _ (stage : Parts) (serving : IsServing stage) where
   pub serves_with_ends : (ends : BTreeMap ℕ End) → AreEnds (numbered ends) stage.routes
       → IsServing (record stage { ends = ends })
   serves_with_ends ends met = record {

@@ -9,7 +9,7 @@ use Rattle.irc_stage.specs.declared.origin.Origin.{Origin}
 use Rattle.irc_stage.specs.declared.origin.Origin.TheVariants.{Client, Link, Own}
 use Rattle.irc_stage.specs.RoomMachine.{RoomMachine, client_of}
 use Rattle.irc_stage.specs.Loops.Speaking.{conn_of, IsSpoken}
-use Rattle.irc_stage.specs.Loops.Stage.{IsIndex, IsRegisteredAs}
+use Rattle.irc_stage.specs.Loops.Parts.{IsIndex, IsRegisteredAs}
 use Rattle.irc_stage.specs.Lemmas.Matching.{named_is}
 
 -- whom no client speaks for has no connection

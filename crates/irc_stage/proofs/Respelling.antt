@@ -14,10 +14,10 @@ use Rattle.irc_room.specs.Applying.{Kept, respelling_fault}
 use Rattle.irc_room.specs.Effects.{has_channel}
 use Rattle.irc_room.specs.Lemmas.RespelledRooms.{respelled_is_well_formed}
 use Rattle.irc_room.specs.Lemmas.Rows.{alter_same, not_none}
-use Rattle.irc_links.specs.Loops.Branching.{KnowsNothing}
-use Rattle.irc_links.specs.declared.ways.Ways.{Ways}
-use Rattle.irc_stage.specs.declared.stage.Stage.{Stage}
-use Rattle.irc_stage.specs.Loops.Stage.{IsServing}
+use Rattle.irc_stage.specs.Loops.Branching.{KnowsNothing}
+use Rattle.irc_stage.specs.declared.ways.Ways.{Ways}
+use Rattle.irc_stage.specs.declared.parts.Parts.{Parts}
+use Rattle.irc_stage.specs.Loops.Parts.{IsServing}
 use Rattle.irc_stage.proofs.ListsKept.{titled_so}
 
 -- a channel that is not there has no other spelling
@@ -42,7 +42,7 @@ room_respelled (Err why) kept now name serves fault ok refused =
     else (if has_channel kept.room name then None else Some NoSuchChannel)) serves)))))
 
 -- a server that serves goes on to: the same clients listen, and no way is known
-pub serves_respelled : (stage : Stage) → IsServing stage → (name : List ℕ) (now : Kept)
+pub serves_respelled : (stage : Parts) → IsServing stage → (name : List ℕ) (now : Kept)
     (ways : Ways) → now ≡ record stage.room { room = titled_by name stage.room.room }
     → KnowsNothing ways → IsServing (record stage { room = now; ways = ways })
 serves_respelled stage serving name now ways is known =

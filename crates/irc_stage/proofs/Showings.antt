@@ -17,7 +17,7 @@ use Rattle.irc_stage.specs.declared.clients.Client.TheVariants.{Registering, Reg
 use Rattle.irc_batch.specs.Batches.{Sent, end_of, line_to}
 use Rattle.irc_stage.specs.RoomMachine.{Clients}
 use Rattle.irc_stage.specs.Handle.{is_client, to_viewer}
-use Rattle.irc_stage.specs.Loops.Stage.{IsIndex}
+use Rattle.irc_stage.specs.Loops.Parts.{IsIndex}
 use Rattle.irc_stage.specs.EffectTold.{ends_of, is_another}
 use Rattle.irc_stage.specs.Lemmas.Counting.{get-kept}
 use Rattle.irc_stage.specs.Lemmas.Numbers.{get-without, here, later, none_behind, one_number}

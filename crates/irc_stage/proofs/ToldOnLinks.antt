@@ -1,27 +1,31 @@
--- What a server tells on its links: where none is open, nothing; and what a change at the room
--- machine is at the server.
-use Rattle.std.proofs.Common.{◌≡◌, ℕ, false, Option, Some, None, List, [], ◌∷◌, ◌++◌, refl}
-use Rattle.std.proofs.Common.{sym, ◌∙◌, ap, subst, append-nil, length, map, if◌then◌else◌}
+-- What a server tells on its links: where none is open, nothing.
+use Rattle.std.proofs.Common.{◌≡◌, ℕ, true, Option, Some, None, List, [], ◌∷◌, ◌++◌, refl}
+use Rattle.std.proofs.Common.{sym, ◌∙◌, ap, subst, append-nil, length, if◌then◌else◌}
 use Rattle.std.specs.BTreeMap.{BTreeMap}
 use Rattle.std.specs.FinMap.{empty, from_entries, get, get-empty}
 use Rattle.std.specs.Global.{Vec}
 use Rattle.std.specs.List.{flat_map}
 use Rattle.std.specs.Ordering.{nat_cmp}
+use Rattle.arrayvec.specs.ArrayVec.{ArrayVec}
 use Rattle.irc_batch.specs.Batches.{Sent}
-use Rattle.irc_link_writer.specs.Written.{wire}
-use Rattle.irc_links.specs.Ways.{told_homes, AreEnds, IsMetEnd}
+use Rattle.irc_stage.specs.Ways.{told_homes, ways, AreEnds, IsMetEnd}
 use Rattle.irc_room.specs.effect.Effect.{Effect}
+use Rattle.irc_room.specs.effect.Effect.TheVariants.{AddUser, Rename, Quit, Join, Part, Kick}
+use Rattle.irc_room.specs.effect.Effect.TheVariants.{ChangeModes, SetTopic, Say, Invite, UserMode}
 use Rattle.irc_room.specs.After.{after}
+use Rattle.irc_room.specs.Room.{Room}
 use Rattle.irc_room.specs.Seen.{seen}
 use Rattle.irc_routes.specs.Known.{Known, next_hop}
-use Rattle.irc_stage.specs.declared.peer.Peer.{Peer}
-use Rattle.irc_stage.specs.declared.stage.Stage.{Stage}
-use Rattle.irc_stage.specs.EffectTold.{changed, effect_told, is_elsewhere, on_links, shown_at}
-use Rattle.irc_stage.specs.EffectTold.{view_after}
-use Rattle.irc_stage.specs.Handle.{Handled, clients_after, to_viewer, with_effect}
-use Rattle.irc_stage.specs.View.{End, Ends, View, known_peer}
-use Rattle.irc_stage.specs.Lemmas.Alone.{no_ways, none_elsewhere, none_met}
-use Rattle.irc_stage.specs.Loops.Stage.{numbered, served_at, so_far, view_of, Keeps}
+use Rattle.irc_stage.specs.declared.origin.Origin.{Origin}
+use Rattle.irc_stage.specs.declared.origin.Origin.TheVariants.{Client, Link, Own}
+use Rattle.irc_stage.specs.declared.ways.Ways.{Ways}
+use Rattle.irc_stage.specs.EffectTold.{Served, changed, is_elsewhere, with_sent}
+use Rattle.irc_stage.specs.Handle.{to_viewer}
+use Rattle.irc_stage.specs.RoomMachine.{RoomMachine}
+use Rattle.irc_stage.specs.View.{End, Ends, View}
+use Rattle.irc_stage.specs.Lemmas.Alone.{no_ways, none_met}
+use Rattle.irc_stage.specs.Loops.Speaking.{arrival_of, IsSaidElsewhere, IsSpoken}
+use Rattle.irc_stage.specs.Loops.Parts.{lines_on, numbered}
 
 -- where no link is open, no server is known
 nowhere_known : (ends : Ends) (known : Known) → AreEnds ends known → ends ≡ empty → (name : List ℕ)
@@ -34,64 +38,6 @@ nowhere_known ends known met no_ends name = by (next_hop known name) refl
         absurd (subst IsMetEnd (ap (λ (es : Ends). get es link) no_ends ∙ get-empty nat_cmp link)
         (met name link is))
 
-module _ (view : View) (met : AreEnds view.ends view.routes) (no_ends : view.ends ≡ empty) where
-  nowhere : (name : List ℕ) → next_hop view.routes name ≡ None
-  nowhere = nowhere_known view.ends view.routes met no_ends
-
-  pub stays_here : (effect : Effect) → is_elsewhere view effect ≡ false
-  stays_here effect = none_elsewhere view nowhere effect
-
-  -- what changes there is told nowhere
-  pub told_nowhere : (arrival : Option ℕ) (effect : Effect) (out : List Sent)
-      → changed effect (record { view = view; out = out }) ≡ effect_told arrival effect
-      (record { view = view; out = out })
-  told_nowhere arrival effect out =
-      ap (λ o. record { view = view_after view effect; out = o })
-      (sym (append-nil (out ++ shown_at view effect))
-      ∙ ap (λ links. (out ++ shown_at view effect)
-      ++ on_links links (wire view.room view.routes effect))
-      (sym (no_ways view.ends view.routes arrival (none_met view.ends no_ends) nowhere
-      (told_homes view.room effect))))
-
--- what the room machine does, the server does
-pub shown_served : (old new : Stage) (effect : Effect) (out out_after : List Sent) → Keeps old new
-    → so_far new out_after ≡ with_effect effect (so_far old out) → is_elsewhere (view_of old) effect
-    ≡ false → served_at new out_after ≡ changed effect (served_at old out)
-shown_served old new effect out out_after keeps is here =
-    ap (λ routes. record { view = record (view_of new) { routes = routes }; out = out_after })
-    keeps.routes
-    ∙ ap (λ (peers : Vec Peer). record {
-      view = record (view_of new) {
-        routes = old.routes;
-        peers = map known_peer peers.items;
-      };
-      out = out_after;
-    }) keeps.peers
-    ∙ ap (λ (ends : BTreeMap ℕ End). record {
-      view = record (view_of new) {
-        routes = old.routes;
-        peers = (view_of old).peers;
-        ends = numbered ends;
-      };
-      out = out_after;
-    })
-    keeps.ends
-    ∙ ap (λ (h : Handled). record {
-      view = record (view_of old) {
-        clients = h.machine.clients;
-        room = h.machine.room;
-      };
-      out = h.out;
-    }) is
-    ∙ ap (λ b. record {
-      view = record (view_of old) {
-        clients = clients_after effect (view_of old).clients;
-        room = if b then (view_of old).room else after (view_of old).room effect;
-      };
-      out = out ++ (if b then []
-          else flat_map (to_viewer (view_of old).clients) (seen (view_of old).room effect));
-    }) (sym here)
-
 -- a map without entries has nothing under any number
 pub empty_by : (m : BTreeMap ℕ End) → length m.entries ≡ 0 → numbered m ≡ empty
 empty_by m none = by m.entries none
@@ -99,3 +45,58 @@ empty_by m none = by m.entries none
     by : (es : List (ℕ × End)) → length es ≡ 0 → from_entries {R = nat_cmp} es ≡ empty
     by [] is = refl
     by (e ∷ es) is = cc is
+
+-- so an effect is told on no link
+pub on_none : (ends : BTreeMap ℕ End) (known : Known) → AreEnds (numbered ends) known
+    → length ends.entries ≡ 0 → (room : Room) (arrival : Option ℕ) (effect : Effect)
+    → ways (numbered ends) known room arrival effect ≡ []
+on_none ends known met none room arrival effect =
+    let no_ends = empty_by ends none in
+    no_ways (numbered ends) known arrival (none_met (numbered ends) no_ends)
+    (nowhere_known (numbered ends) known met no_ends) (told_homes room effect)
+
+-- An effect that is elsewhere's changes nothing here.
+pub elsewhere_stays : (view : View) (effect : Effect) → is_elsewhere view effect ≡ true
+    → (out : List Sent) → record { view = view; out = out }
+    ≡ changed effect (record { view = view; out = out })
+elsewhere_stays view (Invite who nick channel) is out =
+    ap (λ o. record { view = view; out = o }) (sym (append-nil out))
+    ∙ ap (λ b. record {
+      view = record view {
+        room = if b then view.room else after view.room (Invite who nick channel);
+      };
+      out = out ++ (if b then []
+          else flat_map (to_viewer view.clients) (seen view.room (Invite who nick channel)));
+    }) (sym is)
+elsewhere_stays view (AddUser user) is out = cc is
+elsewhere_stays view (Rename nick new) is out = cc is
+elsewhere_stays view (Quit nick text) is out = cc is
+elsewhere_stays view (Join nick channel op) is out = cc is
+elsewhere_stays view (Part nick channel text) is out = cc is
+elsewhere_stays view (Kick by channel nick text) is out = cc is
+elsewhere_stays view (ChangeModes by channel changes) is out = cc is
+elsewhere_stays view (SetTopic by channel text) is out = cc is
+elsewhere_stays view (Say by notice target text) is out = cc is
+elsewhere_stays view (UserMode nick invisible) is out = cc is
+
+-- what was put out, and then a line on links
+pub told_behind : (s t : Served) → s ≡ t → (lines told : List Sent) → lines ≡ told
+    → (out : List Sent) → out ≡ s.out ++ lines → record s { out = out } ≡ with_sent told t
+told_behind s t is lines told are out out_is =
+    ap (λ o. record s { out = o }) (out_is ∙ ap (λ l. s.out ++ l) are) ∙ ap (with_sent told) is
+
+-- the line at hand is that of an effect still, where neither it nor its links have changed
+pub still_at_hand : (new old : Ways) → new.links ≡ old.links → new.line ≡ old.line
+    → (told : List Sent) → lines_on old.links.items old.line.items ≡ told
+    → lines_on new.links.items new.line.items ≡ told
+still_at_hand new old links line told is =
+    ap (λ (ls : Vec ℕ). lines_on ls.items new.line.items) links
+    ∙ ap (λ (text : ArrayVec ℕ). lines_on old.links.items text.items) line ∙ is
+
+-- an effect that came by a link is no client's
+pub spoken_by_link : (origin : Origin) (link : ℕ) → arrival_of origin ≡ Some link
+    → (machine : RoomMachine) (effect : Effect) → IsSaidElsewhere machine effect
+    → IsSpoken origin machine effect
+spoken_by_link (Client speaker) link is machine effect said = cc is
+spoken_by_link (Link number) link is machine effect said = said
+spoken_by_link Own link is machine effect said = cc is

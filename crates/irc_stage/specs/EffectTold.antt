@@ -3,11 +3,12 @@
 --
 -- al is a client of a.net, connection 1; bo and cy are users of b.net, behind link 2; d.net is
 -- behind link 3. All are in #c.
---   al says hi in #c                line_on 2 `:al PRIVMSG #c :hi`; al hears nothing of it
--- bo says hi in #c (by link 2) line_to 1 `:bo!u@h PRIVMSG #c :hi`; on link 3 nothing, where nobody
--- is in #c
--- al leaves #c line_to 1 `:al!u@h PART #c :`, then line_on 2 and line_on 3 `:al PART #c :`
---   bo is invited by al             line_on 2 `:al INVITE bo #c`; b.net keeps that, a.net does not
+--   al says hi in #c              line_on 2 `:al PRIVMSG #c :hi`; al hears nothing of it
+--   bo says hi in #c (by link 2)  line_to 1 `:bo!u@h PRIVMSG #c :hi`; on link 3 nothing, where
+--                                 nobody is in #c
+--   al leaves #c                  line_to 1 `:al!u@h PART #c :`, then line_on 2 and line_on 3
+--                                 `:al PART #c :`
+--   bo is invited by al           line_on 2 `:al INVITE bo #c`; b.net keeps that, a.net does not
 use Rattle.std.specs.Prelude.{ℕ, Bool, true, false, not, ◌&&◌, is_some, Option, Some, None, List}
 use Rattle.std.specs.Prelude.{[], ◌∷◌, ◌++◌, map, filter_map, if◌then◌else◌}
 use Rattle.std.specs.List.{flat_map}
@@ -32,8 +33,8 @@ use Rattle.irc_stage.specs.RoomMachine.{Clients}
 use Rattle.irc_stage.specs.View.{View, machine_of}
 use Rattle.irc_stage.specs.Handle.{Handled, clients_after, is_client, to_viewer}
 use Rattle.irc_stage.specs.Matched.{is_user_here}
-use Rattle.irc_links.specs.Ways.{ways}
-use Rattle.irc_registering.specs.Closing.{error_line}
+use Rattle.irc_stage.specs.Ways.{ways}
+use Rattle.irc_commands.specs.Closing.{error_line}
 
 -- a server, and what it has put out, in order
 pub record Served : Type 0 where

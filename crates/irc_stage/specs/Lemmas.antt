@@ -1,3 +1,4 @@
+pub mod Listed
 -- Lemmas, with their proofs, that the crates above cite too. No rule stands here.
 pub mod Alone
 pub mod MatchedEvents

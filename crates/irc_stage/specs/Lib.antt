@@ -1,3 +1,5 @@
+pub mod Ends
+pub mod Ways
 pub mod RoomMachine
 pub mod View
 pub mod Handle

@@ -8,8 +8,8 @@ use Rattle.std.specs.Prelude.{ℕ, Bool, ◌&&◌, is_none, Option, Some, List}
 use Rattle.std.specs.Option.{option_map_or}
 use Rattle.std.specs.FinMap.{get, insert}
 use Rattle.irc_line.specs.Messages.{Written}
-use Rattle.irc_links.specs.Ends.{End}
-use Rattle.irc_links.specs.Ways.{but, met_links}
+use Rattle.irc_stage.specs.Ends.{End}
+use Rattle.irc_stage.specs.Ways.{but, met_links}
 use Rattle.irc_room.specs.After.{titled_by}
 use Rattle.irc_routes.specs.Adding.{added_fault}
 use Rattle.irc_routes.specs.Known.{Known, added, token_in, without_link, without_server}

@@ -1,8 +1,13 @@
+pub mod Branching
+pub mod Handshakes
+pub mod Numbered
 pub mod Codes
 pub mod Listening
 pub mod Merging
 pub mod Hearing
-pub mod Stage
+pub mod Parts
 pub mod Speaking
 pub mod Linking
 pub mod Asking
+pub mod Handling
+pub mod Around

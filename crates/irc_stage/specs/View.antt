@@ -9,7 +9,7 @@ use Rattle.irc_room.specs.Room.{Room}
 use Rattle.irc_room.specs.Laws.{no_room}
 use Rattle.irc_stage.specs.declared.peer.Peer.{Peer}
 use Rattle.irc_stage.specs.RoomMachine.{Clients, RoomMachine}
-pub use Rattle.irc_links.specs.Ends.{End, Ends, fresh_end}
+pub use Rattle.irc_stage.specs.Ends.{End, Ends, fresh_end}
 
 -- a server that may be linked to, and the password that both give each other
 pub record KnownPeer : Type 0 where

@@ -4,58 +4,41 @@ ghost use Rattle.std.specs.Prelude.{◌≡◌, ℕ, true, List, None, Some, ◌�
 ghost use Rattle.std.specs.Prelude.{map, not, if◌then◌else◌};
 ghost use Rattle.std.specs.List.{list_any};
 ghost use Rattle.irc_batch.specs.Batches.{is_number, put_out_all, to_others};
-ghost use Rattle.irc_batch.specs.Growing.{Grew};
 ghost use Rattle.irc_names.specs.Fold.{key};
 ghost use Rattle.irc_names.specs.Tables.{Table};
 ghost use Rattle.irc_room.specs.After.{after};
 ghost use Rattle.irc_room.specs.Effects.{has_user, is_idle, IsPossible};
 ghost use Rattle.irc_room.specs.effect.Effect.TheVariants.{Rename};
+ghost use Rattle.irc_stage.specs.Loops.Around.{IsNamedIn};
 ghost use Rattle.irc_stage.specs.Loops.Hearing.{conns_who, hearers, is_beside, others_of};
 ghost use Rattle.irc_stage.specs.Loops.Hearing.{IsLineOf, IsToldFirst, IsUnsaid, SendsTo};
 ghost use Rattle.irc_stage.specs.Loops.Listening.{conn_as, conns_at, index_after, AreSo};
 ghost use Rattle.irc_stage.specs.Loops.Listening.{BringsNone};
 ghost use Rattle.irc_stage.specs.Loops.Merging.{entries_now, with_lists};
-ghost use Rattle.irc_stage.specs.Loops.Stage.{IsIndexed};
+ghost use Rattle.irc_stage.specs.Loops.Parts.{IsIndexed};
 
 use crate::clients::{ClientTable, number_of};
 use crate::listeners::Listeners;
 use crate::merging::merged;
+use crate::numbers::Conn;
+use crate::ways::Around;
 use irc_batch::Batch;
 use irc_line::Text;
 use irc_names::Nick;
-use irc_room::{Effect, Room};
+use irc_room::{Effect, Room, is_idle};
 use irc_tables::Row;
 use std::alloc::{AllocError, Global};
 
 /// Writes the line that an effect shows, and tells whether it shows one: an effect that does
 /// nothing does not.
-pub(crate) fn write(room: &Room, effect: &Effect, line: &mut Text) -> bool
-    requires { IsPossible room.now.room effect.now }
-    ensures { IsLineOf room.now effect.now (if result then Some line.new.items else None) }
+pub(crate) fn write(around: Around<'_>, effect: &Effect, line: &mut Text) -> bool
+    ensures { IsNamedIn around.entry effect.now → IsLineOf around.entry.room.now effect.now
+        (if result then Some line.new.items else None) }
 {
-    if is_idle(room, effect) {
+    if is_idle(effect, around.named) {
         return false;
     }
-    room.write_line(effect, line)
-}
-
-/// Whether an effect does nothing: a Join by a member, or a Part or Kick of somebody who is none.
-fn is_idle(room: &Room, effect: &Effect) -> bool
-    requires { IsPossible room.now.room effect.now }
-    ensures { result ≡ is_idle room.now.room effect.now }
-{
-    match effect {
-        Effect::Join { nick, channel, .. } => {
-            room.member(nick.as_bytes(), channel.as_bytes()).is_some()
-        }
-        Effect::Part { nick, channel, .. } => {
-            room.member(nick.as_bytes(), channel.as_bytes()).is_none()
-        }
-        Effect::Kick { nick, channel, .. } => {
-            room.member(nick.as_bytes(), channel.as_bytes()).is_none()
-        }
-        _ => false,
-    }
+    around.room.write_named(effect, around.named, line)
 }
 
 impl Listeners {
@@ -83,7 +66,6 @@ impl Listeners {
         ensures shown { OnOk result
             (SendsTo line.now.items (hearers room.now.room clients.now.by_nick effect.now)
             out.old out.new) }
-        ensures grew { Grew out.old.outs out.new.outs }
     {
         room.own();
         match effect {
@@ -111,10 +93,9 @@ impl Listeners {
         requires indexed { IsIndexed clients.now }
         requires possible { IsPossible room.now.room effect.now }
         requires first { IsToldFirst effect.now }
-        ensures ok { OnOk result
+        ensures { OnOk result
             (SendsTo line.now.items (hearers room.now.room clients.now.by_nick effect.now)
             out.old out.new) }
-        ensures grew { Grew out.old.outs out.new.outs }
     {
         room.own();
         match effect {
@@ -136,14 +117,13 @@ impl Listeners {
     fn tell(
         &self,
         channel: &[u8],
-        one: Option<u64>,
+        one: Option<Conn>,
         line: &Text,
         out: &mut Batch,
     ) -> Result<(), AllocError>
-        ensures ok { OnOk result
+        ensures { OnOk result
             (SendsTo line.now.items (others_of one (conns_at self.now.lists (key channel.now)))
             out.old out.new) }
-        ensures grew { Grew out.old.outs out.new.outs }
     {
         tell_others(self.of(channel), one, line, out)
     }
@@ -160,10 +140,9 @@ impl Listeners {
     ) -> Result<(), AllocError>
         requires so { AreSo self.now.lists room.now.room clients.now.by_nick }
         requires there { has_user room.now.room nick.now ≡ true }
-        ensures ok { (new : List ℕ) → OnOk result
+        ensures { (new : List ℕ) → OnOk result
             (SendsTo line.now.items
             (hearers room.now.room clients.now.by_nick (Rename nick.now new)) out.old out.new) }
-        ensures grew { Grew out.old.outs out.new.outs }
     {
         room.own();
         if room.names_of(nick.as_bytes()).is_empty() {
@@ -177,15 +156,14 @@ impl Listeners {
         &self,
         room: &Room,
         nick: &Nick,
-        one: Option<u64>,
+        one: Option<Conn>,
         line: &Text,
         out: &mut Batch,
     ) -> Result<(), AllocError>
-        ensures ok { (by_nick : Table ℕ) → AreSo self.now.lists room.now.room by_nick
+        ensures { (by_nick : Table ℕ) → AreSo self.now.lists room.now.room by_nick
             → OnOk result (SendsTo line.now.items
             (others_of one (conns_who room.now.room by_nick (is_beside room.now.room nick.now)))
             out.old out.new) }
-        ensures grew { Grew out.old.outs out.new.outs }
     {
         room.own();
         let names = room.names_of(nick.as_bytes());
@@ -200,7 +178,7 @@ impl Listeners {
     fn put_together<'a>(
         &'a self,
         names: &[Row<()>],
-    ) -> Result<Vec<&'a Row<u64>, Global>, AllocError>
+    ) -> Result<Vec<&'a Row<Conn>, Global>, AllocError>
         ensures { IfOk result (λ rows. entries_now rows.items
             ≡ with_lists self.now.lists (map (λ row. key row.name.items) names.now) []) }
     {
@@ -219,12 +197,11 @@ fn tell_one(
     line: &Text,
     out: &mut Batch,
 ) -> Result<(), AllocError>
-    ensures ok { OnOk result
+    ensures { OnOk result
         (SendsTo line.now.items (conn_as clients.now.by_nick nick.now) out.old out.new) }
-    ensures grew { Grew out.old.outs out.new.outs }
 {
     match number_of(clients, nick) {
-        Some(conn) => out.put(conn, line),
+        Some(conn) => out.put(conn.number(), line),
         None => Ok(()),
     }
 }
@@ -235,71 +212,68 @@ fn tell_one(
 /// # Errors
 /// Where memory runs out; it has been put out to some of them then.
 pub(crate) fn tell_others(
-    rows: &[Row<u64>],
-    one: Option<u64>,
+    rows: &[Row<Conn>],
+    one: Option<Conn>,
     line: &Text,
     out: &mut Batch,
 ) -> Result<(), AllocError>
-    ensures ok { OnOk result
+    ensures { OnOk result
         (SendsTo line.now.items (others_of one (map (λ row. row.value) rows.now))
         out.old out.new) }
-    ensures grew { Grew out.old.outs out.new.outs }
 {
-    if !has_other(rows, one) {
+    if !has_other(rows, &one) {
         return Ok(());
     }
     out.hold(line)?;
-    send_to_others(rows, one, out)
+    send_to_others(rows, &one, out)
 }
 
 /// The same of connections that were put together.
 fn tell_all_others(
-    rows: &[&Row<u64>],
-    one: Option<u64>,
+    rows: &[&Row<Conn>],
+    one: Option<Conn>,
     line: &Text,
     out: &mut Batch,
 ) -> Result<(), AllocError>
-    ensures ok { OnOk result
+    ensures { OnOk result
         (SendsTo line.now.items (others_of one (map (λ row. row.now.value) rows.now))
         out.old out.new) }
-    ensures grew { Grew out.old.outs out.new.outs }
 {
-    if !has_any_other(rows, one) {
+    if !has_any_other(rows, &one) {
         return Ok(());
     }
     out.hold(line)?;
-    send_to_all_others(rows, one, out)
+    send_to_all_others(rows, &one, out)
 }
 
 /// Whether there is another among these connections than one.
-fn has_other(rows: &[Row<u64>], one: Option<u64>) -> bool
-    ensures { result ≡ list_any (λ row. not (is_number one row.value)) rows.now }
+fn has_other(rows: &[Row<Conn>], one: &Option<Conn>) -> bool
+    ensures { result ≡ list_any (λ row. not (is_number one.now row.value)) rows.now }
 {
     rows.iter().any(|row| is_other(row.value, one))
 }
 
 /// The same of connections that were put together.
-fn has_any_other(rows: &[&Row<u64>], one: Option<u64>) -> bool
-    ensures { result ≡ list_any (λ row. not (is_number one row.now.value)) rows.now }
+fn has_any_other(rows: &[&Row<Conn>], one: &Option<Conn>) -> bool
+    ensures { result ≡ list_any (λ row. not (is_number one.now row.now.value)) rows.now }
 {
     rows.iter().any(|row| is_other(row.value, one))
 }
 
 /// Whether a connection is another than one.
-fn is_other(conn: u64, one: Option<u64>) -> bool
-    ensures { result ≡ not (is_number one conn) }
+fn is_other(conn: Conn, one: &Option<Conn>) -> bool
+    ensures { result ≡ not (is_number one.now conn) }
 {
     match one {
-        Some(number) => number != conn,
+        Some(number) => *number != conn,
         None => true,
     }
 }
 
 /// Puts out the line at hand to each of these connections in turn, but for one.
-fn send_to_others(rows: &[Row<u64>], one: Option<u64>, out: &mut Batch) -> Result<(), AllocError>
-    ensures ok { OnOk result (out.new
-        ≡ put_out_all (to_others out.old.held one (map (λ row. row.value) rows.now)) out.old) }
-    ensures grew { Grew out.old.outs out.new.outs }
+fn send_to_others(rows: &[Row<Conn>], one: &Option<Conn>, out: &mut Batch) -> Result<(), AllocError>
+    ensures { OnOk result (out.new
+        ≡ put_out_all (to_others out.old.held one.now (map (λ row. row.value) rows.now)) out.old) }
 {
     for row in rows {
         send_unless(row.value, one, out)?;
@@ -309,13 +283,13 @@ fn send_to_others(rows: &[Row<u64>], one: Option<u64>, out: &mut Batch) -> Resul
 
 /// The same of connections that were put together.
 fn send_to_all_others(
-    rows: &[&Row<u64>],
-    one: Option<u64>,
+    rows: &[&Row<Conn>],
+    one: &Option<Conn>,
     out: &mut Batch,
 ) -> Result<(), AllocError>
-    ensures ok { OnOk result (out.new
-        ≡ put_out_all (to_others out.old.held one (map (λ row. row.now.value) rows.now)) out.old) }
-    ensures grew { Grew out.old.outs out.new.outs }
+    ensures { OnOk result (out.new
+        ≡ put_out_all
+        (to_others out.old.held one.now (map (λ row. row.now.value) rows.now)) out.old) }
 {
     for row in rows {
         send_unless(row.value, one, out)?;
@@ -324,13 +298,13 @@ fn send_to_all_others(
 }
 
 /// Puts out the line at hand to a connection, unless it is this one.
-fn send_unless(conn: u64, one: Option<u64>, out: &mut Batch) -> Result<(), AllocError>
+fn send_unless(conn: Conn, one: &Option<Conn>, out: &mut Batch) -> Result<(), AllocError>
     ensures ok { OnOk result (out.new
-        ≡ put_out_all (to_others out.old.held one (conn ∷ [])) out.old) }
+        ≡ put_out_all (to_others out.old.held one.now (conn ∷ [])) out.old) }
     ensures refused { OnErr result (out.new ≡ out.old) }
 {
     match one {
-        Some(number) if number == conn => Ok(()),
-        _ => out.send(conn),
+        Some(number) if *number == conn => Ok(()),
+        _ => out.send(conn.number()),
     }
 }

@@ -4,9 +4,10 @@ ghost use Rattle.std.specs.FinMap.{empty, get, insert, remove};
 ghost use Rattle.std.specs.Option.{option_copied};
 ghost use Rattle.irc_names.specs.Fold.{key};
 ghost use Rattle.irc_names.specs.Tables.{row, moved};
-ghost use Rattle.irc_stage.specs.Loops.Stage.{all_renamed, clients_of, departed, entered, numbered};
-ghost use Rattle.irc_stage.specs.Loops.Stage.{IsFreeFor, IsFreeOf, IsIndexed, IsNoUser};
+ghost use Rattle.irc_stage.specs.Loops.Parts.{all_renamed, clients_of, departed, entered, numbered};
+ghost use Rattle.irc_stage.specs.Loops.Parts.{IsFreeFor, IsFreeOf, IsIndexed, IsNoUser};
 
+use crate::numbers::Conn;
 use irc_commands::Pending;
 use irc_names::Nick;
 use irc_tables::NickMap;
@@ -23,7 +24,7 @@ pub struct Waiting {
 
 /// In a clause it is what the connection has given.
 impl Model for Waiting {
-    ghost use Rattle.irc_registering.specs.declared.pending.Pending.{Pending};
+    ghost use Rattle.irc_commands.specs.declared.pending.Pending.{Pending};
 
     ghost Value = { Pending };
 
@@ -63,9 +64,9 @@ pub enum Client {
 #[derive(Drop)]
 pub(crate) struct ClientTable {
     /// Each by the number of its connection.
-    pub by_number: BTreeMap<u64, Client, Global>,
+    pub by_number: BTreeMap<Conn, Client, Global>,
     /// The connection of each that is a user, by its nickname.
-    pub by_nick: NickMap<u64>,
+    pub by_nick: NickMap<Conn>,
 }
 
 /// No clients.
@@ -80,7 +81,7 @@ pub(crate) fn no_clients(alloc: Global) -> ClientTable
 }
 
 /// The client of a connection, if there is one.
-pub(crate) fn client_of(clients: &ClientTable, conn: u64) -> Option<&Client>
+pub(crate) fn client_of(clients: &ClientTable, conn: Conn) -> Option<&Client>
     ensures { option_copied result ≡ get (clients_of clients.now) conn }
 {
     clients.by_number.get(&conn)
@@ -88,8 +89,8 @@ pub(crate) fn client_of(clients: &ClientTable, conn: u64) -> Option<&Client>
 
 /// A connection is this client from now on.
 fn put(
-    clients: &mut BTreeMap<u64, Client, Global>,
-    conn: u64,
+    clients: &mut BTreeMap<Conn, Client, Global>,
+    conn: Conn,
     client: Client,
 ) -> Result<(), AllocError>
     ensures { OnOk result (numbered clients.new ≡ insert (numbered clients.old) conn client) }
@@ -101,7 +102,7 @@ fn put(
 }
 
 /// A connection that is no user is this client from now on.
-pub(crate) fn seat(clients: &mut ClientTable, conn: u64, client: Client) -> Result<(), AllocError>
+pub(crate) fn seat(clients: &mut ClientTable, conn: Conn, client: Client) -> Result<(), AllocError>
     requires indexed { IsIndexed clients.old }
     requires no_user { IsNoUser (get (clients_of clients.old) conn) }
     requires free { IsFreeOf client (clients_of clients.old) }
@@ -115,7 +116,7 @@ pub(crate) fn seat(clients: &mut ClientTable, conn: u64, client: Client) -> Resu
 }
 
 /// Takes out the client of a connection.
-pub(crate) fn take_out(clients: &mut ClientTable, conn: u64)
+pub(crate) fn take_out(clients: &mut ClientTable, conn: Conn)
     requires indexed { IsIndexed clients.old }
     ensures out { clients_of clients.new ≡ remove (clients_of clients.old) conn }
     ensures indexed { IsIndexed clients.new }
@@ -127,7 +128,7 @@ pub(crate) fn take_out(clients: &mut ClientTable, conn: u64)
 }
 
 /// A client that is a user stands in the index.
-fn enter(by_nick: &mut NickMap<u64>, conn: u64, client: &Client) -> Result<(), AllocError>
+fn enter(by_nick: &mut NickMap<Conn>, conn: Conn, client: &Client) -> Result<(), AllocError>
     ensures { OnOk result (by_nick.new ≡ entered conn client.now by_nick.old) }
 {
     match client {
@@ -137,7 +138,7 @@ fn enter(by_nick: &mut NickMap<u64>, conn: u64, client: &Client) -> Result<(), A
 }
 
 /// A client that was a user stands in the index no more.
-fn depart(by_nick: &mut NickMap<u64>, client: &Option<Client>)
+fn depart(by_nick: &mut NickMap<Conn>, client: &Option<Client>)
     ensures { by_nick.new ≡ departed client.now by_nick.old }
 {
     if let Some(Client::Registered(nick)) = client {
@@ -164,7 +165,7 @@ pub(crate) fn rename(clients: &mut ClientTable, old: &Nick, new: &Nick) -> Resul
 }
 
 /// The connection of the user with a nickname, where it is a client.
-pub(crate) fn number_of(clients: &ClientTable, nick: &Nick) -> Option<u64>
+pub(crate) fn number_of(clients: &ClientTable, nick: &Nick) -> Option<Conn>
     ensures { result ≡ row clients.now.by_nick (key nick.now) }
 {
     match clients.by_nick.get(nick) {

@@ -1,19 +1,35 @@
-//! What one act does to a server: its clients, its room, its links, and what it puts out. A
-//! [`Stage`] has its fields for itself: its methods alone seat a client, take one out and apply an
-//! effect, and they alone forget what a change makes stale.
+//! A server between two events ([`Stage`]), and while it handles one ([`Serving`], [`Handling`]):
+//! its clients, its room, its links, and what it puts out. What is moved from call to call is the
+//! whole server, so that each clause is one equation. These types alone seat a client, take one
+//! out, open a link and apply an effect; they alone decide on which links a line goes, and forget
+//! what a change makes stale. Definitions are in `specs/`.
 #![tactic(auto)]
 
 mod audience;
+mod branches;
 mod clients;
+mod handling;
+mod link_end;
 mod linked;
 mod listeners;
 mod merging;
+mod numbers;
 mod origin;
+mod parts;
 mod peer;
+mod serving;
 mod stage;
+mod telling;
+mod view;
+mod ways;
 
 pub use clients::{Client, Waiting};
+pub use handling::Handling;
+pub use link_end::LinkEnd;
 pub use linked::Newcomer;
+pub use numbers::{Conn, Link};
 pub use origin::{Origin, Speaker};
 pub use peer::Peer;
+pub use serving::Serving;
 pub use stage::Stage;
+pub use view::View;

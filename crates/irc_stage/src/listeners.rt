@@ -14,6 +14,7 @@ ghost use Rattle.irc_stage.specs.Loops.Listening.{IsListenerGone, IsListenerSeat
 ghost use Rattle.irc_stage.specs.Loops.Listening.{IsNoMove, Leaves, Sets, SetsAt, SetsIf};
 
 use crate::clients::{Client, ClientTable, number_of};
+use crate::numbers::Conn;
 use irc_names::{ChannelName, MAX_CHANNEL, Nick};
 use irc_room::{Effect, Room};
 use irc_tables::{NameMap, NameTable, Row, RowAttempt, RowChange};
@@ -25,7 +26,7 @@ use std::alloc::{AllocError, Global};
 pub(crate) struct Listeners {
     /// By the name of each channel that has such members, the connections of those that are
     /// clients, each under its nickname.
-    pub lists: NameMap<NameTable<u64>>,
+    pub lists: NameMap<NameTable<Conn>>,
     /// Where they take memory from.
     pub alloc: Global,
 }
@@ -43,7 +44,7 @@ impl Listeners {
 
     /// The connections of those that listen in the channel of a name, in folded order of their
     /// nicknames.
-    pub(crate) fn of(&self, channel: &[u8]) -> &[Row<u64>]
+    pub(crate) fn of(&self, channel: &[u8]) -> &[Row<Conn>]
         ensures { map row_entry result.now ≡ conns_in (row self.now.lists (key channel.now)) }
     {
         match self.lists.get(channel) {
@@ -151,7 +152,12 @@ impl Listeners {
     ///
     /// # Errors
     /// Where memory runs out.
-    pub(crate) fn seat(&mut self, room: &Room, conn: u64, client: &Client) -> Result<(), AllocError>
+    pub(crate) fn seat(
+        &mut self,
+        room: &Room,
+        conn: Conn,
+        client: &Client,
+    ) -> Result<(), AllocError>
         ensures { OnOk result (IsListenerSeated room.now.room conn client.now
             self.old.lists self.new.lists) }
     {
@@ -184,7 +190,7 @@ impl Listeners {
         room: &Room,
         nick: &Nick,
         name: &Nick,
-        conn: u64,
+        conn: Conn,
     ) -> Result<(), AllocError>
         ensures { OnOk result (Sets (is_in room.now.room (key nick.now)) (key name.now) (Some conn)
             self.old.lists self.new.lists) }
@@ -193,7 +199,7 @@ impl Listeners {
     }
 
     /// A client is in each of these channels.
-    fn put_each(&mut self, names: &[Row<()>], nick: &Nick, conn: u64) -> Result<(), AllocError>
+    fn put_each(&mut self, names: &[Row<()>], nick: &Nick, conn: Conn) -> Result<(), AllocError>
         ensures { OnOk result (Sets (is_named (map (λ row. key row.name.items) names.now))
             (key nick.now) (Some conn)
             self.old.lists self.new.lists) }
@@ -222,7 +228,7 @@ impl Listeners {
     }
 
     /// A client is in a channel from now on.
-    fn put(&mut self, channel: &[u8], nick: &Nick, conn: u64) -> Result<(), AllocError>
+    fn put(&mut self, channel: &[u8], nick: &Nick, conn: Conn) -> Result<(), AllocError>
         requires { length channel.now ≤ MAX_CHANNEL }
         ensures { OnOk result (SetsAt (key channel.now) (key nick.now) (Some conn)
             self.old.lists self.new.lists) }
@@ -255,15 +261,15 @@ fn know_unmoved(listeners: &Listeners, room: &Room, clients: &ClientTable, effec
 #[derive(Drop)]
 struct Putting<'a> {
     nick: &'a Nick,
-    conn: u64,
+    conn: Conn,
 }
 
-impl<'a> RowAttempt<NameTable<u64>> for Putting<'a> {
+impl<'a> RowAttempt<NameTable<Conn>> for Putting<'a> {
     ghost tried = { λ putting conns. alter (key putting.nick.now) (λ _. Some putting.conn) conns };
 
     ghost surely = { λ putting conns. is_some (row conns (key putting.nick.now)) };
 
-    fn attempt(&self, conns: &mut NameTable<u64>) -> Result<(), AllocError> {
+    fn attempt(&self, conns: &mut NameTable<Conn>) -> Result<(), AllocError> {
         conns.insert(self.nick.as_bytes(), self.conn)
     }
 }
@@ -274,10 +280,10 @@ struct Removing<'a> {
     nick: &'a Nick,
 }
 
-impl<'a> RowChange<NameTable<u64>> for Removing<'a> {
+impl<'a> RowChange<NameTable<Conn>> for Removing<'a> {
     ghost changed = { λ removing conns. without_conn (key removing.nick.now) conns };
 
-    fn change(&self, conns: &mut NameTable<u64>) -> bool {
+    fn change(&self, conns: &mut NameTable<Conn>) -> bool {
         conns.remove(self.nick.as_bytes());
         conns.len() != 0
     }

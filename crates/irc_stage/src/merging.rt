@@ -4,6 +4,7 @@ ghost use Rattle.irc_names.specs.Fold.{key};
 ghost use Rattle.irc_tables.specs.RowViews.{row_entry};
 ghost use Rattle.irc_stage.specs.Loops.Merging.{behind, below, entries_now, merged};
 
+use crate::numbers::Conn;
 use irc_names::compare;
 use irc_tables::Row;
 use std::alloc::{AllocError, Global};
@@ -12,10 +13,10 @@ use std::cmp::Ordering;
 /// Appends those of some rows, from a place on, that stand below another row, and tells the place
 /// behind them; who has the same name as that row is passed over.
 fn push_below<'a>(
-    all: &mut Vec<&'a Row<u64>, Global>,
-    found: &[&'a Row<u64>],
+    all: &mut Vec<&'a Row<Conn>, Global>,
+    found: &[&'a Row<Conn>],
     start: usize,
-    row: &Row<u64>,
+    row: &Row<Conn>,
 ) -> Result<usize, AllocError>
     requires { start ≤ length found.now }
     ensures below { OnOk result (entries_now all.new.items ≡ entries_now all.old.items
@@ -44,9 +45,9 @@ fn push_below<'a>(
 /// Where memory runs out.
 pub(crate) fn merged<'a>(
     alloc: Global,
-    rows: &'a [Row<u64>],
-    found: &[&'a Row<u64>],
-) -> Result<Vec<&'a Row<u64>, Global>, AllocError>
+    rows: &'a [Row<Conn>],
+    found: &[&'a Row<Conn>],
+) -> Result<Vec<&'a Row<Conn>, Global>, AllocError>
     ensures { IfOk result (λ all. entries_now all.items
         ≡ merged (map row_entry rows.now) (entries_now found.now)) }
 {

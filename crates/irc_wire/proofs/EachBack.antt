@@ -8,8 +8,8 @@ use Rattle.std.specs.List.{filter_map, AllByRecursion}
 use Rattle.irc_line.specs.Messages.{IsPlain, IsPlainWord}
 use Rattle.irc_users.specs.declared.user.User.{User}
 use Rattle.irc_modes.specs.declared.modes.ModeChange.{ModeChange}
-use Rattle.irc_mode_words.specs.ModeWritten.{changes_written}
-use Rattle.irc_mode_words.specs.Readable.{AreReadable, is_worded}
+use Rattle.irc_modes.specs.ModeWritten.{changes_written}
+use Rattle.irc_modes.specs.Readable.{AreReadable, is_worded}
 use Rattle.irc_room.specs.effect.By.TheVariants as by
 use Rattle.irc_room.specs.effect.Effect.TheVariants.{AddUser, Rename, Quit, Join, Part, Kick}
 use Rattle.irc_room.specs.effect.Effect.TheVariants.{ChangeModes, SetTopic, Say, Invite, UserMode}

@@ -15,8 +15,8 @@ use Rattle.irc_names.specs.Limits.{max_nick}
 use Rattle.irc_names.specs.Names.{fits, is_host, is_server}
 use Rattle.irc_users.specs.declared.user.User.{User}
 use Rattle.irc_modes.specs.declared.modes.ModeChange.{ModeChange}
-use Rattle.irc_mode_words.specs.ModeWritten.{changes_written, letters_text}
-use Rattle.irc_mode_words.specs.Readable.{AreReadable}
+use Rattle.irc_modes.specs.ModeWritten.{changes_written, letters_text}
+use Rattle.irc_modes.specs.Readable.{AreReadable}
 use Rattle.irc_room.specs.effect.By.TheVariants as by
 use Rattle.irc_room.specs.effect.Effect.TheVariants.{AddUser, Rename, Quit, Join, Part, Kick}
 use Rattle.irc_room.specs.effect.Effect.TheVariants.{ChangeModes, SetTopic, Say, Invite, UserMode}
@@ -34,7 +34,7 @@ use Rattle.irc_wire.specs.Lemmas.LinesReadBack.{by_nickname, channel_short, four
 use Rattle.irc_wire.specs.Lemmas.LinesReadBack.{named_length, nick_short, viewer, wire_whole}
 use Rattle.irc_wire.specs.Lemmas.ModesRead.{words_written}
 use Rattle.irc_wire.specs.Lemmas.StoredNames.{channel_kept, channel_there}
-use Rattle.irc_mode_words.specs.Lemmas.FewChanges.{letters_few}
+use Rattle.irc_modes.specs.Lemmas.FewChanges.{letters_few}
 use Rattle.irc_wire.specs.Lemmas.ModeWords.{mode_words, worded_counted}
 
 -- ---- lengths

@@ -5,9 +5,9 @@ use Rattle.std.specs.List.{list_all}
 use Rattle.irc_line.specs.Messages.{Parsed, message_of}
 use Rattle.irc_names.specs.Names.{IsNick, IsChannel}
 use Rattle.irc_modes.specs.declared.modes.ModeChange.{ModeChange}
-use Rattle.irc_mode_words.specs.ModeLaws.{reworded}
-use Rattle.irc_mode_words.specs.ModeWritten.{changes_written}
-use Rattle.irc_mode_words.specs.Readable.{AreReadable, has_its_word}
+use Rattle.irc_modes.specs.ModeLaws.{reworded}
+use Rattle.irc_modes.specs.ModeWritten.{changes_written}
+use Rattle.irc_modes.specs.Readable.{AreReadable, has_its_word}
 use Rattle.irc_room.specs.effect.By.{By}
 use Rattle.irc_room.specs.effect.By.TheVariants as by
 use Rattle.irc_room.specs.effect.Effect.{Effect}

@@ -7,7 +7,7 @@ use Rattle.irc_line.specs.Messages.{text}
 use Rattle.irc_names.specs.Names.{IsServer}
 use Rattle.irc_users.specs.declared.user.User.{User}
 use Rattle.irc_modes.specs.declared.modes.ModeChange.{ModeChange}
-use Rattle.irc_mode_words.specs.Readable.{AreReadable}
+use Rattle.irc_modes.specs.Readable.{AreReadable}
 use Rattle.irc_room.specs.effect.By.TheVariants as by
 use Rattle.irc_room.specs.effect.Effect.{Effect}
 use Rattle.irc_room.specs.effect.Effect.TheVariants.{AddUser, ChangeModes, SetTopic}

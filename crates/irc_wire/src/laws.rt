@@ -35,7 +35,7 @@ pub fn introduced_is_read()
 pub fn written_changes_are_read()
     ensures { WrittenChangesAreRead }
 {
-    irc_mode_words::laws::written_is_read();
+    irc_modes::laws::written_is_read();
     irc_room::laws::names_are_line_words();
 }
 
@@ -55,10 +55,10 @@ pub fn taken_can_be_sent_on()
     ensures written { TakenCanBeSentOn }
     ensures read { TakenIsReadByTheNext }
 {
-    irc_mode_words::laws::written_is_read();
-    irc_mode_words::laws::some_asked_are_readable();
-    irc_mode_words::laws::reworded_is_written();
-    irc_mode_words::laws::reworded_is_readable();
+    irc_modes::laws::written_is_read();
+    irc_modes::laws::some_asked_are_readable();
+    irc_modes::laws::reworded_is_written();
+    irc_modes::laws::reworded_is_readable();
     irc_room::laws::names_are_line_words();
 }
 

@@ -13,36 +13,36 @@ use Rattle.std.specs.Map.{keys_of}
 use Rattle.std.specs.Ordering.{is_lt, nat_cmp}
 use Rattle.std.specs.declared.cmp.Ordering.TheVariants.{Less}
 use Rattle.irc_line.specs.Lines.{completed, lines, nothing_begun, tail}
-use Rattle.irc_links.specs.Lemmas.Listed.{listed}
-use Rattle.irc_links.specs.Loops.Numbered.{numbered}
+use Rattle.irc_stage.specs.Lemmas.Listed.{listed}
+use Rattle.irc_stage.specs.Loops.Numbered.{numbered}
 use Rattle.irc_tables.specs.Lemmas.OrderedMaps.{get-mapped, put-mapped, taken-mapped}
-use Rattle.irc_wires.specs.Wires.{Wire, lines_by, new_wire, wire_in}
+use Rattle.irc_wires.specs.Wires.{LinkWire, lines_by, new_wire, wire_in}
 
 -- what the code's map has
 
-pub found : (wires : BTreeMap ℕ Wire) (to : ℕ) (wire : Wire)
+pub found : (wires : BTreeMap ℕ LinkWire) (to : ℕ) (wire : LinkWire)
     → number_in nat_cmp wires to ≡ Some wire → get (numbered wires) to ≡ Some wire
 found wires to wire is = get-mapped nat_cmp_total nat_cmp-IsAntisymmetric wires to ∙ is
 
-pub missing : (wires : BTreeMap ℕ Wire) (to : ℕ) → number_in nat_cmp wires to ≡ None
+pub missing : (wires : BTreeMap ℕ LinkWire) (to : ℕ) → number_in nat_cmp wires to ≡ None
     → get (numbered wires) to ≡ None
 missing wires to is = get-mapped nat_cmp_total nat_cmp-IsAntisymmetric wires to ∙ is
 
-pub put : (old new : BTreeMap ℕ Wire) (to : ℕ) (wire : Wire) → UpdatesBy nat_cmp
+pub put : (old new : BTreeMap ℕ LinkWire) (to : ℕ) (wire : LinkWire) → UpdatesBy nat_cmp
     (nat_cmp to) old new (Some wire) → numbered new ≡ insert (numbered old) to wire
 put = put-mapped nat_cmp_total nat_cmp-IsAntisymmetric
 
-pub taken_out : (old new : BTreeMap ℕ Wire) (to : ℕ) → UpdatesBy nat_cmp (nat_cmp to) old new None
-    → numbered new ≡ remove (numbered old) to
+pub taken_out : (old new : BTreeMap ℕ LinkWire) (to : ℕ)
+    → UpdatesBy nat_cmp (nat_cmp to) old new None → numbered new ≡ remove (numbered old) to
 taken_out = taken-mapped nat_cmp_total nat_cmp-IsAntisymmetric
 
 -- the wire to a place
 
-pub there : (wires : BTreeMap ℕ Wire) (to : ℕ) (wire : Wire)
+pub there : (wires : BTreeMap ℕ LinkWire) (to : ℕ) (wire : LinkWire)
     → number_in nat_cmp wires to ≡ Some wire → wire_in to (numbered wires) ≡ wire
 there wires to wire is = ap (λ o. unwrap_or o new_wire) (found wires to wire is)
 
-pub nowhere : (wires : BTreeMap ℕ Wire) (to : ℕ) → number_in nat_cmp wires to ≡ None
+pub nowhere : (wires : BTreeMap ℕ LinkWire) (to : ℕ) → number_in nat_cmp wires to ≡ None
     → wire_in to (numbered wires) ≡ new_wire
 nowhere wires to is = ap (λ o. unwrap_or o new_wire) (missing wires to is)
 
@@ -59,9 +59,9 @@ nothing_completed = refl
 pub none_new : (count : ℕ) → lines_by count new_wire ≡ []
 none_new count = ap (completed nothing_begun) (take_empty count) ∙ nothing_completed
 
-module _ (count : ℕ) (wire : Wire) (new : wire ≡ new_wire) where
+module _ (count : ℕ) (wire : LinkWire) (new : wire ≡ new_wire) where
   pub none_taken : 0 ≡ min count (length wire.bytes)
-  none_taken = least count ∙ sym (ap (λ (w : Wire). min count (length w.bytes)) new)
+  none_taken = least count ∙ sym (ap (λ (w : LinkWire). min count (length w.bytes)) new)
     where
       least : (count : ℕ) → 0 ≡ min count 0
       least count = omega arith
@@ -72,18 +72,19 @@ module _ (count : ℕ) (wire : Wire) (new : wire ≡ new_wire) where
 
 -- the places of the code's map
 
-below : (place : ℕ) (es : List (ℕ × Wire)) → AllByRecursion (λ other. nat_cmp place other ≡ Less)
+below : (place : ℕ) (es : List (ℕ × LinkWire))
+    → AllByRecursion (λ other. nat_cmp place other ≡ Less)
     (keys_of es) → below_all nat_cmp place es ≡ true
 below place [] less = refl
 below place (e ∷ es) less = and_from _ _ (ap is_lt less.0) (below place es less.1)
 
-rising : (es : List (ℕ × Wire)) → IsStrictlySortedBy nat_cmp (keys_of es)
+rising : (es : List (ℕ × LinkWire)) → IsStrictlySortedBy nat_cmp (keys_of es)
     → is_sorted nat_cmp es ≡ true
 unfolding IsStrictlySortedBy
 rising [] sorted = refl
 rising (e ∷ es) sorted = and_from _ _ (below e.0 es sorted.0) (rising es sorted.1)
 
-pub keys_listed : (wires : BTreeMap ℕ Wire) → IsStrictlySortedBy nat_cmp (keys_of wires.entries)
+pub keys_listed : (wires : BTreeMap ℕ LinkWire) → IsStrictlySortedBy nat_cmp (keys_of wires.entries)
     → keys_of wires.entries ≡ keys (numbered wires)
 keys_listed wires sorted =
     sym (ap keys_of (listed wires.entries (subst T (sym (rising wires.entries sorted)) tt)))

@@ -5,7 +5,7 @@ use Rattle.std.proofs.Common.{append_assoc, length-drop}
 use Rattle.std.proofs.lemmas.List.{drop-drop, drop_min, take_min}
 use Rattle.irc_line.specs.Laws.{AreTakenInTurn, PiecesCompleteTheSame}
 use Rattle.irc_line.specs.Lines.{HasTaken, begun_behind, completed, stream_for}
-use Rattle.irc_wires.specs.Wires.{Wire, advanced, has_byte, is_none, lines_by}
+use Rattle.irc_wires.specs.Wires.{LinkWire, advanced, has_byte, is_none, lines_by}
 use Rattle.irc_wires.specs.Loops.Parts.{HasCome}
 
 take_empty : (n : ℕ) → ◌≡◌ {A = List ℕ} (take n []) []
@@ -20,7 +20,7 @@ take_more (suc a) b (byte ∷ bytes) =
     let one : suc a + b ≡ suc (a + b) = omega arith in
     ap (λ n. take n (byte ∷ bytes)) one ∙ ap (λ bs. byte ∷ bs) (take_more a b bytes)
 
-module _ (pieces : PiecesCompleteTheSame) (old : Wire)
+module _ (pieces : PiecesCompleteTheSame) (old : LinkWire)
     (stream : HasTaken old.begun (stream_for old.begun)) where
   turns : (taken used : ℕ)
       → AreTakenInTurn old.begun (take taken old.bytes) (take used (drop taken old.bytes))
@@ -48,7 +48,7 @@ module _ (pieces : PiecesCompleteTheSame) (old : Wire)
     after_is = sym (append-nil lines) ∙ ap (λ ls. lines ++ ls) (sym (pieces old.begun stream).none);
   }
 
-  pub more_come : (count taken used : ℕ) (mid new : Wire)
+  pub more_come : (count taken used : ℕ) (mid new : LinkWire)
       (before between after found : List (List ℕ)) → HasCome count taken old mid before between
       → used ≤ count - taken → used ≤ length mid.bytes → new ≡ advanced used mid
       → found ≡ lines_by used mid → after ≡ between ++ found
@@ -59,7 +59,7 @@ module _ (pieces : PiecesCompleteTheSame) (old : Wire)
         at_most =
             let first = come.at_most in
             let left =
-            ap (λ (w : Wire). length w.bytes) come.new_is ∙ length-drop taken old.bytes in
+            ap (λ (w : LinkWire). length w.bytes) come.new_is ∙ length-drop taken old.bytes in
             omega (arith, first, left, at_most);
         new_is = new_is ∙ ap (advanced used) come.new_is ∙ advanced_on taken used;
         after_is =
@@ -80,12 +80,12 @@ all_taken : (count taken all : ℕ) → taken ≤ count → taken ≤ all → al
     → taken ≡ min count all
 all_taken count taken all first second left = omega arith
 
-module _ (count taken : ℕ) (old new : Wire) (before after : List (List ℕ))
+module _ (count taken : ℕ) (old new : LinkWire) (before after : List (List ℕ))
     (come : HasCome count taken old new before after) (none : has_byte new ≡ false) where
   pub all_come : taken ≡ min count (length old.bytes)
   all_come =
       all_taken count taken (length old.bytes) come.within come.at_most
-      (sym (length-drop taken old.bytes) ∙ sym (ap (λ (w : Wire). length w.bytes) come.new_is)
+      (sym (length-drop taken old.bytes) ∙ sym (ap (λ (w : LinkWire). length w.bytes) come.new_is)
       ∙ no_byte new.bytes none)
 
   same_taken : take taken old.bytes ≡ take count old.bytes

@@ -20,39 +20,39 @@ use Rattle.irc_line.specs.Lines.{Begun, begun_behind, completed, has_nothing, no
 -- ---- one direction of a link
 
 -- what the far end has of a line that is not whole yet, and what is still on its way, in order
-pub record Wire : Type 0 where
+pub record LinkWire : Type 0 where
   pub begun : Begun
   pub bytes : List ℕ
 
 -- nothing was written yet, or all that was has come in whole lines
-abbrev pub new_wire : Wire
+abbrev pub new_wire : LinkWire
 new_wire = record { begun = nothing_begun; bytes = [] }
 
 -- a line is written behind what is on its way, with its CR LF
-abbrev pub written : List ℕ → Wire → Wire
+abbrev pub written : List ℕ → LinkWire → LinkWire
 written line wire = record wire { bytes = wire.bytes ++ (line ++ crlf) }
 
 -- so many bytes have come to the far end, or all where there are fewer
-abbrev pub advanced : ℕ → Wire → Wire
+abbrev pub advanced : ℕ → LinkWire → LinkWire
 advanced count wire = record {
   begun = begun_behind wire.begun (take count wire.bytes);
   bytes = drop count wire.bytes;
 }
 
 -- how many these are
-abbrev pub come_by : ℕ → Wire → ℕ
+abbrev pub come_by : ℕ → LinkWire → ℕ
 come_by count wire = min count (length wire.bytes)
 
 -- the lines that they complete there
-abbrev pub lines_by : ℕ → Wire → List (List ℕ)
+abbrev pub lines_by : ℕ → LinkWire → List (List ℕ)
 lines_by count wire = completed wire.begun (take count wire.bytes)
 
 -- these lines stand behind those that were there before
-abbrev pub Yields : ℕ → Wire → Vec (ArrayVec ℕ) Global → Vec (ArrayVec ℕ) Global → Type 0
+abbrev pub Yields : ℕ → LinkWire → Vec (ArrayVec ℕ) Global → Vec (ArrayVec ℕ) Global → Type 0
 Yields count wire before after = bytes_of after.items ≡ bytes_of before.items ++ lines_by count wire
 
 -- the lines that all that is on its way will complete
-abbrev pub lines_to_come : Wire → List (List ℕ)
+abbrev pub lines_to_come : LinkWire → List (List ℕ)
 lines_to_come wire = completed wire.begun wire.bytes
 
 -- whether there is no byte at all
@@ -61,11 +61,11 @@ is_none [] = true
 is_none (byte ∷ bytes) = false
 
 -- whether a byte is on its way
-abbrev pub has_byte : Wire → Bool
+abbrev pub has_byte : LinkWire → Bool
 has_byte wire = not (is_none wire.bytes)
 
 -- no byte is on its way, and no part of a line has come
-abbrev pub is_still : Wire → Bool
+abbrev pub is_still : LinkWire → Bool
 is_still wire = is_none wire.bytes && has_nothing wire.begun
 
 -- how many bytes there are up to and with the next LF; all where there is none
@@ -77,26 +77,26 @@ through_line_feed (byte ∷ bytes) = if byte == line_feed then 1 else suc (throu
 
 -- Of each server, by its place, the wires from it, under the places of the servers that they go to.
 abbrev pub Wires : Type 0
-Wires = List (FinMap nat_cmp Wire)
+Wires = List (FinMap nat_cmp LinkWire)
 
 -- the wires from the server at this place, if there is one
-abbrev pub from_at : Wires → ℕ → Option (FinMap nat_cmp Wire)
+abbrev pub from_at : Wires → ℕ → Option (FinMap nat_cmp LinkWire)
 from_at wires from = slice_get wires from
 
 -- a direction in which nothing was ever written is as one in which all has come
-abbrev pub wire_in : ℕ → FinMap nat_cmp Wire → Wire
+abbrev pub wire_in : ℕ → FinMap nat_cmp LinkWire → LinkWire
 wire_in to row = unwrap_or (get row to) new_wire
 
 -- from a place where no server is nothing is on its way
-abbrev pub wire_at : Wires → ℕ → ℕ → Wire
+abbrev pub wire_at : Wires → ℕ → ℕ → LinkWire
 wire_at wires from to = option_map_or (wire_in to) (from_at wires from) new_wire
 
 -- a wire is kept only while something is on its way along it
-abbrev pub put_in : ℕ → Wire → FinMap nat_cmp Wire → FinMap nat_cmp Wire
+abbrev pub put_in : ℕ → LinkWire → FinMap nat_cmp LinkWire → FinMap nat_cmp LinkWire
 put_in to wire row = if is_still wire then remove row to else insert row to wire
 
 -- a wire is changed, where there is a server at the place that it is from
-abbrev pub with_wire : ℕ → ℕ → Wire → Wires → Wires
+abbrev pub with_wire : ℕ → ℕ → LinkWire → Wires → Wires
 with_wire from to wire wires =
     option_map_or (λ row. slice_set wires from (put_in to wire row)) (from_at wires from) wires
 
@@ -114,7 +114,7 @@ without_wire from to wires =
     option_map_or (λ row. slice_set wires from (remove row to)) (from_at wires from) wires
 
 -- the same of all wires from one server
-abbrev pub are_still_in : FinMap nat_cmp Wire → Bool
+abbrev pub are_still_in : FinMap nat_cmp LinkWire → Bool
 are_still_in row = list_all (λ to. is_still (wire_in to row)) (keys row)
 
 -- nothing is on its way anywhere, and no line has come in part
@@ -125,7 +125,7 @@ pub record Direction : Type 0 where
   pub from : ℕ
   pub to : ℕ
 
-abbrev pub first_in : FinMap nat_cmp Wire → Option ℕ
+abbrev pub first_in : FinMap nat_cmp LinkWire → Option ℕ
 first_in row = find (λ to. has_byte (wire_in to row)) (keys row)
 
 -- the first direction in which a byte is on its way, by the place that it is from and then the one
@@ -141,8 +141,8 @@ first_direction wires = first_from 0 wires
 -- ---- one representation
 
 -- no wire that is still is kept
-abbrev pub IsLean : FinMap nat_cmp Wire → Type 0
-IsLean row = (to : ℕ) (wire : Wire) → get row to ≡ Some wire → is_still wire ≡ false
+abbrev pub IsLean : FinMap nat_cmp LinkWire → Type 0
+IsLean row = (to : ℕ) (wire : LinkWire) → get row to ≡ Some wire → is_still wire ≡ false
 
 abbrev pub AreLean : Wires → Type 0
 AreLean wires = AllByRecursion IsLean wires

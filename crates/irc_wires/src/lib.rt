@@ -7,5 +7,5 @@ mod row;
 mod wire;
 mod wires;
 
-pub use wire::Wire;
+pub use wire::LinkWire;
 pub use wires::Wires;

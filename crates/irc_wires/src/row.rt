@@ -2,13 +2,13 @@
 ghost use Rattle.std.specs.Prelude.{◌≡◌, ◌≤◌, length, IfOk, OnOk};
 ghost use Rattle.std.specs.FinMap.{empty, remove};
 ghost use Rattle.irc_line.specs.Limits.{max_line};
-ghost use Rattle.irc_links.specs.Loops.Numbered.{numbered};
+ghost use Rattle.irc_stage.specs.Loops.Numbered.{numbered};
 ghost use Rattle.irc_wires.specs.Wires.{IsLean, Yields, are_still_in, come_by, first_in, has_byte};
 ghost use Rattle.irc_wires.specs.Wires.{is_still, new_wire, put_in, through_line_feed, wire_in};
 ghost use Rattle.irc_wires.specs.Wires.{written};
 ghost use Rattle.irc_wires.specs.Loops.Rows.{advanced_in, without_still, written_in};
 
-use crate::wire::Wire;
+use crate::wire::LinkWire;
 use irc_line::Line;
 use std::alloc::{AllocError, Global};
 use std::collections::BTreeMap;
@@ -17,20 +17,20 @@ use std::marker::Model;
 /// The wires from one server, under the places of the servers that they go to. None that is still
 /// is kept.
 #[derive(Drop)]
-pub(crate) struct Row {
-    wires: BTreeMap<u64, Wire, Global>,
+pub(crate) struct WireRow {
+    wires: BTreeMap<u64, LinkWire, Global>,
 }
 
 /// In a clause it is a map of wires.
-impl Model for Row {
+impl Model for WireRow {
     ghost use Rattle.std.specs.Coded.{coded_ℕ};
     ghost use Rattle.std.specs.FinMap.{FinMap, code};
     ghost use Rattle.std.specs.Ordering.{nat_cmp};
-    ghost use Rattle.irc_links.specs.Loops.Numbered.{numbered};
-    ghost use Rattle.irc_wires.specs.Wires.{IsLean, Wire};
-    ghost use Rattle.irc_wires.specs.contracts.wire.Wire.{the_row as wire_row};
+    ghost use Rattle.irc_stage.specs.Loops.Numbered.{numbered};
+    ghost use Rattle.irc_wires.specs.Wires.{IsLean, LinkWire};
+    ghost use Rattle.irc_wires.specs.contracts.wire.LinkWire.{the_row as wire_row};
 
-    ghost Value = { FinMap nat_cmp Wire };
+    ghost Value = { FinMap nat_cmp LinkWire };
 
     ghost coded = { code coded_ℕ wire_row.coded };
 
@@ -39,12 +39,12 @@ impl Model for Row {
     ghost invariant = { λ row. IsLean (numbered row.wires) };
 }
 
-impl Row {
+impl WireRow {
     /// That of a server that has written nothing.
     pub(crate) fn new(alloc: Global) -> Self
         ensures { result ≡ empty }
     {
-        Row {
+        WireRow {
             wires: BTreeMap::new(alloc),
         }
     }
@@ -75,7 +75,7 @@ impl Row {
         requires fits { length line.now ≤ max_line }
         ensures { OnOk result (self.new ≡ put_in to (written line.now new_wire) self.old) }
     {
-        let mut wire = Wire::new(alloc);
+        let mut wire = LinkWire::new(alloc);
         wire.write(line)?;
         match self.wires.insert(to, wire) {
             Ok(_) => Ok(()),
@@ -156,7 +156,7 @@ impl Row {
 }
 
 /// The wire to this place goes where it is still.
-fn without_still(wires: &mut BTreeMap<u64, Wire, Global>, to: u64)
+fn without_still(wires: &mut BTreeMap<u64, LinkWire, Global>, to: u64)
     ensures { numbered wires.new ≡ without_still to (numbered wires.old) }
 {
     if is_still_to(wires, to) {
@@ -165,7 +165,7 @@ fn without_still(wires: &mut BTreeMap<u64, Wire, Global>, to: u64)
 }
 
 /// Whether nothing is on its way to this place, and no part of a line has come there.
-fn is_still_to(wires: &BTreeMap<u64, Wire, Global>, to: u64) -> bool
+fn is_still_to(wires: &BTreeMap<u64, LinkWire, Global>, to: u64) -> bool
     ensures { result ≡ is_still (wire_in to (numbered wires.now)) }
 {
     match wires.get(&to) {

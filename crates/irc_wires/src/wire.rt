@@ -23,7 +23,7 @@ const LINE_FEED: u8 = b'\n';
 
 /// One direction of a link: what is on its way, and the framer at its far end.
 #[derive(Drop)]
-pub struct Wire {
+pub struct LinkWire {
     /// What was written, each a line with its CR LF, the oldest first.
     texts: LinkedList<Text, Global>,
     /// How many bytes of the oldest have come to the far end.
@@ -32,24 +32,24 @@ pub struct Wire {
 }
 
 /// In a clause it is the bytes that are on their way, and what the framer has of a line.
-impl Model for Wire {
+impl Model for LinkWire {
     ghost use Rattle.std.specs.Prelude.{drop};
-    ghost use Rattle.irc_wires.specs.Wires.{Wire};
+    ghost use Rattle.irc_wires.specs.Wires.{LinkWire};
     ghost use Rattle.irc_wires.specs.Loops.Parts.{joined, IsOnItsWay};
 
-    ghost Value = { Wire };
+    ghost Value = { LinkWire };
 
     ghost view = { λ wire. record { begun = wire.framer; bytes = drop wire.come (joined wire.texts) } };
 
     ghost invariant = { λ wire. IsOnItsWay wire.come wire.texts wire.framer };
 }
 
-impl Wire {
+impl LinkWire {
     /// One along which nothing was written yet.
     pub fn new(alloc: Global) -> Self
         ensures { result ≡ new_wire }
     {
-        Wire {
+        LinkWire {
             texts: LinkedList::new(alloc),
             come: 0,
             framer: Framer::new(),

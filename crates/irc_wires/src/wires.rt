@@ -8,8 +8,8 @@ ghost use Rattle.irc_wires.specs.Wires.{first_direction, through_line_feed, wire
 ghost use Rattle.irc_wires.specs.Wires.{written_at};
 ghost use Rattle.irc_wires.specs.Loops.Rows.{direction_of};
 
-use crate::row::Row;
-use irc_forest::{Ends, Place};
+use crate::row::WireRow;
+use irc_forest::{EndPlaces, ServerPlace};
 use irc_line::Line;
 use std::alloc::{AllocError, Global};
 use std::marker::Model;
@@ -20,14 +20,14 @@ use std::marker::Model;
 pub struct Wires {
     alloc: Global,
     /// Those from each server, by its place.
-    rows: Vec<Row, Global>,
+    rows: Vec<WireRow, Global>,
 }
 
 /// In a clause it is the maps of wires, one for each server.
 impl Model for Wires {
     ghost use Rattle.std.specs.Coded.{coded_list};
     ghost use Rattle.irc_wires.specs.Wires.{AreLean, Wires};
-    ghost use Rattle.irc_wires.specs.contracts.row.Row.{the_row as row_row};
+    ghost use Rattle.irc_wires.specs.contracts.row.WireRow.{the_row as row_row};
 
     ghost Value = { Wires };
 
@@ -48,7 +48,7 @@ impl Wires {
     {
         let mut rows = Vec::new(alloc);
         for _ in 0..servers {
-            rows.push(Row::new(alloc))?;
+            rows.push(WireRow::new(alloc))?;
         }
         Ok(Wires { alloc, rows })
     }
@@ -65,7 +65,12 @@ impl Wires {
     ///
     /// # Errors
     /// Where memory runs out.
-    pub fn write(&mut self, from: Place, to: Place, line: &[u8]) -> Result<(), AllocError>
+    pub fn write(
+        &mut self,
+        from: ServerPlace,
+        to: ServerPlace,
+        line: &[u8],
+    ) -> Result<(), AllocError>
         requires fits { length line.now ≤ max_line }
         ensures { OnOk result (self.new ≡ written_at from to line.now self.old) }
     {
@@ -86,8 +91,8 @@ impl Wires {
     /// Where memory runs out.
     pub fn take(
         &mut self,
-        from: Place,
-        to: Place,
+        from: ServerPlace,
+        to: ServerPlace,
         count: usize,
         lines: &mut Vec<Line, Global>,
     ) -> Result<usize, AllocError>
@@ -105,7 +110,7 @@ impl Wires {
 
     /// How many bytes are on their way from one server to another up to and with the next LF; none
     /// where no byte is.
-    pub fn through_line_feed(&self, from: Place, to: Place) -> usize
+    pub fn through_line_feed(&self, from: ServerPlace, to: ServerPlace) -> usize
         ensures { result ≡ through_line_feed (wire_at self.now from to).bytes }
     {
         match self.rows.get(from.index()) {
@@ -115,7 +120,7 @@ impl Wires {
     }
 
     /// Nothing is on its way any more from one server to another, and the framer there begins anew.
-    pub fn close(&mut self, from: Place, to: Place)
+    pub fn close(&mut self, from: ServerPlace, to: ServerPlace)
         ensures { self.new ≡ without_wire from to self.old }
     {
         if let Some(row) = self.rows.get_mut(from.index()) {
@@ -138,16 +143,16 @@ impl Wires {
 
     /// The first direction in which a byte is on its way, by the place that it is from and then the
     /// one where it goes.
-    pub fn first_direction(&self) -> Option<Ends>
+    pub fn first_direction(&self) -> Option<EndPlaces>
         ensures { option_map direction_of result ≡ first_direction self.now }
     {
         let mut from = 0;
         let mut rest = self.rows.as_slice();
         while let Some((row, more)) = rest.split_first() {
             if let Some(to) = row.first() {
-                return Some(Ends {
-                    near: Place::at(from),
-                    far: Place::of_link(to),
+                return Some(EndPlaces {
+                    near: ServerPlace::at(from),
+                    far: ServerPlace::of_link(to),
                 });
             }
             from += 1;

@@ -26,9 +26,9 @@ use Rattle.irc_relay.specs.Links.{Name, Link, joined, links_without}
 use Rattle.irc_acts.specs.declared.act.Act.{Act}
 use Rattle.irc_acts.specs.declared.act.Act.TheVariants.{Answer, Raw, Do}
 use Rattle.irc_acts.specs.Sendable.{AreSendable}
-use Rattle.irc_registering.specs.declared.pending.Pending.{Pending}
+use Rattle.irc_commands.specs.declared.pending.Pending.{Pending}
 use Rattle.irc_commands.specs.Decide.{decide}
-use Rattle.irc_registering.specs.Register.{register, Registered as Given}
+use Rattle.irc_commands.specs.Register.{register, Registered as Given}
 use Rattle.irc_commands.specs.Sendable.{IsPendingWithin, DecidedIsSendable, RegisteringIsSendable}
 use Rattle.irc_merge.specs.LimitLaws.{MergeIsWithinLimits, SplitIsWithinLimits}
 use Rattle.irc_stage.specs.declared.clients.Client.{Client}

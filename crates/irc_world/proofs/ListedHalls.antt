@@ -40,7 +40,7 @@ use Rattle.irc_stage.specs.RoomMachine.{Clients}
 use Rattle.irc_world.specs.World.{Setting, Hall, servers_where}
 use Rattle.irc_world.specs.Stepping.{clashes_in, meeting_lines, split_text, servers_on_side}
 use Rattle.irc_world.specs.Stepping.{leaving_lines}
-use Rattle.irc_registering.specs.Closing.{error_line}
+use Rattle.irc_commands.specs.Closing.{error_line}
 
 abbrev pub hall_of : Clients → ListedRoom → Hall
 hall_of clients room = record { clients = clients; room = room_of room }

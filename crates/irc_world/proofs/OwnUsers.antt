@@ -12,7 +12,7 @@ use Rattle.irc_room.specs.effect.Effect.TheVariants.{ChangeModes, SetTopic, Say,
 use Rattle.irc_acts.specs.declared.act.Act.{Act}
 use Rattle.irc_acts.specs.declared.act.Act.TheVariants.{Answer, Raw, Do}
 use Rattle.irc_commands.specs.Decide.{decide}
-use Rattle.irc_registering.specs.Register.{register, Registered as Given}
+use Rattle.irc_commands.specs.Register.{register, Registered as Given}
 use Rattle.irc_commands.specs.Comings.{adds_user, is_effect, DecidedAddsNobody, RegisteredIsAdded}
 use Rattle.irc_commands.specs.Comings.{UnregisteredChangesNothing}
 use Rattle.irc_stage.specs.declared.clients.Client.{Client}

@@ -12,7 +12,7 @@ use Rattle.irc_relay.specs.Links.{within, over, back}
 use Rattle.irc_relay.specs.Laws.{TestsTell, LinksJoin, LinkBetweenParts, LinkTakenOut}
 use Rattle.irc_relay.specs.Laws.{JoinedOverLink}
 use Rattle.irc_relay.specs.Lemmas.TellingNames.{alike, unlike, tell, same_when}
-use Rattle.irc_registering.specs.declared.pending.Pending.{Pending}
+use Rattle.irc_commands.specs.declared.pending.Pending.{Pending}
 use Rattle.irc_stage.specs.declared.clients.Client.{Client}
 use Rattle.irc_stage.specs.declared.clients.Client.TheVariants.{Registering}
 use Rattle.irc_stage.specs.Handle.{Happening, connects, says, goes, handled}

@@ -12,7 +12,7 @@ use Rattle.irc_room.specs.effect.Effect.{Effect}
 use Rattle.irc_room.specs.effect.Effect.TheVariants.{Quit}
 use Rattle.irc_acts.specs.Acts.{effects_among}
 use Rattle.irc_commands.specs.Decide.{decide}
-use Rattle.irc_registering.specs.Register.{register}
+use Rattle.irc_commands.specs.Register.{register}
 use Rattle.irc_merge.specs.Bursts.{burst}
 use Rattle.irc_relay.specs.Links.{Name, Link, joined, links_without}
 use Rattle.irc_stage.specs.declared.clients.Client.{Client}

@@ -3,7 +3,7 @@
 use Rattle.std.specs.Prelude.{◌≡◌, ℕ, ⊤, true, Some, None, is_some, List, []}
 use Rattle.std.specs.FinMap.{get}
 use Rattle.irc_relay.specs.Links.{Name, AreJoined}
-use Rattle.irc_registering.specs.declared.pending.Pending.{Pending}
+use Rattle.irc_commands.specs.declared.pending.Pending.{Pending}
 use Rattle.irc_stage.specs.declared.clients.Client.TheVariants.{Registering}
 use Rattle.irc_world.specs.World.{Setting, World, home_of, place_at}
 use Rattle.irc_world.specs.Stepping.{Item, connect, line, gone, link, cut, step}

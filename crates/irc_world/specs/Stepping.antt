@@ -21,7 +21,7 @@ use Rattle.irc_stage.specs.Handle.{Happening, connects, says, goes, handled}
 use Rattle.irc_server.specs.Owed.{lines_to}
 use Rattle.irc_world.specs.World.{Setting, Hall, World, servers_where, home_of, machine_at}
 use Rattle.irc_world.specs.World.{with_hall}
-use Rattle.irc_registering.specs.Closing.{error_line}
+use Rattle.irc_commands.specs.Closing.{error_line}
 
 -- What is given to the network: somebody connects to a server, a client says a line or is gone, two
 -- servers are linked, the first of them connecting, or the link between two is lost.

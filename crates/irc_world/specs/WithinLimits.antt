@@ -6,7 +6,7 @@ use Rattle.std.specs.FinMap.{get}
 use Rattle.irc_names.specs.Names.{IsHost, IsServer}
 use Rattle.irc_line.specs.Carried.{IsCarried}
 use Rattle.irc_room.specs.Limits.{IsWithinLimits}
-use Rattle.irc_registering.specs.declared.pending.Pending.{Pending}
+use Rattle.irc_commands.specs.declared.pending.Pending.{Pending}
 use Rattle.irc_commands.specs.Sendable.{IsPendingWithin}
 use Rattle.irc_relay.specs.Links.{Name}
 use Rattle.irc_stage.specs.declared.clients.Client.TheVariants.{Registering}

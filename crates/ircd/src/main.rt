@@ -1,5 +1,5 @@
-//! `ircd sim` runs a script of clients on one IRC server; `ircd serve` serves clients on TCP
-//! sockets.
+//! `ircd sim` runs a script of clients on networks of IRC servers; `ircd serve` serves clients and
+//! linked servers on TCP sockets.
 #![tactic(auto)]
 
 ghost use Rattle.std.specs.Process.{exit_status};
@@ -30,6 +30,7 @@ fn run_words(rt: &HostRuntime) -> ExitCode
     ExitCode::from(run_given(rt))
 }
 
+/// The same, as a number. What is said goes to the process's own streams.
 fn run_given(rt: &HostRuntime) -> u8
     ensures { IsStatus result }
 {

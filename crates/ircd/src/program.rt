@@ -14,11 +14,11 @@ use std::net::Net;
 
 /// Does what the words behind the program's name ask for, and gives the exit status. Where that is
 /// not 0, the reason is written to `errors`. Wrong words are found before anything is read.
-pub fn run<T: AllocGlobal + Files + Net, R: Read, W: Write, E: Write>(
+pub fn run<T: AllocGlobal + Files + Net, R: Read, O: Write, E: Write>(
     rt: &T,
     words: &[String],
     input: &mut R,
-    output: &mut W,
+    output: &mut O,
     errors: &mut E,
 ) -> u8
     ensures status { IsStatus result }
@@ -26,9 +26,9 @@ pub fn run<T: AllocGlobal + Files + Net, R: Read, W: Write, E: Write>(
     ensures usage_told { AsksNothing words.now → TellsUsage E.contents errors.old errors.new }
     ensures unread { AsksNothing words.now → input.new ≡ input.old }
     ensures unwritten { AsksNothing words.now → output.new ≡ output.old }
-    ensures sim { AsksForRun words.now → EndsRunOn R.remaining W.contents E.contents
+    ensures sim { AsksForRun words.now → EndsRunOn R.remaining O.contents E.contents
         result input.old output.old output.new errors.old errors.new }
-    ensures serve { WhereServing words.now (λ file turns. EndsServingOn W.contents E.contents turns
+    ensures serve { WhereServing words.now (λ file turns. EndsServingOn O.contents E.contents turns
         result output.old output.new errors.old errors.new) }
     ensures serve_unread { WhereServing words.now (λ file turns. input.new ≡ input.old) }
 {
@@ -39,13 +39,13 @@ pub fn run<T: AllocGlobal + Files + Net, R: Read, W: Write, E: Write>(
     }
 }
 
-fn run_script<R: Read, W: Write, E: Write>(
+fn run_script<R: Read, O: Write, E: Write>(
     alloc: Global,
     input: &mut R,
-    output: &mut W,
+    output: &mut O,
     errors: &mut E,
 ) -> u8
-    ensures { EndsRunOn R.remaining W.contents E.contents
+    ensures { EndsRunOn R.remaining O.contents E.contents
         result input.old output.old output.new errors.old errors.new }
 {
     let ended = run_sim(alloc, input, output);
@@ -62,14 +62,14 @@ fn stopped(ended: Result<(), SimFault>) -> Result<(), Stop>
     }
 }
 
-fn run_server<T: AllocGlobal + Files + Net, W: Write, E: Write>(
+fn run_server<T: AllocGlobal + Files + Net, O: Write, E: Write>(
     rt: &T,
     file: &str,
     turns: u64,
-    output: &mut W,
+    output: &mut O,
     errors: &mut E,
 ) -> u8
-    ensures { EndsServingOn W.contents E.contents turns
+    ensures { EndsServingOn O.contents E.contents turns
         result output.old output.new errors.old errors.new }
 {
     let ended = serve(rt, file, turns, output, errors);

@@ -22,18 +22,17 @@ use std::net::Net;
 ///
 /// # Errors
 /// - [`Stop::BadConfiguration`] where the file cannot be read, or is no configuration. Then nothing
-/// is printed.
+///   is printed.
 /// - [`Stop::Failed`] where the system lets nobody listen, where `ready` cannot be written, and
-/// behind a turn that is not done: the device
-///   failed, or memory ran out.
-pub fn serve<T: AllocGlobal + Files + Net, W: Write, E: Write>(
+///   behind a turn that is not done: the device failed, or memory ran out.
+pub fn serve<T: AllocGlobal + Files + Net, O: Write, E: Write>(
     rt: &T,
     file: &str,
     turns: u64,
-    output: &mut W,
+    output: &mut O,
     errors: &mut E,
 ) -> Result<(), Stop>
-    ensures { ServesFile turns result (W.contents output.old) (W.contents output.new)
+    ensures { ServesFile turns result (O.contents output.old) (O.contents output.new)
         (E.contents errors.old) (E.contents errors.new) }
 {
     let text = read_file(rt, file)?;
@@ -52,14 +51,14 @@ fn read_file<T: AllocGlobal + Files>(rt: &T, file: &str) -> Result<String, Stop>
 }
 
 /// Serves as a text says.
-fn serve_text<T: AllocGlobal + Net, W: Write, E: Write>(
+fn serve_text<T: AllocGlobal + Net, O: Write, E: Write>(
     rt: &T,
     text: &str,
     turns: u64,
-    output: &mut W,
+    output: &mut O,
     errors: &mut E,
 ) -> Result<(), Stop>
-    ensures { ServesText text.now turns result (W.contents output.old) (W.contents output.new)
+    ensures { ServesText text.now turns result (O.contents output.old) (O.contents output.new)
         (E.contents errors.old) (E.contents errors.new) }
 {
     let setup = read_setup(rt.alloc(), text)?;

@@ -19,7 +19,7 @@ link_room = 8192
 const ROOM: &str = "client_room = 4096\n";
 
 /// What stands behind the first lines of the file, which words there are, and what comes of it.
-struct Row {
+struct ServeRow {
     room: &'static str,
     more: &'static str,
     words: &'static [&'static str],
@@ -39,8 +39,8 @@ const READY: &[u8] = b"ready\n";
 /// The file that each configuration is written to.
 const FILE: &str = "serve_tests.toml";
 
-static ROWS: [Row; 30] = [
-    Row {
+static ROWS: [ServeRow; 30] = [
+    ServeRow {
         room: ROOM,
         more: "",
         words: &["serve", FILE, "0"],
@@ -48,7 +48,7 @@ static ROWS: [Row; 30] = [
         output: READY,
         errors: b"",
     },
-    Row {
+    ServeRow {
         room: ROOM,
         more: "",
         words: &["serve", FILE, "3"],
@@ -56,7 +56,7 @@ static ROWS: [Row; 30] = [
         output: READY,
         errors: b"",
     },
-    Row {
+    ServeRow {
         room: ROOM,
         more: "",
         words: &["serve"],
@@ -64,7 +64,7 @@ static ROWS: [Row; 30] = [
         output: b"",
         errors: USAGE,
     },
-    Row {
+    ServeRow {
         room: ROOM,
         more: "",
         words: &["serve", FILE, "0", "0"],
@@ -72,7 +72,7 @@ static ROWS: [Row; 30] = [
         output: b"",
         errors: USAGE,
     },
-    Row {
+    ServeRow {
         room: ROOM,
         more: "",
         words: &["serve", FILE, "-1"],
@@ -80,7 +80,7 @@ static ROWS: [Row; 30] = [
         output: b"",
         errors: USAGE,
     },
-    Row {
+    ServeRow {
         room: ROOM,
         more: "",
         words: &["serve", FILE, "00"],
@@ -88,7 +88,7 @@ static ROWS: [Row; 30] = [
         output: b"",
         errors: USAGE,
     },
-    Row {
+    ServeRow {
         room: ROOM,
         more: "",
         words: &["serve", FILE, "18446744073709551616"],
@@ -96,7 +96,7 @@ static ROWS: [Row; 30] = [
         output: b"",
         errors: USAGE,
     },
-    Row {
+    ServeRow {
         room: ROOM,
         more: "",
         words: &["Serve", FILE, "0"],
@@ -104,7 +104,7 @@ static ROWS: [Row; 30] = [
         output: b"",
         errors: USAGE,
     },
-    Row {
+    ServeRow {
         room: ROOM,
         more: "",
         words: &["serve", "no_such_file.toml", "0"],
@@ -112,7 +112,7 @@ static ROWS: [Row; 30] = [
         output: b"",
         errors: BAD,
     },
-    Row {
+    ServeRow {
         room: ROOM,
         more: "port = 1\n",
         words: &["serve", FILE, "0"],
@@ -120,7 +120,7 @@ static ROWS: [Row; 30] = [
         output: b"",
         errors: BAD,
     },
-    Row {
+    ServeRow {
         room: ROOM,
         more: "listen_links = \"localhost:0\"\n",
         words: &["serve", FILE, "0"],
@@ -128,7 +128,7 @@ static ROWS: [Row; 30] = [
         output: b"",
         errors: BAD,
     },
-    Row {
+    ServeRow {
         room: ROOM,
         more: "listen_links = \"127.0.0.1:0\"\n",
         words: &["serve", FILE, "0"],
@@ -136,7 +136,7 @@ static ROWS: [Row; 30] = [
         output: READY,
         errors: b"",
     },
-    Row {
+    ServeRow {
         room: ROOM,
         more: "listen_links = \"192.0.2.1:1\"\n",
         words: &["serve", FILE, "0"],
@@ -144,7 +144,7 @@ static ROWS: [Row; 30] = [
         output: b"",
         errors: FAILED,
     },
-    Row {
+    ServeRow {
         room: ROOM,
         more: "[[peer]]\nname = \"b.net\"\npassword = \"pw\"\nconnect = \"127.0.0.1:1\"\n",
         words: &["serve", FILE, "0"],
@@ -152,7 +152,7 @@ static ROWS: [Row; 30] = [
         output: READY,
         errors: b"",
     },
-    Row {
+    ServeRow {
         room: ROOM,
         more: "[[peer]]\nname = \"b.net\"\npassword = \"pw\"\nconnect = \"b.net\"\n",
         words: &["serve", FILE, "0"],
@@ -161,7 +161,7 @@ static ROWS: [Row; 30] = [
         errors: BAD,
     },
     // two that are not there, and one that is not called; behind no turn nothing is told
-    Row {
+    ServeRow {
         room: ROOM,
         more: "[[peer]]\nname = \"b.net\"\npassword = \"pw\"\nconnect = \"127.0.0.1:1\"\n\
 [[peer]]\nname = \"c.net\"\npassword = \"pw\"\n\
@@ -172,7 +172,7 @@ static ROWS: [Row; 30] = [
         errors: b"",
     },
     // one that is called, with a name that is none
-    Row {
+    ServeRow {
         room: ROOM,
         more: "[[peer]]\nname = \"bnet\"\npassword = \"pw\"\nconnect = \"127.0.0.1:1\"\n",
         words: &["serve", FILE, "0"],
@@ -180,7 +180,7 @@ static ROWS: [Row; 30] = [
         output: b"",
         errors: BAD,
     },
-    Row {
+    ServeRow {
         room: ROOM,
         more: "[[peer]]\nname = \"b.net\"\npassword = \":pw\"\n",
         words: &["serve", FILE, "0"],
@@ -188,7 +188,7 @@ static ROWS: [Row; 30] = [
         output: b"",
         errors: BAD,
     },
-    Row {
+    ServeRow {
         room: ROOM,
         more: "[[peer]]\nname = \"a.net\"\npassword = \"pw\"\n",
         words: &["serve", FILE, "0"],
@@ -197,7 +197,7 @@ static ROWS: [Row; 30] = [
         errors: BAD,
     },
     // no TOML
-    Row {
+    ServeRow {
         room: ROOM,
         more: "client_room\n",
         words: &["serve", FILE, "0"],
@@ -206,7 +206,7 @@ static ROWS: [Row; 30] = [
         errors: BAD,
     },
     // no room
-    Row {
+    ServeRow {
         room: "",
         more: "",
         words: &["serve", FILE, "0"],
@@ -215,7 +215,7 @@ static ROWS: [Row; 30] = [
         errors: BAD,
     },
     // a room that is no number, and one that is too small, or too large
-    Row {
+    ServeRow {
         room: "client_room = \"4096\"\n",
         more: "",
         words: &["serve", FILE, "0"],
@@ -223,7 +223,7 @@ static ROWS: [Row; 30] = [
         output: b"",
         errors: BAD,
     },
-    Row {
+    ServeRow {
         room: "client_room = 511\n",
         more: "",
         words: &["serve", FILE, "0"],
@@ -231,7 +231,7 @@ static ROWS: [Row; 30] = [
         output: b"",
         errors: BAD,
     },
-    Row {
+    ServeRow {
         room: "client_room = 1048577\n",
         more: "",
         words: &["serve", FILE, "0"],
@@ -240,7 +240,7 @@ static ROWS: [Row; 30] = [
         errors: BAD,
     },
     // a key that no peer has
-    Row {
+    ServeRow {
         room: ROOM,
         more: "[[peer]]\nname = \"b.net\"\npassword = \"pw\"\nport = 1\n",
         words: &["serve", FILE, "0"],
@@ -249,7 +249,7 @@ static ROWS: [Row; 30] = [
         errors: BAD,
     },
     // one that is called again, and was not there
-    Row {
+    ServeRow {
         room: ROOM,
         more: "[[peer]]\nname = \"b.net\"\npassword = \"pw\"\nconnect = \"127.0.0.1:1\"\nretry = 3600\n",
         words: &["serve", FILE, "3"],
@@ -258,7 +258,7 @@ static ROWS: [Row; 30] = [
         errors: b"ircd: link to b.net: not reached: Connection refused (os error 111)\n",
     },
     // one that would be called again, and is not called
-    Row {
+    ServeRow {
         room: ROOM,
         more: "[[peer]]\nname = \"b.net\"\npassword = \"pw\"\nretry = 1\n",
         words: &["serve", FILE, "0"],
@@ -267,7 +267,7 @@ static ROWS: [Row; 30] = [
         errors: BAD,
     },
     // the most connections of an address, and none
-    Row {
+    ServeRow {
         room: ROOM,
         more: "connections_per_address = 65535\n",
         words: &["serve", FILE, "0"],
@@ -275,7 +275,7 @@ static ROWS: [Row; 30] = [
         output: READY,
         errors: b"",
     },
-    Row {
+    ServeRow {
         room: ROOM,
         more: "connections_per_address = 0\n",
         words: &["serve", FILE, "0"],
@@ -284,7 +284,7 @@ static ROWS: [Row; 30] = [
         errors: BAD,
     },
     // the largest room
-    Row {
+    ServeRow {
         room: "client_room = 1048576\n",
         more: "",
         words: &["serve", FILE, "0"],
@@ -295,7 +295,7 @@ static ROWS: [Row; 30] = [
 ];
 
 /// Whether a configuration is written, with these lines behind the first ones.
-fn is_written(rt: &HostRuntime, row: &Row) -> bool {
+fn is_written(rt: &HostRuntime, row: &ServeRow) -> bool {
     let Ok(mut text) = String::from_str(rt.alloc(), MOST) else {
         return false;
     };
@@ -305,7 +305,7 @@ fn is_written(rt: &HostRuntime, row: &Row) -> bool {
 }
 
 /// Whether the program ends so.
-fn ends_so(rt: &HostRuntime, row: &Row) -> bool {
+fn ends_so(rt: &HostRuntime, row: &ServeRow) -> bool {
     let mut words = Vec::new(rt.alloc());
     let mut output = Vec::new(rt.alloc());
     let mut errors = Vec::new(rt.alloc());

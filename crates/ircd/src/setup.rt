@@ -102,6 +102,7 @@ fn peers(alloc: Global, settings: &[PeerSettings]) -> Result<Vec<Peer, Global>, 
     Ok(peers)
 }
 
+/// Appends a peer.
 fn add(peers: &mut Vec<Peer, Global>, peer: Peer) -> Result<(), AllocError>
     ensures { OnOk result (peers.new.items ≡ peers.old.items ++ peer ∷ []) }
 {
@@ -109,6 +110,7 @@ fn add(peers: &mut Vec<Peer, Global>, peer: Peer) -> Result<(), AllocError>
     Ok(())
 }
 
+/// A peer as its settings have it.
 fn peer_of(alloc: Global, settings: &PeerSettings) -> Result<Peer, AllocError>
     ensures { IfOk result (λ peer. known_peer peer ≡ peer_set settings.now) }
 {

@@ -1,5 +1,7 @@
 //! Why a link is closed, each reason in a handshake or behind it; and that no other link is.
-use crate::happening::{Row, Step, are_put, event_of, happens, line_of, rows_hold, server, takes};
+use crate::happening::{
+    EventRow, LinkEvent, are_put, event_of, happens, line_of, rows_hold, server, takes,
+};
 use irc_batch::{Batch, Out};
 use irc_line::Line;
 use irc_server::{CloseReason, Event, Server, ServerFault};
@@ -7,37 +9,37 @@ use itoa::Buffer;
 use std::alloc::Global;
 
 /// c.net is linked by 8, and cy is its user; al is client 1. b.net opens the link 7.
-static BEFORE: [Step; 8] = [
-    Step::Connects(1),
-    Step::Says(1, b"NICK al"),
-    Step::Says(1, b"USER u 0 * :Al"),
-    Step::IsCalled(8),
-    Step::Hears(8, b"PASS pq 0210010001 TREE|"),
-    Step::Hears(8, b"SERVER c.net 1 1 :C"),
-    Step::Hears(8, b"NICK cy 1 u h 1 + :Cy"),
-    Step::IsCalled(7),
+static BEFORE: [LinkEvent; 8] = [
+    LinkEvent::Connects(1),
+    LinkEvent::Says(1, b"NICK al"),
+    LinkEvent::Says(1, b"USER u 0 * :Al"),
+    LinkEvent::IsCalled(8),
+    LinkEvent::Hears(8, b"PASS pq 0210010001 TREE|"),
+    LinkEvent::Hears(8, b"SERVER c.net 1 1 :C"),
+    LinkEvent::Hears(8, b"NICK cy 1 u h 1 + :Cy"),
+    LinkEvent::IsCalled(7),
 ];
 
 /// b.net gives its password and its name.
-static GREETING: [Step; 2] = [
-    Step::Hears(7, b"PASS pw 0210010001 TREE|"),
-    Step::Hears(7, b"SERVER b.net 1 1 :B"),
+static GREETING: [LinkEvent; 2] = [
+    LinkEvent::Hears(7, b"PASS pw 0210010001 TREE|"),
+    LinkEvent::Hears(7, b"SERVER b.net 1 1 :B"),
 ];
 
 /// f.net is behind it, and al is in a channel with zo of b.net and ed of f.net.
-static CROWD: [Step; 7] = [
-    Step::Says(1, b"JOIN #c"),
-    Step::Hears(7, b"PASS pw 0210010001 TREE|"),
-    Step::Hears(7, b"SERVER b.net 1 1 :B"),
-    Step::Hears(7, b":b.net SERVER f.net 2 7 :F"),
-    Step::Hears(7, b"NICK ed 2 u h 7 + :Ed"),
-    Step::Hears(7, b"NICK zo 1 u h 1 + :Zo"),
-    Step::Hears(7, b":b.net NJOIN #c :ed,zo"),
+static CROWD: [LinkEvent; 7] = [
+    LinkEvent::Says(1, b"JOIN #c"),
+    LinkEvent::Hears(7, b"PASS pw 0210010001 TREE|"),
+    LinkEvent::Hears(7, b"SERVER b.net 1 1 :B"),
+    LinkEvent::Hears(7, b":b.net SERVER f.net 2 7 :F"),
+    LinkEvent::Hears(7, b"NICK ed 2 u h 7 + :Ed"),
+    LinkEvent::Hears(7, b"NICK zo 1 u h 1 + :Zo"),
+    LinkEvent::Hears(7, b":b.net NJOIN #c :ed,zo"),
 ];
 
 /// How far b.net has come.
 #[derive(Clone, Copy)]
-enum Standing {
+enum HandshakeState {
     /// It has not named itself.
     Strange,
     /// It is linked.
@@ -46,19 +48,22 @@ enum Standing {
     Crowded,
 }
 
-impl Standing {
+impl HandshakeState {
     /// What it does for that.
-    fn steps(self) -> &'static [Step] {
+    fn steps(self) -> &'static [LinkEvent] {
         match self {
-            Standing::Strange => &[],
-            Standing::Linked => &GREETING,
-            Standing::Crowded => &CROWD,
+            HandshakeState::Strange => &[],
+            HandshakeState::Linked => &GREETING,
+            HandshakeState::Crowded => &CROWD,
         }
     }
 }
 
 /// A word passes by the other link, and the number of the closed one is free.
-static AFTERWARDS: [Step; 2] = [Step::Says(1, b"PRIVMSG cy :yo"), Step::IsCalled(7)];
+static AFTERWARDS: [LinkEvent; 2] = [
+    LinkEvent::Says(1, b"PRIVMSG cy :yo"),
+    LinkEvent::IsCalled(7),
+];
 
 /// Lines by the link 7, the last of which closes it for a reason.
 type Closing = (&'static [&'static [u8]], CloseReason);
@@ -167,14 +172,14 @@ static FULL_BEHIND: [Closing; 2] = [
 ];
 
 /// What is there already comes no second time.
-static TWICE: [Row; 2] = [
+static TWICE: [EventRow; 2] = [
     // A number that b.net has given to a server.
     (
         &[
-            Step::Hears(7, b"PASS pw 0210010001 TREE|"),
-            Step::Hears(7, b"SERVER b.net 1 1 :B"),
-            Step::Hears(7, b":b.net SERVER d.net 2 2 :D"),
-            Step::Hears(7, b":b.net SERVER e.net 2 2 :E"),
+            LinkEvent::Hears(7, b"PASS pw 0210010001 TREE|"),
+            LinkEvent::Hears(7, b"SERVER b.net 1 1 :B"),
+            LinkEvent::Hears(7, b":b.net SERVER d.net 2 2 :D"),
+            LinkEvent::Hears(7, b":b.net SERVER e.net 2 2 :E"),
         ],
         &[
             Out::LinkLine(7, b"PASS pw 0210010001 TREE|"),
@@ -192,12 +197,12 @@ static TWICE: [Row; 2] = [
     // A server by a second link, which is closed; its first one stays.
     (
         &[
-            Step::Hears(7, b"PASS pw 0210010001 TREE|"),
-            Step::Calls(6, b"b.net"),
-            Step::Hears(6, b"PASS pw 0210010001 TREE|"),
-            Step::Hears(7, b"SERVER b.net 1 1 :B"),
-            Step::Hears(6, b"SERVER b.net 1 1 :B"),
-            Step::Hears(7, b"NICK bo 1 u h 1 + :Bo"),
+            LinkEvent::Hears(7, b"PASS pw 0210010001 TREE|"),
+            LinkEvent::Calls(6, b"b.net"),
+            LinkEvent::Hears(6, b"PASS pw 0210010001 TREE|"),
+            LinkEvent::Hears(7, b"SERVER b.net 1 1 :B"),
+            LinkEvent::Hears(6, b"SERVER b.net 1 1 :B"),
+            LinkEvent::Hears(7, b"NICK bo 1 u h 1 + :Bo"),
         ],
         &[
             Out::LinkLine(6, b"PASS pw 0210010001 TREE|"),
@@ -215,18 +220,18 @@ static TWICE: [Row; 2] = [
 ];
 
 /// What is refused behind the handshake of c.net, and why.
-static REFUSED: [(Step, ServerFault); 8] = [
-    (Step::IsCalled(8), ServerFault::LinkThere),
-    (Step::Calls(8, b"b.net"), ServerFault::LinkThere),
-    (Step::Calls(7, b"x.net"), ServerFault::LinkThere),
+static REFUSED: [(LinkEvent, ServerFault); 8] = [
+    (LinkEvent::IsCalled(8), ServerFault::LinkThere),
+    (LinkEvent::Calls(8, b"b.net"), ServerFault::LinkThere),
+    (LinkEvent::Calls(7, b"x.net"), ServerFault::LinkThere),
     (
-        Step::Hears(9, b"PASS pw 0210010001 TREE|"),
+        LinkEvent::Hears(9, b"PASS pw 0210010001 TREE|"),
         ServerFault::NoSuchLink,
     ),
-    (Step::Loses(1), ServerFault::NoSuchLink),
-    (Step::Connects(1), ServerFault::ConnectionThere),
-    (Step::Says(8, b"PING x"), ServerFault::NoSuchConnection),
-    (Step::Leaves(8), ServerFault::NoSuchConnection),
+    (LinkEvent::Loses(1), ServerFault::NoSuchLink),
+    (LinkEvent::Connects(1), ServerFault::ConnectionThere),
+    (LinkEvent::Says(8, b"PING x"), ServerFault::NoSuchConnection),
+    (LinkEvent::Leaves(8), ServerFault::NoSuchConnection),
 ];
 
 /// The line that tells of a server behind c.net, another one for each number.
@@ -252,14 +257,14 @@ fn fills(server: &mut Server, end: u32, out: &mut Batch) -> bool {
 
 /// Whether what is put out is the end of the link 7 for this reason, then what its loss does,
 /// server by server, and then the word by the other link.
-fn is_put_for(out: &Batch, standing: Standing, reason: CloseReason) -> bool {
+fn is_put_for(out: &Batch, standing: HandshakeState, reason: CloseReason) -> bool {
     let end = Out::LinkClose(7, reason);
     let loss = Out::LinkLine(8, b":a.net SQUIT b.net :a.net b.net");
     let word = Out::LinkLine(8, b":al PRIVMSG cy :yo");
     match standing {
-        Standing::Strange => are_put(out, &[end, word]),
-        Standing::Linked => are_put(out, &[end, loss, word]),
-        Standing::Crowded => {
+        HandshakeState::Strange => are_put(out, &[end, word]),
+        HandshakeState::Linked => are_put(out, &[end, loss, word]),
+        HandshakeState::Crowded => {
             let near = Out::Line(1, b":zo!u@h QUIT :a.net b.net");
             let far = Out::Line(1, b":ed!u@h QUIT :a.net b.net");
             let behind = Out::LinkLine(8, b":a.net SQUIT f.net :a.net b.net");
@@ -279,7 +284,7 @@ fn takes_lines(alloc: Global, server: &mut Server, lines: &[&[u8]], out: &mut Ba
 
 /// Whether a link is closed as a row says, where b.net has come so far, and c.net has told of
 /// servers with numbers below this.
-fn closes(alloc: Global, standing: Standing, end: u32, closing: &Closing) -> bool {
+fn closes(alloc: Global, standing: HandshakeState, end: u32, closing: &Closing) -> bool {
     let Some(mut server) = server(alloc) else {
         return false;
     };
@@ -295,7 +300,7 @@ fn closes(alloc: Global, standing: Standing, end: u32, closing: &Closing) -> boo
 }
 
 /// Whether a link is closed as each row says.
-fn all_close(alloc: Global, standing: Standing, end: u32, closings: &[Closing]) -> bool {
+fn all_close(alloc: Global, standing: HandshakeState, end: u32, closings: &[Closing]) -> bool {
     let mut all = true;
     for closing in closings {
         all &= closes(alloc, standing, end, closing);
@@ -304,7 +309,7 @@ fn all_close(alloc: Global, standing: Standing, end: u32, closings: &[Closing]) 
 }
 
 /// Whether a server refuses a step for this, and puts nothing out.
-fn is_refused(server: &mut Server, step: &Step, wanted: ServerFault, out: &mut Batch) -> bool {
+fn is_refused(server: &mut Server, step: &LinkEvent, wanted: ServerFault, out: &mut Batch) -> bool {
     let Some(event) = event_of(step) else {
         return false;
     };
@@ -326,30 +331,30 @@ fn all_are_refused(alloc: Global) -> bool {
         all &= is_refused(&mut server, step, *fault, &mut out);
     }
     all && takes_lines(alloc, &mut server, &[b"FOO"], &mut out)
-        && is_put_for(&out, Standing::Strange, CloseReason::UnknownCommand)
+        && is_put_for(&out, HandshakeState::Strange, CloseReason::UnknownCommand)
 }
 
 #[test]
 fn a_handshake_closes_a_link(rt: HostRuntime) {
-    assert!(rt; all_close(rt.alloc(), Standing::Strange, 2, &IN_HANDSHAKE));
+    assert!(rt; all_close(rt.alloc(), HandshakeState::Strange, 2, &IN_HANDSHAKE));
 }
 
 #[test]
 fn a_line_behind_the_handshake_closes_a_link(rt: HostRuntime) {
-    assert!(rt; all_close(rt.alloc(), Standing::Linked, 2, &BEHIND_HANDSHAKE));
+    assert!(rt; all_close(rt.alloc(), HandshakeState::Linked, 2, &BEHIND_HANDSHAKE));
 }
 
 #[test]
 fn all_behind_a_closed_link_are_lost(rt: HostRuntime) {
-    assert!(rt; all_close(rt.alloc(), Standing::Crowded, 2, &BEHIND_HANDSHAKE));
+    assert!(rt; all_close(rt.alloc(), HandshakeState::Crowded, 2, &BEHIND_HANDSHAKE));
 }
 
 #[test]
 fn no_server_comes_beyond_the_last(rt: HostRuntime) {
-    assert!(rt; all_close(rt.alloc(), Standing::Strange, 256, &FULL_IN_HANDSHAKE));
+    assert!(rt; all_close(rt.alloc(), HandshakeState::Strange, 256, &FULL_IN_HANDSHAKE));
     assert!(rt;
-        all_close(rt.alloc(), Standing::Linked, 255, &FULL_BEHIND)
-            && all_close(rt.alloc(), Standing::Crowded, 254, &FULL_BEHIND)
+        all_close(rt.alloc(), HandshakeState::Linked, 255, &FULL_BEHIND)
+            && all_close(rt.alloc(), HandshakeState::Crowded, 254, &FULL_BEHIND)
     );
 }
 

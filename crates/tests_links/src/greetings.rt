@@ -1,48 +1,48 @@
 //! Handshakes and bursts, at the end that is called and at the end that calls (RFC 2813 section
 //! 4.1).
-use crate::happening::{Row, Step, rows_hold};
+use crate::happening::{EventRow, LinkEvent, rows_hold};
 use irc_batch::Out;
 use irc_server::CloseReason;
 
 /// Nobody is there.
-static NOBODY: [Step; 0] = [];
+static NOBODY: [LinkEvent; 0] = [];
 
 /// al, client 1, has made #c.
-static ONE_CLIENT: [Step; 6] = [
-    Step::Connects(1),
-    Step::Says(1, b"NICK al"),
-    Step::Says(1, b"USER u 0 * :Al"),
-    Step::Says(1, b"JOIN #c"),
-    Step::Says(1, b"MODE #c +nt"),
-    Step::Says(1, b"TOPIC #c :hello"),
+static ONE_CLIENT: [LinkEvent; 6] = [
+    LinkEvent::Connects(1),
+    LinkEvent::Says(1, b"NICK al"),
+    LinkEvent::Says(1, b"USER u 0 * :Al"),
+    LinkEvent::Says(1, b"JOIN #c"),
+    LinkEvent::Says(1, b"MODE #c +nt"),
+    LinkEvent::Says(1, b"TOPIC #c :hello"),
 ];
 
 /// b.net is linked by 7, with aa.net behind it; bo is on b.net, cy on aa.net.
-static TWO_SERVERS: [Step; 7] = [
-    Step::IsCalled(7),
-    Step::Hears(7, b"PASS pw 0210010001 TREE|"),
-    Step::Hears(7, b"SERVER b.net 1 1 :B"),
-    Step::Hears(7, b":b.net SERVER aa.net 2 2 :Far"),
-    Step::Hears(7, b"NICK bo 1 u h 1 + :Bo"),
-    Step::Hears(7, b"NICK cy 2 u h 2 +i :Cy"),
-    Step::Hears(7, b":b.net NJOIN #c :@bo,+cy"),
+static TWO_SERVERS: [LinkEvent; 7] = [
+    LinkEvent::IsCalled(7),
+    LinkEvent::Hears(7, b"PASS pw 0210010001 TREE|"),
+    LinkEvent::Hears(7, b"SERVER b.net 1 1 :B"),
+    LinkEvent::Hears(7, b":b.net SERVER aa.net 2 2 :Far"),
+    LinkEvent::Hears(7, b"NICK bo 1 u h 1 + :Bo"),
+    LinkEvent::Hears(7, b"NICK cy 2 u h 2 +i :Cy"),
+    LinkEvent::Hears(7, b":b.net NJOIN #c :@bo,+cy"),
 ];
 
-static OF_NOBODY: [Row; 9] = [
+static OF_NOBODY: [EventRow; 9] = [
     // The end that is called waits for both lines.
-    (&[Step::IsCalled(7)], &[]),
+    (&[LinkEvent::IsCalled(7)], &[]),
     (
         &[
-            Step::IsCalled(7),
-            Step::Hears(7, b"PASS pw 0210010001 TREE|"),
+            LinkEvent::IsCalled(7),
+            LinkEvent::Hears(7, b"PASS pw 0210010001 TREE|"),
         ],
         &[],
     ),
     (
         &[
-            Step::IsCalled(7),
-            Step::Hears(7, b"PASS pw 0210010001 TREE|"),
-            Step::Hears(7, b"SERVER b.net 1 1 :B"),
+            LinkEvent::IsCalled(7),
+            LinkEvent::Hears(7, b"PASS pw 0210010001 TREE|"),
+            LinkEvent::Hears(7, b"SERVER b.net 1 1 :B"),
         ],
         &[
             Out::LinkLine(7, b"PASS pw 0210010001 TREE|"),
@@ -51,7 +51,7 @@ static OF_NOBODY: [Row; 9] = [
     ),
     // The end that calls begins, with the password of the peer that it calls.
     (
-        &[Step::Calls(7, b"c.net")],
+        &[LinkEvent::Calls(7, b"c.net")],
         &[
             Out::LinkLine(7, b"PASS pq 0210010001 TREE|"),
             Out::LinkLine(7, b"SERVER a.net 1 1 :A"),
@@ -59,9 +59,9 @@ static OF_NOBODY: [Row; 9] = [
     ),
     (
         &[
-            Step::Calls(7, b"b.net"),
-            Step::Hears(7, b"PASS pw 0210010001 TREE|"),
-            Step::Hears(7, b"SERVER b.net 1 1 :B"),
+            LinkEvent::Calls(7, b"b.net"),
+            LinkEvent::Hears(7, b"PASS pw 0210010001 TREE|"),
+            LinkEvent::Hears(7, b"SERVER b.net 1 1 :B"),
         ],
         &[
             Out::LinkLine(7, b"PASS pw 0210010001 TREE|"),
@@ -70,17 +70,17 @@ static OF_NOBODY: [Row; 9] = [
     ),
     // A server that is no peer is not called, and its link is open no more.
     (
-        &[Step::Calls(7, b"x.net"), Step::IsCalled(7)],
+        &[LinkEvent::Calls(7, b"x.net"), LinkEvent::IsCalled(7)],
         &[Out::LinkClose(7, CloseReason::UnknownPeer)],
     ),
     // Who connects before the link is up is told in the burst; who comes afterwards by a line.
     (
         &[
-            Step::IsCalled(7),
-            Step::Connects(1),
-            Step::Says(1, b"NICK al"),
-            Step::Hears(7, b"PASS pw 0210010001 TREE|"),
-            Step::Hears(7, b"SERVER b.net 1 1 :B"),
+            LinkEvent::IsCalled(7),
+            LinkEvent::Connects(1),
+            LinkEvent::Says(1, b"NICK al"),
+            LinkEvent::Hears(7, b"PASS pw 0210010001 TREE|"),
+            LinkEvent::Hears(7, b"SERVER b.net 1 1 :B"),
         ],
         &[
             Out::LinkLine(7, b"PASS pw 0210010001 TREE|"),
@@ -90,9 +90,9 @@ static OF_NOBODY: [Row; 9] = [
     // The name that was called and the name that comes are not compared.
     (
         &[
-            Step::Calls(7, b"b.net"),
-            Step::Hears(7, b"PASS pq 0210010001 TREE|"),
-            Step::Hears(7, b"SERVER c.net 1 1 :C"),
+            LinkEvent::Calls(7, b"b.net"),
+            LinkEvent::Hears(7, b"PASS pq 0210010001 TREE|"),
+            LinkEvent::Hears(7, b"SERVER c.net 1 1 :C"),
         ],
         &[
             Out::LinkLine(7, b"PASS pw 0210010001 TREE|"),
@@ -102,14 +102,14 @@ static OF_NOBODY: [Row; 9] = [
     // A newcomer is told on each other link that is up, and on none that is not.
     (
         &[
-            Step::IsCalled(7),
-            Step::Hears(7, b"PASS pw 0210010001 TREE|"),
-            Step::Hears(7, b"SERVER b.net 1 1 :B"),
-            Step::IsCalled(9),
-            Step::IsCalled(8),
-            Step::Hears(8, b"PASS pq 0210010001 TREE|"),
-            Step::Hears(8, b"SERVER c.net 1 1 :C"),
-            Step::Hears(8, b":c.net SERVER far.net 2 4 :Far"),
+            LinkEvent::IsCalled(7),
+            LinkEvent::Hears(7, b"PASS pw 0210010001 TREE|"),
+            LinkEvent::Hears(7, b"SERVER b.net 1 1 :B"),
+            LinkEvent::IsCalled(9),
+            LinkEvent::IsCalled(8),
+            LinkEvent::Hears(8, b"PASS pq 0210010001 TREE|"),
+            LinkEvent::Hears(8, b"SERVER c.net 1 1 :C"),
+            LinkEvent::Hears(8, b":c.net SERVER far.net 2 4 :Far"),
         ],
         &[
             Out::LinkLine(7, b"PASS pw 0210010001 TREE|"),
@@ -123,12 +123,12 @@ static OF_NOBODY: [Row; 9] = [
     ),
 ];
 
-static OF_ONE_CLIENT: [Row; 5] = [
+static OF_ONE_CLIENT: [EventRow; 5] = [
     (
         &[
-            Step::IsCalled(7),
-            Step::Hears(7, b"PASS pw 0210010001 TREE|"),
-            Step::Hears(7, b"SERVER b.net 1 1 :B"),
+            LinkEvent::IsCalled(7),
+            LinkEvent::Hears(7, b"PASS pw 0210010001 TREE|"),
+            LinkEvent::Hears(7, b"SERVER b.net 1 1 :B"),
         ],
         &[
             Out::LinkLine(7, b"PASS pw 0210010001 TREE|"),
@@ -142,9 +142,9 @@ static OF_ONE_CLIENT: [Row; 5] = [
     // The end that calls tells its side upon SERVER, and waits for nothing more.
     (
         &[
-            Step::Calls(7, b"b.net"),
-            Step::Hears(7, b"PASS pw 0210010001 TREE|"),
-            Step::Hears(7, b"SERVER b.net 1 1 :B"),
+            LinkEvent::Calls(7, b"b.net"),
+            LinkEvent::Hears(7, b"PASS pw 0210010001 TREE|"),
+            LinkEvent::Hears(7, b"SERVER b.net 1 1 :B"),
         ],
         &[
             Out::LinkLine(7, b"PASS pw 0210010001 TREE|"),
@@ -158,12 +158,12 @@ static OF_ONE_CLIENT: [Row; 5] = [
     // A link counts from SERVER on.
     (
         &[
-            Step::IsCalled(7),
-            Step::Says(1, b"MODE al +i"),
-            Step::Says(1, b"LUSERS"),
-            Step::Hears(7, b"PASS pw 0210010001 TREE|"),
-            Step::Hears(7, b"SERVER b.net 1 1 :B"),
-            Step::Says(1, b"LUSERS"),
+            LinkEvent::IsCalled(7),
+            LinkEvent::Says(1, b"MODE al +i"),
+            LinkEvent::Says(1, b"LUSERS"),
+            LinkEvent::Hears(7, b"PASS pw 0210010001 TREE|"),
+            LinkEvent::Hears(7, b"SERVER b.net 1 1 :B"),
+            LinkEvent::Says(1, b"LUSERS"),
         ],
         &[
             Out::Line(1, b":al!u@h MODE al +i"),
@@ -191,14 +191,14 @@ static OF_ONE_CLIENT: [Row; 5] = [
     // topic that is greater.
     (
         &[
-            Step::Calls(7, b"b.net"),
-            Step::Hears(7, b"PASS pw 0210010001 TREE|"),
-            Step::Hears(7, b"SERVER b.net 1 1 :B"),
-            Step::Hears(7, b"NICK bo 1 u h 1 + :Bo"),
-            Step::Hears(7, b"NICK cy 1 u h 1 + :Cy"),
-            Step::Hears(7, b":b.net NJOIN #c :@+bo,cy"),
-            Step::Hears(7, b":b.net MODE #c +s"),
-            Step::Hears(7, b":b.net TOPIC #c :other"),
+            LinkEvent::Calls(7, b"b.net"),
+            LinkEvent::Hears(7, b"PASS pw 0210010001 TREE|"),
+            LinkEvent::Hears(7, b"SERVER b.net 1 1 :B"),
+            LinkEvent::Hears(7, b"NICK bo 1 u h 1 + :Bo"),
+            LinkEvent::Hears(7, b"NICK cy 1 u h 1 + :Cy"),
+            LinkEvent::Hears(7, b":b.net NJOIN #c :@+bo,cy"),
+            LinkEvent::Hears(7, b":b.net MODE #c +s"),
+            LinkEvent::Hears(7, b":b.net TOPIC #c :other"),
         ],
         &[
             Out::LinkLine(7, b"PASS pw 0210010001 TREE|"),
@@ -218,10 +218,10 @@ static OF_ONE_CLIENT: [Row; 5] = [
     // A closed link is no link: nobody is told.
     (
         &[
-            Step::IsCalled(7),
-            Step::Hears(7, b"PASS xx 0210010001 TREE|"),
-            Step::Hears(7, b"SERVER b.net 1 1 :B"),
-            Step::Says(1, b"TOPIC #c :bye"),
+            LinkEvent::IsCalled(7),
+            LinkEvent::Hears(7, b"PASS xx 0210010001 TREE|"),
+            LinkEvent::Hears(7, b"SERVER b.net 1 1 :B"),
+            LinkEvent::Says(1, b"TOPIC #c :bye"),
         ],
         &[
             Out::LinkClose(7, CloseReason::Password),
@@ -230,14 +230,14 @@ static OF_ONE_CLIENT: [Row; 5] = [
     ),
 ];
 
-static OF_TWO_SERVERS: [Row; 4] = [
+static OF_TWO_SERVERS: [EventRow; 4] = [
     // By distance first, and then by name; each with the number and the distance that the newcomer
     // has to know it by.
     (
         &[
-            Step::IsCalled(9),
-            Step::Hears(9, b"PASS pd 0210010001 TREE|"),
-            Step::Hears(9, b"SERVER d.net 1 1 :D"),
+            LinkEvent::IsCalled(9),
+            LinkEvent::Hears(9, b"PASS pd 0210010001 TREE|"),
+            LinkEvent::Hears(9, b"SERVER d.net 1 1 :D"),
         ],
         &[
             Out::LinkLine(9, b"PASS pd 0210010001 TREE|"),
@@ -253,17 +253,17 @@ static OF_TWO_SERVERS: [Row; 4] = [
     // What comes by one link goes on by the others, with the numbers and distances of the next.
     (
         &[
-            Step::Calls(9, b"d.net"),
-            Step::Hears(9, b"PASS pd 0210010001 TREE|"),
-            Step::Hears(9, b"SERVER d.net 1 1 :D"),
-            Step::Hears(9, b":d.net SERVER e.net 2 9 :E"),
-            Step::Hears(9, b"NICK dee 2 u h 9 +i :Dee"),
-            Step::Hears(9, b":d.net NJOIN #C :@dee,bo"),
-            Step::Hears(9, b":d.net NJOIN #d :@dee"),
-            Step::Hears(9, b":d.net MODE #d +ntk pw"),
-            Step::Hears(9, b":d.net TOPIC #d :hello"),
-            Step::Hears(9, b":d.net MODE #c +s"),
-            Step::Hears(9, b":d.net TOPIC #c :hello"),
+            LinkEvent::Calls(9, b"d.net"),
+            LinkEvent::Hears(9, b"PASS pd 0210010001 TREE|"),
+            LinkEvent::Hears(9, b"SERVER d.net 1 1 :D"),
+            LinkEvent::Hears(9, b":d.net SERVER e.net 2 9 :E"),
+            LinkEvent::Hears(9, b"NICK dee 2 u h 9 +i :Dee"),
+            LinkEvent::Hears(9, b":d.net NJOIN #C :@dee,bo"),
+            LinkEvent::Hears(9, b":d.net NJOIN #d :@dee"),
+            LinkEvent::Hears(9, b":d.net MODE #d +ntk pw"),
+            LinkEvent::Hears(9, b":d.net TOPIC #d :hello"),
+            LinkEvent::Hears(9, b":d.net MODE #c +s"),
+            LinkEvent::Hears(9, b":d.net TOPIC #c :hello"),
         ],
         &[
             Out::LinkLine(9, b"PASS pd 0210010001 TREE|"),
@@ -287,10 +287,10 @@ static OF_TWO_SERVERS: [Row; 4] = [
     // An NJOIN of which nobody is left is not passed on.
     (
         &[
-            Step::Calls(9, b"d.net"),
-            Step::Hears(9, b"PASS pd 0210010001 TREE|"),
-            Step::Hears(9, b"SERVER d.net 1 1 :D"),
-            Step::Hears(9, b":d.net NJOIN #c :@bo,zz"),
+            LinkEvent::Calls(9, b"d.net"),
+            LinkEvent::Hears(9, b"PASS pd 0210010001 TREE|"),
+            LinkEvent::Hears(9, b"SERVER d.net 1 1 :D"),
+            LinkEvent::Hears(9, b":d.net NJOIN #c :@bo,zz"),
         ],
         &[
             Out::LinkLine(9, b"PASS pd 0210010001 TREE|"),
@@ -306,13 +306,13 @@ static OF_TWO_SERVERS: [Row; 4] = [
     // The numbers of lost servers are given anew, the smallest first.
     (
         &[
-            Step::Loses(7),
-            Step::IsCalled(8),
-            Step::Hears(8, b"PASS pq 0210010001 TREE|"),
-            Step::Hears(8, b"SERVER c.net 1 1 :C"),
-            Step::IsCalled(9),
-            Step::Hears(9, b"PASS pd 0210010001 TREE|"),
-            Step::Hears(9, b"SERVER d.net 1 1 :D"),
+            LinkEvent::Loses(7),
+            LinkEvent::IsCalled(8),
+            LinkEvent::Hears(8, b"PASS pq 0210010001 TREE|"),
+            LinkEvent::Hears(8, b"SERVER c.net 1 1 :C"),
+            LinkEvent::IsCalled(9),
+            LinkEvent::Hears(9, b"PASS pd 0210010001 TREE|"),
+            LinkEvent::Hears(9, b"SERVER d.net 1 1 :D"),
         ],
         &[
             Out::LinkLine(8, b"PASS pq 0210010001 TREE|"),

@@ -7,7 +7,7 @@ use irc_server::{Config, Event, Peer, Server};
 use std::alloc::{AllocError, Global};
 
 /// Something that happens to it.
-pub enum Step {
+pub enum LinkEvent {
     /// A client connects from the host h.
     Connects(u64),
     /// A line of a client.
@@ -27,7 +27,7 @@ pub enum Step {
 }
 
 /// What happens, and what is put out for that, in order. A line is without its CR LF here.
-pub type Row = (&'static [Step], &'static [Out<'static>]);
+pub type EventRow = (&'static [LinkEvent], &'static [Out<'static>]);
 
 /// a.net, which describes itself as A, may be linked to b.net, c.net and d.net; these give the
 /// passwords pw, pq and pd.
@@ -85,22 +85,22 @@ fn reads(alloc: Global, server: &mut Server, link: u64, bytes: &[u8], out: &mut 
 }
 
 /// The event of a step; bytes are none before they complete a line.
-pub fn event_of(step: &Step) -> Option<Event> {
+pub fn event_of(step: &LinkEvent) -> Option<Event> {
     match step {
-        Step::Connects(conn) => Some(Event::Connect(*conn, Host::read(b"h")?)),
-        Step::Says(conn, text) => Some(Event::Line(*conn, line_of(text))),
-        Step::Leaves(conn) => Some(Event::Gone(*conn)),
-        Step::IsCalled(link) => Some(Event::LinkUp(*link, None)),
-        Step::Calls(link, name) => Some(Event::LinkUp(*link, ServerName::read(name))),
-        Step::Hears(link, text) => Some(Event::LinkLine(*link, line_of(text))),
-        Step::Loses(link) => Some(Event::LinkDown(*link)),
-        Step::Reads(..) => None,
+        LinkEvent::Connects(conn) => Some(Event::Connect(*conn, Host::read(b"h")?)),
+        LinkEvent::Says(conn, text) => Some(Event::Line(*conn, line_of(text))),
+        LinkEvent::Leaves(conn) => Some(Event::Gone(*conn)),
+        LinkEvent::IsCalled(link) => Some(Event::LinkUp(*link, None)),
+        LinkEvent::Calls(link, name) => Some(Event::LinkUp(*link, ServerName::read(name))),
+        LinkEvent::Hears(link, text) => Some(Event::LinkLine(*link, line_of(text))),
+        LinkEvent::Loses(link) => Some(Event::LinkDown(*link)),
+        LinkEvent::Reads(..) => None,
     }
 }
 
 /// Whether a server takes a step.
-fn takes_step(alloc: Global, server: &mut Server, step: &Step, out: &mut Batch) -> bool {
-    if let Step::Reads(link, bytes) = step {
+fn takes_step(alloc: Global, server: &mut Server, step: &LinkEvent, out: &mut Batch) -> bool {
+    if let LinkEvent::Reads(link, bytes) = step {
         return reads(alloc, server, *link, bytes, out);
     }
     match event_of(step) {
@@ -110,7 +110,7 @@ fn takes_step(alloc: Global, server: &mut Server, step: &Step, out: &mut Batch) 
 }
 
 /// Whether a server takes each of these steps.
-pub fn happens(alloc: Global, server: &mut Server, steps: &[Step], out: &mut Batch) -> bool {
+pub fn happens(alloc: Global, server: &mut Server, steps: &[LinkEvent], out: &mut Batch) -> bool {
     let mut all = true;
     for step in steps {
         all &= takes_step(alloc, server, step, out);
@@ -150,7 +150,7 @@ pub fn are_put(out: &Batch, said: &[Out<'_>]) -> bool {
 }
 
 /// Whether a server that has been through a scene does what a row says.
-fn row_holds(alloc: Global, scene: &[Step], row: &Row) -> bool {
+fn row_holds(alloc: Global, scene: &[LinkEvent], row: &EventRow) -> bool {
     let Some(mut server) = server(alloc) else {
         return false;
     };
@@ -162,7 +162,7 @@ fn row_holds(alloc: Global, scene: &[Step], row: &Row) -> bool {
 }
 
 /// Whether each row holds behind a scene.
-pub fn rows_hold(alloc: Global, scene: &[Step], rows: &[Row]) -> bool {
+pub fn rows_hold(alloc: Global, scene: &[LinkEvent], rows: &[EventRow]) -> bool {
     let mut all = true;
     for row in rows {
         all &= row_holds(alloc, scene, row);

@@ -1,45 +1,45 @@
 //! Channels that two sides have when they are linked: spellings, modes and topics are joined (our
 //! own choice).
-use crate::happening::{Row, Step, rows_hold};
+use crate::happening::{EventRow, LinkEvent, rows_hold};
 use irc_batch::Out;
 
 /// al, client 1, has made #key, #private, #limit, #ban and #Spelled. c.net is linked by 8, with cy,
 /// b.net by 7, with bo: no line of its channels has come.
-static OUR_SIDE: [Step; 22] = [
-    Step::Connects(1),
-    Step::Says(1, b"NICK al"),
-    Step::Says(1, b"USER u 0 * :Al"),
-    Step::Says(1, b"JOIN #key"),
-    Step::Says(1, b"MODE #key +sk aa"),
-    Step::Says(1, b"TOPIC #key :x"),
-    Step::Says(1, b"JOIN #private"),
-    Step::Says(1, b"MODE #private +p"),
-    Step::Says(1, b"JOIN #limit"),
-    Step::Says(1, b"MODE #limit +imntsk aa"),
-    Step::Says(1, b"MODE #limit +l 5"),
-    Step::Says(1, b"JOIN #ban"),
-    Step::Says(1, b"MODE #ban +bbb A!*@* b!*@* x!*@*"),
-    Step::Says(1, b"JOIN #Spelled"),
-    Step::IsCalled(8),
-    Step::Hears(8, b"PASS pq 0210010001 TREE|"),
-    Step::Hears(8, b"SERVER c.net 1 1 :C"),
-    Step::IsCalled(7),
-    Step::Hears(7, b"PASS pw 0210010001 TREE|"),
-    Step::Hears(7, b"SERVER b.net 1 1 :B"),
-    Step::Hears(7, b"NICK bo 1 u h 1 + :Bo"),
-    Step::Hears(8, b"NICK cy 1 u h 1 + :Cy"),
+static OUR_SIDE: [LinkEvent; 22] = [
+    LinkEvent::Connects(1),
+    LinkEvent::Says(1, b"NICK al"),
+    LinkEvent::Says(1, b"USER u 0 * :Al"),
+    LinkEvent::Says(1, b"JOIN #key"),
+    LinkEvent::Says(1, b"MODE #key +sk aa"),
+    LinkEvent::Says(1, b"TOPIC #key :x"),
+    LinkEvent::Says(1, b"JOIN #private"),
+    LinkEvent::Says(1, b"MODE #private +p"),
+    LinkEvent::Says(1, b"JOIN #limit"),
+    LinkEvent::Says(1, b"MODE #limit +imntsk aa"),
+    LinkEvent::Says(1, b"MODE #limit +l 5"),
+    LinkEvent::Says(1, b"JOIN #ban"),
+    LinkEvent::Says(1, b"MODE #ban +bbb A!*@* b!*@* x!*@*"),
+    LinkEvent::Says(1, b"JOIN #Spelled"),
+    LinkEvent::IsCalled(8),
+    LinkEvent::Hears(8, b"PASS pq 0210010001 TREE|"),
+    LinkEvent::Hears(8, b"SERVER c.net 1 1 :C"),
+    LinkEvent::IsCalled(7),
+    LinkEvent::Hears(7, b"PASS pw 0210010001 TREE|"),
+    LinkEvent::Hears(7, b"SERVER b.net 1 1 :B"),
+    LinkEvent::Hears(7, b"NICK bo 1 u h 1 + :Bo"),
+    LinkEvent::Hears(8, b"NICK cy 1 u h 1 + :Cy"),
 ];
 
 /// What b.net tells of the channels, each with modes of its own.
-static THEIRS: [Row; 6] = [
+static THEIRS: [EventRow; 6] = [
     // The greater key takes the place of the lesser one; what is set here alone is shown to nobody
     // here.
     (
         &[
-            Step::Hears(7, b":b.net NJOIN #key :@bo"),
-            Step::Hears(7, b":b.net MODE #key +nk bb"),
-            Step::Says(1, b"MODE #key"),
-            Step::Says(1, b"TOPIC #key"),
+            LinkEvent::Hears(7, b":b.net NJOIN #key :@bo"),
+            LinkEvent::Hears(7, b":b.net MODE #key +nk bb"),
+            LinkEvent::Says(1, b"MODE #key"),
+            LinkEvent::Says(1, b"TOPIC #key"),
         ],
         &[
             Out::Line(1, b":bo!u@h JOIN #key"),
@@ -54,9 +54,9 @@ static THEIRS: [Row; 6] = [
     // Secret is more than private.
     (
         &[
-            Step::Hears(7, b":b.net NJOIN #private :bo"),
-            Step::Hears(7, b":b.net MODE #private +s"),
-            Step::Says(1, b"MODE #private"),
+            LinkEvent::Hears(7, b":b.net NJOIN #private :bo"),
+            LinkEvent::Hears(7, b":b.net MODE #private +s"),
+            LinkEvent::Says(1, b"MODE #private"),
         ],
         &[
             Out::Line(1, b":bo!u@h JOIN #private"),
@@ -69,9 +69,9 @@ static THEIRS: [Row; 6] = [
     // Of one line what raises something is made and shown, and the line goes on as it came.
     (
         &[
-            Step::Hears(7, b":b.net NJOIN #limit :bo"),
-            Step::Hears(7, b":b.net MODE #limit +inptl 50"),
-            Step::Says(1, b"MODE #limit"),
+            LinkEvent::Hears(7, b":b.net NJOIN #limit :bo"),
+            LinkEvent::Hears(7, b":b.net MODE #limit +inptl 50"),
+            LinkEvent::Says(1, b"MODE #limit"),
         ],
         &[
             Out::Line(1, b":bo!u@h JOIN #limit"),
@@ -84,9 +84,9 @@ static THEIRS: [Row; 6] = [
     // Of two spellings of a ban the greater stays.
     (
         &[
-            Step::Hears(7, b":b.net NJOIN #ban :bo"),
-            Step::Hears(7, b":b.net MODE #ban +bbb a!*@* B!*@* y!*@*"),
-            Step::Says(1, b"MODE #ban b"),
+            LinkEvent::Hears(7, b":b.net NJOIN #ban :bo"),
+            LinkEvent::Hears(7, b":b.net MODE #ban +bbb a!*@* B!*@* y!*@*"),
+            LinkEvent::Says(1, b"MODE #ban b"),
         ],
         &[
             Out::Line(1, b":bo!u@h JOIN #ban"),
@@ -103,9 +103,9 @@ static THEIRS: [Row; 6] = [
     // Of two spellings of a channel the greater stays, from its first member on.
     (
         &[
-            Step::Hears(7, b":b.net NJOIN #spelled :@bo"),
-            Step::Hears(7, b":b.net MODE #spelled +m"),
-            Step::Says(1, b"MODE #SPELLED"),
+            LinkEvent::Hears(7, b":b.net NJOIN #spelled :@bo"),
+            LinkEvent::Hears(7, b":b.net MODE #spelled +m"),
+            LinkEvent::Says(1, b"MODE #SPELLED"),
         ],
         &[
             Out::Line(1, b":bo!u@h JOIN #spelled"),
@@ -119,49 +119,49 @@ static THEIRS: [Row; 6] = [
     // Where somebody is left of the members alone.
     (
         &[
-            Step::Hears(7, b":b.net NJOIN #spelled :@zz,@al"),
-            Step::Hears(7, b":b.net MODE #spelled +m"),
-            Step::Hears(7, b":b.net TOPIC #spelled :x"),
-            Step::Says(1, b"MODE #spelled"),
+            LinkEvent::Hears(7, b":b.net NJOIN #spelled :@zz,@al"),
+            LinkEvent::Hears(7, b":b.net MODE #spelled +m"),
+            LinkEvent::Hears(7, b":b.net TOPIC #spelled :x"),
+            LinkEvent::Says(1, b"MODE #spelled"),
         ],
         &[Out::Line(1, b":a.net 324 al #Spelled +")],
     ),
 ];
 
 /// The same the other way round: al has the modes of the other side.
-static OTHER_SIDE: [Step; 22] = [
-    Step::Connects(1),
-    Step::Says(1, b"NICK al"),
-    Step::Says(1, b"USER u 0 * :Al"),
-    Step::Says(1, b"JOIN #key"),
-    Step::Says(1, b"MODE #key +nk bb"),
-    Step::Says(1, b"JOIN #private"),
-    Step::Says(1, b"MODE #private +s"),
-    Step::Says(1, b"JOIN #limit"),
-    Step::Says(1, b"MODE #limit +intp"),
-    Step::Says(1, b"MODE #limit +l 50"),
-    Step::Says(1, b"JOIN #ban"),
-    Step::Says(1, b"MODE #ban +bbb a!*@* B!*@* y!*@*"),
-    Step::Says(1, b"JOIN #spelled"),
-    Step::Says(1, b"MODE #spelled +m"),
-    Step::IsCalled(8),
-    Step::Hears(8, b"PASS pq 0210010001 TREE|"),
-    Step::Hears(8, b"SERVER c.net 1 1 :C"),
-    Step::IsCalled(7),
-    Step::Hears(7, b"PASS pw 0210010001 TREE|"),
-    Step::Hears(7, b"SERVER b.net 1 1 :B"),
-    Step::Hears(7, b"NICK bo 1 u h 1 + :Bo"),
-    Step::Hears(8, b"NICK cy 1 u h 1 + :Cy"),
+static OTHER_SIDE: [LinkEvent; 22] = [
+    LinkEvent::Connects(1),
+    LinkEvent::Says(1, b"NICK al"),
+    LinkEvent::Says(1, b"USER u 0 * :Al"),
+    LinkEvent::Says(1, b"JOIN #key"),
+    LinkEvent::Says(1, b"MODE #key +nk bb"),
+    LinkEvent::Says(1, b"JOIN #private"),
+    LinkEvent::Says(1, b"MODE #private +s"),
+    LinkEvent::Says(1, b"JOIN #limit"),
+    LinkEvent::Says(1, b"MODE #limit +intp"),
+    LinkEvent::Says(1, b"MODE #limit +l 50"),
+    LinkEvent::Says(1, b"JOIN #ban"),
+    LinkEvent::Says(1, b"MODE #ban +bbb a!*@* B!*@* y!*@*"),
+    LinkEvent::Says(1, b"JOIN #spelled"),
+    LinkEvent::Says(1, b"MODE #spelled +m"),
+    LinkEvent::IsCalled(8),
+    LinkEvent::Hears(8, b"PASS pq 0210010001 TREE|"),
+    LinkEvent::Hears(8, b"SERVER c.net 1 1 :C"),
+    LinkEvent::IsCalled(7),
+    LinkEvent::Hears(7, b"PASS pw 0210010001 TREE|"),
+    LinkEvent::Hears(7, b"SERVER b.net 1 1 :B"),
+    LinkEvent::Hears(7, b"NICK bo 1 u h 1 + :Bo"),
+    LinkEvent::Hears(8, b"NICK cy 1 u h 1 + :Cy"),
 ];
 
-static OURS: [Row; 5] = [
+static OURS: [EventRow; 5] = [
     (
         &[
-            Step::Hears(7, b":b.net NJOIN #key :bo"),
-            Step::Hears(7, b":b.net MODE #key +sk aa"),
-            Step::Hears(7, b":b.net TOPIC #key :x"),
-            Step::Says(1, b"MODE #key"),
-            Step::Says(1, b"TOPIC #key"),
+            LinkEvent::Hears(7, b":b.net NJOIN #key :bo"),
+            LinkEvent::Hears(7, b":b.net MODE #key +sk aa"),
+            LinkEvent::Hears(7, b":b.net TOPIC #key :x"),
+            LinkEvent::Says(1, b"MODE #key"),
+            LinkEvent::Says(1, b"TOPIC #key"),
         ],
         &[
             Out::Line(1, b":bo!u@h JOIN #key"),
@@ -177,9 +177,9 @@ static OURS: [Row; 5] = [
     // A line that raises nothing is shown to nobody, and goes on.
     (
         &[
-            Step::Hears(7, b":b.net NJOIN #private :bo"),
-            Step::Hears(7, b":b.net MODE #private +p"),
-            Step::Says(1, b"MODE #private"),
+            LinkEvent::Hears(7, b":b.net NJOIN #private :bo"),
+            LinkEvent::Hears(7, b":b.net MODE #private +p"),
+            LinkEvent::Says(1, b"MODE #private"),
         ],
         &[
             Out::Line(1, b":bo!u@h JOIN #private"),
@@ -190,9 +190,9 @@ static OURS: [Row; 5] = [
     ),
     (
         &[
-            Step::Hears(7, b":b.net NJOIN #limit :bo"),
-            Step::Hears(7, b":b.net MODE #limit +imnstkl aa 5"),
-            Step::Says(1, b"MODE #limit"),
+            LinkEvent::Hears(7, b":b.net NJOIN #limit :bo"),
+            LinkEvent::Hears(7, b":b.net MODE #limit +imnstkl aa 5"),
+            LinkEvent::Says(1, b"MODE #limit"),
         ],
         &[
             Out::Line(1, b":bo!u@h JOIN #limit"),
@@ -204,9 +204,9 @@ static OURS: [Row; 5] = [
     ),
     (
         &[
-            Step::Hears(7, b":b.net NJOIN #ban :bo"),
-            Step::Hears(7, b":b.net MODE #ban +bbb A!*@* b!*@* x!*@*"),
-            Step::Says(1, b"MODE #ban b"),
+            LinkEvent::Hears(7, b":b.net NJOIN #ban :bo"),
+            LinkEvent::Hears(7, b":b.net MODE #ban +bbb A!*@* b!*@* x!*@*"),
+            LinkEvent::Says(1, b"MODE #ban b"),
         ],
         &[
             Out::Line(1, b":bo!u@h JOIN #ban"),
@@ -222,8 +222,8 @@ static OURS: [Row; 5] = [
     ),
     (
         &[
-            Step::Hears(7, b":b.net NJOIN #Spelled :bo"),
-            Step::Says(1, b"MODE #Spelled"),
+            LinkEvent::Hears(7, b":b.net NJOIN #Spelled :bo"),
+            LinkEvent::Says(1, b"MODE #Spelled"),
         ],
         &[
             Out::Line(1, b":bo!u@h JOIN #spelled"),
@@ -234,15 +234,15 @@ static OURS: [Row; 5] = [
 ];
 
 /// Lines of servers in channels of al's, bo of b.net in some of them.
-static LATER: [Row; 7] = [
+static LATER: [EventRow; 7] = [
     // A topic that is not greater is shown to nobody, and goes on.
     (
         &[
-            Step::Hears(7, b":b.net NJOIN #key :bo"),
-            Step::Hears(7, b":b.net TOPIC #key :w"),
-            Step::Hears(7, b":b.net TOPIC #key :x"),
-            Step::Hears(7, b":b.net TOPIC #key :"),
-            Step::Hears(7, b":b.net TOPIC #key :y"),
+            LinkEvent::Hears(7, b":b.net NJOIN #key :bo"),
+            LinkEvent::Hears(7, b":b.net TOPIC #key :w"),
+            LinkEvent::Hears(7, b":b.net TOPIC #key :x"),
+            LinkEvent::Hears(7, b":b.net TOPIC #key :"),
+            LinkEvent::Hears(7, b":b.net TOPIC #key :y"),
         ],
         &[
             Out::Line(1, b":bo!u@h JOIN #key"),
@@ -257,10 +257,10 @@ static LATER: [Row; 7] = [
     // What is taken away is, and a member is given what it is given.
     (
         &[
-            Step::Hears(7, b":b.net NJOIN #limit :bo"),
-            Step::Hears(7, b":b.net MODE #limit -m+o bo"),
-            Step::Hears(7, b":b.net MODE #limit +no bo"),
-            Step::Says(1, b"MODE #limit"),
+            LinkEvent::Hears(7, b":b.net NJOIN #limit :bo"),
+            LinkEvent::Hears(7, b":b.net MODE #limit -m+o bo"),
+            LinkEvent::Hears(7, b":b.net MODE #limit +no bo"),
+            LinkEvent::Says(1, b"MODE #limit"),
         ],
         &[
             Out::Line(1, b":bo!u@h JOIN #limit"),
@@ -275,12 +275,12 @@ static LATER: [Row; 7] = [
     // Changes are judged one after another.
     (
         &[
-            Step::Hears(7, b":b.net NJOIN #ban :bo"),
-            Step::Hears(7, b":b.net MODE #ban +bb Z!*@* z!*@*"),
-            Step::Hears(7, b":b.net MODE #ban +bb y!*@* Y!*@*"),
-            Step::Hears(7, b":b.net MODE #ban +ps"),
-            Step::Hears(7, b":b.net NJOIN #Spelled :bo"),
-            Step::Hears(7, b":b.net MODE #Spelled +sp"),
+            LinkEvent::Hears(7, b":b.net NJOIN #ban :bo"),
+            LinkEvent::Hears(7, b":b.net MODE #ban +bb Z!*@* z!*@*"),
+            LinkEvent::Hears(7, b":b.net MODE #ban +bb y!*@* Y!*@*"),
+            LinkEvent::Hears(7, b":b.net MODE #ban +ps"),
+            LinkEvent::Hears(7, b":b.net NJOIN #Spelled :bo"),
+            LinkEvent::Hears(7, b":b.net MODE #Spelled +sp"),
         ],
         &[
             Out::Line(1, b":bo!u@h JOIN #ban"),
@@ -300,10 +300,10 @@ static LATER: [Row; 7] = [
     // A server's line counts by whoever is behind its link, a user of another server too.
     (
         &[
-            Step::Hears(7, b":b.net SERVER d.net 2 2 :D"),
-            Step::Hears(7, b":b.net NJOIN #KEY :bo"),
-            Step::Hears(7, b":d.net MODE #KEY +nk bb"),
-            Step::Hears(7, b":d.net TOPIC #KEY :y"),
+            LinkEvent::Hears(7, b":b.net SERVER d.net 2 2 :D"),
+            LinkEvent::Hears(7, b":b.net NJOIN #KEY :bo"),
+            LinkEvent::Hears(7, b":d.net MODE #KEY +nk bb"),
+            LinkEvent::Hears(7, b":d.net TOPIC #KEY :y"),
         ],
         &[
             Out::LinkLine(8, b":b.net SERVER d.net 3 4 :D"),
@@ -318,12 +318,12 @@ static LATER: [Row; 7] = [
     // A channel that nobody behind the link is in, and one that is not there.
     (
         &[
-            Step::Hears(7, b":b.net NJOIN #key :bo"),
-            Step::Hears(8, b":c.net MODE #key +n"),
-            Step::Hears(8, b":c.net TOPIC #key :y"),
-            Step::Hears(7, b":b.net MODE #limit +n"),
-            Step::Hears(7, b":b.net TOPIC #limit :y"),
-            Step::Hears(7, b":b.net MODE #none +n"),
+            LinkEvent::Hears(7, b":b.net NJOIN #key :bo"),
+            LinkEvent::Hears(8, b":c.net MODE #key +n"),
+            LinkEvent::Hears(8, b":c.net TOPIC #key :y"),
+            LinkEvent::Hears(7, b":b.net MODE #limit +n"),
+            LinkEvent::Hears(7, b":b.net TOPIC #limit :y"),
+            LinkEvent::Hears(7, b":b.net MODE #none +n"),
         ],
         &[
             Out::Line(1, b":bo!u@h JOIN #key"),
@@ -333,10 +333,10 @@ static LATER: [Row; 7] = [
     // The only one that was in it is killed.
     (
         &[
-            Step::Hears(7, b":b.net NJOIN #key :bo"),
-            Step::Hears(8, b"NICK bo 1 u h 1 + :Bo"),
-            Step::Hears(7, b":b.net MODE #key +n"),
-            Step::Hears(7, b":b.net TOPIC #key :y"),
+            LinkEvent::Hears(7, b":b.net NJOIN #key :bo"),
+            LinkEvent::Hears(8, b"NICK bo 1 u h 1 + :Bo"),
+            LinkEvent::Hears(7, b":b.net MODE #key +n"),
+            LinkEvent::Hears(7, b":b.net TOPIC #key :y"),
         ],
         &[
             Out::Line(1, b":bo!u@h JOIN #key"),
@@ -349,9 +349,9 @@ static LATER: [Row; 7] = [
     // The same burst once more raises nothing.
     (
         &[
-            Step::Hears(7, b":b.net NJOIN #key :bo"),
-            Step::Hears(7, b":b.net MODE #key +nsk bb"),
-            Step::Hears(7, b":b.net MODE #key +nsk bb"),
+            LinkEvent::Hears(7, b":b.net NJOIN #key :bo"),
+            LinkEvent::Hears(7, b":b.net MODE #key +nsk bb"),
+            LinkEvent::Hears(7, b":b.net MODE #key +nsk bb"),
         ],
         &[
             Out::Line(1, b":bo!u@h JOIN #key"),
@@ -364,35 +364,35 @@ static LATER: [Row; 7] = [
 ];
 
 /// al, client 1, and zed, client 2, are in #ZOO. c.net is linked by 8, then b.net by 7, with ben.
-static ZED: [Step; 15] = [
-    Step::Connects(1),
-    Step::Says(1, b"NICK al"),
-    Step::Says(1, b"USER u 0 * :Al"),
-    Step::Connects(2),
-    Step::Says(2, b"NICK zed"),
-    Step::Says(2, b"USER u 0 * :Zed"),
-    Step::Says(1, b"JOIN #ZOO"),
-    Step::Says(2, b"JOIN #ZOO"),
-    Step::IsCalled(8),
-    Step::Hears(8, b"PASS pq 0210010001 TREE|"),
-    Step::Hears(8, b"SERVER c.net 1 1 :C"),
-    Step::IsCalled(7),
-    Step::Hears(7, b"PASS pw 0210010001 TREE|"),
-    Step::Hears(7, b"SERVER b.net 1 1 :B"),
-    Step::Hears(7, b"NICK ben 1 u h 1 + :Ben"),
+static ZED: [LinkEvent; 15] = [
+    LinkEvent::Connects(1),
+    LinkEvent::Says(1, b"NICK al"),
+    LinkEvent::Says(1, b"USER u 0 * :Al"),
+    LinkEvent::Connects(2),
+    LinkEvent::Says(2, b"NICK zed"),
+    LinkEvent::Says(2, b"USER u 0 * :Zed"),
+    LinkEvent::Says(1, b"JOIN #ZOO"),
+    LinkEvent::Says(2, b"JOIN #ZOO"),
+    LinkEvent::IsCalled(8),
+    LinkEvent::Hears(8, b"PASS pq 0210010001 TREE|"),
+    LinkEvent::Hears(8, b"SERVER c.net 1 1 :C"),
+    LinkEvent::IsCalled(7),
+    LinkEvent::Hears(7, b"PASS pw 0210010001 TREE|"),
+    LinkEvent::Hears(7, b"SERVER b.net 1 1 :B"),
+    LinkEvent::Hears(7, b"NICK ben 1 u h 1 + :Ben"),
 ];
 
 /// b.net has a zed too, in #zoo.
-static ZEDS: [Row; 2] = [
+static ZEDS: [EventRow; 2] = [
     // It was alone there: the channel has ended on its side, and nothing of it counts.
     (
         &[
-            Step::Hears(7, b"NICK zed 1 u h 1 + :Zed"),
-            Step::Hears(7, b":b.net NJOIN #zoo :@zed"),
-            Step::Hears(7, b":b.net MODE #zoo +i"),
-            Step::Hears(7, b":b.net TOPIC #zoo :x"),
-            Step::Says(1, b"MODE #zoo"),
-            Step::Says(1, b"TOPIC #zoo"),
+            LinkEvent::Hears(7, b"NICK zed 1 u h 1 + :Zed"),
+            LinkEvent::Hears(7, b":b.net NJOIN #zoo :@zed"),
+            LinkEvent::Hears(7, b":b.net MODE #zoo +i"),
+            LinkEvent::Hears(7, b":b.net TOPIC #zoo :x"),
+            LinkEvent::Says(1, b"MODE #zoo"),
+            LinkEvent::Says(1, b"TOPIC #zoo"),
         ],
         &[
             Out::Line(1, b":zed!u@h QUIT :Killed (Nick collision)"),
@@ -407,12 +407,12 @@ static ZEDS: [Row; 2] = [
     // With ben, who is left.
     (
         &[
-            Step::Hears(7, b"NICK zed 1 u h 1 + :Zed"),
-            Step::Hears(7, b":b.net NJOIN #zoo :@zed,ben"),
-            Step::Hears(7, b":b.net MODE #zoo +i"),
-            Step::Hears(7, b":b.net TOPIC #zoo :x"),
-            Step::Says(1, b"MODE #zoo"),
-            Step::Says(1, b"TOPIC #zoo"),
+            LinkEvent::Hears(7, b"NICK zed 1 u h 1 + :Zed"),
+            LinkEvent::Hears(7, b":b.net NJOIN #zoo :@zed,ben"),
+            LinkEvent::Hears(7, b":b.net MODE #zoo +i"),
+            LinkEvent::Hears(7, b":b.net TOPIC #zoo :x"),
+            LinkEvent::Says(1, b"MODE #zoo"),
+            LinkEvent::Says(1, b"TOPIC #zoo"),
         ],
         &[
             Out::Line(1, b":zed!u@h QUIT :Killed (Nick collision)"),
@@ -433,33 +433,33 @@ static ZEDS: [Row; 2] = [
 ];
 
 /// The same the other way round: al, client 1, is in no channel, and zed, client 2, alone in #zoo.
-static ALONE: [Step; 16] = [
-    Step::Connects(1),
-    Step::Says(1, b"NICK al"),
-    Step::Says(1, b"USER u 0 * :Al"),
-    Step::Connects(2),
-    Step::Says(2, b"NICK zed"),
-    Step::Says(2, b"USER u 0 * :Zed"),
-    Step::Says(2, b"JOIN #zoo"),
-    Step::Says(2, b"MODE #zoo +i"),
-    Step::Says(2, b"TOPIC #zoo :x"),
-    Step::IsCalled(8),
-    Step::Hears(8, b"PASS pq 0210010001 TREE|"),
-    Step::Hears(8, b"SERVER c.net 1 1 :C"),
-    Step::IsCalled(7),
-    Step::Hears(7, b"PASS pw 0210010001 TREE|"),
-    Step::Hears(7, b"SERVER b.net 1 1 :B"),
-    Step::Hears(7, b"NICK ben 1 u h 1 + :Ben"),
+static ALONE: [LinkEvent; 16] = [
+    LinkEvent::Connects(1),
+    LinkEvent::Says(1, b"NICK al"),
+    LinkEvent::Says(1, b"USER u 0 * :Al"),
+    LinkEvent::Connects(2),
+    LinkEvent::Says(2, b"NICK zed"),
+    LinkEvent::Says(2, b"USER u 0 * :Zed"),
+    LinkEvent::Says(2, b"JOIN #zoo"),
+    LinkEvent::Says(2, b"MODE #zoo +i"),
+    LinkEvent::Says(2, b"TOPIC #zoo :x"),
+    LinkEvent::IsCalled(8),
+    LinkEvent::Hears(8, b"PASS pq 0210010001 TREE|"),
+    LinkEvent::Hears(8, b"SERVER c.net 1 1 :C"),
+    LinkEvent::IsCalled(7),
+    LinkEvent::Hears(7, b"PASS pw 0210010001 TREE|"),
+    LinkEvent::Hears(7, b"SERVER b.net 1 1 :B"),
+    LinkEvent::Hears(7, b"NICK ben 1 u h 1 + :Ben"),
 ];
 
 /// The channel of this side has ended before the one of the other is told: that is made anew, with
 /// its own spelling, modes and topic.
-static ENDED: [Row; 1] = [(
+static ENDED: [EventRow; 1] = [(
     &[
-        Step::Hears(7, b"NICK zed 1 u h 1 + :Zed"),
-        Step::Hears(7, b":b.net NJOIN #ZOO :@ben,zed"),
-        Step::Says(1, b"MODE #zoo"),
-        Step::Says(1, b"TOPIC #zoo"),
+        LinkEvent::Hears(7, b"NICK zed 1 u h 1 + :Zed"),
+        LinkEvent::Hears(7, b":b.net NJOIN #ZOO :@ben,zed"),
+        LinkEvent::Says(1, b"MODE #zoo"),
+        LinkEvent::Says(1, b"TOPIC #zoo"),
     ],
     &[
         Out::Line(2, b"ERROR :Closing link (Killed (Nick collision))"),
@@ -473,31 +473,31 @@ static ENDED: [Row; 1] = [(
 )];
 
 /// Three in a row: b.net with bo by 7, a.net, c.net with cy by 8. al, client 1, is in no channel.
-static MIDDLE: [Step; 11] = [
-    Step::Connects(1),
-    Step::Says(1, b"NICK al"),
-    Step::Says(1, b"USER u 0 * :Al"),
-    Step::IsCalled(7),
-    Step::Hears(7, b"PASS pw 0210010001 TREE|"),
-    Step::Hears(7, b"SERVER b.net 1 1 :B"),
-    Step::Hears(7, b"NICK bo 1 u h 1 + :Bo"),
-    Step::IsCalled(8),
-    Step::Hears(8, b"PASS pq 0210010001 TREE|"),
-    Step::Hears(8, b"SERVER c.net 1 1 :C"),
-    Step::Hears(8, b"NICK cy 1 u h 1 + :Cy"),
+static MIDDLE: [LinkEvent; 11] = [
+    LinkEvent::Connects(1),
+    LinkEvent::Says(1, b"NICK al"),
+    LinkEvent::Says(1, b"USER u 0 * :Al"),
+    LinkEvent::IsCalled(7),
+    LinkEvent::Hears(7, b"PASS pw 0210010001 TREE|"),
+    LinkEvent::Hears(7, b"SERVER b.net 1 1 :B"),
+    LinkEvent::Hears(7, b"NICK bo 1 u h 1 + :Bo"),
+    LinkEvent::IsCalled(8),
+    LinkEvent::Hears(8, b"PASS pq 0210010001 TREE|"),
+    LinkEvent::Hears(8, b"SERVER c.net 1 1 :C"),
+    LinkEvent::Hears(8, b"NICK cy 1 u h 1 + :Cy"),
 ];
 
 /// A server without a member joins what it hears, and passes on each line as it came.
-static PASSED_ON: [Row; 1] = [(
+static PASSED_ON: [EventRow; 1] = [(
     &[
-        Step::Hears(7, b":b.net NJOIN #C :@bo"),
-        Step::Hears(7, b":b.net MODE #C +mk aa"),
-        Step::Hears(7, b":b.net TOPIC #C :x"),
-        Step::Hears(8, b":c.net NJOIN #c :@cy"),
-        Step::Hears(8, b":c.net MODE #c +mnk bb"),
-        Step::Hears(8, b":c.net TOPIC #c :w"),
-        Step::Says(1, b"JOIN #c bb"),
-        Step::Says(1, b"MODE #c"),
+        LinkEvent::Hears(7, b":b.net NJOIN #C :@bo"),
+        LinkEvent::Hears(7, b":b.net MODE #C +mk aa"),
+        LinkEvent::Hears(7, b":b.net TOPIC #C :x"),
+        LinkEvent::Hears(8, b":c.net NJOIN #c :@cy"),
+        LinkEvent::Hears(8, b":c.net MODE #c +mnk bb"),
+        LinkEvent::Hears(8, b":c.net TOPIC #c :w"),
+        LinkEvent::Says(1, b"JOIN #c bb"),
+        LinkEvent::Says(1, b"MODE #c"),
     ],
     &[
         Out::LinkLine(8, b":b.net NJOIN #C :@bo"),
@@ -517,29 +517,29 @@ static PASSED_ON: [Row; 1] = [(
 )];
 
 /// Three in a row: cy, client 1, of a.net is in #c, and a.net knows c.net behind b.net, with bo.
-static LAST: [Step; 11] = [
-    Step::Connects(1),
-    Step::Says(1, b"NICK cy"),
-    Step::Says(1, b"USER u 0 * :Cy"),
-    Step::Says(1, b"JOIN #c"),
-    Step::Says(1, b"MODE #c +mnk bb"),
-    Step::Says(1, b"TOPIC #c :w"),
-    Step::IsCalled(7),
-    Step::Hears(7, b"PASS pw 0210010001 TREE|"),
-    Step::Hears(7, b"SERVER b.net 1 1 :B"),
-    Step::Hears(7, b":b.net SERVER c.net 2 2 :C"),
-    Step::Hears(7, b"NICK bo 2 u h 2 + :Bo"),
+static LAST: [LinkEvent; 11] = [
+    LinkEvent::Connects(1),
+    LinkEvent::Says(1, b"NICK cy"),
+    LinkEvent::Says(1, b"USER u 0 * :Cy"),
+    LinkEvent::Says(1, b"JOIN #c"),
+    LinkEvent::Says(1, b"MODE #c +mnk bb"),
+    LinkEvent::Says(1, b"TOPIC #c :w"),
+    LinkEvent::IsCalled(7),
+    LinkEvent::Hears(7, b"PASS pw 0210010001 TREE|"),
+    LinkEvent::Hears(7, b"SERVER b.net 1 1 :B"),
+    LinkEvent::Hears(7, b":b.net SERVER c.net 2 2 :C"),
+    LinkEvent::Hears(7, b"NICK bo 2 u h 2 + :Bo"),
 ];
 
 /// The last of them has the same channel as the one in the middle: in its spelling, with all modes
 /// and the greater topic.
-static COME_TO_THE_LAST: [Row; 1] = [(
+static COME_TO_THE_LAST: [EventRow; 1] = [(
     &[
-        Step::Hears(7, b":c.net NJOIN #C :@bo"),
-        Step::Hears(7, b":c.net MODE #C +mk aa"),
-        Step::Hears(7, b":c.net TOPIC #C :x"),
-        Step::Says(1, b"MODE #c"),
-        Step::Says(1, b"TOPIC #c"),
+        LinkEvent::Hears(7, b":c.net NJOIN #C :@bo"),
+        LinkEvent::Hears(7, b":c.net MODE #C +mk aa"),
+        LinkEvent::Hears(7, b":c.net TOPIC #C :x"),
+        LinkEvent::Says(1, b"MODE #c"),
+        LinkEvent::Says(1, b"TOPIC #c"),
     ],
     &[
         Out::Line(1, b":bo!u@h JOIN #c"),
@@ -551,36 +551,36 @@ static COME_TO_THE_LAST: [Row; 1] = [(
 )];
 
 /// al, client 1, has made #c, with 20 bans; b.net is linked by 7, with bo.
-static TWENTY_BANS: [Step; 15] = [
-    Step::Connects(1),
-    Step::Says(1, b"NICK al"),
-    Step::Says(1, b"USER u 0 * :Al"),
-    Step::Says(1, b"JOIN #c"),
-    Step::Says(1, b"MODE #c +bbb a00!*@* a01!*@* a02!*@*"),
-    Step::Says(1, b"MODE #c +bbb a03!*@* a04!*@* a05!*@*"),
-    Step::Says(1, b"MODE #c +bbb a06!*@* a07!*@* a08!*@*"),
-    Step::Says(1, b"MODE #c +bbb a09!*@* a10!*@* a11!*@*"),
-    Step::Says(1, b"MODE #c +bbb a12!*@* a13!*@* a14!*@*"),
-    Step::Says(1, b"MODE #c +bbb a15!*@* a16!*@* a17!*@*"),
-    Step::Says(1, b"MODE #c +bb a18!*@* a19!*@*"),
-    Step::IsCalled(7),
-    Step::Hears(7, b"PASS pw 0210010001 TREE|"),
-    Step::Hears(7, b"SERVER b.net 1 1 :B"),
-    Step::Hears(7, b"NICK bo 1 u h 1 + :Bo"),
+static TWENTY_BANS: [LinkEvent; 15] = [
+    LinkEvent::Connects(1),
+    LinkEvent::Says(1, b"NICK al"),
+    LinkEvent::Says(1, b"USER u 0 * :Al"),
+    LinkEvent::Says(1, b"JOIN #c"),
+    LinkEvent::Says(1, b"MODE #c +bbb a00!*@* a01!*@* a02!*@*"),
+    LinkEvent::Says(1, b"MODE #c +bbb a03!*@* a04!*@* a05!*@*"),
+    LinkEvent::Says(1, b"MODE #c +bbb a06!*@* a07!*@* a08!*@*"),
+    LinkEvent::Says(1, b"MODE #c +bbb a09!*@* a10!*@* a11!*@*"),
+    LinkEvent::Says(1, b"MODE #c +bbb a12!*@* a13!*@* a14!*@*"),
+    LinkEvent::Says(1, b"MODE #c +bbb a15!*@* a16!*@* a17!*@*"),
+    LinkEvent::Says(1, b"MODE #c +bb a18!*@* a19!*@*"),
+    LinkEvent::IsCalled(7),
+    LinkEvent::Hears(7, b"PASS pw 0210010001 TREE|"),
+    LinkEvent::Hears(7, b"SERVER b.net 1 1 :B"),
+    LinkEvent::Hears(7, b"NICK bo 1 u h 1 + :Bo"),
 ];
 
 /// Twenty others come, three a line: more than a client may set. One more is refused to al.
-static TWENTY_MORE: [Row; 1] = [(
+static TWENTY_MORE: [EventRow; 1] = [(
     &[
-        Step::Hears(7, b":b.net NJOIN #c :bo"),
-        Step::Hears(7, b":b.net MODE #c +bbb b00!*@* b01!*@* b02!*@*"),
-        Step::Hears(7, b":b.net MODE #c +bbb b03!*@* b04!*@* b05!*@*"),
-        Step::Hears(7, b":b.net MODE #c +bbb b06!*@* b07!*@* b08!*@*"),
-        Step::Hears(7, b":b.net MODE #c +bbb b09!*@* b10!*@* b11!*@*"),
-        Step::Hears(7, b":b.net MODE #c +bbb b12!*@* b13!*@* b14!*@*"),
-        Step::Hears(7, b":b.net MODE #c +bbb b15!*@* b16!*@* b17!*@*"),
-        Step::Hears(7, b":b.net MODE #c +bb b18!*@* b19!*@*"),
-        Step::Says(1, b"MODE #c +b c!*@*"),
+        LinkEvent::Hears(7, b":b.net NJOIN #c :bo"),
+        LinkEvent::Hears(7, b":b.net MODE #c +bbb b00!*@* b01!*@* b02!*@*"),
+        LinkEvent::Hears(7, b":b.net MODE #c +bbb b03!*@* b04!*@* b05!*@*"),
+        LinkEvent::Hears(7, b":b.net MODE #c +bbb b06!*@* b07!*@* b08!*@*"),
+        LinkEvent::Hears(7, b":b.net MODE #c +bbb b09!*@* b10!*@* b11!*@*"),
+        LinkEvent::Hears(7, b":b.net MODE #c +bbb b12!*@* b13!*@* b14!*@*"),
+        LinkEvent::Hears(7, b":b.net MODE #c +bbb b15!*@* b16!*@* b17!*@*"),
+        LinkEvent::Hears(7, b":b.net MODE #c +bb b18!*@* b19!*@*"),
+        LinkEvent::Says(1, b"MODE #c +b c!*@*"),
     ],
     &[
         Out::Line(1, b":bo!u@h JOIN #c"),

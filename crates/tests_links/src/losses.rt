@@ -1,40 +1,40 @@
 //! Servers that are lost, by a SQUIT or with a link (RFC 2813 section 4.1.6).
-use crate::happening::{Row, Step, rows_hold};
+use crate::happening::{EventRow, LinkEvent, rows_hold};
 use irc_batch::Out;
 use irc_server::CloseReason;
 
 /// b.net is linked by 7, with aa.net behind it, and c.net by 8. zed (client 1), al (client 2), bo
 /// and ed of b.net, cy of aa.net and dee of c.net are in #c; fay of b.net is not.
-static SCENE: [Step; 22] = [
-    Step::Connects(1),
-    Step::Says(1, b"NICK zed"),
-    Step::Says(1, b"USER u 0 * :Zed"),
-    Step::Connects(2),
-    Step::Says(2, b"NICK al"),
-    Step::Says(2, b"USER u 0 * :Al"),
-    Step::Says(1, b"JOIN #c"),
-    Step::Says(2, b"JOIN #c"),
-    Step::IsCalled(7),
-    Step::Hears(7, b"PASS pw 0210010001 TREE|"),
-    Step::Hears(7, b"SERVER b.net 1 1 :B"),
-    Step::Hears(7, b":b.net SERVER aa.net 2 2 :Far"),
-    Step::Hears(7, b"NICK ed 1 u h 1 + :Ed"),
-    Step::Hears(7, b"NICK bo 1 u h 1 + :Bo"),
-    Step::Hears(7, b"NICK fay 1 u h 1 + :Fay"),
-    Step::Hears(7, b"NICK cy 2 u h 2 + :Cy"),
-    Step::Hears(7, b":b.net NJOIN #c :bo,cy,ed"),
-    Step::IsCalled(8),
-    Step::Hears(8, b"PASS pq 0210010001 TREE|"),
-    Step::Hears(8, b"SERVER c.net 1 1 :C"),
-    Step::Hears(8, b"NICK dee 1 u h 1 + :Dee"),
-    Step::Hears(8, b":c.net NJOIN #c :dee"),
+static SCENE: [LinkEvent; 22] = [
+    LinkEvent::Connects(1),
+    LinkEvent::Says(1, b"NICK zed"),
+    LinkEvent::Says(1, b"USER u 0 * :Zed"),
+    LinkEvent::Connects(2),
+    LinkEvent::Says(2, b"NICK al"),
+    LinkEvent::Says(2, b"USER u 0 * :Al"),
+    LinkEvent::Says(1, b"JOIN #c"),
+    LinkEvent::Says(2, b"JOIN #c"),
+    LinkEvent::IsCalled(7),
+    LinkEvent::Hears(7, b"PASS pw 0210010001 TREE|"),
+    LinkEvent::Hears(7, b"SERVER b.net 1 1 :B"),
+    LinkEvent::Hears(7, b":b.net SERVER aa.net 2 2 :Far"),
+    LinkEvent::Hears(7, b"NICK ed 1 u h 1 + :Ed"),
+    LinkEvent::Hears(7, b"NICK bo 1 u h 1 + :Bo"),
+    LinkEvent::Hears(7, b"NICK fay 1 u h 1 + :Fay"),
+    LinkEvent::Hears(7, b"NICK cy 2 u h 2 + :Cy"),
+    LinkEvent::Hears(7, b":b.net NJOIN #c :bo,cy,ed"),
+    LinkEvent::IsCalled(8),
+    LinkEvent::Hears(8, b"PASS pq 0210010001 TREE|"),
+    LinkEvent::Hears(8, b"SERVER c.net 1 1 :C"),
+    LinkEvent::Hears(8, b"NICK dee 1 u h 1 + :Dee"),
+    LinkEvent::Hears(8, b":c.net NJOIN #c :dee"),
 ];
 
-static ROWS: [Row; 9] = [
+static ROWS: [EventRow; 9] = [
     // All behind a link are lost with it, in order of name; the users of each quit in order of
     // nickname, with the two ends of the link as text.
     (
-        &[Step::Loses(7)],
+        &[LinkEvent::Loses(7)],
         &[
             Out::Line(2, b":cy!u@h QUIT :a.net b.net"),
             Out::Line(1, b":cy!u@h QUIT :a.net b.net"),
@@ -48,7 +48,7 @@ static ROWS: [Row; 9] = [
     ),
     // A link that is closed is lost.
     (
-        &[Step::Hears(8, b"FOO")],
+        &[LinkEvent::Hears(8, b"FOO")],
         &[
             Out::LinkClose(8, CloseReason::UnknownCommand),
             Out::Line(2, b":dee!u@h QUIT :a.net c.net"),
@@ -60,9 +60,9 @@ static ROWS: [Row; 9] = [
     // free then.
     (
         &[
-            Step::Hears(7, b":b.net SQUIT aa.net :b.net aa.net"),
-            Step::Hears(7, b":b.net SERVER g.net 2 2 :G"),
-            Step::Says(1, b"LUSERS"),
+            LinkEvent::Hears(7, b":b.net SQUIT aa.net :b.net aa.net"),
+            LinkEvent::Hears(7, b":b.net SERVER g.net 2 2 :G"),
+            LinkEvent::Says(1, b"LUSERS"),
         ],
         &[
             Out::Line(2, b":cy!u@h QUIT :b.net aa.net"),
@@ -80,12 +80,12 @@ static ROWS: [Row; 9] = [
     // What is lost is known no more: its users' lines say nothing, and its links tell of it again.
     (
         &[
-            Step::Loses(8),
-            Step::Says(1, b"PRIVMSG dee :x"),
-            Step::IsCalled(8),
-            Step::Hears(8, b"PASS pq 0210010001 TREE|"),
-            Step::Hears(8, b"SERVER c.net 1 1 :C"),
-            Step::Hears(8, b":dee QUIT :x"),
+            LinkEvent::Loses(8),
+            LinkEvent::Says(1, b"PRIVMSG dee :x"),
+            LinkEvent::IsCalled(8),
+            LinkEvent::Hears(8, b"PASS pq 0210010001 TREE|"),
+            LinkEvent::Hears(8, b"SERVER c.net 1 1 :C"),
+            LinkEvent::Hears(8, b":dee QUIT :x"),
         ],
         &[
             Out::Line(2, b":dee!u@h QUIT :a.net c.net"),
@@ -110,11 +110,11 @@ static ROWS: [Row; 9] = [
     // afterwards.
     (
         &[
-            Step::IsCalled(9),
-            Step::Loses(9),
-            Step::Calls(9, b"d.net"),
-            Step::Hears(9, b"PASS pd 0210010001 TREE|"),
-            Step::Loses(9),
+            LinkEvent::IsCalled(9),
+            LinkEvent::Loses(9),
+            LinkEvent::Calls(9, b"d.net"),
+            LinkEvent::Hears(9, b"PASS pd 0210010001 TREE|"),
+            LinkEvent::Loses(9),
         ],
         &[
             Out::LinkLine(9, b"PASS pd 0210010001 TREE|"),
@@ -123,7 +123,7 @@ static ROWS: [Row; 9] = [
     ),
     // The last link is lost: nobody is told on a link.
     (
-        &[Step::Loses(7), Step::Loses(8)],
+        &[LinkEvent::Loses(7), LinkEvent::Loses(8)],
         &[
             Out::Line(2, b":cy!u@h QUIT :a.net b.net"),
             Out::Line(1, b":cy!u@h QUIT :a.net b.net"),
@@ -140,8 +140,8 @@ static ROWS: [Row; 9] = [
     // The front of a line says nothing, when the link is lost behind it.
     (
         &[
-            Step::Reads(7, b":b.net TOPIC #none :x\r\n:b.net NJOIN #c :fa"),
-            Step::Loses(7),
+            LinkEvent::Reads(7, b":b.net TOPIC #none :x\r\n:b.net NJOIN #c :fa"),
+            LinkEvent::Loses(7),
         ],
         &[
             Out::Line(2, b":cy!u@h QUIT :a.net b.net"),
@@ -156,7 +156,7 @@ static ROWS: [Row; 9] = [
     ),
     // A client of the server's own: the others are told by its QUIT alone.
     (
-        &[Step::Leaves(1)],
+        &[LinkEvent::Leaves(1)],
         &[
             Out::Line(2, b":zed!u@h QUIT :Connection closed"),
             Out::LinkLine(7, b":zed QUIT :Connection closed"),
@@ -167,8 +167,8 @@ static ROWS: [Row; 9] = [
     // neighbour's name as before.
     (
         &[
-            Step::Hears(8, b":c.net SQUIT c.net :x"),
-            Step::Says(2, b"PRIVMSG #c :yo"),
+            LinkEvent::Hears(8, b":c.net SQUIT c.net :x"),
+            LinkEvent::Says(2, b"PRIVMSG #c :yo"),
         ],
         &[
             Out::Line(2, b":dee!u@h QUIT :x"),

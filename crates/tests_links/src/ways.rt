@@ -1,39 +1,39 @@
 //! The links by which a line goes on: along the tree, toward those whom it is for, and never back
 //! (RFC 2813 section 5).
-use crate::happening::{Row, Step, happens, rows_hold, server};
+use crate::happening::{EventRow, LinkEvent, happens, rows_hold, server};
 use irc_batch::{Batch, Out};
 use std::alloc::Global;
 
 /// b.net is linked by 7, with bo and ben, c.net by 8, with cy and cas, and d.net by 9, with dee.
 /// al, client 1, is the operator of #c; an, client 2, and all of b.net and c.net are in it. A link
 /// 6 is not up yet.
-static SCENE: [Step; 26] = [
-    Step::Connects(1),
-    Step::Says(1, b"NICK al"),
-    Step::Says(1, b"USER u 0 * :Al"),
-    Step::Connects(2),
-    Step::Says(2, b"NICK an"),
-    Step::Says(2, b"USER u 0 * :An"),
-    Step::Says(1, b"JOIN #c"),
-    Step::Says(2, b"JOIN #c"),
-    Step::IsCalled(7),
-    Step::Hears(7, b"PASS pw 0210010001 TREE|"),
-    Step::Hears(7, b"SERVER b.net 1 1 :B"),
-    Step::Hears(7, b"NICK bo 1 u h 1 + :Bo"),
-    Step::Hears(7, b"NICK ben 1 u h 1 + :Ben"),
-    Step::Hears(7, b":b.net NJOIN #c :bo,ben"),
-    Step::IsCalled(8),
-    Step::Hears(8, b"PASS pq 0210010001 TREE|"),
-    Step::Hears(8, b"SERVER c.net 1 1 :C"),
-    Step::Hears(8, b"NICK cy 1 u h 1 + :Cy"),
-    Step::Hears(8, b"NICK cas 1 u h 1 + :Cas"),
-    Step::Hears(8, b":c.net NJOIN #c :cas,cy"),
-    Step::IsCalled(9),
-    Step::Hears(9, b"PASS pd 0210010001 TREE|"),
-    Step::Hears(9, b"SERVER d.net 1 1 :D"),
-    Step::Hears(9, b"NICK dee 1 u h 1 + :Dee"),
-    Step::Connects(3),
-    Step::IsCalled(6),
+static SCENE: [LinkEvent; 26] = [
+    LinkEvent::Connects(1),
+    LinkEvent::Says(1, b"NICK al"),
+    LinkEvent::Says(1, b"USER u 0 * :Al"),
+    LinkEvent::Connects(2),
+    LinkEvent::Says(2, b"NICK an"),
+    LinkEvent::Says(2, b"USER u 0 * :An"),
+    LinkEvent::Says(1, b"JOIN #c"),
+    LinkEvent::Says(2, b"JOIN #c"),
+    LinkEvent::IsCalled(7),
+    LinkEvent::Hears(7, b"PASS pw 0210010001 TREE|"),
+    LinkEvent::Hears(7, b"SERVER b.net 1 1 :B"),
+    LinkEvent::Hears(7, b"NICK bo 1 u h 1 + :Bo"),
+    LinkEvent::Hears(7, b"NICK ben 1 u h 1 + :Ben"),
+    LinkEvent::Hears(7, b":b.net NJOIN #c :bo,ben"),
+    LinkEvent::IsCalled(8),
+    LinkEvent::Hears(8, b"PASS pq 0210010001 TREE|"),
+    LinkEvent::Hears(8, b"SERVER c.net 1 1 :C"),
+    LinkEvent::Hears(8, b"NICK cy 1 u h 1 + :Cy"),
+    LinkEvent::Hears(8, b"NICK cas 1 u h 1 + :Cas"),
+    LinkEvent::Hears(8, b":c.net NJOIN #c :cas,cy"),
+    LinkEvent::IsCalled(9),
+    LinkEvent::Hears(9, b"PASS pd 0210010001 TREE|"),
+    LinkEvent::Hears(9, b"SERVER d.net 1 1 :D"),
+    LinkEvent::Hears(9, b"NICK dee 1 u h 1 + :Dee"),
+    LinkEvent::Connects(3),
+    LinkEvent::IsCalled(6),
 ];
 
 const LONG: &[u8] =
@@ -46,10 +46,10 @@ const LONG_TOLD: &[u8] =
     b":al PRIVMSG #c :xxxxxxxxxxxxxxxxxxxxxxxxxxxxxxxxxxxxxxxxxxxxxxxxxxxxxxxxxxxxxxxxxxxxxxxxxxxxxxxxxxxxxxxxxxxxxxxxxxxxxxxxxxxxxxxxxxxxxxxxxxxxxxxxxxxxxxxxxxxxxxxxxxxxxxxxxxxxxxxxxxxxxxxxxxxxxxxxxxxxxxxxxxxxxxxxxxxxxxxxxxxxxxxxxxxxxxxxxxxxxxxxxxxxxxxxxxxxxxxxxxxxxxxxxxxxxxxxxxxxxxxxxxxxxxxxxxxxxxxxxxxxxxxxxxxxxxxxxxxxxxxxxxxxxxxxxxxxxxxxxxxxxxxxxxxxxxxxxxxxxxxxxxxxxxxxxxxxxxxxxxxxxxxxxxxxxxxxxxxxxxxxxxxxxxxxxxxxxxxxxxxxxxxxxxxxxxxxxxxxxxxxxxxxxxxxxxxxxxxxxxxxxxxxxxxxxxxxxxxxxxxxxxxxxxxxxxxxxxxxxxxxxxxxxx";
 
 /// What is said.
-static TEXTS: [Row; 14] = [
+static TEXTS: [EventRow; 14] = [
     // On each link behind which a member is, once.
     (
-        &[Step::Says(1, b"PRIVMSG #C :hi")],
+        &[LinkEvent::Says(1, b"PRIVMSG #C :hi")],
         &[
             Out::Line(2, b":al!u@h PRIVMSG #c :hi"),
             Out::LinkLine(7, b":al PRIVMSG #c :hi"),
@@ -57,7 +57,7 @@ static TEXTS: [Row; 14] = [
         ],
     ),
     (
-        &[Step::Says(2, b"NOTICE #c :hi")],
+        &[LinkEvent::Says(2, b"NOTICE #c :hi")],
         &[
             Out::Line(1, b":an!u@h NOTICE #c :hi"),
             Out::LinkLine(7, b":an NOTICE #c :hi"),
@@ -66,7 +66,7 @@ static TEXTS: [Row; 14] = [
     ),
     // Never back.
     (
-        &[Step::Hears(7, b":bo PRIVMSG #c :hi")],
+        &[LinkEvent::Hears(7, b":bo PRIVMSG #c :hi")],
         &[
             Out::Line(1, b":bo!u@h PRIVMSG #c :hi"),
             Out::Line(2, b":bo!u@h PRIVMSG #c :hi"),
@@ -75,7 +75,7 @@ static TEXTS: [Row; 14] = [
     ),
     // Also from one who is no member.
     (
-        &[Step::Hears(9, b":dee NOTICE #c :hi")],
+        &[LinkEvent::Hears(9, b":dee NOTICE #c :hi")],
         &[
             Out::Line(1, b":dee!u@h NOTICE #c :hi"),
             Out::Line(2, b":dee!u@h NOTICE #c :hi"),
@@ -87,12 +87,12 @@ static TEXTS: [Row; 14] = [
     // one too.
     (
         &[
-            Step::Hears(8, b":cy PART #c :x"),
-            Step::Says(1, b"PRIVMSG #c :one"),
-            Step::Hears(8, b":cas QUIT :x"),
-            Step::Says(1, b"PRIVMSG #c :two"),
-            Step::Hears(9, b":dee JOIN #c"),
-            Step::Says(1, b"PRIVMSG #c :three"),
+            LinkEvent::Hears(8, b":cy PART #c :x"),
+            LinkEvent::Says(1, b"PRIVMSG #c :one"),
+            LinkEvent::Hears(8, b":cas QUIT :x"),
+            LinkEvent::Says(1, b"PRIVMSG #c :two"),
+            LinkEvent::Hears(9, b":dee JOIN #c"),
+            LinkEvent::Says(1, b"PRIVMSG #c :three"),
         ],
         &[
             Out::Line(1, b":cy!u@h PART #c :x"),
@@ -119,20 +119,20 @@ static TEXTS: [Row; 14] = [
     ),
     // To one user: by the link toward its server alone, or not by a link.
     (
-        &[Step::Says(1, b"PRIVMSG dee :hi")],
+        &[LinkEvent::Says(1, b"PRIVMSG dee :hi")],
         &[Out::LinkLine(9, b":al PRIVMSG dee :hi")],
     ),
     (
-        &[Step::Hears(7, b":bo PRIVMSG dee :hi")],
+        &[LinkEvent::Hears(7, b":bo PRIVMSG dee :hi")],
         &[Out::LinkLine(9, b":bo PRIVMSG dee :hi")],
     ),
     (
-        &[Step::Hears(7, b":bo NOTICE al :hi")],
+        &[LinkEvent::Hears(7, b":bo NOTICE al :hi")],
         &[Out::Line(1, b":bo!u@h NOTICE al :hi")],
     ),
     // Names as they are stored, the command in any case.
     (
-        &[Step::Hears(7, b":BO privmsg #C :Hi")],
+        &[LinkEvent::Hears(7, b":BO privmsg #C :Hi")],
         &[
             Out::Line(1, b":bo!u@h PRIVMSG #c :Hi"),
             Out::Line(2, b":bo!u@h PRIVMSG #c :Hi"),
@@ -142,9 +142,9 @@ static TEXTS: [Row; 14] = [
     // Whether somebody may speak in a channel is for its own server to say.
     (
         &[
-            Step::Says(1, b"MODE #c +nmb *!*@*"),
-            Step::Says(2, b"PRIVMSG #c :hi"),
-            Step::Hears(9, b":dee PRIVMSG #c :hi"),
+            LinkEvent::Says(1, b"MODE #c +nmb *!*@*"),
+            LinkEvent::Says(2, b"PRIVMSG #c :hi"),
+            LinkEvent::Hears(9, b":dee PRIVMSG #c :hi"),
         ],
         &[
             Out::Line(1, b":al!u@h MODE #c +nmb *!*@*"),
@@ -162,7 +162,7 @@ static TEXTS: [Row; 14] = [
     // A text is cut by the server of its sender, so that all clients are shown the same: 498 bytes
     // come, and 490 are left.
     (
-        &[Step::Says(1, LONG)],
+        &[LinkEvent::Says(1, LONG)],
         &[
             Out::Line(2, LONG_SHOWN),
             Out::LinkLine(7, LONG_TOLD),
@@ -172,8 +172,8 @@ static TEXTS: [Row; 14] = [
     // In a channel whose members are all behind the link by which it comes.
     (
         &[
-            Step::Hears(7, b":bo JOIN #b\x07o"),
-            Step::Hears(7, b":bo PRIVMSG #b :hi"),
+            LinkEvent::Hears(7, b":bo JOIN #b\x07o"),
+            LinkEvent::Hears(7, b":bo PRIVMSG #b :hi"),
         ],
         &[
             Out::LinkLine(8, b":bo JOIN #b\x07o"),
@@ -181,31 +181,31 @@ static TEXTS: [Row; 14] = [
         ],
     ),
     // To somebody of whom nobody knows: a user that has left in the meantime.
-    (&[Step::Hears(7, b":bo PRIVMSG zz :hi")], &[]),
+    (&[LinkEvent::Hears(7, b":bo PRIVMSG zz :hi")], &[]),
     // From somebody of whom nobody knows.
-    (&[Step::Hears(7, b":zz PRIVMSG al :hi")], &[]),
+    (&[LinkEvent::Hears(7, b":zz PRIVMSG al :hi")], &[]),
 ];
 
-static INVITATIONS: [Row; 7] = [
+static INVITATIONS: [EventRow; 7] = [
     (
-        &[Step::Says(1, b"INVITE dee #c")],
+        &[LinkEvent::Says(1, b"INVITE dee #c")],
         &[
             Out::Line(1, b":a.net 341 al #c dee"),
             Out::LinkLine(9, b":al INVITE dee #c"),
         ],
     ),
     (
-        &[Step::Hears(7, b":bo INVITE dee #c")],
+        &[LinkEvent::Hears(7, b":bo INVITE dee #c")],
         &[Out::LinkLine(9, b":bo INVITE dee #c")],
     ),
     // One of the server's own is told, and may come in.
     (
         &[
-            Step::Hears(9, b":dee JOIN #d\x07o"),
-            Step::Hears(9, b":dee MODE #d +i"),
-            Step::Says(2, b"JOIN #d"),
-            Step::Hears(9, b":dee INVITE an #d"),
-            Step::Says(2, b"JOIN #d"),
+            LinkEvent::Hears(9, b":dee JOIN #d\x07o"),
+            LinkEvent::Hears(9, b":dee MODE #d +i"),
+            LinkEvent::Says(2, b"JOIN #d"),
+            LinkEvent::Hears(9, b":dee INVITE an #d"),
+            LinkEvent::Says(2, b"JOIN #d"),
         ],
         &[
             Out::LinkLine(7, b":dee JOIN #d\x07o"),
@@ -224,7 +224,10 @@ static INVITATIONS: [Row; 7] = [
     ),
     // Within the server.
     (
-        &[Step::Says(1, b"JOIN #e"), Step::Says(1, b"INVITE an #e")],
+        &[
+            LinkEvent::Says(1, b"JOIN #e"),
+            LinkEvent::Says(1, b"INVITE an #e"),
+        ],
         &[
             Out::Line(1, b":al!u@h JOIN #e"),
             Out::LinkLine(7, b":al JOIN #e\x07o"),
@@ -238,26 +241,26 @@ static INVITATIONS: [Row; 7] = [
     ),
     // To a channel that is not there.
     (
-        &[Step::Says(1, b"INVITE dee #none")],
+        &[LinkEvent::Says(1, b"INVITE dee #none")],
         &[
             Out::Line(1, b":a.net 341 al #none dee"),
             Out::LinkLine(9, b":al INVITE dee #none"),
         ],
     ),
     (
-        &[Step::Hears(7, b":bo INVITE al #none")],
+        &[LinkEvent::Hears(7, b":bo INVITE al #none")],
         &[Out::Line(1, b":bo!u@h INVITE al #none")],
     ),
     // To somebody of whom nobody knows.
-    (&[Step::Hears(7, b":bo INVITE zz #c")], &[]),
+    (&[LinkEvent::Hears(7, b":bo INVITE zz #c")], &[]),
 ];
 
 /// Everything else goes to all links but the one by which it came, and to none that is not up yet.
-static OTHERS: [Row; 14] = [
+static OTHERS: [EventRow; 14] = [
     (
         &[
-            Step::Says(3, b"NICK new"),
-            Step::Says(3, b"USER u 0 * :New"),
+            LinkEvent::Says(3, b"NICK new"),
+            LinkEvent::Says(3, b"USER u 0 * :New"),
         ],
         &[
             Out::LinkLine(7, b"NICK new 1 u h 1 + :New"),
@@ -277,14 +280,14 @@ static OTHERS: [Row; 14] = [
         ],
     ),
     (
-        &[Step::Hears(9, b"NICK new 1 u h 1 +i :New")],
+        &[LinkEvent::Hears(9, b"NICK new 1 u h 1 +i :New")],
         &[
             Out::LinkLine(7, b"NICK new 2 u h 4 +i :New"),
             Out::LinkLine(8, b"NICK new 2 u h 4 +i :New"),
         ],
     ),
     (
-        &[Step::Says(1, b"NICK alf")],
+        &[LinkEvent::Says(1, b"NICK alf")],
         &[
             Out::Line(1, b":al!u@h NICK alf"),
             Out::Line(2, b":al!u@h NICK alf"),
@@ -294,7 +297,7 @@ static OTHERS: [Row; 14] = [
         ],
     ),
     (
-        &[Step::Says(2, b"PART #c :bye")],
+        &[LinkEvent::Says(2, b"PART #c :bye")],
         &[
             Out::Line(1, b":an!u@h PART #c :bye"),
             Out::Line(2, b":an!u@h PART #c :bye"),
@@ -304,7 +307,7 @@ static OTHERS: [Row; 14] = [
         ],
     ),
     (
-        &[Step::Says(1, b"KICK #c bo :out")],
+        &[LinkEvent::Says(1, b"KICK #c bo :out")],
         &[
             Out::Line(1, b":al!u@h KICK #c bo :out"),
             Out::Line(2, b":al!u@h KICK #c bo :out"),
@@ -314,7 +317,7 @@ static OTHERS: [Row; 14] = [
         ],
     ),
     (
-        &[Step::Says(1, b"MODE #c +ov-s+l bo cy 5")],
+        &[LinkEvent::Says(1, b"MODE #c +ov-s+l bo cy 5")],
         &[
             Out::Line(1, b":al!u@h MODE #c +ovl bo cy 5"),
             Out::Line(2, b":al!u@h MODE #c +ovl bo cy 5"),
@@ -324,7 +327,7 @@ static OTHERS: [Row; 14] = [
         ],
     ),
     (
-        &[Step::Hears(7, b":bo TOPIC #c :hello")],
+        &[LinkEvent::Hears(7, b":bo TOPIC #c :hello")],
         &[
             Out::Line(1, b":bo!u@h TOPIC #c :hello"),
             Out::Line(2, b":bo!u@h TOPIC #c :hello"),
@@ -333,14 +336,14 @@ static OTHERS: [Row; 14] = [
         ],
     ),
     (
-        &[Step::Hears(7, b":bo MODE bo +i")],
+        &[LinkEvent::Hears(7, b":bo MODE bo +i")],
         &[
             Out::LinkLine(8, b":bo MODE bo +i"),
             Out::LinkLine(9, b":bo MODE bo +i"),
         ],
     ),
     (
-        &[Step::Hears(7, b":bo KICK #c cy :out")],
+        &[LinkEvent::Hears(7, b":bo KICK #c cy :out")],
         &[
             Out::Line(1, b":bo!u@h KICK #c cy :out"),
             Out::Line(2, b":bo!u@h KICK #c cy :out"),
@@ -351,10 +354,10 @@ static OTHERS: [Row; 14] = [
     // So may somebody do anything who is no operator here.
     (
         &[
-            Step::Says(1, b"MODE #c +t"),
-            Step::Hears(7, b":ben KICK #c al :out"),
-            Step::Hears(7, b":ben TOPIC #c :"),
-            Step::Says(1, b"NAMES #c"),
+            LinkEvent::Says(1, b"MODE #c +t"),
+            LinkEvent::Hears(7, b":ben KICK #c al :out"),
+            LinkEvent::Hears(7, b":ben TOPIC #c :"),
+            LinkEvent::Says(1, b"NAMES #c"),
         ],
         &[
             Out::Line(1, b":al!u@h MODE #c +t"),
@@ -375,7 +378,7 @@ static OTHERS: [Row; 14] = [
     ),
     // Members of a burst, each with its flags, to each viewer in turn.
     (
-        &[Step::Hears(9, b":d.net NJOIN #c :@+dee")],
+        &[LinkEvent::Hears(9, b":d.net NJOIN #c :@+dee")],
         &[
             Out::Line(1, b":dee!u@h JOIN #c"),
             Out::Line(2, b":dee!u@h JOIN #c"),
@@ -389,7 +392,7 @@ static OTHERS: [Row; 14] = [
     ),
     // The others are shown a QUIT before the one that quits is closed.
     (
-        &[Step::Says(1, b"QUIT :bye")],
+        &[LinkEvent::Says(1, b"QUIT :bye")],
         &[
             Out::Line(2, b":al!u@h QUIT :bye"),
             Out::LinkLine(7, b":al QUIT :bye"),
@@ -403,19 +406,19 @@ static OTHERS: [Row; 14] = [
     // server itself.
     (
         &[
-            Step::Hears(7, b":bo JOIN #c"),
-            Step::Hears(7, b":bo PART #none :x"),
-            Step::Hears(9, b":dee PART #c :x"),
-            Step::Hears(9, b":dee KICK #c zz :x"),
-            Step::Hears(9, b":dee TOPIC #none :x"),
+            LinkEvent::Hears(7, b":bo JOIN #c"),
+            LinkEvent::Hears(7, b":bo PART #none :x"),
+            LinkEvent::Hears(9, b":dee PART #c :x"),
+            LinkEvent::Hears(9, b":dee KICK #c zz :x"),
+            LinkEvent::Hears(9, b":dee TOPIC #none :x"),
         ],
         &[],
     ),
     // Names are passed on as they are stored.
     (
         &[
-            Step::Hears(7, b":BO PART #C :x"),
-            Step::Hears(7, b":bo JOIN #C"),
+            LinkEvent::Hears(7, b":BO PART #C :x"),
+            LinkEvent::Hears(7, b":bo JOIN #C"),
         ],
         &[
             Out::Line(1, b":bo!u@h PART #c :x"),
@@ -431,10 +434,10 @@ static OTHERS: [Row; 14] = [
 ];
 
 /// dee of d.net and an of a.net are invited.
-static INVITED: [Step; 3] = [
-    Step::Says(1, b"INVITE dee #c"),
-    Step::Says(1, b"JOIN #e"),
-    Step::Says(1, b"INVITE an #e"),
+static INVITED: [LinkEvent; 3] = [
+    LinkEvent::Says(1, b"INVITE dee #c"),
+    LinkEvent::Says(1, b"JOIN #e"),
+    LinkEvent::Says(1, b"INVITE an #e"),
 ];
 
 /// Whether the invitation of the server's own user is kept, and that of another server's is not.

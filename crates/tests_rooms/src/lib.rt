@@ -1,13 +1,19 @@
-//! Tests of rooms and what they stand on: what the standard and the table of effects say of them,
-//! row by row.
+//! Tests of names, lines and replies, and of rooms and what they stand on: what the standard and
+//! the tables of replies and effects say of them, row by row.
 #![tactic(auto)]
 
 #[cfg(test)]
 mod channels;
 #[cfg(test)]
+mod lines;
+#[cfg(test)]
+mod names;
+#[cfg(test)]
 mod raising;
 #[cfg(test)]
 mod relay;
+#[cfg(test)]
+mod replies;
 #[cfg(test)]
 mod room;
 #[cfg(test)]

@@ -1,6 +1,6 @@
 //! Modes of two sides of one channel: what of each side's modes is raised in the other's, and that
 //! both have the same then.
-use crate::script::{Shown, append, append_word, changes, show_modes};
+use crate::script::{ShownText, append, append_word, changes, show_modes};
 use irc_modes::{ModeChange, Modes};
 use std::alloc::Global;
 
@@ -121,7 +121,7 @@ fn made(alloc: Global, lines: &str) -> Modes {
 }
 
 /// Shows changes: letters with a sign wherever it differs, and behind them the parameters.
-fn show_changes(changes: &[ModeChange], shown: &mut Shown) {
+fn show_changes(changes: &[ModeChange], shown: &mut ShownText) {
     let mut sign = None;
     for change in changes {
         if sign.is_none() {
@@ -141,7 +141,7 @@ fn show_changes(changes: &[ModeChange], shown: &mut Shown) {
 }
 
 /// Makes what is raised of some lines, and shows it.
-fn raise(alloc: Global, modes: &mut Modes, lines: &str, shown: &mut Shown) {
+fn raise(alloc: Global, modes: &mut Modes, lines: &str, shown: &mut ShownText) {
     for line in lines.split(';') {
         if let Ok(raised) = modes.raising(changes(alloc, line).as_slice()) {
             show_changes(&raised, shown);
@@ -153,9 +153,9 @@ fn raise(alloc: Global, modes: &mut Modes, lines: &str, shown: &mut Shown) {
 /// Whether this is what some modes show of what is raised in them, and what they are then.
 fn raises(alloc: Global, modes: &str, lines: &str, seen: &str, both: &str) -> bool {
     let mut modes = made(alloc, modes);
-    let mut shown = Shown::new();
+    let mut shown = ShownText::new();
     raise(alloc, &mut modes, lines, &mut shown);
-    let mut after = Shown::new();
+    let mut after = ShownText::new();
     show_modes(&modes, &mut after);
     shown.as_slice() == seen.as_bytes() && after.as_slice() == both.as_bytes()
 }
@@ -173,7 +173,7 @@ fn sides_join(alloc: Global) -> bool {
 
 fn lines_raise(alloc: Global) -> bool {
     for (modes, line, seen) in &LINES {
-        let mut shown = Shown::new();
+        let mut shown = ShownText::new();
         raise(alloc, &mut made(alloc, modes), line, &mut shown);
         if shown.as_slice() != seen.as_bytes() {
             return false;

@@ -1,5 +1,5 @@
 //! The servers that a server knows, and the numbers that stand for them.
-use crate::script::{Row, Shown, Stage, append, append_word, script_holds, server};
+use crate::script::{ScriptRow, ScriptStage, ShownText, append, append_word, script_holds, server};
 use arrayvec::ArrayVec;
 use irc_names::{MAX_SERVER, ServerName, is_server};
 use irc_routes::{Info, Own, Routes, RoutesFault, ServerRow};
@@ -41,25 +41,25 @@ told 3 = c.net e.net b.net d.net
 told 1 = e.net d.net
 told 2 = c.net b.net";
 
-fn show_number(number: Option<u32>, shown: &mut Shown) {
+fn show_number(number: Option<u32>, shown: &mut ShownText) {
     if let Some(number) = number {
         append_word(shown, b"", Buffer::new().format(number).as_bytes());
     }
 }
 
-fn show_name(name: Option<&ServerName>, shown: &mut Shown) {
+fn show_name(name: Option<&ServerName>, shown: &mut ShownText) {
     if let Some(name) = name {
         append_word(shown, b"", name.as_bytes());
     }
 }
 
-fn show_names(names: &[&ServerName], shown: &mut Shown) {
+fn show_names(names: &[&ServerName], shown: &mut ShownText) {
     for name in names {
         append_word(shown, b"", name.as_bytes());
     }
 }
 
-fn show_rows(rows: &[&ServerRow], shown: &mut Shown) {
+fn show_rows(rows: &[&ServerRow], shown: &mut ShownText) {
     for row in rows {
         append_word(shown, b"", row.name.as_bytes());
     }
@@ -85,7 +85,7 @@ fn add(
     }
 }
 
-fn show_fault(added: Result<(), RoutesFault>, shown: &mut Shown) {
+fn show_fault(added: Result<(), RoutesFault>, shown: &mut ShownText) {
     match added {
         Ok(()) => {}
         Err(RoutesFault::Known) => append(shown, b" known"),
@@ -96,7 +96,7 @@ fn show_fault(added: Result<(), RoutesFault>, shown: &mut Shown) {
 }
 
 /// Adds as many servers as a row says, which are numbered.
-fn fill(rt: &impl Abort, routes: &mut Routes, link: u64, count: u32, shown: &mut Shown) {
+fn fill(rt: &impl Abort, routes: &mut Routes, link: u64, count: u32, shown: &mut ShownText) {
     for number in 0..count {
         let mut name: ArrayVec<u8, MAX_SERVER> = ArrayVec::new();
         let _ = name.try_extend_from_slice(b"s.");
@@ -106,7 +106,7 @@ fn fill(rt: &impl Abort, routes: &mut Routes, link: u64, count: u32, shown: &mut
 }
 
 /// Does what a row that changes something says.
-fn change(rt: &impl Abort, routes: &mut Routes, row: Row<'_>, shown: &mut Shown) {
+fn change(rt: &impl Abort, routes: &mut Routes, row: ScriptRow<'_>, shown: &mut ShownText) {
     let link = u64::from(number_of(row.first));
     match row.verb {
         "add" => {
@@ -126,8 +126,14 @@ fn change(rt: &impl Abort, routes: &mut Routes, row: Row<'_>, shown: &mut Shown)
     }
 }
 
-impl Stage for Routes {
-    fn perform(&mut self, rt: &impl Abort, alloc: Global, row: Row<'_>, shown: &mut Shown) {
+impl ScriptStage for Routes {
+    fn perform(
+        &mut self,
+        rt: &impl Abort,
+        alloc: Global,
+        row: ScriptRow<'_>,
+        shown: &mut ShownText,
+    ) {
         let link = u64::from(number_of(row.first));
         match row.verb {
             "out" => show_number(self.token_out(row.first.as_bytes()), shown),

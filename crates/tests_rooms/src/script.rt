@@ -4,29 +4,24 @@
 //! sees it, those of other servers in brackets, and the line that they are shown; that it is idle,
 //! as it does nothing; or why it is refused.
 //!
-//! - `user NICK HOME HOST REAL`, `nick NICK NEW`, `quit NICK TEXT`, `make NICK CHANNEL`, `join NICK
-//! CHANNEL`,
-//! `part NICK CHANNEL TEXT`, `kick BY CHANNEL NICK`, `mode BY CHANNEL MODES`, `topic BY CHANNEL
-//! TEXT`, `say BY TARGET TEXT`,
-//! `note BY TARGET TEXT`, `invite BY NICK CHANNEL`, `set NICK +i` and `set NICK -i` are the
-//! effects. Who makes a channel is its
-//!   operator. A `*` that changes modes or a topic is a server.
+//! - `user NICK HOME HOST REAL`, `nick NICK NEW`, `quit NICK TEXT`, `make NICK CHANNEL`,
+//!   `join NICK CHANNEL`, `part NICK CHANNEL TEXT`, `kick BY CHANNEL NICK`,
+//!   `mode BY CHANNEL MODES`, `topic BY CHANNEL TEXT`, `say BY TARGET TEXT`,
+//!   `note BY TARGET TEXT`, `invite BY NICK CHANNEL`, `set NICK +i` and `set NICK -i` are the
+//!   effects. Who makes a channel is its operator. A `*` that changes modes or a topic is a server.
 //! - `respell CHANNEL` spells a channel's name as given, where that is greater by bytes; nobody
 //!   is shown anything.
 //! - `state CHANNEL` shows its modes, key, limit and bans, its topic behind a `:`, its members with
-//! their marks, and who is
-//!   invited behind a `?`.
+//!   their marks, and who is invited behind a `?`.
 //! - `users`, `home SERVER` and `channels NICK` show all users, those of a server, and the channels
-//! of one. `invited NICK CHANNEL` tells
-//!   whether a user is invited to a channel.
+//!   of one. `invited NICK CHANNEL` tells whether a user is invited to a channel.
 ghost use Rattle.std.specs.Prelude.{◌≡◌};
 ghost use Rattle.irc_room.specs.Effects.{brings_free};
 
 use arrayvec::ArrayVec;
 use irc_channels::{Channel, Words};
 use irc_line::body;
-use irc_mode_words::{ModeItem, read_modes};
-use irc_modes::{Modes, Privacy};
+use irc_modes::{ModeItem, Modes, Privacy, read_modes};
 use irc_names::{ChannelName, Host, Nick, ServerName, cut_copy};
 use irc_room::{By, Effect, ModeChanges, Room, RoomFault, ShownLine, Target};
 use irc_users::{RealName, User, UserName};
@@ -35,20 +30,20 @@ use std::alloc::Global;
 use std::process::Abort;
 
 /// What comes of a line.
-pub type Shown = ArrayVec<u8, 200>;
+pub type ShownText = ArrayVec<u8, 200>;
 
 /// A verb, two words, and the text behind them.
 #[derive(Clone, Copy)]
-pub struct Row<'a> {
+pub struct ScriptRow<'a> {
     pub verb: &'a str,
     pub first: &'a str,
     pub second: &'a str,
     pub text: &'a str,
 }
 
-fn row_of(line: &str) -> Row<'_> {
+fn row_of(line: &str) -> ScriptRow<'_> {
     let mut words = line.splitn(4, ' ');
-    Row {
+    ScriptRow {
         verb: words.next().unwrap_or(""),
         first: words.next().unwrap_or(""),
         second: words.next().unwrap_or(""),
@@ -56,12 +51,12 @@ fn row_of(line: &str) -> Row<'_> {
     }
 }
 
-pub fn append(shown: &mut Shown, bytes: &[u8]) {
+pub fn append(shown: &mut ShownText, bytes: &[u8]) {
     let _ = shown.try_extend_from_slice(bytes);
 }
 
 /// Appends a word behind a space and a mark.
-pub fn append_word(shown: &mut Shown, mark: &[u8], word: &[u8]) {
+pub fn append_word(shown: &mut ShownText, mark: &[u8], word: &[u8]) {
     append(shown, b" ");
     append(shown, mark);
     append(shown, word);
@@ -80,7 +75,7 @@ pub fn server(rt: &impl Abort, word: &str) -> ServerName {
 }
 
 /// The user that a row describes. Its user name is `u`.
-pub fn user(rt: &impl Abort, row: Row<'_>) -> User {
+pub fn user(rt: &impl Abort, row: ScriptRow<'_>) -> User {
     let (host, real) = row.text.split_once(' ').unwrap_or(("", ""));
     User {
         nick: nick(rt, row.first),
@@ -126,7 +121,7 @@ fn target(rt: &impl Abort, word: &str) -> Target {
 }
 
 /// The effect of a row that a user brings about on itself.
-fn effect_of(rt: &impl Abort, alloc: Global, row: Row<'_>) -> Effect {
+fn effect_of(rt: &impl Abort, alloc: Global, row: ScriptRow<'_>) -> Effect {
     match row.verb {
         "user" => Effect::AddUser(user(rt, row)),
         "nick" => Effect::Rename {
@@ -156,7 +151,7 @@ fn effect_of(rt: &impl Abort, alloc: Global, row: Row<'_>) -> Effect {
 }
 
 /// The effect of a row on another user or on a channel.
-fn effect_on(rt: &impl Abort, alloc: Global, row: Row<'_>) -> Effect {
+fn effect_on(rt: &impl Abort, alloc: Global, row: ScriptRow<'_>) -> Effect {
     match row.verb {
         "kick" => Effect::Kick {
             by: nick(rt, row.first),
@@ -200,7 +195,7 @@ fn brings_free(room: &Room, effect: &Effect) -> bool
 }
 
 /// Shows who sees an effect, and what those of the own server are told.
-fn show_viewers(viewers: &[Nick], told: &ShownLine, shown: &mut Shown) {
+fn show_viewers(viewers: &[Nick], told: &ShownLine, shown: &mut ShownText) {
     let mut left = told.viewers.as_slice();
     for viewer in viewers {
         match left.split_first() {
@@ -220,7 +215,7 @@ fn show_viewers(viewers: &[Nick], told: &ShownLine, shown: &mut Shown) {
 }
 
 /// Applies an effect, and shows what came of it.
-fn apply(alloc: Global, room: &mut Room, effect: &Effect, shown: &mut Shown) {
+fn apply(alloc: Global, room: &mut Room, effect: &Effect, shown: &mut ShownText) {
     let viewers = room.audience(effect).unwrap_or(Vec::new(alloc));
     let mut told = ShownLine::new(alloc);
     if !brings_free(room, effect) {
@@ -237,14 +232,14 @@ fn apply(alloc: Global, room: &mut Room, effect: &Effect, shown: &mut Shown) {
     }
 }
 
-fn append_if(shown: &mut Shown, flag: bool, letter: &[u8]) {
+fn append_if(shown: &mut ShownText, flag: bool, letter: &[u8]) {
     if flag {
         append(shown, letter);
     }
 }
 
 /// Shows the flags, the key, the limit and the bans.
-pub fn show_modes(modes: &Modes, shown: &mut Shown) {
+pub fn show_modes(modes: &Modes, shown: &mut ShownText) {
     append(shown, b" +");
     append_if(shown, modes.invite_only, b"i");
     append_if(shown, modes.moderated, b"m");
@@ -263,7 +258,7 @@ pub fn show_modes(modes: &Modes, shown: &mut Shown) {
     }
 }
 
-fn show_channel(channel: &Channel, shown: &mut Shown) {
+fn show_channel(channel: &Channel, shown: &mut ShownText) {
     append_word(shown, b"", channel.name.as_bytes());
     show_modes(&channel.modes, shown);
     append_word(shown, b":", channel.topic.as_bytes());
@@ -279,33 +274,33 @@ fn show_channel(channel: &Channel, shown: &mut Shown) {
 }
 
 /// Shows users.
-pub fn show_users(users: &[&User], shown: &mut Shown) {
+pub fn show_users(users: &[&User], shown: &mut ShownText) {
     for user in users {
         append_word(shown, b"", user.nick.as_bytes());
     }
 }
 
 /// Shows the channels of a user.
-fn show_channels_of(alloc: Global, room: &Room, nick: &str, shown: &mut Shown) {
+fn show_channels_of(alloc: Global, room: &Room, nick: &str, shown: &mut ShownText) {
     for row in room.channels_of(nick.as_bytes()).unwrap_or(Vec::new(alloc)) {
         append_word(shown, b"", row.value.channel().name.as_bytes());
     }
 }
 
 /// Shows the users of a server.
-fn show_home(rt: &impl Abort, alloc: Global, room: &Room, home: &str, shown: &mut Shown) {
+fn show_home(rt: &impl Abort, alloc: Global, room: &Room, home: &str, shown: &mut ShownText) {
     let found = room.users_at(&server(rt, home));
     show_users(&found.unwrap_or(Vec::new(alloc)), shown);
 }
 
 /// Shows whether a user is invited to a channel.
-fn show_invited(room: &Room, row: Row<'_>, shown: &mut Shown) {
+fn show_invited(room: &Room, row: ScriptRow<'_>, shown: &mut ShownText) {
     let invited = room.invited(row.first.as_bytes(), row.second.as_bytes());
     append_word(shown, b"", if invited { b"yes" } else { b"no" });
 }
 
 /// Spells a channel's name as given, where that is greater, and shows why not, if it is not.
-fn respell(room: &mut Room, channel: &ChannelName, shown: &mut Shown) {
+fn respell(room: &mut Room, channel: &ChannelName, shown: &mut ShownText) {
     match room.respell(channel) {
         Ok(()) => {}
         Err(RoomFault::NoSuchChannel) => append(shown, b" no channel"),
@@ -314,13 +309,25 @@ fn respell(room: &mut Room, channel: &ChannelName, shown: &mut Shown) {
 }
 
 /// What scripts are run on.
-pub trait Stage {
+pub trait ScriptStage {
     /// Does what a row says, and shows what comes of it.
-    fn perform(&mut self, rt: &impl Abort, alloc: Global, row: Row<'_>, shown: &mut Shown);
+    fn perform(
+        &mut self,
+        rt: &impl Abort,
+        alloc: Global,
+        row: ScriptRow<'_>,
+        shown: &mut ShownText,
+    );
 }
 
-impl Stage for Room {
-    fn perform(&mut self, rt: &impl Abort, alloc: Global, row: Row<'_>, shown: &mut Shown) {
+impl ScriptStage for Room {
+    fn perform(
+        &mut self,
+        rt: &impl Abort,
+        alloc: Global,
+        row: ScriptRow<'_>,
+        shown: &mut ShownText,
+    ) {
         match row.verb {
             "state" => match self.channel(row.first.as_bytes()) {
                 Some(channel) => show_channel(channel, shown),
@@ -336,7 +343,7 @@ impl Stage for Room {
     }
 }
 
-fn line_holds(rt: &impl Abort, alloc: Global, stage: &mut impl Stage, line: &str) -> bool {
+fn line_holds(rt: &impl Abort, alloc: Global, stage: &mut impl ScriptStage, line: &str) -> bool {
     match line.split_once(" =") {
         Some((row, want)) => {
             let mut shown = ArrayVec::new();
@@ -348,7 +355,12 @@ fn line_holds(rt: &impl Abort, alloc: Global, stage: &mut impl Stage, line: &str
 }
 
 /// Whether what comes of each line of a script is what it says.
-pub fn script_holds(rt: &impl Abort, alloc: Global, stage: &mut impl Stage, script: &str) -> bool {
+pub fn script_holds(
+    rt: &impl Abort,
+    alloc: Global,
+    stage: &mut impl ScriptStage,
+    script: &str,
+) -> bool {
     let mut all = true;
     for line in script.lines() {
         all &= line_holds(rt, alloc, stage, line);

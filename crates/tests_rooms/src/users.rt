@@ -1,6 +1,7 @@
 //! Users by their server, by masks and by their numbers.
 use crate::script::{
-    Row, Shown, Stage, append, append_word, nick, script_holds, server, show_users, user,
+    ScriptRow, ScriptStage, ShownText, append, append_word, nick, script_holds, server, show_users,
+    user,
 };
 use irc_users::{UserName, Users, UsersFault};
 use std::alloc::Global;
@@ -39,13 +40,13 @@ held cy = no";
 
 /// Users, and the number that one of them had.
 #[derive(Drop)]
-struct Held {
+struct UsersAndNumber {
     users: Users,
     number: Option<usize>,
 }
 
 /// Shows those users that a row asks for.
-fn find(rt: &impl Abort, alloc: Global, users: &Users, row: Row<'_>, shown: &mut Shown) {
+fn find(rt: &impl Abort, alloc: Global, users: &Users, row: ScriptRow<'_>, shown: &mut ShownText) {
     let found = match row.verb {
         "home" => users.by_home(&server(rt, row.first)),
         _ => users.matching(row.first.as_bytes()),
@@ -53,8 +54,14 @@ fn find(rt: &impl Abort, alloc: Global, users: &Users, row: Row<'_>, shown: &mut
     show_users(&found.unwrap_or(Vec::new(alloc)), shown);
 }
 
-impl Stage for Users {
-    fn perform(&mut self, rt: &impl Abort, alloc: Global, row: Row<'_>, shown: &mut Shown) {
+impl ScriptStage for Users {
+    fn perform(
+        &mut self,
+        rt: &impl Abort,
+        alloc: Global,
+        row: ScriptRow<'_>,
+        shown: &mut ShownText,
+    ) {
         match row.verb {
             "user" => match self.add(user(rt, row)) {
                 Ok(()) => {}
@@ -67,7 +74,7 @@ impl Stage for Users {
 }
 
 /// Shows who has the number that was noted.
-fn show_at(held: &Held, shown: &mut Shown) {
+fn show_at(held: &UsersAndNumber, shown: &mut ShownText) {
     let Some(number) = held.number else {
         return;
     };
@@ -77,8 +84,14 @@ fn show_at(held: &Held, shown: &mut Shown) {
     }
 }
 
-impl Stage for Held {
-    fn perform(&mut self, rt: &impl Abort, alloc: Global, row: Row<'_>, shown: &mut Shown) {
+impl ScriptStage for UsersAndNumber {
+    fn perform(
+        &mut self,
+        rt: &impl Abort,
+        alloc: Global,
+        row: ScriptRow<'_>,
+        shown: &mut ShownText,
+    ) {
         match row.verb {
             "hold" => self.number = self.users.number(&nick(rt, row.first)),
             "held" => {
@@ -101,7 +114,7 @@ impl Stage for Held {
 
 #[test]
 fn a_user_keeps_its_number(rt: HostRuntime) {
-    let mut held = Held {
+    let mut held = UsersAndNumber {
         users: Users::new(rt.alloc()),
         number: None,
     };

@@ -1,5 +1,5 @@
 //! A wire in memory, call by call.
-use crate::steps::{Step, wire};
+use crate::steps::{WireEvent, wire};
 use irc_outbox::{Got, IoFault, MemoryWire, Ready, Wire};
 use std::alloc::Global;
 use std::cmp::min;
@@ -10,7 +10,7 @@ const MOST: usize = 40;
 /// What is told to be ready: as [`Ready`], without the host, and with a name only for a server that
 /// was called.
 #[derive(Clone, Copy, PartialEq, Eq)]
-enum Report {
+enum ReadyReport {
     Idle,
     Client(u64),
     Linked(u64),
@@ -20,9 +20,9 @@ enum Report {
 }
 
 /// A call of a wire, and what it answers.
-enum Call {
+enum WireCall {
     /// It tells what is ready.
-    Tells(Report),
+    Tells(ReadyReport),
     /// A read with room for so many bytes gives these.
     Gives(u64, usize, &'static [u8]),
     /// A read finds nothing yet.
@@ -40,160 +40,168 @@ enum Call {
 }
 
 /// What happens on a wire, and how it answers then.
-struct Row {
-    happens: &'static [Step],
-    calls: &'static [Call],
+struct CallRow {
+    happens: &'static [WireEvent],
+    calls: &'static [WireCall],
 }
 
-static ROWS: [Row; 7] = [
+static ROWS: [CallRow; 7] = [
     // Bytes are reported until all are read, then that no more will come.
-    Row {
-        happens: &[Step::Client(1), Step::Bytes(1, b"abc"), Step::End(1)],
+    CallRow {
+        happens: &[
+            WireEvent::Client(1),
+            WireEvent::Bytes(1, b"abc"),
+            WireEvent::End(1),
+        ],
         calls: &[
-            Call::Tells(Report::Client(1)),
-            Call::GivesLater(1),
-            Call::Tells(Report::Readable(1)),
-            Call::Gives(1, 2, b"ab"),
-            Call::Tells(Report::Readable(1)),
-            Call::Gives(1, 2, b"c"),
-            Call::Tells(Report::Readable(1)),
-            Call::GivesEnd(1),
-            Call::Tells(Report::Idle),
+            WireCall::Tells(ReadyReport::Client(1)),
+            WireCall::GivesLater(1),
+            WireCall::Tells(ReadyReport::Readable(1)),
+            WireCall::Gives(1, 2, b"ab"),
+            WireCall::Tells(ReadyReport::Readable(1)),
+            WireCall::Gives(1, 2, b"c"),
+            WireCall::Tells(ReadyReport::Readable(1)),
+            WireCall::GivesEnd(1),
+            WireCall::Tells(ReadyReport::Idle),
         ],
     },
     // The next read fails, and none behind it.
-    Row {
-        happens: &[Step::Client(1), Step::ReadFails(1), Step::Bytes(1, b"ab")],
+    CallRow {
+        happens: &[
+            WireEvent::Client(1),
+            WireEvent::ReadFails(1),
+            WireEvent::Bytes(1, b"ab"),
+        ],
         calls: &[
-            Call::Tells(Report::Client(1)),
-            Call::Tells(Report::Readable(1)),
-            Call::FailsToGive(1),
-            Call::GivesLater(1),
-            Call::Tells(Report::Readable(1)),
-            Call::Gives(1, 9, b"ab"),
-            Call::Tells(Report::Idle),
+            WireCall::Tells(ReadyReport::Client(1)),
+            WireCall::Tells(ReadyReport::Readable(1)),
+            WireCall::FailsToGive(1),
+            WireCall::GivesLater(1),
+            WireCall::Tells(ReadyReport::Readable(1)),
+            WireCall::Gives(1, 9, b"ab"),
+            WireCall::Tells(ReadyReport::Idle),
         ],
     },
     // A write takes what there is room for. The next one fails, and none behind it.
-    Row {
+    CallRow {
         happens: &[
-            Step::Client(1),
-            Step::Room(1, 4),
-            Step::WriteFails(1),
-            Step::Room(1, 3),
+            WireEvent::Client(1),
+            WireEvent::Room(1, 4),
+            WireEvent::WriteFails(1),
+            WireEvent::Room(1, 3),
         ],
         calls: &[
-            Call::Tells(Report::Client(1)),
-            Call::Takes(1, b"abcdef", 0),
-            Call::Tells(Report::Writable(1)),
-            Call::Takes(1, b"abcdef", 4),
-            Call::Takes(1, b"ef", 0),
-            Call::Tells(Report::Writable(1)),
-            Call::FailsToTake(1),
-            Call::Tells(Report::Writable(1)),
-            Call::Takes(1, b"ef", 2),
-            Call::Takes(1, b"gh", 1),
-            Call::Tells(Report::Idle),
+            WireCall::Tells(ReadyReport::Client(1)),
+            WireCall::Takes(1, b"abcdef", 0),
+            WireCall::Tells(ReadyReport::Writable(1)),
+            WireCall::Takes(1, b"abcdef", 4),
+            WireCall::Takes(1, b"ef", 0),
+            WireCall::Tells(ReadyReport::Writable(1)),
+            WireCall::FailsToTake(1),
+            WireCall::Tells(ReadyReport::Writable(1)),
+            WireCall::Takes(1, b"ef", 2),
+            WireCall::Takes(1, b"gh", 1),
+            WireCall::Tells(ReadyReport::Idle),
         ],
     },
     // Behind a report that no read follows comes the next step, also where some of the bytes were
     // read before.
-    Row {
+    CallRow {
         happens: &[
-            Step::Client(1),
-            Step::Client(2),
-            Step::Bytes(1, b"ab"),
-            Step::Bytes(2, b"cd"),
-            Step::Bytes(1, b"ef"),
+            WireEvent::Client(1),
+            WireEvent::Client(2),
+            WireEvent::Bytes(1, b"ab"),
+            WireEvent::Bytes(2, b"cd"),
+            WireEvent::Bytes(1, b"ef"),
         ],
         calls: &[
-            Call::Tells(Report::Client(1)),
-            Call::Tells(Report::Client(2)),
-            Call::Tells(Report::Readable(1)),
-            Call::Tells(Report::Readable(2)),
-            Call::Gives(2, 1, b"c"),
-            Call::Tells(Report::Readable(2)),
-            Call::Tells(Report::Readable(1)),
-            Call::Gives(1, 9, b"ef"),
-            Call::Tells(Report::Idle),
+            WireCall::Tells(ReadyReport::Client(1)),
+            WireCall::Tells(ReadyReport::Client(2)),
+            WireCall::Tells(ReadyReport::Readable(1)),
+            WireCall::Tells(ReadyReport::Readable(2)),
+            WireCall::Gives(2, 1, b"c"),
+            WireCall::Tells(ReadyReport::Readable(2)),
+            WireCall::Tells(ReadyReport::Readable(1)),
+            WireCall::Gives(1, 9, b"ef"),
+            WireCall::Tells(ReadyReport::Idle),
         ],
     },
     // Steps of a connection that is closed are passed over, and its bytes that were not read.
-    Row {
+    CallRow {
         happens: &[
-            Step::Client(1),
-            Step::Client(2),
-            Step::Bytes(1, b"twenty bytes in all."),
-            Step::Bytes(1, b"abc"),
-            Step::Room(1, 5),
-            Step::ReadFails(1),
-            Step::WriteFails(1),
-            Step::End(1),
-            Step::Client(1),
-            Step::Room(2, 5),
+            WireEvent::Client(1),
+            WireEvent::Client(2),
+            WireEvent::Bytes(1, b"twenty bytes in all."),
+            WireEvent::Bytes(1, b"abc"),
+            WireEvent::Room(1, 5),
+            WireEvent::ReadFails(1),
+            WireEvent::WriteFails(1),
+            WireEvent::End(1),
+            WireEvent::Client(1),
+            WireEvent::Room(2, 5),
         ],
         calls: &[
-            Call::Tells(Report::Client(1)),
-            Call::Tells(Report::Client(2)),
-            Call::Tells(Report::Readable(1)),
-            Call::Gives(1, 6, b"twenty"),
-            Call::Closes(1),
-            Call::Tells(Report::Writable(2)),
-            Call::Takes(2, b"abcdef", 5),
-            Call::Tells(Report::Idle),
+            WireCall::Tells(ReadyReport::Client(1)),
+            WireCall::Tells(ReadyReport::Client(2)),
+            WireCall::Tells(ReadyReport::Readable(1)),
+            WireCall::Gives(1, 6, b"twenty"),
+            WireCall::Closes(1),
+            WireCall::Tells(ReadyReport::Writable(2)),
+            WireCall::Takes(2, b"abcdef", 5),
+            WireCall::Tells(ReadyReport::Idle),
         ],
     },
     // A long step and a short one behind it are read whole.
-    Row {
+    CallRow {
         happens: &[
-            Step::Client(1),
-            Step::Bytes(1, b"twenty bytes in all."),
-            Step::Bytes(1, b"abc"),
+            WireEvent::Client(1),
+            WireEvent::Bytes(1, b"twenty bytes in all."),
+            WireEvent::Bytes(1, b"abc"),
         ],
         calls: &[
-            Call::Tells(Report::Client(1)),
-            Call::Tells(Report::Readable(1)),
-            Call::Gives(1, 40, b"twenty bytes in all."),
-            Call::Tells(Report::Readable(1)),
-            Call::Gives(1, 40, b"abc"),
-            Call::Tells(Report::Idle),
+            WireCall::Tells(ReadyReport::Client(1)),
+            WireCall::Tells(ReadyReport::Readable(1)),
+            WireCall::Gives(1, 40, b"twenty bytes in all."),
+            WireCall::Tells(ReadyReport::Readable(1)),
+            WireCall::Gives(1, 40, b"abc"),
+            WireCall::Tells(ReadyReport::Idle),
         ],
     },
     // A number is reported once, and first.
-    Row {
+    CallRow {
         happens: &[
-            Step::Bytes(1, b"ab"),
-            Step::Linked(1),
-            Step::Client(1),
-            Step::Called(2),
-            Step::Linked(2),
-            Step::Bytes(2, b"cd"),
-            Step::Room(3, 1),
+            WireEvent::Bytes(1, b"ab"),
+            WireEvent::Linked(1),
+            WireEvent::Client(1),
+            WireEvent::Called(2),
+            WireEvent::Linked(2),
+            WireEvent::Bytes(2, b"cd"),
+            WireEvent::Room(3, 1),
         ],
         calls: &[
-            Call::Tells(Report::Linked(1)),
-            Call::Tells(Report::Called(2)),
-            Call::Tells(Report::Readable(2)),
-            Call::Gives(2, 9, b"cd"),
-            Call::Tells(Report::Idle),
+            WireCall::Tells(ReadyReport::Linked(1)),
+            WireCall::Tells(ReadyReport::Called(2)),
+            WireCall::Tells(ReadyReport::Readable(2)),
+            WireCall::Gives(2, 9, b"cd"),
+            WireCall::Tells(ReadyReport::Idle),
         ],
     },
 ];
 
 /// What an answer tells to be ready.
-fn report_of(ready: &Ready) -> Report {
+fn report_of(ready: &Ready) -> ReadyReport {
     match ready {
-        Ready::Idle => Report::Idle,
-        Ready::Client(conn, _) => Report::Client(*conn),
-        Ready::Linked(conn, None) => Report::Linked(*conn),
-        Ready::Linked(conn, Some(_)) => Report::Called(*conn),
-        Ready::Readable(conn) => Report::Readable(*conn),
-        Ready::Writable(conn) => Report::Writable(*conn),
+        Ready::Idle => ReadyReport::Idle,
+        Ready::Client(conn, _) => ReadyReport::Client(*conn),
+        Ready::Linked(conn, None) => ReadyReport::Linked(*conn),
+        Ready::Linked(conn, Some(_)) => ReadyReport::Called(*conn),
+        Ready::Readable(conn) => ReadyReport::Readable(*conn),
+        Ready::Writable(conn) => ReadyReport::Writable(*conn),
     }
 }
 
 /// Whether a wire tells that to be ready.
-fn tells(wire: &mut MemoryWire, wanted: Report) -> bool {
+fn tells(wire: &mut MemoryWire, wanted: ReadyReport) -> bool {
     match wire.ready() {
         Ok(ready) => report_of(&ready) == wanted,
         Err(_fault) => false,
@@ -216,16 +224,16 @@ fn gives_nothing(wire: &mut MemoryWire, conn: u64, wanted: Result<Got, IoFault>)
 }
 
 /// Whether a wire answers so.
-fn answers(wire: &mut MemoryWire, call: &Call) -> bool {
+fn answers(wire: &mut MemoryWire, call: &WireCall) -> bool {
     match call {
-        Call::Tells(wanted) => tells(wire, *wanted),
-        Call::Gives(conn, room, bytes) => gives(wire, *conn, *room, bytes),
-        Call::GivesLater(conn) => gives_nothing(wire, *conn, Ok(Got::Later)),
-        Call::GivesEnd(conn) => gives_nothing(wire, *conn, Ok(Got::End)),
-        Call::FailsToGive(conn) => gives_nothing(wire, *conn, Err(IoFault::Failed)),
-        Call::Takes(conn, bytes, count) => wire.write(*conn, bytes, 0) == Ok(*count),
-        Call::FailsToTake(conn) => wire.write(*conn, b"ab", 0) == Err(IoFault::Failed),
-        Call::Closes(conn) => {
+        WireCall::Tells(wanted) => tells(wire, *wanted),
+        WireCall::Gives(conn, room, bytes) => gives(wire, *conn, *room, bytes),
+        WireCall::GivesLater(conn) => gives_nothing(wire, *conn, Ok(Got::Later)),
+        WireCall::GivesEnd(conn) => gives_nothing(wire, *conn, Ok(Got::End)),
+        WireCall::FailsToGive(conn) => gives_nothing(wire, *conn, Err(IoFault::Failed)),
+        WireCall::Takes(conn, bytes, count) => wire.write(*conn, bytes, 0) == Ok(*count),
+        WireCall::FailsToTake(conn) => wire.write(*conn, b"ab", 0) == Err(IoFault::Failed),
+        WireCall::Closes(conn) => {
             wire.close(*conn);
             wire.closed(*conn)
         }
@@ -233,7 +241,7 @@ fn answers(wire: &mut MemoryWire, call: &Call) -> bool {
 }
 
 /// Whether a wire on which this happens answers each call so, one after another.
-fn answers_each(alloc: Global, row: &Row) -> bool {
+fn answers_each(alloc: Global, row: &CallRow) -> bool {
     let Some(mut wire) = wire(alloc, row.happens) else {
         return false;
     };

@@ -1,6 +1,6 @@
 //! A conversation of two, line by line, and what is written to each of them for it: the replies of
 //! RFC 2812 section 5.1 and the lines of its section 3 as docs/PROFILE.md words them.
-use crate::steps::{Step, add_step};
+use crate::steps::{WireEvent, add_step};
 use irc_outbox::WireStep;
 use std::alloc::Global;
 
@@ -13,29 +13,29 @@ pub(crate) const BO: u64 = 2;
 pub(crate) const OPENINGS: usize = 4;
 
 /// al comes, and bo. Their sockets take whatever is written.
-pub(crate) static OPEN: [Step; OPENINGS] = [
-    Step::Client(AL),
-    Step::Room(AL, 65536),
-    Step::Client(BO),
-    Step::Room(BO, 65536),
+pub(crate) static OPEN: [WireEvent; OPENINGS] = [
+    WireEvent::Client(AL),
+    WireEvent::Room(AL, 65536),
+    WireEvent::Client(BO),
+    WireEvent::Room(BO, 65536),
 ];
 
 /// What is written to somebody for a line, where the other is there, and where the other is gone.
-struct Written {
+struct WrittenLines {
     together: &'static [u8],
     alone: &'static [u8],
 }
 
 /// A line, the connection that says it, and what is written for it.
-pub(crate) struct Said {
+pub(crate) struct SaidLine {
     pub conn: u64,
     pub line: &'static [u8],
-    al: Written,
-    bo: Written,
+    al: WrittenLines,
+    bo: WrittenLines,
 }
 
 /// What is written for a line that is answered by nothing.
-const NOTHING: Written = Written {
+const NOTHING: WrittenLines = WrittenLines {
     together: b"",
     alone: b"",
 };
@@ -75,71 +75,71 @@ pub(crate) const LINES: usize = 8;
 /// Behind how many lines both are in the channel.
 const BOTH_ARE_IN: usize = 6;
 
-pub(crate) static CONVERSATION: [Said; LINES] = [
-    Said {
+pub(crate) static CONVERSATION: [SaidLine; LINES] = [
+    SaidLine {
         conn: AL,
         line: b"NICK al\r\n",
         al: NOTHING,
         bo: NOTHING,
     },
-    Said {
+    SaidLine {
         conn: AL,
         line: b"USER u 0 * :Al\r\n",
-        al: Written {
+        al: WrittenLines {
             together: AL_IS_WELCOME,
             alone: AL_IS_WELCOME,
         },
         bo: NOTHING,
     },
-    Said {
+    SaidLine {
         conn: BO,
         line: b"NICK bo\r\n",
         al: NOTHING,
         bo: NOTHING,
     },
-    Said {
+    SaidLine {
         conn: BO,
         line: b"USER u 0 * :Bo\r\n",
         al: NOTHING,
-        bo: Written {
+        bo: WrittenLines {
             together: BO_IS_WELCOME,
             alone: BO_IS_WELCOME,
         },
     },
-    Said {
+    SaidLine {
         conn: AL,
         line: b"JOIN #c\r\n",
-        al: Written {
+        al: WrittenLines {
             together: AL_MAKES_THE_CHANNEL,
             alone: AL_MAKES_THE_CHANNEL,
         },
         bo: NOTHING,
     },
-    Said {
+    SaidLine {
         conn: BO,
         line: b"JOIN #c\r\n",
-        al: Written {
+        al: WrittenLines {
             together: b":bo!u@h JOIN #c\r\n",
             alone: b"",
         },
-        bo: Written {
+        bo: WrittenLines {
             together: BO_JOINS_AL,
             alone: BO_MAKES_THE_CHANNEL,
         },
     },
-    Said {
+    SaidLine {
         conn: AL,
         line: b"PRIVMSG #c :hi\r\n",
         al: NOTHING,
-        bo: Written {
+        bo: WrittenLines {
             together: b":al!u@h PRIVMSG #c :hi\r\n",
             alone: b"",
         },
     },
-    Said {
+    SaidLine {
         conn: BO,
         line: b"PRIVMSG #c :ho\r\n",
-        al: Written {
+        al: WrittenLines {
             together: b":bo!u@h PRIVMSG #c :ho\r\n",
             alone: b"",
         },
@@ -147,10 +147,10 @@ pub(crate) static CONVERSATION: [Said; LINES] = [
     },
 ];
 
-impl Said {
+impl SaidLine {
     /// What happens on a wire as it is said.
-    pub(crate) fn step(&self) -> Step {
-        Step::Bytes(self.conn, self.line)
+    pub(crate) fn step(&self) -> WireEvent {
+        WireEvent::Bytes(self.conn, self.line)
     }
 
     /// What is written for it to somebody, the other being there or not.

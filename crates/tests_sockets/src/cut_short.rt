@@ -2,11 +2,11 @@
 //! written is what the lines that have come whole call for, and the end of a connection is told
 //! behind that.
 use crate::conversation::{
-    CONVERSATION, OPEN, Said, add_lines, behind_told, is_written, other_than,
+    CONVERSATION, OPEN, SaidLine, add_lines, behind_told, is_written, other_than,
 };
 use crate::lent::Closings;
 use crate::memory::runs_noting;
-use crate::steps::{Step, add_each, add_step};
+use crate::steps::{WireEvent, add_each, add_step};
 use irc_names::first_bytes;
 use irc_outbox::{MemoryWire, WireStep};
 use std::alloc::Global;
@@ -17,7 +17,7 @@ fn add_cut(
     alloc: Global,
     steps: &mut Vec<WireStep, Global>,
     lines: usize,
-    said: &Said,
+    said: &SaidLine,
     bytes: usize,
 ) -> bool {
     add_each(alloc, steps, &OPEN)
@@ -25,12 +25,12 @@ fn add_cut(
         && add_step(
             alloc,
             steps,
-            &Step::Bytes(said.conn, first_bytes(said.line, bytes)),
+            &WireEvent::Bytes(said.conn, first_bytes(said.line, bytes)),
         )
-        && add_step(alloc, steps, &Step::End(said.conn))
+        && add_step(alloc, steps, &WireEvent::End(said.conn))
 }
 
-fn cut(alloc: Global, lines: usize, said: &Said, bytes: usize) -> Option<MemoryWire> {
+fn cut(alloc: Global, lines: usize, said: &SaidLine, bytes: usize) -> Option<MemoryWire> {
     let mut steps = Vec::new(alloc);
     if !add_cut(alloc, &mut steps, lines, said, bytes) {
         return None;
@@ -39,7 +39,7 @@ fn cut(alloc: Global, lines: usize, said: &Said, bytes: usize) -> Option<MemoryW
 }
 
 /// How many lines have come whole: a CR ends a line, whether its LF comes or not.
-fn whole_lines(lines: usize, said: &Said, bytes: usize) -> usize {
+fn whole_lines(lines: usize, said: &SaidLine, bytes: usize) -> usize {
     if first_bytes(said.line, bytes).contains(&b'\r') {
         lines.saturating_add(1)
     } else {
@@ -58,7 +58,7 @@ fn is_told(wire: &MemoryWire, closings: &[u64], lost: u64, lines: usize) -> bool
 }
 
 /// Whether the conversation may end behind so many bytes of this line.
-fn may_end(alloc: Global, lines: usize, said: &Said, bytes: usize) -> bool {
+fn may_end(alloc: Global, lines: usize, said: &SaidLine, bytes: usize) -> bool {
     let closings = &mut Closings::new();
     match cut(alloc, lines, said, bytes) {
         Some(mut wire) => {
@@ -70,7 +70,7 @@ fn may_end(alloc: Global, lines: usize, said: &Said, bytes: usize) -> bool {
 }
 
 /// Whether it may end at each place of this line.
-fn may_end_within(alloc: Global, lines: usize, said: &Said) -> bool {
+fn may_end_within(alloc: Global, lines: usize, said: &SaidLine) -> bool {
     for bytes in 0..said.line.len() + 1 {
         if !may_end(alloc, lines, said, bytes) {
             return false;

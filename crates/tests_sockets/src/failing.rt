@@ -5,17 +5,17 @@ use crate::conversation::{
 };
 use crate::lent::Closings;
 use crate::memory::runs_noting;
-use crate::steps::{Step, add_step};
+use crate::steps::{WireEvent, add_step};
 use irc_outbox::{MemoryWire, WireStep};
 use std::alloc::Global;
 use std::cmp::max;
 
 /// al's socket takes ten bytes.
-static NARROW: [Step; OPENINGS] = [
-    Step::Client(AL),
-    Step::Room(AL, 10),
-    Step::Client(BO),
-    Step::Room(BO, 65536),
+static NARROW: [WireEvent; OPENINGS] = [
+    WireEvent::Client(AL),
+    WireEvent::Room(AL, 10),
+    WireEvent::Client(BO),
+    WireEvent::Room(BO, 65536),
 ];
 
 /// How many things happen in all; so something more may happen at a place from 0 to this.
@@ -24,7 +24,7 @@ const PLACES: usize = OPENINGS + LINES;
 /// Who is lost: all that the lines up to `written` call for was written to it, and all that those
 /// up to `told` do to the other, who is told behind that.
 #[derive(Drop)]
-struct Loss {
+struct ConnectionLoss {
     conn: u64,
     written: usize,
     told: usize,
@@ -46,12 +46,12 @@ fn next_written(conn: u64, from: usize) -> Option<usize> {
 }
 
 /// Who is lost by a read that fails at a place: nobody where the connection is not there yet.
-fn lost_by_read(conn: u64, place: usize) -> Option<Loss> {
+fn lost_by_read(conn: u64, place: usize) -> Option<ConnectionLoss> {
     let lines = place.saturating_sub(OPENINGS);
     if place <= beginning(conn) {
         return None;
     }
-    Some(Loss {
+    Some(ConnectionLoss {
         conn,
         written: lines,
         told: lines,
@@ -60,12 +60,12 @@ fn lost_by_read(conn: u64, place: usize) -> Option<Loss> {
 
 /// Who is lost by the next write that fails from a place on: nobody where nothing is written any
 /// more.
-fn lost_by_write(conn: u64, place: usize) -> Option<Loss> {
+fn lost_by_write(conn: u64, place: usize) -> Option<ConnectionLoss> {
     if place <= beginning(conn) {
         return None;
     }
     let line = next_written(conn, place.saturating_sub(OPENINGS))?;
-    Some(Loss {
+    Some(ConnectionLoss {
         conn,
         written: line,
         told: line.saturating_add(1),
@@ -78,8 +78,8 @@ fn add_at(
     alloc: Global,
     steps: &mut Vec<WireStep, Global>,
     place: usize,
-    fault: &Step,
-    step: &Step,
+    fault: &WireEvent,
+    step: &WireEvent,
 ) -> bool {
     (steps.len() != place || add_step(alloc, steps, fault)) && add_step(alloc, steps, step)
 }
@@ -88,9 +88,9 @@ fn add_at(
 fn add_all(
     alloc: Global,
     steps: &mut Vec<WireStep, Global>,
-    open: &[Step],
+    open: &[WireEvent],
     place: usize,
-    fault: &Step,
+    fault: &WireEvent,
 ) -> bool {
     for step in open {
         if !add_at(alloc, steps, place, fault, step) {
@@ -106,7 +106,12 @@ fn add_all(
 }
 
 /// A wire on which the conversation is held, with something more at a place.
-fn disturbed(alloc: Global, open: &[Step], place: usize, fault: &Step) -> Option<MemoryWire> {
+fn disturbed(
+    alloc: Global,
+    open: &[WireEvent],
+    place: usize,
+    fault: &WireEvent,
+) -> Option<MemoryWire> {
     let mut steps = Vec::new(alloc);
     if !add_all(alloc, &mut steps, open, place, fault) {
         return None;
@@ -138,7 +143,7 @@ fn is_undisturbed(wire: &MemoryWire, closings: &[u64]) -> bool {
 }
 
 /// Whether just who is lost is closed, once, and each was written what it is to hear.
-fn is_lost_so(wire: &MemoryWire, closings: &[u64], loss: &Loss) -> bool {
+fn is_lost_so(wire: &MemoryWire, closings: &[u64], loss: &ConnectionLoss) -> bool {
     let conn = loss.conn;
     closings == [conn].as_slice()
         && is_written(wire.written(conn), conn, loss.written)
@@ -146,7 +151,7 @@ fn is_lost_so(wire: &MemoryWire, closings: &[u64], loss: &Loss) -> bool {
 }
 
 /// Whether this one is lost, or nobody.
-fn is_so(wire: &MemoryWire, closings: &[u64], loss: &Option<Loss>) -> bool {
+fn is_so(wire: &MemoryWire, closings: &[u64], loss: &Option<ConnectionLoss>) -> bool {
     match loss {
         Some(loss) => is_lost_so(wire, closings, loss),
         None => is_undisturbed(wire, closings),
@@ -155,7 +160,7 @@ fn is_so(wire: &MemoryWire, closings: &[u64], loss: &Option<Loss>) -> bool {
 
 /// Whether the conversation with something more at a place is held so that this one is lost, or
 /// nobody.
-fn loses(alloc: Global, place: usize, fault: &Step, loss: &Option<Loss>) -> bool {
+fn loses(alloc: Global, place: usize, fault: &WireEvent, loss: &Option<ConnectionLoss>) -> bool {
     let closings = &mut Closings::new();
     match disturbed(alloc, &OPEN, place, fault) {
         Some(mut wire) => runs(alloc, &mut wire, closings) && is_so(&wire, closings, loss),
@@ -169,7 +174,7 @@ fn reads_may_fail(alloc: Global, conn: u64) -> bool {
         if !loses(
             alloc,
             place,
-            &Step::ReadFails(conn),
+            &WireEvent::ReadFails(conn),
             &lost_by_read(conn, place),
         ) {
             return false;
@@ -189,7 +194,7 @@ fn writes_may_fail(alloc: Global, conn: u64) -> bool {
         if !loses(
             alloc,
             place,
-            &Step::WriteFails(conn),
+            &WireEvent::WriteFails(conn),
             &lost_by_write(conn, place),
         ) {
             return false;
@@ -218,7 +223,7 @@ fn is_lost_with_bytes(wire: &MemoryWire, closings: &[u64], place: usize) -> bool
 
 fn loses_with_bytes(alloc: Global, place: usize) -> bool {
     let closings = &mut Closings::new();
-    match disturbed(alloc, &NARROW, place, &Step::WriteFails(AL)) {
+    match disturbed(alloc, &NARROW, place, &WireEvent::WriteFails(AL)) {
         Some(mut wire) => {
             runs(alloc, &mut wire, closings) && is_lost_with_bytes(&wire, closings, place)
         }

@@ -5,7 +5,7 @@ use crate::hostile::{
     c_hears, is_closed, runs,
 };
 use crate::lent::Closings;
-use crate::steps::{Step, add, add_each, add_step};
+use crate::steps::{WireEvent, add, add_each, add_step};
 use irc_outbox::{MemoryWire, WireStep};
 use itoa::Buffer;
 use std::alloc::{AllocError, Global};
@@ -66,7 +66,7 @@ fn add_servers(
 }
 
 /// b.net opens the link 7.
-static OPEN: [Step; 2] = [Step::Linked(7), Step::Room(7, 65536)];
+static OPEN: [WireEvent; 2] = [WireEvent::Linked(7), WireEvent::Room(7, 65536)];
 
 /// How many servers are told of where a.net, b.net and c.net are known, and no more may be.
 const BESIDE_THREE: u32 = 253;
@@ -84,7 +84,7 @@ fn add_stranger(alloc: Global, steps: &mut Vec<WireStep, Global>) -> bool {
 fn add_peer(alloc: Global, steps: &mut Vec<WireStep, Global>) -> bool {
     add_each(alloc, steps, &BEFORE)
         && add_each(alloc, steps, &OPEN)
-        && add_step(alloc, steps, &Step::Bytes(7, B_GREETS))
+        && add_step(alloc, steps, &WireEvent::Bytes(7, B_GREETS))
         && add_servers(alloc, steps, 7, b":b.net SERVER n", BESIDE_THREE)
         && add_lines(alloc, steps, b":b.net SERVER g.net 2 2 :G\r\n")
         && add_each(alloc, steps, &AFTERWARDS)

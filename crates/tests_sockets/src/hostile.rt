@@ -1,20 +1,20 @@
 //! A peer breaks a rule of links (docs/PROFILE.md, "Why a link is closed"): its link is closed,
 //! once, and nothing that comes behind that line is taken.
 //! Whoever else is there is told as of any lost link, and goes on.
-use crate::lent::{Closings, Lent};
-use crate::memory::runs_over;
-use crate::steps::{Step, add, add_each};
+use crate::lent::Closings;
+use crate::memory::{OutboxRooms, runs_over};
+use crate::steps::{WireEvent, add, add_each};
 use irc_outbox::{MemoryWire, WireStep};
 use std::alloc::{AllocError, Global};
 
 /// al is client 1, in a channel. c.net is linked by 8, and cy is its user, in that channel too.
-pub(crate) static BEFORE: [Step; 6] = [
-    Step::Client(1),
-    Step::Room(1, 65536),
-    Step::Bytes(1, b"NICK al\r\nUSER u 0 * :Al\r\nJOIN #c\r\n"),
-    Step::Linked(8),
-    Step::Room(8, 65536),
-    Step::Bytes(
+pub(crate) static BEFORE: [WireEvent; 6] = [
+    WireEvent::Client(1),
+    WireEvent::Room(1, 65536),
+    WireEvent::Bytes(1, b"NICK al\r\nUSER u 0 * :Al\r\nJOIN #c\r\n"),
+    WireEvent::Linked(8),
+    WireEvent::Room(8, 65536),
+    WireEvent::Bytes(
         8,
         b"PASS pq 0210010001 TREE|\r
 SERVER c.net 1 1 :C\r
@@ -51,11 +51,11 @@ SERVER b.net 1 1 :B\r
 
 /// It comes once more; al asks who is there, and words pass by the other link, both ways. In the
 /// end the socket of 7 takes whatever is written.
-pub(crate) static AFTERWARDS: [Step; 4] = [
-    Step::Bytes(7, MORE),
-    Step::Bytes(1, b"LUSERS\r\nPRIVMSG cy :yo\r\n"),
-    Step::Bytes(8, b":cy PRIVMSG #c :ho\r\n"),
-    Step::Room(7, 65536),
+pub(crate) static AFTERWARDS: [WireEvent; 4] = [
+    WireEvent::Bytes(7, MORE),
+    WireEvent::Bytes(1, b"LUSERS\r\nPRIVMSG cy :yo\r\n"),
+    WireEvent::Bytes(8, b":cy PRIVMSG #c :ho\r\n"),
+    WireEvent::Room(7, 65536),
 ];
 
 /// What is written last to al, and by 8.
@@ -66,7 +66,7 @@ pub(crate) const C_HEARS: &[u8] = b":al PRIVMSG cy :yo\r\n";
 /// What happens on 7 before the line that closes it. What is written by 7 in all; by 8, and to al,
 /// from then to the words.
 struct Scene {
-    happens: &'static [Step],
+    happens: &'static [WireEvent],
     to_b: &'static [u8],
     to_c: &'static [u8],
     to_al: &'static [u8],
@@ -80,7 +80,7 @@ pub(crate) const ARE_TWO: &[u8] = b":a.net 251 al :There are 2 users and 0 servi
 
 /// a.net is called, and so it has written nothing.
 static STRANGER: Scene = Scene {
-    happens: &[Step::Linked(7), Step::Room(7, 65536)],
+    happens: &[WireEvent::Linked(7), WireEvent::Room(7, 65536)],
     to_b: b"",
     to_c: b"",
     to_al: ARE_TWO,
@@ -88,7 +88,7 @@ static STRANGER: Scene = Scene {
 
 /// a.net calls.
 static CALLED: Scene = Scene {
-    happens: &[Step::Called(7), Step::Room(7, 65536)],
+    happens: &[WireEvent::Called(7), WireEvent::Room(7, 65536)],
     to_b: b"PASS pw 0210010001 TREE|\r
 SERVER a.net 1 1 :Test server\r
 ",
@@ -115,9 +115,9 @@ const B_COMES_AND_GOES: &[u8] = b":a.net SERVER b.net 2 3 :B\r
 /// b.net is linked.
 static LINKED: Scene = Scene {
     happens: &[
-        Step::Linked(7),
-        Step::Room(7, 65536),
-        Step::Bytes(7, B_GREETS),
+        WireEvent::Linked(7),
+        WireEvent::Room(7, 65536),
+        WireEvent::Bytes(7, B_GREETS),
     ],
     to_b: B_HEARS,
     to_c: B_COMES_AND_GOES,
@@ -127,7 +127,11 @@ static LINKED: Scene = Scene {
 /// b.net is linked, and its socket takes ten bytes: it is closed once it has taken the rest, and
 /// not read before.
 static SLOW: Scene = Scene {
-    happens: &[Step::Linked(7), Step::Room(7, 10), Step::Bytes(7, B_GREETS)],
+    happens: &[
+        WireEvent::Linked(7),
+        WireEvent::Room(7, 10),
+        WireEvent::Bytes(7, B_GREETS),
+    ],
     to_b: B_HEARS,
     to_c: B_COMES_AND_GOES,
     to_al: ARE_TWO,
@@ -137,10 +141,10 @@ static SLOW: Scene = Scene {
 /// server.
 static CROWDED: Scene = Scene {
     happens: &[
-        Step::Linked(7),
-        Step::Room(7, 65536),
-        Step::Bytes(7, B_GREETS),
-        Step::Bytes(
+        WireEvent::Linked(7),
+        WireEvent::Room(7, 65536),
+        WireEvent::Bytes(7, B_GREETS),
+        WireEvent::Bytes(
             7,
             b":b.net SERVER f.net 2 7 :F\r
 NICK ed 2 u h 7 + :Ed\r
@@ -228,7 +232,11 @@ fn wire_of(alloc: Global, scene: &Scene, lines: &[u8]) -> Option<MemoryWire> {
 
 /// Whether all turns are taken over a wire.
 pub(crate) fn runs(alloc: Global, wire: &mut MemoryWire, closings: &mut Closings) -> bool {
-    runs_over(alloc, Lent { wire, closings }, 4096, 65536, 40)
+    let rooms = OutboxRooms {
+        client: 4096,
+        link: 65536,
+    };
+    runs_over(alloc, wire, closings, rooms, 40)
 }
 
 /// What is left of a text behind two others; nothing where it begins otherwise.

@@ -1,6 +1,6 @@
 //! An engine with links, over a wire in memory.
 use crate::memory::{runs_in, times};
-use crate::steps::{Step, wire};
+use crate::steps::{WireEvent, wire};
 use std::alloc::Global;
 
 /// The room of a client's outbox.
@@ -12,7 +12,7 @@ SERVER a.net 1 1 :Test server\r
 ";
 
 /// This side calls b.net, whose socket takes 57 bytes.
-static CALLED: [Step; 2] = [Step::Called(2), Step::Room(2, 57)];
+static CALLED: [WireEvent; 2] = [WireEvent::Called(2), WireEvent::Room(2, 57)];
 
 /// Whether b.net is greeted, where the outbox of a link has room for so many bytes.
 fn is_greeted(alloc: Global, link_room: usize) -> bool {
@@ -50,19 +50,19 @@ fn a_link_has_the_room_of_a_link(rt: HostRuntime) {
 
 /// al is in a channel, b.net calls, shakes hands and tells of its user b. Its stream ends within
 /// the line that brings b into the channel. al looks b up before that and after.
-static CUT_SHORT: [Step; 9] = [
-    Step::Client(1),
-    Step::Room(1, 65536),
-    Step::Bytes(1, b"NICK al\r\nUSER u 0 * :Al\r\nJOIN #c\r\n"),
-    Step::Linked(2),
-    Step::Room(2, 65536),
-    Step::Bytes(
+static CUT_SHORT: [WireEvent; 9] = [
+    WireEvent::Client(1),
+    WireEvent::Room(1, 65536),
+    WireEvent::Bytes(1, b"NICK al\r\nUSER u 0 * :Al\r\nJOIN #c\r\n"),
+    WireEvent::Linked(2),
+    WireEvent::Room(2, 65536),
+    WireEvent::Bytes(
         2,
         b"PASS pw 0210010001 TREE|\r\nSERVER b.net 1 1 :B\r\nNICK b 1 u h 1 + :B\r\n:b.net NJOIN #c :@b",
     ),
-    Step::Bytes(1, b"WHOIS b\r\n"),
-    Step::End(2),
-    Step::Bytes(1, b"WHOIS b\r\n"),
+    WireEvent::Bytes(1, b"WHOIS b\r\n"),
+    WireEvent::End(2),
+    WireEvent::Bytes(1, b"WHOIS b\r\n"),
 ];
 
 /// Whether a user b was there once, has gone by now, and has never come into the channel.
@@ -90,10 +90,10 @@ fn an_end_within_a_line_is_the_end_of_the_link(rt: HostRuntime) {
 }
 
 /// A server calls that a.net may not be linked to.
-static STRANGER: [Step; 3] = [
-    Step::Linked(2),
-    Step::Room(2, 65536),
-    Step::Bytes(2, b"PASS pw 0210010001 TREE|\r\nSERVER z.net 1 1 :Z\r\n"),
+static STRANGER: [WireEvent; 3] = [
+    WireEvent::Linked(2),
+    WireEvent::Room(2, 65536),
+    WireEvent::Bytes(2, b"PASS pw 0210010001 TREE|\r\nSERVER z.net 1 1 :Z\r\n"),
 ];
 
 fn is_turned_away(alloc: Global) -> bool {

@@ -1,13 +1,20 @@
 //! An engine over a wire in memory.
 use crate::lent::{Closings, Lent};
 use crate::server::server;
-use crate::steps::{Step, wire};
+use crate::steps::{WireEvent, wire};
 use irc_engine::Engine;
 use irc_outbox::MemoryWire;
 use std::alloc::Global;
 
 /// The room of a link's outbox, where a test says none.
 const LINK_ROOM: usize = 4096;
+
+/// How many bytes an outbox holds, of a client and of a link.
+#[derive(Clone, Copy)]
+pub(crate) struct OutboxRooms {
+    pub client: usize,
+    pub link: usize,
+}
 
 /// Whether so many turns are taken over a wire.
 fn runs(alloc: Global, wire: &mut MemoryWire, client_room: usize, turns: u64) -> bool {
@@ -23,13 +30,11 @@ pub(crate) fn runs_in(
     turns: u64,
 ) -> bool {
     let closings = &mut Closings::new();
-    runs_over(
-        alloc,
-        Lent { wire, closings },
-        client_room,
-        link_room,
-        turns,
-    )
+    let rooms = OutboxRooms {
+        client: client_room,
+        link: link_room,
+    };
+    runs_over(alloc, wire, closings, rooms, turns)
 }
 
 /// Whether so many turns are taken over a wire; it is noted whom the engine closes.
@@ -40,38 +45,46 @@ pub(crate) fn runs_noting(
     client_room: usize,
     turns: u64,
 ) -> bool {
-    runs_over(
-        alloc,
-        Lent { wire, closings },
-        client_room,
-        LINK_ROOM,
-        turns,
-    )
+    let rooms = OutboxRooms {
+        client: client_room,
+        link: LINK_ROOM,
+    };
+    runs_over(alloc, wire, closings, rooms, turns)
 }
 
 /// Whether so many turns are taken over a lent wire, with outboxes of these rooms.
 pub(crate) fn runs_over(
     alloc: Global,
-    wire: Lent<'_>,
-    client_room: usize,
-    link_room: usize,
+    wire: &mut MemoryWire,
+    closings: &mut Closings,
+    rooms: OutboxRooms,
     turns: u64,
 ) -> bool {
-    let Some(server) = server(alloc) else {
-        return false;
-    };
-    match Engine::new(alloc, server, wire, client_room, link_room) {
-        Ok(mut engine) => engine.run(turns).is_ok(),
-        Err(_fault) => false,
-    }
+    takes_turns(alloc, wire, closings, rooms, turns) == Some(true)
+}
+
+/// The same; nothing where memory runs out before.
+fn takes_turns(
+    alloc: Global,
+    wire: &mut MemoryWire,
+    closings: &mut Closings,
+    rooms: OutboxRooms,
+    turns: u64,
+) -> Option<bool> {
+    let server = server(alloc)?;
+    let lent = Lent { wire, closings };
+    let mut engine = Engine::new(alloc, server, lent, rooms.client, rooms.link).ok()?;
+    let is_taken = engine.run(turns).is_ok();
+    drop(engine);
+    Some(is_taken)
 }
 
 /// A line that comes in two pieces, to a client that takes ten bytes.
-static IN_PIECES: [Step; 4] = [
-    Step::Client(1),
-    Step::Room(1, 10),
-    Step::Bytes(1, b"NICK al\r"),
-    Step::Bytes(1, b"\nUSER u 0 * :Al\r\n"),
+static IN_PIECES: [WireEvent; 4] = [
+    WireEvent::Client(1),
+    WireEvent::Room(1, 10),
+    WireEvent::Bytes(1, b"NICK al\r"),
+    WireEvent::Bytes(1, b"\nUSER u 0 * :Al\r\n"),
 ];
 
 fn is_read_in_pieces(alloc: Global) -> bool {
@@ -91,18 +104,18 @@ fn a_line_in_two_pieces(rt: HostRuntime) {
 }
 
 /// al's socket takes nothing, and what waits for al is more than 512 bytes in the end.
-static OVERFLOW: [Step; 8] = [
-    Step::Client(1),
-    Step::Bytes(1, b"NICK al\r\nUSER u 0 * :Al\r\nJOIN #c,#d\r\n"),
-    Step::Client(2),
-    Step::Room(2, 65536),
-    Step::Bytes(2, b"NICK bo\r\nUSER u 0 * :Bo\r\nJOIN #c\r\n"),
-    Step::Bytes(2, b"JOIN #d\r\n"),
-    Step::Bytes(
+static OVERFLOW: [WireEvent; 8] = [
+    WireEvent::Client(1),
+    WireEvent::Bytes(1, b"NICK al\r\nUSER u 0 * :Al\r\nJOIN #c,#d\r\n"),
+    WireEvent::Client(2),
+    WireEvent::Room(2, 65536),
+    WireEvent::Bytes(2, b"NICK bo\r\nUSER u 0 * :Bo\r\nJOIN #c\r\n"),
+    WireEvent::Bytes(2, b"JOIN #d\r\n"),
+    WireEvent::Bytes(
         2,
         b"PRIVMSG al :a text that is long enough for al's outbox\r\n",
     ),
-    Step::Bytes(
+    WireEvent::Bytes(
         2,
         b"PRIVMSG al :a text that is long enough for al's outbox\r\n",
     ),
@@ -141,19 +154,19 @@ fn who_reads_nothing_is_lost(rt: HostRuntime) {
 
 /// al, cy and dd, whose sockets take nothing, share a channel with bo. Then one ends, a read of one
 /// fails, and a write to one for whom bytes wait.
-static LOSSES: [Step; 12] = [
-    Step::Client(1),
-    Step::Bytes(1, b"NICK al\r\nUSER u 0 * :Al\r\nJOIN #c\r\n"),
-    Step::Client(3),
-    Step::Bytes(3, b"NICK cy\r\nUSER u 0 * :Cy\r\nJOIN #c\r\n"),
-    Step::Client(4),
-    Step::Bytes(4, b"NICK dd\r\nUSER u 0 * :Dd\r\nJOIN #c\r\n"),
-    Step::Client(2),
-    Step::Room(2, 65536),
-    Step::Bytes(2, b"NICK bo\r\nUSER u 0 * :Bo\r\nJOIN #c\r\n"),
-    Step::End(1),
-    Step::ReadFails(3),
-    Step::WriteFails(4),
+static LOSSES: [WireEvent; 12] = [
+    WireEvent::Client(1),
+    WireEvent::Bytes(1, b"NICK al\r\nUSER u 0 * :Al\r\nJOIN #c\r\n"),
+    WireEvent::Client(3),
+    WireEvent::Bytes(3, b"NICK cy\r\nUSER u 0 * :Cy\r\nJOIN #c\r\n"),
+    WireEvent::Client(4),
+    WireEvent::Bytes(4, b"NICK dd\r\nUSER u 0 * :Dd\r\nJOIN #c\r\n"),
+    WireEvent::Client(2),
+    WireEvent::Room(2, 65536),
+    WireEvent::Bytes(2, b"NICK bo\r\nUSER u 0 * :Bo\r\nJOIN #c\r\n"),
+    WireEvent::End(1),
+    WireEvent::ReadFails(3),
+    WireEvent::WriteFails(4),
 ];
 
 /// Whether bo is told once of each.
@@ -184,13 +197,13 @@ fn who_ends_or_fails_is_lost(rt: HostRuntime) {
 
 /// The server closes al, whose socket takes nothing yet; what comes then is reported, and not read.
 /// bo connects behind that.
-static SHUT: [Step; 6] = [
-    Step::Client(1),
-    Step::Bytes(1, b"NICK al\r\nQUIT :bye\r\n"),
-    Step::Bytes(1, b"x\r\n"),
-    Step::Room(1, 100),
-    Step::Bytes(1, b"PING x\r\n"),
-    Step::Client(2),
+static SHUT: [WireEvent; 6] = [
+    WireEvent::Client(1),
+    WireEvent::Bytes(1, b"NICK al\r\nQUIT :bye\r\n"),
+    WireEvent::Bytes(1, b"x\r\n"),
+    WireEvent::Room(1, 100),
+    WireEvent::Bytes(1, b"PING x\r\n"),
+    WireEvent::Client(2),
 ];
 
 /// Whether al is read and written up to that, and closed. One turn is taken for each step, but for

@@ -2,25 +2,25 @@
 //! server is told of each once, the lowest number first.
 use crate::lent::Closings;
 use crate::memory::runs_noting;
-use crate::steps::{Step, wire};
+use crate::steps::{WireEvent, wire};
 use irc_outbox::MemoryWire;
 use std::alloc::Global;
 
 /// All four share two channels. The sockets of dd and cy take nothing before al's read fails.
-static CROWD: [Step; 13] = [
-    Step::Client(1),
-    Step::Bytes(1, b"NICK dd\r\nUSER u 0 * :Dd\r\nJOIN #c,#d\r\n"),
-    Step::Client(2),
-    Step::Bytes(2, b"NICK cy\r\nUSER u 0 * :Cy\r\nJOIN #c,#d\r\n"),
-    Step::Client(3),
-    Step::Room(3, 65536),
-    Step::Bytes(3, b"NICK al\r\nUSER u 0 * :Al\r\nJOIN #c,#d\r\n"),
-    Step::Client(4),
-    Step::Room(4, 65536),
-    Step::Bytes(4, b"NICK bo\r\nUSER u 0 * :Bo\r\nJOIN #c,#d\r\n"),
-    Step::ReadFails(3),
-    Step::Room(1, 65536),
-    Step::Room(2, 65536),
+static CROWD: [WireEvent; 13] = [
+    WireEvent::Client(1),
+    WireEvent::Bytes(1, b"NICK dd\r\nUSER u 0 * :Dd\r\nJOIN #c,#d\r\n"),
+    WireEvent::Client(2),
+    WireEvent::Bytes(2, b"NICK cy\r\nUSER u 0 * :Cy\r\nJOIN #c,#d\r\n"),
+    WireEvent::Client(3),
+    WireEvent::Room(3, 65536),
+    WireEvent::Bytes(3, b"NICK al\r\nUSER u 0 * :Al\r\nJOIN #c,#d\r\n"),
+    WireEvent::Client(4),
+    WireEvent::Room(4, 65536),
+    WireEvent::Bytes(4, b"NICK bo\r\nUSER u 0 * :Bo\r\nJOIN #c,#d\r\n"),
+    WireEvent::ReadFails(3),
+    WireEvent::Room(1, 65536),
+    WireEvent::Room(2, 65536),
 ];
 
 /// How many turns are taken up to the one in which al is lost, and with it; and how many are enough

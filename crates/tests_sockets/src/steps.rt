@@ -6,7 +6,7 @@ use std::alloc::{AllocError, Global};
 /// One thing that happens, as [`WireStep`]. Each client comes from host `h`, and the server that
 /// was called is `b.net`.
 #[derive(Drop)]
-pub(crate) enum Step {
+pub(crate) enum WireEvent {
     Client(u64),
     Linked(u64),
     Called(u64),
@@ -17,18 +17,20 @@ pub(crate) enum Step {
     WriteFails(u64),
 }
 
-fn wire_step(alloc: Global, step: &Step) -> Option<WireStep> {
+fn wire_step(alloc: Global, step: &WireEvent) -> Option<WireStep> {
     match step {
-        Step::Client(conn) => Some(WireStep::Client(*conn, Host::read(b"h")?)),
-        Step::Linked(conn) => Some(WireStep::Linked(*conn, None)),
-        Step::Called(conn) => { Some(WireStep::Linked(*conn, Some(ServerName::read(b"b.net")?))) }
-        Step::Bytes(conn, bytes) => {
+        WireEvent::Client(conn) => Some(WireStep::Client(*conn, Host::read(b"h")?)),
+        WireEvent::Linked(conn) => Some(WireStep::Linked(*conn, None)),
+        WireEvent::Called(conn) => {
+            Some(WireStep::Linked(*conn, Some(ServerName::read(b"b.net")?)))
+        }
+        WireEvent::Bytes(conn, bytes) => {
             Some(WireStep::Bytes(*conn, Vec::from_slice(alloc, *bytes).ok()?))
         }
-        Step::End(conn) => Some(WireStep::End(*conn)),
-        Step::ReadFails(conn) => Some(WireStep::ReadFails(*conn)),
-        Step::Room(conn, bytes) => Some(WireStep::Room(*conn, *bytes)),
-        Step::WriteFails(conn) => Some(WireStep::WriteFails(*conn)),
+        WireEvent::End(conn) => Some(WireStep::End(*conn)),
+        WireEvent::ReadFails(conn) => Some(WireStep::ReadFails(*conn)),
+        WireEvent::Room(conn, bytes) => Some(WireStep::Room(*conn, *bytes)),
+        WireEvent::WriteFails(conn) => Some(WireStep::WriteFails(*conn)),
     }
 }
 
@@ -42,7 +44,7 @@ pub(crate) fn add(steps: &mut Vec<WireStep, Global>, step: WireStep) -> Result<(
 }
 
 /// One thing more happens on a wire. Tells whether it is added.
-pub(crate) fn add_step(alloc: Global, steps: &mut Vec<WireStep, Global>, step: &Step) -> bool {
+pub(crate) fn add_step(alloc: Global, steps: &mut Vec<WireStep, Global>, step: &WireEvent) -> bool {
     match wire_step(alloc, step) {
         Some(step) => add(steps, step).is_ok(),
         None => false,
@@ -50,7 +52,11 @@ pub(crate) fn add_step(alloc: Global, steps: &mut Vec<WireStep, Global>, step: &
 }
 
 /// Some things happen on a wire. Tells whether they are added.
-pub(crate) fn add_each(alloc: Global, steps: &mut Vec<WireStep, Global>, happens: &[Step]) -> bool {
+pub(crate) fn add_each(
+    alloc: Global,
+    steps: &mut Vec<WireStep, Global>,
+    happens: &[WireEvent],
+) -> bool {
     for step in happens {
         if !add_step(alloc, steps, step) {
             return false;
@@ -60,7 +66,7 @@ pub(crate) fn add_each(alloc: Global, steps: &mut Vec<WireStep, Global>, happens
 }
 
 /// A wire on which one thing happens after another.
-pub(crate) fn wire(alloc: Global, happens: &[Step]) -> Option<MemoryWire> {
+pub(crate) fn wire(alloc: Global, happens: &[WireEvent]) -> Option<MemoryWire> {
     let mut steps = Vec::new(alloc);
     for step in happens {
         add(&mut steps, wire_step(alloc, step)?).ok()?;

@@ -1,7 +1,7 @@
 //! What an engine says of its links, line by line; a link is called and calls, comes up, is
 //! refused, closed and lost.
 use crate::server::server;
-use crate::steps::{Step, add, add_step, wire};
+use crate::steps::{WireEvent, add, add_step, wire};
 use irc_engine::Engine;
 use irc_outbox::{MemoryWire, Wire, WireStep};
 use std::alloc::Global;
@@ -12,87 +12,99 @@ const TURNS: u64 = 30;
 const ROOM: usize = 4096;
 
 /// What happens on a wire, and what is said of it.
-struct Row {
-    happens: &'static [Step],
+struct TellingRow {
+    happens: &'static [WireEvent],
     said: &'static [u8],
 }
 
 const GREETS: &[u8] = b"PASS pw 0210010001 TREE|\r\nSERVER b.net 1 1 :B\r\n";
 
-static ROWS: [Row; 10] = [
-    Row {
+static ROWS: [TellingRow; 10] = [
+    TellingRow {
         happens: &[
-            Step::Client(1),
-            Step::Bytes(1, b"NICK al\r\nUSER u 0 * :Al\r\n"),
-            Step::End(1),
+            WireEvent::Client(1),
+            WireEvent::Bytes(1, b"NICK al\r\nUSER u 0 * :Al\r\n"),
+            WireEvent::End(1),
         ],
         said: b"",
     },
-    Row {
+    TellingRow {
         happens: &[
-            Step::Linked(7),
-            Step::Room(7, 9999),
-            Step::Bytes(7, b"PASS pw 0210010001 TREE|\r\n"),
+            WireEvent::Linked(7),
+            WireEvent::Room(7, 9999),
+            WireEvent::Bytes(7, b"PASS pw 0210010001 TREE|\r\n"),
         ],
         said: b"",
     },
-    Row {
-        happens: &[Step::Called(7), Step::Room(7, 9999), Step::Bytes(7, GREETS)],
+    TellingRow {
+        happens: &[
+            WireEvent::Called(7),
+            WireEvent::Room(7, 9999),
+            WireEvent::Bytes(7, GREETS),
+        ],
         said: b"ircd: link to b.net: up\n",
     },
-    Row {
+    TellingRow {
         happens: &[
-            Step::Linked(7),
-            Step::Room(7, 9999),
-            Step::Bytes(7, GREETS),
-            Step::End(7),
+            WireEvent::Linked(7),
+            WireEvent::Room(7, 9999),
+            WireEvent::Bytes(7, GREETS),
+            WireEvent::End(7),
         ],
         said: b"ircd: link from b.net: up\nircd: link from b.net: lost\n",
     },
-    Row {
-        happens: &[Step::Linked(7), Step::Room(7, 9999), Step::End(7)],
+    TellingRow {
+        happens: &[
+            WireEvent::Linked(7),
+            WireEvent::Room(7, 9999),
+            WireEvent::End(7),
+        ],
         said: b"ircd: link from an unknown server: lost before it was up\n",
     },
-    Row {
-        happens: &[Step::Called(7), Step::WriteFails(7)],
+    TellingRow {
+        happens: &[WireEvent::Called(7), WireEvent::WriteFails(7)],
         said: b"ircd: link to b.net: lost before it was up\n",
     },
-    Row {
-        happens: &[Step::Linked(7), Step::Bytes(7, GREETS), Step::ReadFails(7)],
+    TellingRow {
+        happens: &[
+            WireEvent::Linked(7),
+            WireEvent::Bytes(7, GREETS),
+            WireEvent::ReadFails(7),
+        ],
         said: b"ircd: link from b.net: up\nircd: link from b.net: lost\n",
     },
-    Row {
+    TellingRow {
         happens: &[
-            Step::Linked(7),
-            Step::Room(7, 9999),
-            Step::Bytes(7, GREETS),
-            Step::Linked(8),
-            Step::Room(8, 9999),
-            Step::Bytes(8, b"PASS pq 0210010001 TREE|\r\nSERVER c.net 1 1 :C\r\n"),
-            Step::Bytes(7, b":c.net QUIT :x\r\n"),
-            Step::End(8),
+            WireEvent::Linked(7),
+            WireEvent::Room(7, 9999),
+            WireEvent::Bytes(7, GREETS),
+            WireEvent::Linked(8),
+            WireEvent::Room(8, 9999),
+            WireEvent::Bytes(8, b"PASS pq 0210010001 TREE|\r\nSERVER c.net 1 1 :C\r\n"),
+            WireEvent::Bytes(7, b":c.net QUIT :x\r\n"),
+            WireEvent::End(8),
         ],
         said: b"ircd: link from b.net: up\n\
             ircd: link from c.net: up\n\
             ircd: link from b.net: closed: a line from the wrong direction\n\
             ircd: link from c.net: lost\n",
     },
-    Row {
+    TellingRow {
         happens: &[
-            Step::Linked(7),
-            Step::Room(7, 10),
-            Step::Bytes(7, GREETS),
-            Step::Bytes(7, b"FOO\r\n"),
-            Step::End(7),
+            WireEvent::Linked(7),
+            WireEvent::Room(7, 10),
+            WireEvent::Bytes(7, GREETS),
+            WireEvent::Bytes(7, b"FOO\r\n"),
+            WireEvent::End(7),
         ],
         said: b"ircd: link from b.net: up\n\
             ircd: link from b.net: closed: a line with an unknown command\n",
     },
-    Row {
+    TellingRow {
         happens: &[
-            Step::Called(7),
-            Step::Room(7, 9999),
-            Step::Bytes(7, b"ERROR :no\r\n"),
+            WireEvent::Called(7),
+            WireEvent::Room(7, 9999),
+            WireEvent::Bytes(7, b"ERROR :no\r\n"),
         ],
         said: b"ircd: link to b.net: refused: a line with an unknown command\n",
     },
@@ -176,7 +188,7 @@ fn said_over<W: Wire + Drop>(alloc: Global, wire: W) -> Option<Vec<u8, Global>> 
     Some(errors)
 }
 
-fn says(alloc: Global, row: &Row) -> bool {
+fn says(alloc: Global, row: &TellingRow) -> bool {
     match wire(alloc, row.happens) {
         Some(wire) => said_over(alloc, wire).is_some_and(|said| said.as_slice() == row.said),
         None => false,
@@ -193,7 +205,7 @@ fn links_are_told_of(rt: HostRuntime) {
 /// What is said where lines come by the link 7 behind others.
 fn said_of(
     alloc: Global,
-    step: &'static Step,
+    step: &'static WireEvent,
     before: &'static [u8],
     lines: &[u8],
 ) -> Option<Vec<u8, Global>> {
@@ -218,7 +230,7 @@ fn is_said(said: Option<Vec<u8, Global>>, first: &[u8], words: &[u8]) -> bool {
 #[test]
 fn why_a_link_is_refused_is_told(rt: HostRuntime) {
     for cause in &REFUSED {
-        let from = said_of(rt.alloc(), &Step::Linked(7), b"", cause.lines);
+        let from = said_of(rt.alloc(), &WireEvent::Linked(7), b"", cause.lines);
         assert!(rt;
             is_said(
                 from,
@@ -226,7 +238,7 @@ fn why_a_link_is_refused_is_told(rt: HostRuntime) {
                 cause.words
             )
         );
-        let to = said_of(rt.alloc(), &Step::Called(7), b"", cause.lines);
+        let to = said_of(rt.alloc(), &WireEvent::Called(7), b"", cause.lines);
         assert!(rt; is_said(to, b"ircd: link to b.net: refused: ", cause.words));
     }
 }
@@ -234,7 +246,7 @@ fn why_a_link_is_refused_is_told(rt: HostRuntime) {
 #[test]
 fn why_a_link_is_closed_is_told(rt: HostRuntime) {
     for cause in &CLOSED {
-        let from = said_of(rt.alloc(), &Step::Linked(7), GREETS, cause.lines);
+        let from = said_of(rt.alloc(), &WireEvent::Linked(7), GREETS, cause.lines);
         let first = b"ircd: link from b.net: up\nircd: link from b.net: closed: ".as_slice();
         assert!(rt; is_said(from, first, cause.words));
     }

@@ -5,7 +5,7 @@ ghost use Rattle.irc_outbox.specs.Calls.{FitsIn, Keeps};
 
 use crate::lent::{Closings, Lent};
 use crate::server::server;
-use crate::steps::{Step, wire};
+use crate::steps::{WireEvent, wire};
 use irc_engine::Engine;
 use irc_names::ServerName;
 use irc_outbox::{Got, IoFault, Ready, Unreached, Wire};
@@ -28,10 +28,10 @@ impl Write for Closed {
 }
 
 /// b.net links, and cannot be told of; then it is asked of al, and answers.
-static LINKED: [Step; 3] = [
-    Step::Linked(7),
-    Step::Room(7, 9999),
-    Step::Bytes(7, b"PASS pw 0210010001 TREE|\r\nSERVER b.net 1 1 :B\r\n"),
+static LINKED: [WireEvent; 3] = [
+    WireEvent::Linked(7),
+    WireEvent::Room(7, 9999),
+    WireEvent::Bytes(7, b"PASS pw 0210010001 TREE|\r\nSERVER b.net 1 1 :B\r\n"),
 ];
 
 /// What a.net answers.

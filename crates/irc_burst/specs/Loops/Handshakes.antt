@@ -3,7 +3,7 @@ use Rattle.std.specs.Prelude.{Bool, Result}
 use Rattle.irc_batch.specs.declared.close_reason.CloseReason.{CloseReason}
 use Rattle.irc_line.specs.Messages.{Parsed}
 use Rattle.irc_link_reader.specs.declared.arrival.Arrival.{Arrival}
-use Rattle.irc_handshake.specs.declared.openings.Opening.{Opening}
+use Rattle.irc_link_words.specs.declared.openings.Opening.{Opening}
 use Rattle.irc_burst.specs.HandshakeMeant.{handshake_meant}
 
 -- what a line comes to that came there

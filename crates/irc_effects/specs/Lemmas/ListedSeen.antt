@@ -12,7 +12,7 @@ use Rattle.irc_line.specs.Messages.{Sender, named}
 use Rattle.irc_users.specs.declared.user.User.{User}
 use Rattle.irc_channels.specs.declared.channel.Channel.{Channel}
 use Rattle.irc_channels.specs.Channels.{has_member}
-use Rattle.irc_mode_words.specs.ModeWritten.{letters_text}
+use Rattle.irc_modes.specs.ModeWritten.{letters_text}
 use Rattle.irc_modes.specs.declared.modes.ModeChange.{ModeChange}
 use Rattle.irc_effects.specs.declared.effect.By.{By}
 use Rattle.irc_effects.specs.declared.effect.By.TheVariants as by

@@ -12,8 +12,8 @@ use Rattle.irc_outbox.specs.Calls.{written, written_by}
 use Rattle.irc_server.specs.declared.event.Event.{Event}
 use Rattle.irc_batch.specs.Batches.{Sent}
 use Rattle.irc_engine.specs.declared.engine.EngineFault.{EngineFault}
-use Rattle.irc_engine.specs.declared.engine.Rooms.{Rooms}
-use Rattle.irc_engine.specs.declared.kind.Kind.{Kind}
+use Rattle.irc_engine.specs.declared.engine.OutboxSizes.{OutboxSizes}
+use Rattle.irc_engine.specs.declared.kind.ConnectionKind.{ConnectionKind}
 use Rattle.irc_engine.specs.declared.connection_table.Connection.{Connection}
 use Rattle.irc_engine.specs.Carrying.{fresh_connection, has_some_at, is_exchange, bytes_owed, Fate}
 use Rattle.irc_engine.specs.Running.{Moment, IsInOrder, Ran, Starts, in_use, makes_connection}
@@ -85,7 +85,7 @@ other_connection : (old new : Option Connection) (connection : Option Connection
 other_connection old new connection true none set some = cc (sym some ∙ ap has_some_at (none refl))
 other_connection old new connection false none set some = set
 
-module _ {W : Type 0} (is_after : W → List Call → Type 0) (rooms : Rooms) (conn : ℕ) where
+module _ {W : Type 0} (is_after : W → List Call → Type 0) (sizes : OutboxSizes) (conn : ℕ) where
   ran_waits : (exchanges : List Call) (first : List Event) (came : ℕ → List ℕ) (old new : Moment W)
       → written conn exchanges ≡ [] → Ran is_after exchanges first came old new
       → has_some_at (old.connections conn) ≡ true → is_some (new.connections conn) ≡ true
@@ -95,7 +95,7 @@ module _ {W : Type 0} (is_after : W → List Call → Type 0) (rooms : Rooms) (c
       (ran.fates conn) (written_in conn ran.calls ∙ ap (written conn) ran.exchanged
       ∙ nothing) some there
 
-  starts_waits : (kind : Kind) (room which : ℕ) (event : Event) (old new : Moment W)
+  starts_waits : (kind : ConnectionKind) (room which : ℕ) (event : Event) (old new : Moment W)
       → Starts is_after kind room which event old new → has_some_at (old.connections conn) ≡ true
       → is_some (new.connections conn) ≡ true → has_some_at (new.connections conn) ≡ true
   starts_waits kind room which event old new (in_use used ran) some there =
@@ -115,7 +115,7 @@ module _ {W : Type 0} (is_after : W → List Call → Type 0) (rooms : Rooms) (c
   reads_waits which old new (read_once size answer bytes is_open as_large ran) some there =
       ran_waits _ [] _ old new refl ran some there
 
-  answers_wait : (report : Ready) (old new : Moment W) → Answers is_after rooms report old new
+  answers_wait : (report : Ready) (old new : Moment W) → Answers is_after sizes report old new
       → has_some_at (old.connections conn) ≡ true → is_some (new.connections conn) ≡ true
       → has_some_at (new.connections conn) ≡ true
   answers_wait Idle old new ran some there = ran_waits [] [] _ old new refl ran some there
@@ -129,7 +129,7 @@ module _ {W : Type 0} (is_after : W → List Call → Type 0) (rooms : Rooms) (c
 
   -- A connection whose outbox was not empty before a turn, and which the turn does not close, is
   -- written to once.
-  pub written_in_turn : (old new : Moment W) (turn : Turn is_after rooms old new) → IsInOrder old
+  pub written_in_turn : (old new : Moment W) (turn : Turn is_after sizes old new) → IsInOrder old
       → has_some_at (old.connections conn) ≡ true → is_some (new.connections conn) ≡ true
       → times_written conn turn.does.writes.exchanges ≡ 1
   written_in_turn old new turn order some there =

@@ -8,7 +8,7 @@ use Rattle.std.proofs.lemmas.List.Folds.{list_any-append}
 use Rattle.std.proofs.lemmas.List.Sums.{sum_by-append}
 use Rattle.irc_outbox.specs.Calls.{Call, written, written_by, times_closed, is_close_of}
 use Rattle.irc_batch.specs.Batches.{Sent, end_of, end_of_link, line_on, line_to}
-use Rattle.irc_engine.specs.declared.kind.Kind.{Kind}
+use Rattle.irc_engine.specs.declared.kind.ConnectionKind.{ConnectionKind}
 use Rattle.irc_engine.specs.declared.connection_table.Connection.{Connection}
 use Rattle.irc_engine.specs.Hearing.{begun_at}
 use Rattle.irc_engine.specs.Lemmas.HearingLaws.{hears_on, hears_kept}
@@ -236,7 +236,7 @@ module _ (conn : ℕ) (a b : List Call) (x y : List Sent) where
       ∙ lost_both was (is_some old.framer && true) (is_closed_by conn x) (is_closed_by conn y)
   lost_on (Some old) None (Some new) was between one other is = absurd other
 
-  pub passage_on : (old mid new : Option Connection) (was between now : Option Kind)
+  pub passage_on : (old mid new : Option Connection) (was between now : Option ConnectionKind)
       → Passage conn old was a x mid between → Passage conn mid between b y new now
       → Passage conn old was (a ++ b) (x ++ y) new now
   passage_on old mid new was between now one other = record {
@@ -310,11 +310,12 @@ kept_lost (Some connection) l c is = kept_some l (is_some connection.framer)
     ∙ ap (λ t. (l || (is_some connection.framer && false)) && not t) (sym is)
 
 pub untouched : (conn : ℕ) (calls : List Call) (outs : List Sent) → IsElsewhere conn calls outs
-    → (old new : Option Connection) (was now : Option Kind) → new ≡ old → now ≡ was
+    → (old new : Option Connection) (was now : Option ConnectionKind) → new ≡ old → now ≡ was
     → Passage conn old was calls outs new now
 untouched conn calls outs apart old new was now same as_lost =
     subst (λ (s : Option Connection). Passage conn old was calls outs s now) (sym same)
-    (subst (λ (l : Option Kind). Passage conn old was calls outs old l) (sym as_lost) (record {
+    (subst (λ (l : Option ConnectionKind). Passage conn old was calls outs old l) (sym as_lost)
+    (record {
       fate = untouched_fate conn calls outs apart old;
       lost_is = kept_lost old (is_some was) (is_closed_by conn outs) apart.never_closed;
       keeps_kind = λ kind is. is;
@@ -361,8 +362,9 @@ module _ (conn : ℕ) (calls : List Call) (outs outs' : List Sent)
     why = why_as old fate.left fate.why;
   }
 
-  pub passage_as : (old : Option Connection) (was_lost : Option Kind) (new : Option Connection)
-      (is_lost : Option Kind) → Passage conn old was_lost calls outs new is_lost
+  pub passage_as : (old : Option Connection) (was_lost : Option ConnectionKind)
+      (new : Option Connection)
+      (is_lost : Option ConnectionKind) → Passage conn old was_lost calls outs new is_lost
       → Passage conn old was_lost calls outs' new is_lost
   passage_as old was_lost new is_lost passage = record {
     fate = fate_as old new passage.fate;

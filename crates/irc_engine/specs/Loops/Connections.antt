@@ -9,7 +9,7 @@ use Rattle.std.specs.BTreeSet.{BTreeSet, contains}
 use Rattle.irc_outbox.specs.Calls.{Call, writes, closes, is_some_bytes, Adds}
 use Rattle.irc_outbox.specs.declared.wire.IoFault.{IoFault}
 use Rattle.irc_batch.specs.Batches.{Sent}
-use Rattle.irc_engine.specs.declared.kind.Kind.{Kind}
+use Rattle.irc_engine.specs.declared.kind.ConnectionKind.{ConnectionKind}
 use Rattle.irc_engine.specs.declared.connection_table.Connection.{Connection}
 use Rattle.irc_engine.specs.declared.connections.Connections.{Connections}
 use Rattle.irc_engine.specs.Carrying.{AddsAll, Passage, has_some_at, is_done_at, is_exchange}
@@ -25,11 +25,12 @@ abbrev pub IsNoted : BTreeSet ℕ → ℕ → Bool → BTreeSet ℕ → Type 0
 IsNoted old conn now new = (q : ℕ) → has new q ≡ (if nat_eq conn q then now else has old q)
 
 -- the kind of a connection that was lost
-abbrev pub lost_at : BTreeMap ℕ Kind → ℕ → Option Kind
+abbrev pub lost_at : BTreeMap ℕ ConnectionKind → ℕ → Option ConnectionKind
 lost_at lost conn = get nat_cmp lost conn
 
 -- a connection is among those that were lost, as one of some kind, or is not, from now on
-abbrev pub IsLostAs : BTreeMap ℕ Kind → ℕ → Option Kind → BTreeMap ℕ Kind → Type 0
+abbrev pub IsLostAs : BTreeMap ℕ ConnectionKind → ℕ → Option ConnectionKind
+    → BTreeMap ℕ ConnectionKind → Type 0
 IsLostAs old conn now new = (q : ℕ) → lost_at new q ≡ (if nat_eq conn q then now else lost_at old q)
 
 -- a connection ends
@@ -43,7 +44,7 @@ pub record Ends {W : Type 0} (is_after : W → List Call → Type 0) (conn : ℕ
 
 -- as what a connection is lost, after this one was lost: as of its kind, if it is that one and was
 -- open; else as before
-abbrev pub lost_by : Bool → Option Connection → Option Kind → Option Kind
+abbrev pub lost_by : Bool → Option Connection → Option ConnectionKind → Option ConnectionKind
 lost_by it_is connection was = if it_is && is_open_at connection then kind_at connection else was
 
 -- a connection is lost

@@ -8,7 +8,7 @@ use Rattle.irc_engine.specs.Loops.Moments.{moment_of}
 
 abbrev pub engine_view : {W : Type 0} → Engine W → EngineView W
 engine_view engine =
-    record { failed = engine.failed; rooms = engine.rooms; now = moment_of engine.core }
+    record { failed = engine.failed; sizes = engine.sizes; now = moment_of engine.core }
 
 -- Where the wire could not tell what is ready, nothing but the wire has changed.
 abbrev pub with_wire : {W : Type 0} → W → Engine W → Engine W

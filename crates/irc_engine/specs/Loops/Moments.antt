@@ -13,7 +13,7 @@ use Rattle.irc_names.specs.Fold.{name_cmp}
 use Rattle.irc_routes.specs.Known.{is_known}
 use Rattle.irc_stage.specs.View.{View}
 use Rattle.irc_engine.specs.declared.engine.Core.{Core}
-use Rattle.irc_engine.specs.declared.kind.Kind.{Kind}
+use Rattle.irc_engine.specs.declared.kind.ConnectionKind.{ConnectionKind}
 use Rattle.irc_engine.specs.Carrying.{open_kind_at}
 use Rattle.irc_engine.specs.Hearing.{line_event_of, nothing_of, only_of}
 use Rattle.irc_engine.specs.Running.{Moment, AllTold, IsInOrder, Ran}
@@ -64,7 +64,7 @@ came (Ok End) = None
 came (Err fault) = None
 
 -- the event by which a line is passed on, if there is one
-abbrev pub passed_on : Kind → ℕ → Option (ArrayVec ℕ) → List Event
+abbrev pub passed_on : ConnectionKind → ℕ → Option (ArrayVec ℕ) → List Event
 passed_on kind conn None = []
 passed_on kind conn (Some line) = line_event_of kind conn line ∷ []
 
@@ -95,5 +95,5 @@ IsToHearIn event core = IsToHear event core.server (connection_of core.connectio
     (lost_at core.connections.lost)
 
 -- a connection is open, as one of this kind
-abbrev pub IsOpenAs : {W : Type 0} → ℕ → Kind → Core W → Type 0
+abbrev pub IsOpenAs : {W : Type 0} → ℕ → ConnectionKind → Core W → Type 0
 IsOpenAs conn kind core = open_kind_at (connection_of core.connections.table conn) ≡ Some kind

@@ -11,7 +11,7 @@ use Rattle.irc_outbox.specs.declared.outbox.Overflow.{Overflow}
 use Rattle.irc_outbox.specs.declared.wire.IoFault.{IoFault}
 use Rattle.irc_outbox.specs.Calls.{Call, is_some_bytes}
 use Rattle.irc_outbox.specs.Outboxes.{holding, WritesSome}
-use Rattle.irc_engine.specs.declared.kind.Kind.{Kind}
+use Rattle.irc_engine.specs.declared.kind.ConnectionKind.{ConnectionKind}
 use Rattle.irc_engine.specs.declared.connection_table.Connection.{Connection}
 use Rattle.irc_engine.specs.declared.connection_table.ConnectionTable.{ConnectionTable}
 use Rattle.irc_engine.specs.declared.connection_table.Pushed.{Pushed}
@@ -97,7 +97,7 @@ abbrev pub IsClosedAt : ℕ → ConnectionTable → ConnectionTable → Type 0
 IsClosedAt conn old new = Through conn (λ s t. t ≡ record s { framer = None }) (Unit {0}) old new
 
 -- a framer takes bytes of a piece up to the end of the next line, and the kind is told
-pub record FramesSome (old : Connection) (piece : List ℕ) (used : ℕ) (kind : Kind)
+pub record FramesSome (old : Connection) (piece : List ℕ) (used : ℕ) (kind : ConnectionKind)
     (line : Option (ArrayVec ℕ)) (new : Connection) : Type 0 where
   pub kind_is : kind ≡ old.kind
   pub before : Begun
@@ -109,23 +109,23 @@ pub record FramesSome (old : Connection) (piece : List ℕ) (used : ℕ) (kind :
   pub some : 0 < length piece → 0 < used
   pub whole : IsNone line → used ≡ length piece
 
-abbrev pub Frames : Connection → List ℕ → Option (ℕ × Kind × Option (ArrayVec ℕ)) → Connection
-    → Type 0
+abbrev pub Frames : Connection → List ℕ → Option (ℕ × ConnectionKind × Option (ArrayVec ℕ))
+    → Connection → Type 0
 Frames old piece (Some taken) new = FramesSome old piece taken.0 taken.1 taken.2 new
 Frames old piece None new = (old.framer ≡ None) × (new ≡ old)
 
 -- what was taken, with the line that was put aside
-abbrev pub with_line : Option (ℕ × Kind) → Option (ArrayVec ℕ)
-    → Option (ℕ × Kind × Option (ArrayVec ℕ))
+abbrev pub with_line : Option (ℕ × ConnectionKind) → Option (ArrayVec ℕ)
+    → Option (ℕ × ConnectionKind × Option (ArrayVec ℕ))
 with_line (Some taken) line = Some (taken.0, taken.1, line)
 with_line None line = None
 
-abbrev pub FramesAt : ℕ → List ℕ → ConnectionTable → Option (ℕ × Kind × Option (ArrayVec ℕ))
-    → ConnectionTable → Type 0
+abbrev pub FramesAt : ℕ → List ℕ → ConnectionTable
+    → Option (ℕ × ConnectionKind × Option (ArrayVec ℕ)) → ConnectionTable → Type 0
 FramesAt conn piece old result new =
     Through conn (λ s t. Frames s piece result t) (result ≡ None) old new
 
-abbrev pub FramesIn : List ℕ → Option Connection → Option (ℕ × Kind × Option (ArrayVec ℕ))
+abbrev pub FramesIn : List ℕ → Option Connection → Option (ℕ × ConnectionKind × Option (ArrayVec ℕ))
     → Option Connection → Type 0
 FramesIn piece old result new = Within (λ s t. Frames s piece result t) (result ≡ None) old new
 

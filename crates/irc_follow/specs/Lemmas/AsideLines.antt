@@ -8,16 +8,17 @@ use Rattle.irc_relay.specs.Links.{Name}
 use Rattle.irc_stage.specs.Linked.{with_password}
 use Rattle.irc_stage.specs.View.{End, View}
 use Rattle.irc_stage.specs.Lemmas.Numbers.{get-with, one_number, same_number}
-use Rattle.irc_deeds.specs.Heard.{Heard, ignored, closes, password, meets, tells, heard}
-use Rattle.irc_deeds.specs.LinkServed.{after_heard, line_served}
+use Rattle.irc_server.specs.Heard.{Heard, ignored, closes, password, meets, tells, heard}
+use Rattle.irc_server.specs.LinkServed.{after_heard, line_served}
 use Rattle.irc_server.specs.Served.{served}
-use Rattle.irc_follow.specs.Part.{Fixed, number}
-use Rattle.irc_follow.specs.Part as of_side
+use Rattle.irc_follow.specs.SideState.{ItemSetting, number}
+use Rattle.irc_follow.specs.SideState as of_side
 use Rattle.irc_follow.specs.Fits.{far_of, Fits, IsNumberOf}
 use Rattle.irc_follow.specs.Laws.{AsideStays, PutsOutNothing}
 use Rattle.irc_follow.specs.Says.{IsNothing}
 
-module _ (s : Fixed) (p t : Name) (w : of_side.Part) (view : View) (fits : Fits s t w view) where
+module _ (s : ItemSetting) (p t : Name) (w : of_side.SideState) (view : View)
+    (fits : Fits s t w view) where
   -- a password plays no part
   module _ (k : ℕ) (end : End) (is_end : get view.ends k ≡ Some end) (word : List ℕ) where
     abbrev kept : View

@@ -17,7 +17,7 @@ use Rattle.irc_routes.specs.declared.server_row.ServerRow.{ServerRow}
 use Rattle.irc_routes.specs.Known.{Known, is_behind, row_of}
 use Rattle.irc_world.specs.World.{is_server}
 use Rattle.irc_follow.specs.Tree.{Shape, index_in, shape, shape_in}
-use Rattle.irc_follow.specs.Part.{Fixed, info_in, number, IsFixed}
+use Rattle.irc_follow.specs.SideState.{ItemSetting, info_in, number, IsItemSetting}
 use Rattle.irc_follow.specs.AtRest.{AreRight, BehindIsThatSide}
 use Rattle.irc_follow.specs.Lemmas.SideAtRest.{joined_among, joined_so}
 use Rattle.irc_follow.specs.Lemmas.NamedRows.{if_passes, keys_of_set, listed, mark, names_of}
@@ -28,18 +28,19 @@ pub joined_test : (links : List Link) (x t : Name) → AreJoined links x t → j
 joined_test links x t so = (tests_tell links x t x).1.1 so
 
 -- what a row says of its server, where all servers' routes are right
-pub record RowSays (s : Fixed) (links : List Link) (t x : Name) (r : ServerRow) : Type 0 where
+pub record RowSays (s : ItemSetting) (links : List Link) (t x : Name) (r : ServerRow) : Type 0 where
   pub shape : shape r ≡ shape_in s.names (info_in s.settings) links t x
   pub joined : AreJoined links x t
   pub apart : x ≢ t
 
 -- where there is a row
-pub record RowIsThere (s : Fixed) (known : Known) (links : List Link) (t x : Name) : Type 0 where
+pub record RowIsThere (s : ItemSetting) (known : Known) (links : List Link)
+    (t x : Name) : Type 0 where
   pub r : ServerRow
   pub is : row_of known x ≡ Some r
   pub shape : shape r ≡ shape_in s.names (info_in s.settings) links t x
 
-module _ (s : Fixed) (links : List Link) (routes : Name → Known) (t : Name)
+module _ (s : ItemSetting) (links : List Link) (routes : Name → Known) (t : Name)
     (right : AreRight s links routes) (among : IsAmong s.names t) where
   abbrev due : Name → Shape
   due x = shape_in s.names (info_in s.settings) links t x
@@ -73,7 +74,8 @@ module _ (s : Fixed) (links : List Link) (routes : Name → Known) (t : Name)
       by (Some r) is says = record { r = r; is = is; shape = same_some (shape r) (due x) says }
 
 -- a server of that side is behind the link, and is no other
-module _ (s : Fixed) (links : List Link) (routes : Name → Known) (t u : Name) (fixed : IsFixed s)
+module _ (s : ItemSetting) (links : List Link) (routes : Name → Known) (t u : Name)
+    (fixed : IsItemSetting s)
     (forest : IsForest links) (ends : EndsAreAmong s.names links)
     (right : AreRight s links routes) (linked : AreLinked links t u) where
   t_among : IsAmong s.names t

@@ -5,10 +5,11 @@ use Rattle.irc_relay.specs.Links.{IsNextHop, OneWay, forth, return}
 use Rattle.irc_relay.specs.Relay.{SourcesMeet, one, each_other, own}
 use Rattle.irc_relay.specs.Lemmas.NextHops.{distance_self, next_hop, one_way}
 use Rattle.irc_relay.specs.Lemmas.StreamsFlow.{along}
-use Rattle.irc_follow.specs.Part.{Part}
+use Rattle.irc_follow.specs.SideState.{SideState}
 use Rattle.irc_follow.specs.Relinked.{BehindSourceIsFar, FlowsAlong, OtherSources}
 
-module _ (w : Part) (links : List Link) (source : Name → Name) (forest : IsForest w.tree.forest)
+module _ (w : SideState) (links : List Link) (source : Name → Name)
+    (forest : IsForest w.tree.forest)
     (flows : FlowsAlong links source w.tree) where
   abbrev pub depth : Name → ℕ
   depth t = distance links t (source t)

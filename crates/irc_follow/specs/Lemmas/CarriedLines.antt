@@ -10,7 +10,7 @@ use Rattle.irc_line.specs.Carried.{is_carried, is_carried_byte, AreCarriedParts,
 use Rattle.irc_names.specs.Names.{IsChannel, IsNick, IsServer}
 use Rattle.irc_channels.specs.declared.flags.Flags.{Flags}
 use Rattle.irc_modes.specs.declared.modes.ModeChange.{ModeChange}
-use Rattle.irc_mode_words.specs.ModeWritten.{changes_written}
+use Rattle.irc_modes.specs.ModeWritten.{changes_written}
 use Rattle.irc_room.specs.Laws.{NamesAreLineWords}
 use Rattle.irc_room.specs.Limits.{IsCarriedText, IsWithinLimits}
 use Rattle.irc_room.specs.Room.{Room}

@@ -44,8 +44,8 @@ use Rattle.irc_wire.specs.EachReadBack.{AgreesOnServer}
 use Rattle.irc_wire.specs.Introductions.{IsIntroduced}
 use Rattle.irc_wire.specs.ReadBack.{IsReadable, is_user_far}
 use Rattle.irc_follow.specs.Tree.{Shape, index_in, shape, shape_in}
-use Rattle.irc_follow.specs.Part.{Fixed, info_in, number, IsFixed, IsSoundPart}
-use Rattle.irc_follow.specs.Part as of_side
+use Rattle.irc_follow.specs.SideState.{ItemSetting, info_in, number, IsItemSetting, IsSoundSide}
+use Rattle.irc_follow.specs.SideState as of_side
 use Rattle.irc_follow.specs.Fits.{Fits}
 use Rattle.irc_follow.specs.Says.{IsDoableEffect, IsFar}
 use Rattle.irc_follow.specs.Lemmas.SaidEffect.{far_is_another, rooms_alike, users_there}
@@ -129,7 +129,7 @@ distance_in : (o : Option ServerRow) (is : Shape) → option_map shape o ≡ Som
 distance_in None is same_shape = cc same_shape
 distance_in (Some r) is same_shape = ap (option_map (λ (x : Shape). x.distance)) same_shape
 
-module _ (s : Fixed) (w : of_side.Part) (sound : IsSoundPart s w) where
+module _ (s : ItemSetting) (w : of_side.SideState) (sound : IsSoundSide s w) where
   pub shape_at : (x home : Name) → w.tree.here x ≡ true → w.tree.knows home ≡ true
       → home ≢ x → option_map shape (row_of (w.tree.routes x) home)
       ≡ Some (shape_in s.names (info_in s.settings) w.tree.forest x home)
@@ -184,10 +184,11 @@ module _ (s : Fixed) (w : of_side.Part) (sound : IsSoundPart s w) where
 
 -- ---- the writer t and the reader u, which takes from it
 
-module _ (s : Fixed) (fixed : IsFixed s) (t u : Name) (w : of_side.Part) (view other : View)
+module _ (s : ItemSetting) (fixed : IsItemSetting s) (t u : Name) (w : of_side.SideState)
+    (view other : View)
     (takes : TakesFrom s.streams u t) (writer : Fits s t w view)
     (reader : Fits s u w other) where
-  sound : IsSoundPart s w
+  sound : IsSoundSide s w
   sound = writer.sound
 
   -- the way to a far server is by the writer

@@ -17,8 +17,8 @@ use Rattle.irc_room.specs.effect.Effect.{Effect}
 use Rattle.irc_room.specs.Seen.{Showing}
 use Rattle.irc_room.specs.Lemmas.ViewerLaws.{both_true}
 use Rattle.irc_tables.specs.Lemmas.OrderedEntries.{above-is, find-above}
-use Rattle.irc_links.specs.Ends.{Ends, is_met}
-use Rattle.irc_links.specs.Ways.{but, met_links}
+use Rattle.irc_stage.specs.Ends.{Ends, is_met}
+use Rattle.irc_stage.specs.Ways.{but, met_links}
 use Rattle.irc_routes.specs.Known.{link_key}
 use Rattle.irc_stage.specs.EffectTold.{Served, all_changed, ends_of, changed, changed_if, counts}
 use Rattle.irc_stage.specs.EffectTold.{on_links, shown_at}

@@ -14,8 +14,8 @@ use Rattle.irc_line.specs.Reading.{read_of}
 use Rattle.irc_names.specs.Names.{is_nick, is_server}
 use Rattle.irc_room.specs.Laws.{IsWhole, NamesAreLineWords}
 use Rattle.irc_room.specs.Lemmas.Rows.{same_some}
-use Rattle.irc_links.specs.Ends.{End, Ends, is_met}
-use Rattle.irc_links.specs.Ways.{but, met_links}
+use Rattle.irc_stage.specs.Ends.{End, Ends, is_met}
+use Rattle.irc_stage.specs.Ways.{but, met_links}
 use Rattle.irc_link_reader.specs.Reader.{Reader, reader_of, is_behind_link, may_come}
 use Rattle.irc_merge.specs.Deeds.{Deed}
 use Rattle.irc_relay.specs.Distances.{IsAmong}
@@ -31,10 +31,10 @@ use Rattle.irc_burst.specs.DeedsMeant.{Told, deeds_meant}
 use Rattle.irc_stage.specs.EffectTold.{Served}
 use Rattle.irc_stage.specs.Linked.{told_on_all}
 use Rattle.irc_stage.specs.View.{View}
-use Rattle.irc_deeds.specs.Heard.{heard, of_met, tells}
+use Rattle.irc_server.specs.Heard.{heard, of_met, tells}
 use Rattle.irc_follow.specs.Tree.{shape_in}
-use Rattle.irc_follow.specs.Part.{Fixed, info_in, number, IsSoundPart}
-use Rattle.irc_follow.specs.Part as of_side
+use Rattle.irc_follow.specs.SideState.{ItemSetting, info_in, number, IsSoundSide}
+use Rattle.irc_follow.specs.SideState as of_side
 use Rattle.irc_follow.specs.Fits.{far_end, far_of, Fits}
 use Rattle.irc_follow.specs.Laws.{GoesOn, told}
 use Rattle.irc_follow.specs.Says.{neighbour_served, lines_on, machine, saying, IsDoable, IsFar}
@@ -74,10 +74,10 @@ pub but_none : (links : List ℕ) → but None links ≡ links
 but_none [] = refl
 but_none (link ∷ links) = ap (λ l. link ∷ l) (but_none links)
 
-module _ (s : Fixed) (p t u : Name) (w : of_side.Part) (view other : View)
+module _ (s : ItemSetting) (p t u : Name) (w : of_side.SideState) (view other : View)
     (takes : TakesFrom s.streams t p) (next : TakesFrom s.streams u t) (apart : u ≢ p)
     (writer : Fits s t w view) (reader : Fits s u w other) where
-  sound : IsSoundPart s w
+  sound : IsSoundSide s w
   sound = writer.sound
 
   pub u_linked : AreLinked w.tree.forest u t

@@ -13,8 +13,8 @@ use Rattle.irc_room.specs.Lemmas.Rows.{same_some}
 use Rattle.irc_routes.specs.declared.server_row.ServerRow.{ServerRow}
 use Rattle.irc_routes.specs.Known.{row_of, token_out}
 use Rattle.irc_follow.specs.Tree.{Tree, Shape, index_in, shape, shape_in, IsSoundTree}
-use Rattle.irc_follow.specs.Part.{info_in}
-use Rattle.irc_follow.specs.Relinked.{with_links, CanLink, PartAfterLink, TreeAfterLink}
+use Rattle.irc_follow.specs.SideState.{info_in}
+use Rattle.irc_follow.specs.Relinked.{with_links, CanLink, SideAfterLink, TreeAfterLink}
 use Rattle.irc_follow.specs.Lemmas.PlacesOfNames.{one_place}
 
 -- who takes lines of whom is linked to it, where sources cover the links
@@ -156,8 +156,8 @@ module _ (names : List Name) (info : Name → List ℕ) (tree : Tree) (l : Link)
 pub tree_after_link : TreeAfterLink
 tree_after_link names info tree l sound can = sound_with_link names info tree l sound can
 
-pub part_after_link : PartAfterLink
-part_after_link s w l source sound can covers = record {
+pub side_after_link : SideAfterLink
+side_after_link s w l source sound can covers = record {
   tree = tree_now;
   parents =
       λ t p takes. parent_is_linked (l ∷ w.tree.forest) source t p tree_now.forest covers takes;

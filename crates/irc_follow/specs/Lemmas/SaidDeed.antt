@@ -37,13 +37,14 @@ use Rattle.irc_stage.specs.Handle.{is_client}
 use Rattle.irc_stage.specs.View.{End, View}
 use Rattle.irc_stage.specs.Lemmas.Counting.{get-kept}
 use Rattle.irc_stage.specs.Lemmas.Numbers.{same_clients}
-use Rattle.irc_deeds.specs.DeedTold.{deed_told, told_by}
-use Rattle.irc_deeds.specs.Heard.{heard, tells}
-use Rattle.irc_deeds.specs.LinkServed.{after_heard, line_served}
+use Rattle.irc_server.specs.DeedTold.{deed_told, told_by}
+use Rattle.irc_server.specs.Heard.{heard, tells}
+use Rattle.irc_server.specs.LinkServed.{after_heard, line_served}
 use Rattle.irc_server.specs.Served.{served}
 use Rattle.irc_world.specs.World.{home_in}
-use Rattle.irc_follow.specs.Part.{Fixed, clients_elsewhere, done, is_home_of, number, IsSoundPart}
-use Rattle.irc_follow.specs.Part as of_side
+use Rattle.irc_follow.specs.SideState.{ItemSetting, clients_elsewhere, done, is_home_of, number}
+use Rattle.irc_follow.specs.SideState.{IsSoundSide}
+use Rattle.irc_follow.specs.SideState as of_side
 use Rattle.irc_follow.specs.Fits.{far_end, Fits}
 use Rattle.irc_follow.specs.Says.{neighbour_served, Says, IsDoableByServer, IsDoableKill}
 use Rattle.irc_follow.specs.Says.{IsDoableLoss}
@@ -51,13 +52,14 @@ use Rattle.irc_follow.specs.Lemmas.DeedEffects.{AllCalm, AllQuiet, all_view, at_
 use Rattle.irc_follow.specs.Lemmas.DeedEffects.{members_quiet, quiet_counted, quits_calm, sets_calm}
 use Rattle.irc_follow.specs.Lemmas.DeedEffects.{sets_quiet, tops_calm, tops_quiet}
 use Rattle.irc_follow.specs.Lemmas.LostUsers.{lost_are_of, lost_counted}
-use Rattle.irc_follow.specs.Lemmas.PartDeeds.{brings_keeps, kills_keeps, loses_keeps, sets_keeps}
-use Rattle.irc_follow.specs.Lemmas.PartDeeds.{there_to_kill, tops_keeps}
+use Rattle.irc_follow.specs.Lemmas.DeedsOnSide.{brings_keeps, kills_keeps, loses_keeps, sets_keeps}
+use Rattle.irc_follow.specs.Lemmas.DeedsOnSide.{there_to_kill, tops_keeps}
 use Rattle.irc_follow.specs.Lemmas.SaidEffect.{own_name, room_now, rooms_alike}
 
-module _ (s : Fixed) (p t : Name) (w : of_side.Part) (view : View) (takes : TakesFrom s.streams t p)
+module _ (s : ItemSetting) (p t : Name) (w : of_side.SideState) (view : View)
+    (takes : TakesFrom s.streams t p)
     (fits : Fits s t w view) where
-  sound : IsSoundPart s w
+  sound : IsSoundSide s w
   sound = fits.sound
 
   rooms : AreAlike view.room w.hall.room
@@ -89,7 +91,7 @@ module _ (s : Fixed) (p t : Name) (w : of_side.Part) (view : View) (takes : Take
   -- ---- members, modes and a topic
 
   with_room_fits : (room new : Room)
-      → IsSoundPart s (record w { hall = record w.hall { room = new } }) → room ≡ of_home t new
+      → IsSoundSide s (record w { hall = record w.hall { room = new } }) → room ≡ of_home t new
       → Fits s t (record w { hall = record w.hall { room = new } }) (record view { room = room })
   with_room_fits room new sound_now is = record {
     here = fits.here;
@@ -154,7 +156,7 @@ module _ (s : Fixed) (p t : Name) (w : of_side.Part) (view : View) (takes : Take
   }
 
   quiet_fits : (deed : Deed) → IsQuietDeed deed
-      → IsSoundPart s (record w { hall = record w.hall { room = after_deed w.hall.room deed } })
+      → IsSoundSide s (record w { hall = record w.hall { room = after_deed w.hall.room deed } })
       → Fits s t (record w { hall = record w.hall { room = after_deed w.hall.room deed } })
       (all_changed (effects_of view.room deed) (at_room view (titled view.room deed) [])).view
   unfolding after_deed

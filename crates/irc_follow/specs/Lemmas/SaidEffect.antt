@@ -43,17 +43,17 @@ use Rattle.irc_stage.specs.RoomMachine.{Clients, each_client}
 use Rattle.irc_stage.specs.View.{View, machine_of}
 use Rattle.irc_stage.specs.Lemmas.Counting.{get-kept}
 use Rattle.irc_stage.specs.Lemmas.Numbers.{get-each, same_clients}
-use Rattle.irc_deeds.specs.DeedTold.{deed_told, told_by}
-use Rattle.irc_deeds.specs.LinkServed.{after_heard, line_served}
+use Rattle.irc_server.specs.DeedTold.{deed_told, told_by}
+use Rattle.irc_server.specs.LinkServed.{after_heard, line_served}
 use Rattle.irc_server.specs.Served.{served}
 use Rattle.irc_world.specs.ClientsUsers.{fold_of}
 use Rattle.irc_follow.specs.Tree.{shape, shape_in}
-use Rattle.irc_follow.specs.Part.{Fixed, clients_left, done, info_in, is_home_of, number}
-use Rattle.irc_follow.specs.Part.{IsSoundPart}
-use Rattle.irc_follow.specs.Part as of_side
+use Rattle.irc_follow.specs.SideState.{ItemSetting, clients_left, done, info_in, is_home_of, number}
+use Rattle.irc_follow.specs.SideState.{IsSoundSide}
+use Rattle.irc_follow.specs.SideState as of_side
 use Rattle.irc_follow.specs.Fits.{Fits}
 use Rattle.irc_follow.specs.Says.{neighbour_served, Says, IsDoableEffect, IsFar}
-use Rattle.irc_follow.specs.Lemmas.PartEffects.{effect_keeps}
+use Rattle.irc_follow.specs.Lemmas.EffectsOnSide.{effect_keeps}
 
 pub doing : (room : Room) (effect : Effect) → IsPossible room effect → is_idle room effect ≡ false
     → does_in room effect ≡ true
@@ -65,9 +65,10 @@ doing room effect possible busy =
     ∙ ap (λ b. if not b then Some NoSuchChannel else None) possible.channel_there)
     ∙ ap not busy
 
-module _ (s : Fixed) (p t : Name) (w : of_side.Part) (view : View) (takes : TakesFrom s.streams t p)
+module _ (s : ItemSetting) (p t : Name) (w : of_side.SideState) (view : View)
+    (takes : TakesFrom s.streams t p)
     (fits : Fits s t w view) where
-  sound : IsSoundPart s w
+  sound : IsSoundSide s w
   sound = fits.sound
 
   pub taker_is_another : t ≢ p

@@ -43,8 +43,8 @@ use Rattle.irc_stage.specs.Handle.{to_viewer}
 use Rattle.irc_stage.specs.View.{View}
 use Rattle.irc_server.specs.Owed.{line_to_conn as line_to_client, lines_to}
 use Rattle.irc_world.specs.ClientsUsers.{fold_of}
-use Rattle.irc_follow.specs.Part.{Fixed, client_sees, is_home_of, number, IsSoundPart}
-use Rattle.irc_follow.specs.Part as of_side
+use Rattle.irc_follow.specs.SideState.{ItemSetting, client_sees, is_home_of, number, IsSoundSide}
+use Rattle.irc_follow.specs.SideState as of_side
 use Rattle.irc_follow.specs.Fits.{Fits}
 use Rattle.irc_follow.specs.Says.{neighbour_served, Says, IsDoableEffect}
 use Rattle.irc_follow.specs.Lemmas.ClientLines.{client_shown, effect_lines}
@@ -135,10 +135,11 @@ module _ (who : ℕ) where
         ∙ ap (λ l. lines_to who out ++ l)
         (sym (along_first room effect effects (get view.clients who)))
 
-module _ (s : Fixed) (p t : Name) (w : of_side.Part) (view : View) (takes : TakesFrom s.streams t p)
+module _ (s : ItemSetting) (p t : Name) (w : of_side.SideState) (view : View)
+    (takes : TakesFrom s.streams t p)
     (fits : Fits s t w view) (who : ℕ)
     (at_home : is_home_of s.homes t who ≡ true) where
-  sound : IsSoundPart s w
+  sound : IsSoundSide s w
   sound = fits.sound
 
   pub rooms : AreAlike view.room w.hall.room

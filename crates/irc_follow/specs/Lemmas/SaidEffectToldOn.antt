@@ -27,7 +27,7 @@ use Rattle.irc_room.specs.Room.{Room}
 use Rattle.irc_room.specs.Seen.{stored_nick}
 use Rattle.irc_room.specs.Sendable.{IsSendable}
 use Rattle.irc_room.specs.Lemmas.AlikeLaw.{alike_have_alike, alike_take_alike}
-use Rattle.irc_links.specs.Ways.{homes_in, told_homes, ways_toward}
+use Rattle.irc_stage.specs.Ways.{homes_in, told_homes, ways_toward}
 use Rattle.irc_merge.specs.BurstRead.{introduced}
 use Rattle.irc_merge.specs.Deeds.{does, kills}
 use Rattle.irc_relay.specs.Distances.{IsAmong}
@@ -44,12 +44,12 @@ use Rattle.irc_burst.specs.DeedsMeant as of_deeds
 use Rattle.irc_link_writer.specs.Written.{wire}
 use Rattle.irc_stage.specs.EffectTold.{Served, on_links, shown_at, ways_at}
 use Rattle.irc_stage.specs.View.{End, View}
-use Rattle.irc_deeds.specs.Heard.{heard, of_met, tells}
+use Rattle.irc_server.specs.Heard.{heard, of_met, tells}
 use Rattle.irc_wire.specs.EachReadBack.{EachIsReadBack}
 use Rattle.irc_wire.specs.ReadBack.{IsReadBack}
 use Rattle.irc_follow.specs.Tree.{shape_in}
-use Rattle.irc_follow.specs.Part.{Fixed, number, IsFixed, IsSoundPart}
-use Rattle.irc_follow.specs.Part as of_side
+use Rattle.irc_follow.specs.SideState.{ItemSetting, number, IsItemSetting, IsSoundSide}
+use Rattle.irc_follow.specs.SideState as of_side
 use Rattle.irc_follow.specs.Fits.{Fits}
 use Rattle.irc_follow.specs.Laws.{GoesOn, told, passed, SaidEffectGoesOn}
 use Rattle.irc_follow.specs.Says.{neighbour_served, lines_on, machine, Says, IsDoableEffect}
@@ -165,11 +165,11 @@ module _ (room : Room) (known : Known) (view : View) (link : ℕ) (end : End) (e
       (message_of (wire room known effect)) back.line met
       ∙ ap of_met (effect_meant sent free)
 
-module _ (read_back : EachIsReadBack) (s : Fixed) (fixed : IsFixed s) (p t u : Name)
-    (w : of_side.Part) (view other : View) (takes : TakesFrom s.streams t p)
+module _ (read_back : EachIsReadBack) (s : ItemSetting) (fixed : IsItemSetting s) (p t u : Name)
+    (w : of_side.SideState) (view other : View) (takes : TakesFrom s.streams t p)
     (next : TakesFrom s.streams u t) (apart : u ≢ p) (writer : Fits s t w view)
     (reader : Fits s u w other) (effect : Effect) (doable : IsDoableEffect s w effect) where
-  sound : IsSoundPart s w
+  sound : IsSoundSide s w
   sound = writer.sound
 
   u_linked : AreLinked w.tree.forest u t

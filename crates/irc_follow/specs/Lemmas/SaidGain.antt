@@ -21,18 +21,19 @@ use Rattle.irc_stage.specs.EffectTold.{Served, in_silence, with_sent}
 use Rattle.irc_stage.specs.Linked.{is_taken, with_far, with_row}
 use Rattle.irc_stage.specs.View.{End, View}
 use Rattle.irc_stage.specs.Lemmas.Numbers.{get-with, one_number, same_number, same_number-is}
-use Rattle.irc_deeds.specs.DeedTold.{gain_told, told_by}
-use Rattle.irc_deeds.specs.Heard.{Heard, meets, tells}
-use Rattle.irc_deeds.specs.LinkServed.{after_heard, line_served, met_by, on_link, owes}
+use Rattle.irc_server.specs.DeedTold.{gain_told, told_by}
+use Rattle.irc_server.specs.Heard.{Heard, meets, tells}
+use Rattle.irc_server.specs.LinkServed.{after_heard, line_served, met_by, on_link, owes}
 use Rattle.irc_server.specs.Served.{served}
 use Rattle.irc_follow.specs.Tree.{gained, told_token}
-use Rattle.irc_follow.specs.Part.{Fixed, done, info_in, number, IsFixed, IsSoundPart}
-use Rattle.irc_follow.specs.Part as of_side
+use Rattle.irc_follow.specs.SideState.{ItemSetting, done, info_in, number, IsItemSetting}
+use Rattle.irc_follow.specs.SideState.{IsSoundSide}
+use Rattle.irc_follow.specs.SideState as of_side
 use Rattle.irc_follow.specs.Fits.{far_end, far_of, Fits, IsNumberOf}
 use Rattle.irc_follow.specs.Says.{neighbour_served, saying, Says, IsDoableGain}
 use Rattle.irc_follow.specs.Lemmas.PlacesOfNames.{one_place}
 use Rattle.irc_follow.specs.Lemmas.TreeGains as tree_of
-use Rattle.irc_follow.specs.Lemmas.PartEffects.{gain_keeps}
+use Rattle.irc_follow.specs.Lemmas.EffectsOnSide.{gain_keeps}
 use Rattle.irc_follow.specs.Lemmas.SaidEffect.{own_name}
 
 -- a row more, where it is taken
@@ -47,16 +48,17 @@ row_more k uplink name distance token info before is =
           with_row k uplink name distance token info before.view;
     }) else before).view) is
 
-module _ (s : Fixed) (fixed : IsFixed s) (p t : Name) (w : of_side.Part) (view : View)
+module _ (s : ItemSetting) (fixed : IsItemSetting s) (p t : Name) (w : of_side.SideState)
+    (view : View)
     (takes : TakesFrom s.streams t p) (fits : Fits s t w view)
     (uplink name words : List ℕ) (doable : IsDoableGain s w uplink name words) where
-  sound : IsSoundPart s w
+  sound : IsSoundSide s w
   sound = fits.sound
 
   abbrev info : Name → List ℕ
   info = info_in s.settings
 
-  abbrev now : of_side.Part
+  abbrev now : of_side.SideState
   now = record w { tree = gained s.names uplink name words w.tree }
 
   p_linked : AreLinked w.tree.forest t p
@@ -97,7 +99,7 @@ module _ (s : Fixed) (fixed : IsFixed s) (p t : Name) (w : of_side.Part) (view :
       ∙ sym (tree_of.told_here s.names info fixed.servers fixed.few w.tree sound.tree uplink name
       words doable.can t fits.here)
 
-  pub gain_sound : IsSoundPart s now
+  pub gain_sound : IsSoundSide s now
   unfolding done
   gain_sound = gain_keeps s w uplink name words fixed sound doable
 
@@ -277,9 +279,9 @@ module _ (s : Fixed) (fixed : IsFixed s) (p t : Name) (w : of_side.Part) (view :
       choose b = if b then meets name words else tells (a_server uplink name
           (distance w.tree.forest t name) (told_token w.tree p name) words ∷ [])
 
-pub said_gain_fits : (s : Fixed) → IsFixed s → (p t : Name) (w : of_side.Part) (view : View)
-    → TakesFrom s.streams t p → Fits s t w view → (uplink name words : List ℕ) (line : List ℕ)
-    → Says s p t w view (gains uplink name words) line
+pub said_gain_fits : (s : ItemSetting) → IsItemSetting s → (p t : Name) (w : of_side.SideState)
+    (view : View) → TakesFrom s.streams t p → Fits s t w view → (uplink name words : List ℕ)
+    (line : List ℕ) → Says s p t w view (gains uplink name words) line
     → Fits s t (done s w (gains uplink name words)) (neighbour_served s p view line).view
 unfolding done served
 said_gain_fits s fixed p t w view takes fits uplink name words line says =

@@ -15,7 +15,7 @@ use Rattle.irc_line.specs.Bytes.{has_nul}
 use Rattle.irc_line.specs.Messages.{IsPlain, IsPlainWord, Written, line_text, message_of, text}
 use Rattle.irc_line.specs.Reading.{read_of}
 use Rattle.irc_names.specs.Names.{IsServer, is_server}
-use Rattle.irc_handshake.specs.Peers.{not_taken}
+use Rattle.irc_link_words.specs.Peers.{not_taken}
 use Rattle.irc_merge.specs.Deeds.{gains}
 use Rattle.irc_names.specs.Digits.{number_of}
 use Rattle.irc_relay.specs.Links.{Name, OneWay, forth, return, same, toward, distance, AreLinked}
@@ -38,16 +38,16 @@ use Rattle.irc_stage.specs.EffectTold.{Served, in_silence, with_sent}
 use Rattle.irc_stage.specs.Linked.{told_on_all, with_row}
 use Rattle.irc_stage.specs.View.{End, View}
 use Rattle.irc_stage.specs.Lemmas.Numbers.{get-with, one_number, same_number}
-use Rattle.irc_deeds.specs.DeedTold.{gain_told, told_by}
-use Rattle.irc_deeds.specs.Heard.{Heard, meets, tells}
-use Rattle.irc_deeds.specs.LinkServed.{after_heard, line_served, met_by, on_link, owes}
+use Rattle.irc_server.specs.DeedTold.{gain_told, told_by}
+use Rattle.irc_server.specs.Heard.{Heard, meets, tells}
+use Rattle.irc_server.specs.LinkServed.{after_heard, line_served, met_by, on_link, owes}
 use Rattle.irc_server.specs.Served.{served}
 use Rattle.irc_wire.specs.Lemmas.LinesReadBack.{command_plain, from_plain}
 use Rattle.irc_wire.specs.Lemmas.ModeWords.{digits_plain}
 use Rattle.irc_wire.specs.Lemmas.NumberText.{number_digits, number_read, number_taken}
 use Rattle.irc_follow.specs.Tree.{gained, told_token, CanGain}
-use Rattle.irc_follow.specs.Part.{Fixed, info_in, number, IsFixed, IsSoundPart}
-use Rattle.irc_follow.specs.Part as of_side
+use Rattle.irc_follow.specs.SideState.{ItemSetting, info_in, number, IsItemSetting, IsSoundSide}
+use Rattle.irc_follow.specs.SideState as of_side
 use Rattle.irc_follow.specs.Fits.{Fits}
 use Rattle.irc_follow.specs.Laws.{GoesOn, SaidGainGoesOn}
 use Rattle.irc_follow.specs.Says.{neighbour_served, body, lines_on, machine, saying, Says}
@@ -123,12 +123,12 @@ none_on_another k link apart (parts ∷ lines) =
     lines_if b =
         cons_option (if b then Some (body (text parts)) else None) (lines_on k (on_link link lines))
 
-module _ (known : IsKnownOfLines) (uplink name words : List ℕ) (s : Fixed) (p t u : Name)
-    (w : of_side.Part) (view other : View) (line : List ℕ) (client : ℕ)
-    (fixed : IsFixed s) (takes : TakesFrom s.streams t p) (next : TakesFrom s.streams u t)
+module _ (known : IsKnownOfLines) (uplink name words : List ℕ) (s : ItemSetting) (p t u : Name)
+    (w : of_side.SideState) (view other : View) (line : List ℕ) (client : ℕ)
+    (fixed : IsItemSetting s) (takes : TakesFrom s.streams t p) (next : TakesFrom s.streams u t)
     (apart : u ≢ p) (writer : Fits s t w view)
     (reader : Fits s u w other) (says : Says s p t w view (gains uplink name words) line) where
-  sound : IsSoundPart s w
+  sound : IsSoundSide s w
   sound = writer.sound
 
   doable : IsDoableGain s w uplink name words
@@ -140,10 +140,10 @@ module _ (known : IsKnownOfLines) (uplink name words : List ℕ) (s : Fixed) (p 
   can : CanGain s.names info w.tree uplink name words
   can = doable.can
 
-  abbrev now : of_side.Part
+  abbrev now : of_side.SideState
   now = record w { tree = gained s.names uplink name words w.tree }
 
-  now_sound : IsSoundPart s now
+  now_sound : IsSoundSide s now
   now_sound = gain_of.gain_sound s fixed p t w view takes writer uplink name words doable
 
   not_writer : name ≢ t

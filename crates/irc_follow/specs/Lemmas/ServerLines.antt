@@ -27,9 +27,9 @@ use Rattle.irc_channels.specs.declared.channel.Channel.{Channel}
 use Rattle.irc_channels.specs.declared.flags.Flags.{Flags}
 use Rattle.irc_batch.specs.declared.close_reason.CloseReason.{CloseReason}
 use Rattle.irc_modes.specs.declared.modes.ModeChange.{ModeChange}
-use Rattle.irc_mode_words.specs.ModeWritten.{changes_written, letters_text}
-use Rattle.irc_mode_words.specs.Readable.{AreReadable, has_its_word, is_worded}
-use Rattle.irc_mode_words.specs.Lemmas.WrittenRead.{written_is_read}
+use Rattle.irc_modes.specs.ModeWritten.{changes_written, letters_text}
+use Rattle.irc_modes.specs.Readable.{AreReadable, has_its_word, is_worded}
+use Rattle.irc_modes.specs.Lemmas.WrittenRead.{written_is_read}
 use Rattle.irc_room.specs.effect.By.{By}
 use Rattle.irc_room.specs.effect.By.TheVariants as by
 use Rattle.irc_room.specs.effect.Effect.{Effect}
@@ -55,10 +55,10 @@ use Rattle.irc_link_reader.specs.Reader.{Reader, is_behind_link, may_come, reade
 use Rattle.irc_link_words.specs.Words.{are_changes, are_members_named, are_words, changes_of}
 use Rattle.irc_link_words.specs.Words.{is_mode_word, names_nick}
 use Rattle.irc_stage.specs.View.{End, View}
-use Rattle.irc_deeds.specs.Heard.{heard, of_met, opened}
+use Rattle.irc_server.specs.Heard.{heard, of_met, opened}
 use Rattle.irc_wire.specs.Lemmas.LinesReadBack.{carried_no_nul, command_plain, from_plain}
 use Rattle.irc_wire.specs.Lemmas.ModesRead.{changes_again, changes_taken}
-use Rattle.irc_mode_words.specs.Lemmas.FewChanges.{letters_few}
+use Rattle.irc_modes.specs.Lemmas.FewChanges.{letters_few}
 use Rattle.irc_wire.specs.Lemmas.ModeWords.{mode_words, worded_counted, words_plain}
 use Rattle.irc_wire.specs.Lemmas.NameKinds.{channel-for_channel}
 use Rattle.irc_follow.specs.Lemmas.MemberLines.{AreNicks, all_nicks, members_back, members_no_nul}

@@ -26,7 +26,7 @@ use Rattle.irc_room.specs.Seen.{sees, shown_line}
 use Rattle.irc_room.specs.Viewers.{line_for, shows_to}
 use Rattle.irc_room.specs.Lemmas.Rows.{same_some}
 use Rattle.irc_room.specs.Lemmas.HomeLaw.{home_follows}
-use Rattle.irc_links.specs.Ways.{homes_in, homes_of, told_homes}
+use Rattle.irc_stage.specs.Ways.{homes_in, homes_of, told_homes}
 use Rattle.irc_merge.specs.Deeds.{does, gains, shown_by}
 use Rattle.irc_relay.specs.Links.{Name, same, toward, distance, AreJoined, AreLinked, OneWay, forth}
 use Rattle.irc_relay.specs.Links.{return}
@@ -39,12 +39,12 @@ use Rattle.irc_stage.specs.declared.clients.Client.{Client}
 use Rattle.irc_stage.specs.declared.clients.Client.TheVariants.{Registering, Registered}
 use Rattle.irc_stage.specs.View.{View}
 use Rattle.irc_world.specs.ClientsUsers.{fold_of}
-use Rattle.irc_follow.specs.Part.{Fixed, client_sees, done, is_home_of, IsSoundPart}
-use Rattle.irc_follow.specs.Part as of_side
+use Rattle.irc_follow.specs.SideState.{ItemSetting, client_sees, done, is_home_of, IsSoundSide}
+use Rattle.irc_follow.specs.SideState as of_side
 use Rattle.irc_follow.specs.Fits.{Fits}
 use Rattle.irc_follow.specs.Laws.{PassedByStays}
 use Rattle.irc_follow.specs.Says.{IsFar, Passes}
-use Rattle.irc_follow.specs.Lemmas.PartEffects.{effect_keeps}
+use Rattle.irc_follow.specs.Lemmas.EffectsOnSide.{effect_keeps}
 
 first_of : (a b : Bool) → (a && b) ≡ true → a ≡ true
 first_of true b is = refl
@@ -157,12 +157,12 @@ teller room (Invite by nick channel) homes is there =
     (by, (refl, first_of (has_user room by) (has_user room nick && true) there))
 teller room effect homes is there = cc is
 
-module _ (s : Fixed) (t : Name) (w : of_side.Part) (effect : Effect)
+module _ (s : ItemSetting) (t : Name) (w : of_side.SideState) (effect : Effect)
     (passes : Passes s t w effect) where
   abbrev parent : Name
   parent = s.streams.parent t
 
-  sound : IsSoundPart s w
+  sound : IsSoundSide s w
   sound = passes.sound
 
   here : w.tree.here t ≡ true
@@ -211,7 +211,7 @@ module _ (s : Fixed) (t : Name) (w : of_side.Part) (effect : Effect)
           ap (λ o. option_map_or (is_home t) o false) there ∙ at user there (is_home t user) refl
 
   still_fits : (other : Effect) → effect ≡ other → (view : View) → Fits s t w view
-      → IsSoundPart s (done s w (does other)) → Fits s t (done s w (does other)) view
+      → IsSoundSide s (done s w (does other)) → Fits s t (done s w (does other)) view
   unfolding done after
   still_fits (Say by notice to text) is view fits sound_now = record {
     here = fits.here;

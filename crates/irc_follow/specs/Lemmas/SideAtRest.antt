@@ -11,14 +11,14 @@ use Rattle.irc_world.specs.ClientsUsers.{HaveOneHome}
 use Rattle.irc_world.specs.World.{World, home_in}
 use Rattle.irc_world.specs.WorldHolds.{IsWorld}
 use Rattle.irc_follow.specs.Tree.{shape_in}
-use Rattle.irc_follow.specs.Part.{Fixed, info_in, IsFixed}
-use Rattle.irc_follow.specs.AtRest.{PartAtRestIsSound}
+use Rattle.irc_follow.specs.SideState.{ItemSetting, info_in, IsItemSetting}
+use Rattle.irc_follow.specs.AtRest.{SideAtRestIsSound}
 
 pub joined_so : (links : List Link) (x t : Name) → joined links x t ≡ true → AreJoined links x t
 joined_so links x t so = (tests_tell links x t x).1.0 so
 
 -- links of the world join servers that there are
-pub ends_there : (s : Fixed) (world : World) → IsFixed s → IsWorld s.settings world
+pub ends_there : (s : ItemSetting) (world : World) → IsItemSetting s → IsWorld s.settings world
     → EndsAreAmong s.names world.links
 ends_there s world fixed holds t u linked = sym (fixed.listed t) ∙ holds.sound.ends_known t u linked
 
@@ -37,8 +37,8 @@ pub joined_alike : (links : List Link) (x t server : Name) → AreJoined links t
     → joined links x t ≡ joined links x server
 joined_alike links x t server together = ap (λ p. same (part links x) p) together
 
-pub part_at_rest_is_sound : PartAtRestIsSound
-part_at_rest_is_sound s world routes server fixed of holds right among = record {
+pub side_at_rest_is_sound : SideAtRestIsSound
+side_at_rest_is_sound s world routes server fixed of holds right among = record {
   tree = record {
     forest = holds.sound.forest;
     ends = ends;

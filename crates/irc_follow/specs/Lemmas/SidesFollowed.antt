@@ -6,7 +6,7 @@ use Rattle.irc_relay.specs.Following.{Fact, Follows, SaysOn, sends, keeps}
 use Rattle.irc_relay.specs.Links.{Link, Name, same}
 use Rattle.irc_stage.specs.View.{View}
 use Rattle.irc_server.specs.Owed.{lines_to}
-use Rattle.irc_follow.specs.Part.{Fixed, Part, is_home_of, number, IsFixed}
+use Rattle.irc_follow.specs.SideState.{ItemSetting, SideState, is_home_of, number, IsItemSetting}
 use Rattle.irc_follow.specs.Laws.{AsideStays, GoesOn, IsGood, PassedByStays, SaidDeedFits}
 use Rattle.irc_follow.specs.Laws.{SaidDeedGoesOn, SaidDeedShows, SaidEffectGoesOn, SaidGainGoesOn}
 use Rattle.irc_follow.specs.Laws.{SaidKillGoesOn, SaidLossGoesOn, SaidMembersGoOn, SaidModesGoOn}
@@ -43,8 +43,8 @@ pub record IsKnownOfLine : Type 0 where
   pub passed : PassedByStays
 
 -- whatever is a fact of each line at its turn
-pub follows : IsKnownOfLine → (s : Fixed) (client : ℕ) (good : Fact View (List ℕ))
-    → IsFixed s → IsGood s good → (links : List Link)
+pub follows : IsKnownOfLine → (s : ItemSetting) (client : ℕ) (good : Fact View (List ℕ))
+    → IsItemSetting s → IsGood s good → (links : List Link)
     → Follows (machine s client) (play s client) (terms s good) links s.streams
 follows known s client good fixed all_good links = record {
   said_fits = λ p t w view deed line takes fits says.
@@ -89,7 +89,7 @@ follows known s client good fixed all_good links = record {
         either true = refl
         either false = refl
 
-    on : (t u : Name) (w : Part) (other : View) (deed : Deed) (after : View)
+    on : (t u : Name) (w : SideState) (other : View) (deed : Deed) (after : View)
         (lines : List (List ℕ)) → GoesOn s t u w other deed lines
         → SaysOn (machine s client) (terms s good) t u w other deed after lines
     on t u w other deed after lines (told line is says) = sends line is says tt

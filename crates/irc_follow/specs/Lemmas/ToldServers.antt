@@ -16,7 +16,7 @@ use Rattle.irc_routes.specs.Known.{servers_told}
 use Rattle.irc_routes.specs.Lemmas.TableRows.{row_passes, some_stands}
 use Rattle.irc_routes.specs.Lemmas.DistinctLinks.{both_so}
 use Rattle.irc_follow.specs.Tree.{Shape, index_in, shape, shape_in}
-use Rattle.irc_follow.specs.Part.{Fixed, info_in, number}
+use Rattle.irc_follow.specs.SideState.{ItemSetting, info_in, number}
 use Rattle.irc_follow.specs.AtRest.{AreRight, ToldAreThisSide}
 use Rattle.irc_follow.specs.Lemmas.SideAtRest.{joined_so}
 use Rattle.irc_follow.specs.Lemmas.BehindLinks.{joined_test, row_is_there, row_says}
@@ -70,7 +70,7 @@ pub any_named : (test : Name → Bool) (rows : List ServerRow) → list_any test
 any_named test [] = refl
 any_named test (r ∷ rows) = ap (λ b. test r.name || b) (any_named test rows)
 
-module _ (s : Fixed) (links : List Link) (routes : Name → Known) (t u x : Name)
+module _ (s : ItemSetting) (links : List Link) (routes : Name → Known) (t u x : Name)
     (forest : IsForest links) (ends : EndsAreAmong s.names links)
     (right : AreRight s links routes) (linked : AreLinked links t u) where
   t_among : IsAmong s.names t

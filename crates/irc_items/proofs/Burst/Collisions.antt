@@ -32,18 +32,18 @@ use Rattle.irc_routes.specs.Known as of_known
 use Rattle.irc_burst.specs.DeedsMeant.{a_deed, deeds_meant, effects_told, killed, read_burst_row}
 use Rattle.irc_burst_lines.specs.DeedLines.{kill_parts}
 use Rattle.irc_burst_lines.specs.Lemmas.WholeLines.{kill_fits}
-use Rattle.irc_handshake.specs.GreetingLines.{pass_parts}
+use Rattle.irc_link_words.specs.GreetingLines.{pass_parts}
 use Rattle.irc_link_reader.specs.Reader.{Reader, is_behind_link, may_come, reader_of}
 use Rattle.irc_link_writer.specs.Written.{wire}
 use Rattle.irc_stage.specs.View.{End, View}
-use Rattle.irc_deeds.specs.Heard.{heard, of_met, tells}
+use Rattle.irc_server.specs.Heard.{heard, of_met, tells}
 use Rattle.irc_wire.specs.EachReadBack.{EachIsReadBack}
 use Rattle.irc_wire.specs.ReadBack.{IsReadBack}
 use Rattle.irc_wire.specs.Lemmas.LinesReadBack.{command_plain, from_plain}
 use Rattle.irc_world.specs.World.{World}
-use Rattle.irc_follow.specs.AtRest.{part_of}
+use Rattle.irc_follow.specs.AtRest.{side_state_of}
 use Rattle.irc_follow.specs.Fits.{Fits}
-use Rattle.irc_follow.specs.Part.{Fixed, Part, info_in, number, IsFixed}
+use Rattle.irc_follow.specs.SideState.{ItemSetting, SideState, info_in, number, IsItemSetting}
 use Rattle.irc_follow.specs.Says.{IsDoableKill, Says}
 use Rattle.irc_follow.specs.Tree.{shape_in}
 use Rattle.irc_follow.specs.Lemmas.BehindLinks.{joined_test}
@@ -83,7 +83,8 @@ module _ (room : Room) (known : Known) (view : View) (link : ℕ) (end : End) (u
       ∙ ap of_met collision_meant
 
 -- who has the nickname may be killed by t
-module _ (s : Fixed) (b t : Name) (w : Part) (view : View) (is : IsBurstReader s b t w view)
+module _ (s : ItemSetting) (b t : Name) (w : SideState) (view : View)
+    (is : IsBurstReader s b t w view)
     (l : Link) (links : List Link) (routes : Name → Known)
     (new : IsNewNeighbour s l links routes b t w) (sides : KnowsBothSides links b t w) where
   t_known : w.tree.knows t ≡ true
@@ -153,11 +154,11 @@ none_killed server nick room none =
     ap (λ o. option_map_or (λ (holder : User). kills server holder.nick ∷ []) o []) none
 
 -- a server at rest, and one that it is linked to
-module _ (s : Fixed) (world : World) (routes : Name → Known) (p t : Name) (view : View)
-    (fixed : IsFixed s) (fits : Fits s p (part_of s world routes p) view)
+module _ (s : ItemSetting) (world : World) (routes : Name → Known) (p t : Name) (view : View)
+    (fixed : IsItemSetting s) (fits : Fits s p (side_state_of s world routes p) view)
     (linked : AreLinked world.links p t) (among : IsAmong s.names t) where
-  abbrev w : Part
-  w = part_of s world routes p
+  abbrev w : SideState
+  w = side_state_of s world routes p
 
   knows_t : w.tree.knows t ≡ true
   knows_t = joined_test world.links t p (sym (linked_joined world.links p t linked))
@@ -231,9 +232,9 @@ module _ (s : Fixed) (world : World) (routes : Name → Known) (p t : Name) (vie
           ∙ ap of_met means_nothing;
     }
 
-pub kill_unheard : (laws : IsKnownOfLines) (s : Fixed) (world : World)
-    (routes : Name → Known) (p t : Name) (nick : List ℕ) (view : View) → IsFixed s
-    → Fits s p (part_of s world routes p) view → AreLinked world.links p t
+pub kill_unheard : (laws : IsKnownOfLines) (s : ItemSetting) (world : World)
+    (routes : Name → Known) (p t : Name) (nick : List ℕ) (view : View) → IsItemSetting s
+    → Fits s p (side_state_of s world routes p) view → AreLinked world.links p t
     → IsAmong s.names t → IsNick nick → row (world.hall p).room.users (key nick) ≡ None
     → IsUnheard s t view (line_text (kill_parts t nick))
 kill_unheard laws s world routes p t nick view fixed fits linked among nick_named nobody =

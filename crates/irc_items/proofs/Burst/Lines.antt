@@ -51,12 +51,13 @@ use Rattle.irc_link_reader.specs.Reader.{is_behind_link, reader_of}
 use Rattle.irc_link_words.specs.Numbers.{max_number}
 use Rattle.irc_link_writer.specs.Written.{next_distance, wire, written_token}
 use Rattle.irc_stage.specs.View.{View}
-use Rattle.irc_deeds.specs.Heard.{heard, of_met, tells}
+use Rattle.irc_server.specs.Heard.{heard, of_met, tells}
 use Rattle.irc_wire.specs.EachReadBack.{AgreesOnServer, EachIsReadBack}
 use Rattle.irc_wire.specs.ReadBack.{IsReadable}
 use Rattle.irc_follow.specs.AtRest.{AreRight}
 use Rattle.irc_follow.specs.Fits.{Fits}
-use Rattle.irc_follow.specs.Part.{Fixed, Part, info_in, number, IsFixed, IsSoundPart}
+use Rattle.irc_follow.specs.SideState.{ItemSetting, SideState, info_in, number, IsItemSetting}
+use Rattle.irc_follow.specs.SideState.{IsSoundSide}
 use Rattle.irc_follow.specs.Says.{Aside, HasOneOfFar, IsDoableEffect, IsFar, IsNothing, IsOfFar}
 use Rattle.irc_follow.specs.Says.{IsOneOfFar, IsToldMember, Says}
 use Rattle.irc_follow.specs.Tree.{Shape, shape, shape_in, IsSoundTree}
@@ -79,8 +80,8 @@ use Rattle.irc_items.proofs.Link.Over.{IsOver}
 
 -- a server t of this side, by the link between them told of the other side by b: whoever it has
 -- behind that link is far for all of this side
-pub record IsBurstReader (s : Fixed) (b t : Name) (w : Part) (view : View) : Type 0 where
-  pub fixed : IsFixed s
+pub record IsBurstReader (s : ItemSetting) (b t : Name) (w : SideState) (view : View) : Type 0 where
+  pub fixed : IsItemSetting s
   pub takes : TakesFrom s.streams t b
   pub fits : Fits s t w view
   pub known : w.tree.knows b ≡ true
@@ -106,7 +107,7 @@ their_nicks other within (member ∷ members) each = (
   their_nicks other within members each.1,
 )
 
-module _ (laws : IsKnownOfLines) (s : Fixed) (b t : Name) (w : Part) (view : View)
+module _ (laws : IsKnownOfLines) (s : ItemSetting) (b t : Name) (w : SideState) (view : View)
     (is : IsBurstReader s b t w view) where
   abbrev far : Name → Bool
   far = is_behind_link view.routes (number s b)
@@ -114,7 +115,7 @@ module _ (laws : IsKnownOfLines) (s : Fixed) (b t : Name) (w : Part) (view : Vie
   fits : Fits s t w view
   fits = is.fits
 
-  sound : IsSoundPart s w
+  sound : IsSoundSide s w
   sound = fits.sound
 
   b_named : IsServer b
@@ -434,25 +435,26 @@ one_more all near rest far_is none = omega arith
 
 -- b is at the other end of a new link, along which this side's lines come, and keeps what it had
 -- before that
-pub record IsNewNeighbour (s : Fixed) (l : Link) (links : List Link) (routes : Name → Known)
-    (b t : Name) (w : Part) : Type 0 where
+pub record IsNewNeighbour (s : ItemSetting) (l : Link) (links : List Link) (routes : Name → Known)
+    (b t : Name) (w : SideState) : Type 0 where
   pub over : IsOver l links s.streams t b
   pub right : AreRight s links routes
   pub forest : w.tree.forest ≡ l ∷ links
   pub keeps : w.tree.routes b ≡ routes b
 
 -- the servers that this side knows are its own and such as are on b's
-pub record KnowsBothSides (links : List Link) (b t : Name) (w : Part) : Type 0 where
+pub record KnowsBothSides (links : List Link) (b t : Name) (w : SideState) : Type 0 where
   pub here : (x : Name) → w.tree.here x ≡ true → AreJoined links x t
   pub known : (x : Name) → w.tree.knows x ≡ true → AreJoined links x t ⊎ AreJoined links b x
 
 -- the row that t has of a server behind the link to b
-record HasRow (s : Fixed) (b t home : Name) (w : Part) : Type 0 where
+record HasRow (s : ItemSetting) (b t home : Name) (w : SideState) : Type 0 where
   at : ServerRow
   there : row_of (w.tree.routes t) home ≡ Some at
   link : at.link ≡ number s b
 
-module _ (s : Fixed) (b t : Name) (w : Part) (view : View) (is : IsBurstReader s b t w view)
+module _ (s : ItemSetting) (b t : Name) (w : SideState) (view : View)
+    (is : IsBurstReader s b t w view)
     (l : Link) (links : List Link) (routes : Name → Known)
     (new : IsNewNeighbour s l links routes b t w) (user : User)
     (on_side : AreJoined links b user.home) (home_known : w.tree.knows user.home ≡ true) where

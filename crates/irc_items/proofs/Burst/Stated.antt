@@ -21,14 +21,14 @@ use Rattle.irc_merge.specs.Bursts.{in_lines, members_a_line, bans_a_line, user_d
 use Rattle.irc_merge.specs.Bursts.{stored_members, settings_line, topic_line, channel_deeds, burst}
 use Rattle.irc_merge.specs.Deeds.{does, brings, sets, tops}
 use Rattle.irc_merge.specs.Lemmas.TableWords.{true_is, entries_all}
-use Rattle.irc_mode_words.specs.Lemmas.SetReadable.{set_is_readable, bans_are_readable}
+use Rattle.irc_modes.specs.Lemmas.SetReadable.{set_is_readable, bans_are_readable}
 use Rattle.irc_modes.specs.Lemmas.LimitFacts.{limit-digits}
 use Rattle.irc_modes.specs.Lemmas.LimitText.{limit_written}
 use Rattle.irc_modes.specs.Modes.{is_nil}
 use Rattle.irc_modes.specs.declared.modes.Modes.{Modes}
 use Rattle.irc_modes.specs.ModesSet.{AreWithinLimits, IsLimit, set, flag_set, privacy_set, key_set}
 use Rattle.irc_modes.specs.ModesSet.{limit_set, set_changes, ban_changes}
-use Rattle.irc_mode_words.specs.Readable.{AreReadable}
+use Rattle.irc_modes.specs.Readable.{AreReadable}
 use Rattle.irc_modes.specs.declared.modes.ModeChange.{ModeChange}
 use Rattle.irc_modes.specs.declared.modes.ModeLetter.{ModeLetter}
 use Rattle.irc_modes.specs.declared.modes.ModeLetter.TheVariants as letter

@@ -31,7 +31,7 @@ use Rattle.irc_burst_lines.specs.BurstLines.{burst_parts, is_near, server_deed}
 use Rattle.irc_burst_lines.specs.DeedLines.{deed_parts, server_parts}
 use Rattle.irc_world.specs.Homes.{HomesPass}
 use Rattle.irc_follow.specs.AtRest.{AreRight}
-use Rattle.irc_follow.specs.Part.{Fixed, info_in, number}
+use Rattle.irc_follow.specs.SideState.{ItemSetting, info_in, number}
 use Rattle.irc_follow.specs.Tree.{Shape, shape, shape_in}
 use Rattle.irc_follow.specs.Lemmas.PlacesOfNames.{one_place}
 
@@ -74,7 +74,7 @@ module _ (passes : List ℕ → Bool) (room : Room) (all : HomesPass passes room
 
 -- ---- who is near
 
-module _ (s : Fixed) (links : List Link) (routes : Name → Known) (b t : Name)
+module _ (s : ItemSetting) (links : List Link) (routes : Name → Known) (b t : Name)
     (forest : IsForest links) (ends : EndsAreAmong s.names links)
     (right : AreRight s links routes) (among : IsAmong s.names b) (t_among : IsAmong s.names t)
     (apart : AreJoined links b t → ⊥) where

@@ -27,9 +27,9 @@ use Rattle.irc_world.specs.Bystanders.{OnlyConnectedReceive, OtherPartsStay}
 use Rattle.irc_world.specs.Refused.{open_client}
 use Rattle.irc_world.specs.Stepping.{Item, Stepped, by_machine, step}
 use Rattle.irc_world.specs.World.{World, home_in, machine_at}
-use Rattle.irc_follow.specs.AtRest.{part_of}
+use Rattle.irc_follow.specs.AtRest.{side_state_of}
 use Rattle.irc_follow.specs.Fits.{Fits}
-use Rattle.irc_follow.specs.Part.{Fixed, is_home_of, number}
+use Rattle.irc_follow.specs.SideState.{ItemSetting, is_home_of, number}
 use Rattle.irc_follow.specs.Says.{lines_on, machine, play}
 use Rattle.irc_follow.specs.Tree.{index_in}
 use Rattle.irc_follow.specs.Lemmas.SidesFollowed.{IsKnownOfLine}
@@ -41,7 +41,7 @@ use Rattle.irc_items.specs.Relayed.{owed_to, relayed, way_at, way_between}
 use Rattle.irc_items.specs.SetUp.{no_view, routes_in, settings_of, view_at}
 use Rattle.irc_items.specs.Sound.{owed_now, world_now}
 use Rattle.irc_items.proofs.Common.Begun.{IsBegun, IsGoingOn}
-use Rattle.irc_items.proofs.Client.Side.{below_among, fits_here, fixed_here, home_fixed, of_world}
+use Rattle.irc_items.proofs.Client.Side.{below_among, fits_here, fixed_here, home_setting, of_world}
 use Rattle.irc_items.proofs.Client.Side.{right_here, IsClientStep}
 use Rattle.irc_items.proofs.Good.GoodLines.{good_terms, well_follow}
 use Rattle.irc_items.proofs.Home.Fits.{DoesAsMachine}
@@ -56,15 +56,15 @@ use Rattle.irc_items.proofs.Common.Sources.{starts_from, one_moment}
 
 -- what is put out on links tells whoever is linked to the client's server of its effects, and goes
 -- well in the world that they make
-pub record IsToldByHome (s : Fixed) (world after : World) (routes : Name → Known) (h : Name)
+pub record IsToldByHome (s : ItemSetting) (world after : World) (routes : Name → Known) (h : Name)
     (view : View) (happening : Happening) : Type 0 where
   pub told : (u : Name) (other : View) (client : ℕ)
-      → AreLinked world.links h u → Fits s u (part_of s world routes u) other
+      → AreLinked world.links h u → Fits s u (side_state_of s world routes u) other
       → Tells (machine s client) (play s client) (good_terms s no_answers after routes) h u
-      (part_of s world routes u) other (deeds_at s world h happening)
+      (side_state_of s world routes u) other (deeds_at s world h happening)
       (lines_on (number s u) (client_told view happening).out)
   pub few : (u : Name) (other : View) → AreLinked world.links h u
-      → Fits s u (part_of s world routes u) other
+      → Fits s u (side_state_of s world routes u) other
       → length (lines_on (number s u) (client_told view happening).out)
       ≤ length (effects_at (machine_at s.settings world h) happening)
   pub unlinked : (u : Name) → (AreLinked world.links h u → ⊥)
@@ -85,12 +85,12 @@ pub record AreClientLaws : Type 0 where
 
 module _ (laws : AreClientLaws) {net base new : Network} {world : World} {h : Name}
     {happening : Happening} {item : Item} (given : IsClientStep net base new world h happening item)
-    (at_home : DoesAsMachine (home_fixed net world h) world (routes_in net) h
-    (view_at net h) happening) (tells : IsToldByHome (home_fixed net world h) world
+    (at_home : DoesAsMachine (home_setting net world h) world (routes_in net) h
+    (view_at net h) happening) (tells : IsToldByHome (home_setting net world h) world
     (by_machine (settings_of net) world h happening).world (routes_in net) h (view_at net h)
     happening) where
-  abbrev s : Fixed
-  s = home_fixed net world h
+  abbrev s : ItemSetting
+  s = home_setting net world h
 
   abbrev out : List Sent
   out = (client_told (view_at net h) happening).out
@@ -99,14 +99,15 @@ module _ (laws : AreClientLaws) {net base new : Network} {world : World} {h : Na
   after = (by_machine (settings_of net) world h happening).world
 
   pub fits_before : (t : Name) → IsAmong net.names t
-      → Fits s t (part_of s world (routes_in net) t) (view_at net t)
+      → Fits s t (side_state_of s world (routes_in net) t) (view_at net t)
   fits_before = fits_here laws.events.at_rest given
 
   view_home : view_at new h ≡ (client_told (view_at net h) happening).view
   view_home = given.served.view ∙ ap (λ r. r.view) (served_so (view_at net h) happening)
 
-  pub fits_home : Fits s h (part_of s after (routes_in net) h) (view_at new h)
-  fits_home = subst (Fits s h (part_of s after (routes_in net) h)) (sym view_home) at_home.fits
+  pub fits_home : Fits s h (side_state_of s after (routes_in net) h) (view_at new h)
+  fits_home =
+      subst (Fits s h (side_state_of s after (routes_in net) h)) (sym view_home) at_home.fits
 
   -- ---- what is under way
 
@@ -169,7 +170,7 @@ module _ (laws : AreClientLaws) {net base new : Network} {world : World} {h : Na
     deeds = deeds_at s world h happening
 
     one_part : (t p : Name) → AreJoined world.links t p
-        → part_of s world (routes_in net) t ≡ part_of s world (routes_in net) p
+        → side_state_of s world (routes_in net) t ≡ side_state_of s world (routes_in net) p
     one_part t p together = one_moment world.links world.links world.links
         (routes_in net) world.hall t p together together
         (given.holds.sound.one_hall t p together)
@@ -178,21 +179,21 @@ module _ (laws : AreClientLaws) {net base new : Network} {world : World} {h : Na
     far t below = farther world.links given.holds.sound.forest h t below
 
     pub fits_taker : (t : Name) → 0 < s.streams.depth t
-        → Fits s t (part_of s world (routes_in net) t) (view_at new t)
-    fits_taker t below = subst (Fits s t (part_of s world (routes_in net) t))
+        → Fits s t (side_state_of s world (routes_in net) t) (view_at new t)
+    fits_taker t below = subst (Fits s t (side_state_of s world (routes_in net) t))
         (sym (given.served.other_views t (far t below).other))
         (fits_before t (below_among laws.events.at_rest given t below))
 
     told_first : (t : Name) → s.streams.depth t ≡ 1
         → Tells (machine s client) (play s client) (good_terms s no_answers after (routes_in net))
-        (s.streams.parent t) t (part_of s world (routes_in net) t)
+        (s.streams.parent t) t (side_state_of s world (routes_in net) t)
         (view_at new t) deeds (under_way (relayed s new client) (s.streams.parent t) t)
     told_first t one =
         subst (λ p. Tells (machine s client) (play s client) (good_terms s no_answers after
-        (routes_in net)) p t (part_of s world (routes_in net) t)
+        (routes_in net)) p t (side_state_of s world (routes_in net) t)
         (view_at new t) deeds (under_way (relayed s new client) p t)) (sym near.parent)
         (subst (Tells (machine s client) (play s client) (good_terms s no_answers after
-        (routes_in net)) h t (part_of s world (routes_in net) t)
+        (routes_in net)) h t (side_state_of s world (routes_in net) t)
         (view_at new t) deeds) (sym (from_home t))
         (tells.told t (view_at new t) client near.linked_to (fits_taker t (omega arith))))
       where
@@ -201,7 +202,7 @@ module _ (laws : AreClientLaws) {net base new : Network} {world : World} {h : Na
 
     starts : Starts (machine s client) (play s client)
         (good_terms s no_answers after (routes_in net)) s.streams (relayed s new client)
-        (part_of s world (routes_in net)) (λ t. deeds)
+        (side_state_of s world (routes_in net)) (λ t. deeds)
     starts = starts_from no_answers after (routes_in net) new client
         (stands_from_one world.links given.holds.sound.forest h) (omega arith)
         (record { one_side = one_part; one_list = λ t p together. refl }) fits_taker told_first
@@ -303,9 +304,10 @@ module _ (laws : AreClientLaws) {net base new : Network} {world : World} {h : Na
 
     told_others : (t : Name) → is_home_of s.homes t client ≡ true
         → 0 < s.streams.depth t → received_by new client
-        ++ all_seen (play s client) t (part_of s world (routes_in net) t) deeds ≡ owed
+        ++ all_seen (play s client) t (side_state_of s world (routes_in net) t) deeds ≡ owed
     told_others t is below =
-        ap (λ first. first ++ all_seen (play s client) t (part_of s world (routes_in net) t) deeds)
+        ap (λ first. first ++ all_seen (play s client) t
+        (side_state_of s world (routes_in net) t) deeds)
         (received t is ∙ ap (λ more. owed_now net client ++ more)
         (none_put_out t is (far t below).other) ∙ append_nil (owed_now net client))
         ∙ ap (λ more. owed_now net client ++ more)
@@ -313,20 +315,20 @@ module _ (laws : AreClientLaws) {net base new : Network} {world : World} {h : Na
         (far t below).other (far t below).joined_to given.holds given.due is)
 
     at_source : (t : Name) → IsAmong net.names t → s.streams.depth t ≡ 0
-        → Fits s t (part_of s after (routes_in net) t) (view_at new t)
+        → Fits s t (side_state_of s after (routes_in net) t) (view_at new t)
     at_source t among none = by (at_no_depth world.links given.holds.sound.forest h t none)
       where
         by : (t ≡ h) ⊎ (AreJoined world.links t h → ⊥)
-            → Fits s t (part_of s after (routes_in net) t) (view_at new t)
-        by (inl e) = subst (λ v. Fits s v (part_of s after (routes_in net) v) (view_at new v))
+            → Fits s t (side_state_of s after (routes_in net) t) (view_at new t)
+        by (inl e) = subst (λ v. Fits s v (side_state_of s after (routes_in net) v) (view_at new v))
             (sym e) fits_home
-        by (inr apart) = subst (Fits s t (part_of s after (routes_in net) t))
+        by (inr apart) = subst (Fits s t (side_state_of s after (routes_in net) t))
             (sym (given.served.other_views t (λ e. apart (ap (part world.links) e))))
             (elsewhere_stays s world (routes_in net) h t happening (view_at net t) apart
             (fits_before t among))
 
     pub begun : IsBegun s no_answers after (routes_in net) new client owed
-        (part_of s world (routes_in net)) (λ t. deeds)
+        (side_state_of s world (routes_in net)) (λ t. deeds)
     begun = record {
       starts = starts;
       away = away;
@@ -342,7 +344,7 @@ module _ (laws : AreClientLaws) {net base new : Network} {world : World} {h : Na
     }
 
     pub client_goes_on : IsGoingOn s no_answers after (from_one world.links h)
-        (routes_in net) new client owed (part_of s world (routes_in net)) (λ t. deeds)
+        (routes_in net) new client owed (side_state_of s world (routes_in net)) (λ t. deeds)
     client_goes_on = record {
       forest = given.holds.sound.forest;
       covers = one_covers world.links h;

@@ -15,19 +15,19 @@ use Rattle.irc_server.specs.Served.{Occurrence, Served, ServedKeepsItsSetting, o
 use Rattle.irc_world.specs.Refused.{no_such_client, no_such_server}
 use Rattle.irc_world.specs.Stepping.{Item, connect, gone, line}
 use Rattle.irc_world.specs.World.{home_in}
-use Rattle.irc_follow.specs.Part.{is_home_of}
+use Rattle.irc_follow.specs.SideState.{is_home_of}
 use Rattle.irc_follow.specs.Says.{lines_on}
 use Rattle.irc_follow.specs.Tree.{index_in}
-use Rattle.irc_network.specs.Network.{Course, Network, Reply, site_asked, site_asked_if, begun}
+use Rattle.irc_network.specs.Network.{Progress, Network, node_asked, node_asked_if, begun}
 use Rattle.irc_network.specs.Network.{done_by, given, home_place, serves_occurrence, next_client}
-use Rattle.irc_network.specs.Network.{server_place, received_by, reply, site_view, with_client}
+use Rattle.irc_network.specs.Network.{server_place, received_by, reply, node_view, with_client}
 use Rattle.irc_network.specs.Refusing.{fault_at_rest, has_client, is_there}
 use Rattle.irc_items.specs.OneRoom.{IsOneRoom}
 use Rattle.irc_items.specs.Relayed.{way_at}
 use Rattle.irc_items.specs.SetUp.{view_at, IsSetUp}
 use Rattle.irc_items.specs.Sound.{IsSound, world_now}
 use Rattle.irc_items.proofs.Common.Step.{HasTaken}
-use Rattle.irc_items.proofs.Sites.Asked.{asked_there, reply_taken, set_up_besides, IsAskedAt}
+use Rattle.irc_items.proofs.Nodes.Asked.{asked_there, reply_taken, set_up_besides, IsAskedAt}
 use Rattle.irc_items.specs.Lemmas.SetUpFacts.{placed_if, there, viewed, viewed_nowhere}
 
 -- what a server does by something of a client
@@ -62,10 +62,10 @@ module _ (stays : ServedKeepsItsSetting) (net : Network) (homes : List Name)
   abbrev base : Network
   base = homed net homes received
 
-  abbrev course : Course
-  course = site_asked (index_in net.names h) (of_client happening) (begun base)
+  abbrev progress : Progress
+  progress = node_asked (index_in net.names h) (of_client happening) (begun base)
 
-  answered : IsAskedAt h (reply (view_at net h) (of_client happening)) (begun base) course
+  answered : IsAskedAt h (reply (view_at net h) (of_client happening)) (begun base) progress
   answered = asked_there stays (begun base) (set_up_besides net net.links homes received net.items
       net.taken set_up) inboxes h among (of_client happening)
 
@@ -74,7 +74,7 @@ module _ (stays : ServedKeepsItsSetting) (net : Network) (homes : List Name)
   is_reply = reply_taken (view_at net h) (of_client happening) taken
 
   served_for : IsServedFor net base
-      (record course.net { items = course.net.items ++ item ∷ []; taken = 0 }) h happening item
+      (record progress.net { items = progress.net.items ++ item ∷ []; taken = 0 }) h happening item
   served_for = record {
     taken = record {
       names = answered.names;
@@ -84,30 +84,31 @@ module _ (stays : ServedKeepsItsSetting) (net : Network) (homes : List Name)
       taken = refl;
       inboxes = answered.inboxes ∙ inboxes ∙ ap length (sym answered.homes);
       settings = answered.settings;
-      set_up = set_up_besides course.net course.net.links course.net.homes course.net.received
-          (course.net.items ++ item ∷ []) 0 answered.set_up;
+      set_up =
+          set_up_besides progress.net progress.net.links progress.net.homes progress.net.received
+          (progress.net.items ++ item ∷ []) 0 answered.set_up;
     };
-    view = answered.view ∙ ap (λ (r : Reply). r.view) is_reply;
+    view = answered.view ∙ ap (λ (r : Served). r.view) is_reply;
     other_views = answered.other_views;
-    way = λ place. answered.way place ∙ ap (λ (r : Reply).
+    way = λ place. answered.way place ∙ ap (λ (r : Served).
         option_map (λ lines. lines ++ lines_on place r.out) (way_at net h place)) is_reply;
     other_ways = answered.other_ways;
     received = λ client home is. answered.received client home is
-        ∙ ap (λ (r : Reply). received_by base client ++ lines_to client r.out) is_reply
+        ∙ ap (λ (r : Served). received_by base client ++ lines_to client r.out) is_reply
         ∙ ap (λ before. before ++ lines_to client (done_at net h happening).out) (as_before client);
     nobody = answered.nobody;
   }
 
 -- the client's home is asked
 given_where : (item : Item) (net base : Network) (place : Option ℕ) (k : ℕ)
-    (occurrence : Occurrence) → done_by item net ≡ site_asked_if place occurrence (begun base)
+    (occurrence : Occurrence) → done_by item net ≡ node_asked_if place occurrence (begun base)
     → place ≡ Some k → (given item net).net
-    ≡ record (site_asked k occurrence (begun base)).net
-    { items = (site_asked k occurrence (begun base)).net.items ++ item ∷ []; taken = 0 }
+    ≡ record (node_asked k occurrence (begun base)).net
+    { items = (node_asked k occurrence (begun base)).net.items ++ item ∷ []; taken = 0 }
 unfolding given
 given_where item net base place k occurrence done is =
-    ap (λ (c : Course). record c.net { items = c.net.items ++ item ∷ []; taken = 0 })
-    (done ∙ ap (λ o. site_asked_if o occurrence (begun base)) is)
+    ap (λ (c : Progress). record c.net { items = c.net.items ++ item ∷ []; taken = 0 })
+    (done ∙ ap (λ o. node_asked_if o occurrence (begun base)) is)
 
 -- ---- a line is said, or the client goes
 
@@ -134,7 +135,7 @@ pub home_there : (net : Network) → IsSetUp net → (client : ℕ) → is_there
 home_there net set_up client is = by (home_in net.homes client) refl
   where
     at : (home : Name) → home_in net.homes client ≡ Some home
-        → option_map_or (has_client client) (site_view net home) false ≡ true → (b : Bool)
+        → option_map_or (has_client client) (node_view net home) false ≡ true → (b : Bool)
         → list_any (same home) net.names ≡ b → HasHome net client
     at home e seen true among = record {
       home = home;
@@ -153,9 +154,9 @@ home_there net set_up client is = by (home_in net.homes client) refl
     by : (o : Option Name) → home_in net.homes client ≡ o → HasHome net client
     by (Some home) e =
         at home e (sym (ap (λ o. option_map_or (has_client client) (option_and_then
-        (site_view net) o) false) e) ∙ is) (list_any (same home) net.names) refl
+        (node_view net) o) false) e) ∙ is) (list_any (same home) net.names) refl
     by None e = let f = sym
-        (ap (λ o. option_map_or (has_client client) (option_and_then (site_view net) o) false) e)
+        (ap (λ o. option_map_or (has_client client) (option_and_then (node_view net) o) false) e)
         ∙ is in absurd (cc f)
 
 -- the client's home has served it
@@ -174,7 +175,7 @@ home_asked net set_up client home at_home =
 done_at_home : ServedKeepsItsSetting → (net : Network) → IsSound net
     → (client : ℕ) (happening : Happening) (item : Item) → ((view : View) → is_some
     (get view.clients client) ≡ true → serves_occurrence view (of_client happening) ≡ true)
-    → done_by item net ≡ site_asked_if (home_place net client) (of_client happening) (begun net)
+    → done_by item net ≡ node_asked_if (home_place net client) (of_client happening) (begun net)
     → is_there net client ≡ true → IsDoneAtHome net client happening item
 done_at_home stays net sound client happening item taken done is =
     let found : HasHome net client = home_there net sound.set_up client is in

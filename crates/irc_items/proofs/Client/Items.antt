@@ -23,9 +23,9 @@ use Rattle.irc_world.specs.WithinLimits.{IsItemWithin}
 use Rattle.irc_world.specs.World.{World, home_in, is_server, place_at}
 use Rattle.irc_world.specs.WorldHolds.{IsWorld}
 use Rattle.irc_world.specs.Lemmas.HomesAdded.{more_sound, new_home, still_home}
-use Rattle.irc_follow.specs.AtRest.{part_of, AreRight, IsOfWorld, PlaceIsWorlds}
+use Rattle.irc_follow.specs.AtRest.{side_state_of, AreRight, IsOfWorld, PlaceIsWorlds}
 use Rattle.irc_follow.specs.Fits.{Fits}
-use Rattle.irc_follow.specs.Part.{Fixed, is_home_of, IsFixed}
+use Rattle.irc_follow.specs.SideState.{ItemSetting, is_home_of, IsItemSetting}
 use Rattle.irc_network.specs.Network.{Network, given, is_at_rest, next_client, with_client}
 use Rattle.irc_network.specs.Refusing.{fault_at_rest}
 use Rattle.irc_items.specs.OneRoom.{IsOneRoom}
@@ -34,7 +34,7 @@ use Rattle.irc_items.specs.Sound.{world_now, IsSound}
 use Rattle.irc_items.proofs.Client.Begins.{AreClientLaws, IsToldByHome}
 use Rattle.irc_items.proofs.Client.Given.{connect_is_given, gone_is_given, line_is_given}
 use Rattle.irc_items.proofs.Client.Given.{next_has_none, IsConnected, IsDoneAtHome, IsServedFor}
-use Rattle.irc_items.proofs.Client.Side.{ends, fits_here, fixed_here, home_fixed, of_world}
+use Rattle.irc_items.proofs.Client.Side.{ends, fits_here, fixed_here, home_setting, of_world}
 use Rattle.irc_items.proofs.Client.Side.{right_here, IsClientStep}
 use Rattle.irc_items.proofs.Client.Sound.{client_sound}
 use Rattle.irc_items.proofs.Common.Step.{is_step, AreStepLaws, HasTaken, IsStep}
@@ -44,11 +44,12 @@ use Rattle.irc_items.specs.Lemmas.SetUpFacts.{listed}
 
 -- a client's server tells its neighbours of the effects
 abbrev pub TellsByHome : Type 0
-TellsByHome = (s : Fixed) (world after : World) (routes : Name → Known) (h : Name) (view : View)
-    (happening : Happening) → after.links ≡ world.links → IsFixed s
+TellsByHome =
+    (s : ItemSetting) (world after : World) (routes : Name → Known) (h : Name) (view : View)
+    (happening : Happening) → after.links ≡ world.links → IsItemSetting s
     → IsForest world.links → s.streams ≡ streams_from world.links (from_one world.links h)
     → IsAmong s.names h → IsWorld s.settings world → IsOfWorld s world
-    → AreRight s world.links routes → Fits s h (part_of s world routes h) view
+    → AreRight s world.links routes → Fits s h (side_state_of s world routes h) view
     → place_of (routes h) ≡ place_at s.settings world.links h
     → IsDueAtHome s world h happening → IsToldByHome s world after routes h view happening
 
@@ -80,24 +81,24 @@ module _ (laws : AreItemLaws) (net : Network) (sound : IsSound net) (rest : is_a
       step.holds.sound.forest refl step.among step.holds of_so right_so
       (fits_so h step.among) place_so step.due)
     where
-      s : Fixed
-      s = home_fixed net world h
+      s : ItemSetting
+      s = home_setting net world h
 
-      fixed_so : IsFixed (home_fixed net world h)
+      fixed_so : IsItemSetting (home_setting net world h)
       fixed_so = fixed_here laws.client.events.at_rest step
 
-      of_so : IsOfWorld (home_fixed net world h) world
+      of_so : IsOfWorld (home_setting net world h) world
       of_so = of_world laws.client.events.at_rest step
 
-      right_so : AreRight (home_fixed net world h) world.links (routes_in net)
+      right_so : AreRight (home_setting net world h) world.links (routes_in net)
       right_so = right_here laws.client.events.at_rest step
 
-      fits_so : (t : Name) → IsAmong net.names t → Fits (home_fixed net world h) t
-          (part_of (home_fixed net world h) world (routes_in net) t) (view_at net t)
+      fits_so : (t : Name) → IsAmong net.names t → Fits (home_setting net world h) t
+          (side_state_of (home_setting net world h) world (routes_in net) t) (view_at net t)
       fits_so = fits_here laws.client.events.at_rest step
 
       place_so : place_of (routes_in net h) ≡ place_at (settings_of net) world.links h
-      place_so = laws.place (home_fixed net world h) world.links
+      place_so = laws.place (home_setting net world h) world.links
           (routes_in net) h fixed_so step.holds.sound.forest
           (ends laws.client.events.at_rest step) right_so step.among
 
@@ -145,7 +146,7 @@ module _ (laws : AreItemLaws) (net : Network) (sound : IsSound net) (rest : is_a
       → IsItemWithin item → step (settings_of net) (world_now net) item
       ≡ by_machine (settings_of net) (world_now net) done.home happening → ((t : Name)
       → (AreJoined (world_now net).links t done.home → ⊥) → IsElsewhere (world_now net) item t)
-      → IsDueAtHome (home_fixed net (world_now net) done.home) (world_now net) done.home happening
+      → IsDueAtHome (home_setting net (world_now net) done.home) (world_now net) done.home happening
       → most (settings_of net) (world_now net) item ≡ most_of_client (settings_of net)
       (world_now net) (Some done.home) happening → IsSound (given item net).net
   at_home_step client happening item done taken within stepped elsewhere due bound =

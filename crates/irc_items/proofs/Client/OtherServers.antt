@@ -24,9 +24,10 @@ use Rattle.irc_world.specs.Bounds.{effects_at}
 use Rattle.irc_world.specs.Stepping.{by_machine}
 use Rattle.irc_world.specs.World.{Hall, World, home_in, machine_at}
 use Rattle.irc_world.specs.WorldHolds.{IsWorld}
-use Rattle.irc_follow.specs.AtRest.{part_of, AreRight, IsOfWorld, PartAtRestIsSound}
+use Rattle.irc_follow.specs.AtRest.{side_state_of, AreRight, IsOfWorld, SideAtRestIsSound}
 use Rattle.irc_follow.specs.Fits.{Fits}
-use Rattle.irc_follow.specs.Part.{Fixed, Part, client_sees, done, hall_after, is_home_of, IsFixed}
+use Rattle.irc_follow.specs.SideState.{ItemSetting, SideState, client_sees, done, hall_after}
+use Rattle.irc_follow.specs.SideState.{is_home_of, IsItemSetting}
 use Rattle.irc_follow.specs.Says.{play}
 use Rattle.irc_follow.specs.Lemmas.ClientLines.{client_shown}
 use Rattle.irc_items.proofs.Common.Right.{same_kept}
@@ -35,12 +36,12 @@ use Rattle.irc_items.proofs.Client.OthersAlong.{IsAsHall, IsKnownOfDecisions, ha
 use Rattle.irc_items.proofs.Client.OthersAlong.{handled_so, seen_along}
 
 -- the deeds of a client's event
-abbrev pub deeds_at : Fixed → World → Name → Happening → List Deed
+abbrev pub deeds_at : ItemSetting → World → Name → Happening → List Deed
 deeds_at s world h happening = map does (effects_at (machine_at s.settings world h) happening)
 
 pub record IsKnownOfEvents : Type 0 where
   pub decisions : IsKnownOfDecisions
-  pub at_rest : PartAtRestIsSound
+  pub at_rest : SideAtRestIsSound
 
 -- ---- effects as deeds
 
@@ -53,8 +54,8 @@ sees_effect client room effect (Some (Registered nick)) =
     append-nil (shown_along nick room (effect ∷ []))
     ∙ append-nil (client_shown client room effect (Some (Registered nick)))
 
-module _ (s : Fixed) (client : ℕ) where
-  pub done_along : (effects : List Effect) (w : Part) → all_done (play s client) w
+module _ (s : ItemSetting) (client : ℕ) where
+  pub done_along : (effects : List Effect) (w : SideState) → all_done (play s client) w
       (map does effects) ≡ record w { hall = hall_along effects w.hall }
   unfolding done
   done_along [] w = refl
@@ -62,7 +63,7 @@ module _ (s : Fixed) (client : ℕ) where
       done_along effects (record w { hall = hall_after effect w.hall })
 
   pub seen_at_home : (t : Name) → is_home_of s.homes t client ≡ true
-      → (effects : List Effect) (w : Part)
+      → (effects : List Effect) (w : SideState)
       → all_seen (play s client) t w (map does effects) ≡ seen_along client effects w.hall
   unfolding done
   seen_at_home t home [] w = refl
@@ -77,7 +78,7 @@ module _ (s : Fixed) (client : ℕ) where
 
 -- ---- the client's home
 
-pub due_home : (s : Fixed) (world : World) (h : Name) (happening : Happening)
+pub due_home : (s : ItemSetting) (world : World) (h : Name) (happening : Happening)
     → IsDueAtHome s world h happening → home_in s.homes (client_in happening) ≡ Some h
 due_home s world h (connects conn host) due = due.0
 due_home s world h happening due = due.0
@@ -96,7 +97,7 @@ another_client homes h t conn q home apart here = by (same_number q conn) refl
 
 -- ---- the event in the world
 
-module _ (s : Fixed) (world : World) (h t : Name) (happening : Happening) where
+module _ (s : ItemSetting) (world : World) (h t : Name) (happening : Happening) where
   abbrev effects : List Effect
   effects = effects_at (machine_at s.settings world h) happening
 
@@ -150,13 +151,14 @@ module _ (s : Fixed) (world : World) (h t : Name) (happening : Happening) where
 -- ---- another server of the part
 
 -- Once it has followed the deeds, it is what it has to be in the world after the event.
-pub comes_to_world : IsKnownOfEvents → (s : Fixed) (world : World) (routes : Name → Known)
-    (h t : Name) (happening : Happening) (client : ℕ) (view : View) → IsFixed s → IsAmong s.names h
+pub comes_to_world : IsKnownOfEvents → (s : ItemSetting) (world : World) (routes : Name → Known)
+    (h t : Name) (happening : Happening) (client : ℕ) (view : View) → IsItemSetting s
+    → IsAmong s.names h
     → IsAmong s.names t → t ≢ h → AreJoined world.links t h → IsWorld s.settings world
     → IsOfWorld s world → AreRight s world.links routes → IsWorld s.settings
     (by_machine s.settings world h happening).world → IsDueAtHome s world h happening → Fits s t
-    (all_done (play s client) (part_of s world routes t) (deeds_at s world h happening)) view
-    → Fits s t (part_of s (by_machine s.settings world h happening).world routes t) view
+    (all_done (play s client) (side_state_of s world routes t) (deeds_at s world h happening)) view
+    → Fits s t (side_state_of s (by_machine s.settings world h happening).world routes t) view
 comes_to_world known s world routes h t happening client view fixed home_among among apart together
     is_world of_world right after due fits = record {
       here = along.here;
@@ -179,34 +181,36 @@ comes_to_world known s world routes h t happening client view fixed home_among a
     home : home_in s.homes (client_in happening) ≡ Some h
     home = due_home s world h happening due
 
-    along : Fits s t (record (part_of s world routes t) {
+    along : Fits s t (record (side_state_of s world routes t) {
       hall = hall_along
           (effects_at (machine_at s.settings world h) happening) (world.hall t);
     }) view
     along = subst (λ w. Fits s t w view) (done_along s client
-        (effects_at (machine_at s.settings world h) happening) (part_of s world routes t)) fits
+        (effects_at (machine_at s.settings world h) happening)
+        (side_state_of s world routes t)) fits
 
 -- It has shown each of its clients what that receives.
-pub shows_its_clients : IsKnownOfEvents → (s : Fixed) (world : World)
+pub shows_its_clients : IsKnownOfEvents → (s : ItemSetting) (world : World)
     (routes : Name → Known) (h t : Name) (happening : Happening) (client : ℕ) → t ≢ h
     → AreJoined world.links t h → IsWorld s.settings world → IsDueAtHome s world h happening
-    → is_home_of s.homes t client ≡ true → all_seen (play s client) t (part_of s world routes t)
+    → is_home_of s.homes t client ≡ true
+    → all_seen (play s client) t (side_state_of s world routes t)
     (deeds_at s world h happening) ≡ (by_machine s.settings world h happening).lines client
 shows_its_clients known s world routes h t happening client apart together is_world due here =
     seen_at_home s client t here (effects_at (machine_at s.settings world h) happening)
-    (part_of s world routes t)
+    (side_state_of s world routes t)
     ∙ lines_of s world h t happening known.decisions is_world together apart
     (due_home s world h happening due) client here
 
 -- ---- a server of another part
 
 -- It stays as it is.
-pub elsewhere_stays : (s : Fixed) (world : World) (routes : Name → Known)
+pub elsewhere_stays : (s : ItemSetting) (world : World) (routes : Name → Known)
     (h t : Name) (happening : Happening) (view : View)
-    → (AreJoined world.links t h → ⊥) → Fits s t (part_of s world routes t) view
-    → Fits s t (part_of s (by_machine s.settings world h happening).world routes t) view
+    → (AreJoined world.links t h → ⊥) → Fits s t (side_state_of s world routes t) view
+    → Fits s t (side_state_of s (by_machine s.settings world h happening).world routes t) view
 elsewhere_stays s world routes h t happening view apart fits =
     subst (λ (hall : Hall). Fits s t (record {
-      tree = (part_of s world routes t).tree;
+      tree = (side_state_of s world routes t).tree;
       hall = hall;
     }) view) (sym (hall_still s world h t happening apart)) fits

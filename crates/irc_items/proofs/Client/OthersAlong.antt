@@ -30,10 +30,10 @@ use Rattle.irc_acts.specs.Possible.{ArePossible}
 use Rattle.irc_commands.specs.Comings.{adds_or_ends, is_effect, RegisteredIsAdded}
 use Rattle.irc_commands.specs.Comings.{UnregisteredChangesNothing, WhoIsClosedQuits, WhoStaysIsUser}
 use Rattle.irc_commands.specs.Decide.{decide}
-use Rattle.irc_registering.specs.declared.pending.Pending.{Pending}
+use Rattle.irc_commands.specs.declared.pending.Pending.{Pending}
 use Rattle.irc_commands.specs.Decisions.{Decided}
 use Rattle.irc_commands.specs.Possible.{DecidedIsPossible, RegisteringIsPossible}
-use Rattle.irc_registering.specs.Register.{register}
+use Rattle.irc_commands.specs.Register.{register}
 use Rattle.irc_relay.specs.Links.{Name}
 use Rattle.irc_stage.specs.declared.clients.Client.{Client}
 use Rattle.irc_stage.specs.declared.clients.Client.TheVariants.{Registering, Registered}
@@ -53,7 +53,7 @@ use Rattle.irc_server.specs.Owed.{line_to_conn, lines_to}
 use Rattle.irc_world.specs.Bounds.{effects_at, effects_left, effects_of_user, effects_said}
 use Rattle.irc_world.specs.ClientsUsers.{AreMatched, fold_of, registered_as}
 use Rattle.irc_world.specs.World.{Hall}
-use Rattle.irc_follow.specs.Part.{clients_left, hall_after}
+use Rattle.irc_follow.specs.SideState.{clients_left, hall_after}
 use Rattle.irc_follow.specs.Lemmas.ClientLines.{client_shown, effect_lines}
 use Rattle.irc_items.proofs.Client.Due.{client_in}
 

@@ -21,12 +21,12 @@ use Rattle.irc_world.specs.Sound.{HasHomeBy}
 use Rattle.irc_world.specs.Stepping.{Item, by_machine}
 use Rattle.irc_world.specs.World.{Hall, World, home_in, machine_at}
 use Rattle.irc_world.specs.WorldHolds.{IsWorld}
-use Rattle.irc_follow.specs.AtRest.{part_of, AreRight, IsOfWorld, PartAtRestIsSound}
+use Rattle.irc_follow.specs.AtRest.{side_state_of, AreRight, IsOfWorld, SideAtRestIsSound}
 use Rattle.irc_follow.specs.Fits.{Fits, IsNumberOf}
-use Rattle.irc_follow.specs.Part.{Fixed, is_home_of, IsFixed}
+use Rattle.irc_follow.specs.SideState.{ItemSetting, is_home_of, IsItemSetting}
 use Rattle.irc_network.specs.Network.{Network}
 use Rattle.irc_items.specs.OneRoom.{at_rest_of}
-use Rattle.irc_items.specs.Relayed.{fixed_of}
+use Rattle.irc_items.specs.Relayed.{setting_of_item}
 use Rattle.irc_items.specs.SetUp.{routes_in, settings_of, view_at}
 use Rattle.irc_items.specs.Sound.{world_now}
 use Rattle.irc_items.proofs.Client.Given.{IsServedFor}
@@ -44,8 +44,8 @@ none_either false true = refl
 none_either false false = refl
 
 -- what stays while the client's part takes lines from its server
-abbrev pub home_fixed : Network → World → Name → Fixed
-home_fixed net world h = record {
+abbrev pub home_setting : Network → World → Name → ItemSetting
+home_setting net world h = record {
   settings = settings_of net;
   names = net.names;
   homes = world.homes;
@@ -66,24 +66,24 @@ pub record IsClientStep (net base new : Network) (world : World) (h : Name) (hap
   pub hall : (t : Name) → world.hall t ≡ (world_now net).hall t
   pub holds : IsWorld (settings_of net) world
   pub elsewhere : (t : Name) → (AreJoined world.links t h → ⊥) → IsElsewhere (world_now net) item t
-  pub due : IsDueAtHome (home_fixed net world h) world h happening
+  pub due : IsDueAtHome (home_setting net world h) world h happening
   pub few : length (effects_at (machine_at (settings_of net) world h) happening)
       * (part_size (settings_of net) world.links h - 1)
       ≤ most (settings_of net) (world_now net) item
 
-module _ (side : PartAtRestIsSound) {net base new : Network} {world : World} {h : Name}
+module _ (side : SideAtRestIsSound) {net base new : Network} {world : World} {h : Name}
     {happening : Happening} {item : Item}
     (given : IsClientStep net base new world h happening item) where
-  abbrev s : Fixed
-  s = home_fixed net world h
+  abbrev s : ItemSetting
+  s = home_setting net world h
 
   pub forest : IsForest world.links
   forest = given.holds.sound.forest
 
-  pub fixed_here : IsFixed s
+  pub fixed_here : IsItemSetting s
   fixed_here = record { servers = f.servers; few = f.few; listed = f.listed }
     where
-      f : IsFixed (fixed_of net s.streams)
+      f : IsItemSetting (setting_of_item net s.streams)
       f = fixed net given.step.sound.set_up s.streams
 
   pub ends : EndsAreAmong net.names world.links
@@ -143,7 +143,7 @@ module _ (side : PartAtRestIsSound) {net base new : Network} {world : World} {h 
 
   -- each server is at the part of the world that it is in
   pub fits_here : (t : Name) → IsAmong net.names t
-      → Fits s t (part_of s world (routes_in net) t) (view_at net t)
+      → Fits s t (side_state_of s world (routes_in net) t) (view_at net t)
   fits_here t among = record {
     here = same_when (part world.links t) (part world.links t) refl;
     sound = side s world (routes_in net) t fixed_here of_world given.holds right_here among;
@@ -157,7 +157,7 @@ module _ (side : PartAtRestIsSound) {net base new : Network} {world : World} {h 
     room = f.room ∙ ap (λ (hall : Hall). of_home t hall.room) (sym (given.hall t));
   }
     where
-      f : Fits (at_rest_of net) t (part_of (at_rest_of net) (world_now net) (routes_in net) t)
+      f : Fits (at_rest_of net) t (side_state_of (at_rest_of net) (world_now net) (routes_in net) t)
           (view_at net t)
       f = given.step.one.servers t among
 

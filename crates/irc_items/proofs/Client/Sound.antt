@@ -14,9 +14,9 @@ use Rattle.irc_stage.specs.Handle.{Happening}
 use Rattle.irc_world.specs.Bounds.{effects_at, most, part_size}
 use Rattle.irc_world.specs.Stepping.{Item, by_machine}
 use Rattle.irc_world.specs.World.{World, machine_at}
-use Rattle.irc_follow.specs.AtRest.{part_of}
+use Rattle.irc_follow.specs.AtRest.{side_state_of}
 use Rattle.irc_follow.specs.Fits.{Fits}
-use Rattle.irc_follow.specs.Part.{Fixed, number}
+use Rattle.irc_follow.specs.SideState.{ItemSetting, number}
 use Rattle.irc_follow.specs.Says.{lines_on, machine}
 use Rattle.irc_network.specs.Network.{Network}
 use Rattle.irc_items.specs.GoodLines.{no_answers}
@@ -29,7 +29,7 @@ use Rattle.irc_items.proofs.Client.Begins.{client_goes_on, fits_before, fits_hom
 use Rattle.irc_items.proofs.Client.Begins.{from_home, AreClientLaws, IsToldByHome}
 use Rattle.irc_items.proofs.Client.Given.{done_at}
 use Rattle.irc_items.proofs.Client.OtherServers.{deeds_at}
-use Rattle.irc_items.proofs.Client.Side.{ends, home_fixed, right_here, IsClientStep}
+use Rattle.irc_items.proofs.Client.Side.{ends, home_setting, right_here, IsClientStep}
 use Rattle.irc_items.proofs.Common.Counting.{part_counted}
 use Rattle.irc_items.proofs.Common.FewLines.{none_at_source, none_pending}
 use Rattle.irc_items.proofs.Home.Fits.{DoesAsMachine}
@@ -42,12 +42,12 @@ turned sum size effects part most same = rw same (omega arith)
 
 module _ (laws : AreClientLaws) {net base new : Network} {world : World} {h : Name}
     {happening : Happening} {item : Item} (given : IsClientStep net base new world h happening item)
-    (at_home : DoesAsMachine (home_fixed net world h) world (routes_in net) h
-    (view_at net h) happening) (tells : IsToldByHome (home_fixed net world h) world
+    (at_home : DoesAsMachine (home_setting net world h) world (routes_in net) h
+    (view_at net h) happening) (tells : IsToldByHome (home_setting net world h) world
     (by_machine (settings_of net) world h happening).world (routes_in net) h (view_at net h)
     happening) where
-  abbrev s : Fixed
-  s = home_fixed net world h
+  abbrev s : ItemSetting
+  s = home_setting net world h
 
   abbrev after : World
   after = (by_machine (settings_of net) world h happening).world
@@ -63,7 +63,7 @@ module _ (laws : AreClientLaws) {net base new : Network} {world : World} {h : Na
 
     goes_on : IsGoingOn s no_answers after source (routes_in net) new client
         (owed_now net client ++ (by_machine (settings_of net) world h happening).lines client)
-        (part_of s world (routes_in net)) (λ t. deeds_at s world h happening)
+        (side_state_of s world (routes_in net)) (λ t. deeds_at s world h happening)
     goes_on = client_goes_on laws given at_home tells client
 
     next_few : (t : Name) → s.streams.depth t ≡ 1
@@ -75,7 +75,7 @@ module _ (laws : AreClientLaws) {net base new : Network} {world : World} {h : Na
         near : IsNextTo world.links h t
         near = next_to world.links given.holds.sound.forest h t one
 
-        taker : Fits s t (part_of s world (routes_in net) t) (view_at new t)
+        taker : Fits s t (side_state_of s world (routes_in net) t) (view_at new t)
         taker = fits_taker laws given at_home tells client t (omega arith)
 
         on_its_way : under_way (relayed s new client) (s.streams.parent t) t
@@ -131,10 +131,10 @@ module _ (laws : AreClientLaws) {net base new : Network} {world : World} {h : Na
 
       by : Telling y h → is_met_with s (view_at new y) x ≡ true
       by (alike _ e) = linked_met s after (routes_in net) y x (view_at new y)
-          (subst (λ v. Fits s v (part_of s after (routes_in net) v) (view_at new v)) (sym e)
+          (subst (λ v. Fits s v (side_state_of s after (routes_in net) v) (view_at new v)) (sym e)
           (fits_home laws given at_home tells)) x_among back
       by (unlike _ two) = linked_met s world (routes_in net) y x (view_at new y)
-          (subst (Fits s y (part_of s world (routes_in net) y))
+          (subst (Fits s y (side_state_of s world (routes_in net) y))
           (sym (given.served.other_views y two))
           (fits_before laws given at_home tells y y_among)) x_among back
 

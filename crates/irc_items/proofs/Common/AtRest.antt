@@ -13,15 +13,15 @@ use Rattle.irc_routes.specs.Known.{Known, row_of, token_out, IsNumbered}
 use Rattle.irc_stage.specs.View.{View}
 use Rattle.irc_world.specs.World.{home_in}
 use Rattle.irc_world.specs.WorldHolds.{IsWorld, TakenMakeWorld}
-use Rattle.irc_follow.specs.AtRest.{part_of, AreRight, PartAtRestIsSound}
+use Rattle.irc_follow.specs.AtRest.{side_state_of, AreRight, SideAtRestIsSound}
 use Rattle.irc_follow.specs.Fits.{Fits, IsNumberOf}
-use Rattle.irc_follow.specs.Part.{Fixed, is_home_of, IsSoundPart}
+use Rattle.irc_follow.specs.SideState.{ItemSetting, is_home_of, IsSoundSide}
 use Rattle.irc_follow.specs.Says.{machine}
 use Rattle.irc_follow.specs.Tree.{shape}
 use Rattle.irc_network.specs.Network.{Network, is_at_rest, received_by}
 use Rattle.irc_items.specs.Laws.{ReceivedIsFront, RestIsOneRoom}
 use Rattle.irc_items.specs.OneRoom.{at_rest_of, IsOneRoom}
-use Rattle.irc_items.specs.Relayed.{fixed_of, relayed}
+use Rattle.irc_items.specs.Relayed.{setting_of_item, relayed}
 use Rattle.irc_items.specs.SetUp.{routes_in, settings_of, view_at}
 use Rattle.irc_items.specs.Sound.{IsSound, owed_now, world_now}
 use Rattle.irc_items.proofs.Common.Rest.{AreRestLaws, nothing_under_way}
@@ -52,14 +52,14 @@ pub is_home : (homes : List Name) (client : ℕ) (home : Name) → home_in homes
 is_home homes client home is =
     ap (λ o. option_map_or (same home) o false) is ∙ same_when home home refl
 
-pub shown_at_home : (s : Fixed) (net : Network) (client : ℕ) (home : Name)
+pub shown_at_home : (s : ItemSetting) (net : Network) (client : ℕ) (home : Name)
     → is_home_of s.homes home client ≡ true
     → (relayed s net client).shown home ≡ received_by net client
 shown_at_home s net client home is = ap (λ b. cond b (received_by net client) []) is
 
 -- along its links, from the sources that it has
-abbrev pub flowing : (net : Network) → IsSound net → Fixed
-flowing net sound = fixed_of net (streams_from net.links sound.source)
+abbrev pub flowing : (net : Network) → IsSound net → ItemSetting
+flowing net sound = setting_of_item net (streams_from net.links sound.source)
 
 pub received_is_front : ReceivedIsFront
 received_is_front net client sound = by (home_in net.homes client) refl
@@ -91,7 +91,7 @@ received_is_front net client sound = by (home_in net.homes client) refl
 pub record AreRoomLaws : Type 0 where
   pub at_rest : AreRestLaws
   pub world : TakenMakeWorld
-  pub side : PartAtRestIsSound
+  pub side : SideAtRestIsSound
   pub final : RestIsFinal View (List ℕ) (List ℕ)
 
 -- the world that the items make
@@ -112,8 +112,8 @@ ends_now net sound holds t u linked =
 
 module _ (laws : AreRoomLaws) (net : Network) (sound : IsSound net)
     (rest : is_at_rest net ≡ true) where
-  abbrev s : Fixed
-  s = fixed_of net (streams_from net.links sound.source)
+  abbrev s : ItemSetting
+  s = setting_of_item net (streams_from net.links sound.source)
 
   holds : IsWorld (settings_of net) (world_now net)
   holds = holds_now laws.world net sound
@@ -124,8 +124,8 @@ module _ (laws : AreRoomLaws) (net : Network) (sound : IsSound net)
 
   -- each server is what it was to be
   fits_now : (t : Name) → IsAmong net.names t
-      → Fits s t (part_of s (world_now net) sound.routes t) (view_at net t)
-  fits_now t among = subst (Fits s t (part_of s (world_now net) sound.routes t))
+      → Fits s t (side_state_of s (world_now net) sound.routes t) (view_at net t)
+  fits_now t among = subst (Fits s t (side_state_of s (world_now net) sound.routes t))
       (laws.final (machine s 0) s.streams (relayed s net 0) t (quiet 0)).0
       ((sound.coming.under_way 0).fits t among)
 
@@ -156,15 +156,15 @@ module _ (laws : AreRoomLaws) (net : Network) (sound : IsSound net)
   no_taker : (t p : Name) → TakesFrom (streams_from net.links (λ server. server)) t p → ⊥
   no_taker t p takes = let z = distance_self net.links t in let b = takes.below in omega arith
 
-  side_now : (t : Name) → IsAmong net.names t
-      → IsSoundPart (at_rest_of net) (part_of (at_rest_of net) (world_now net) (routes_in net) t)
+  side_now : (t : Name) → IsAmong net.names t → IsSoundSide (at_rest_of net)
+      (side_state_of (at_rest_of net) (world_now net) (routes_in net) t)
   side_now t among = laws.side (at_rest_of net) (world_now net) (routes_in net) t
       (fixed net sound.set_up (streams_from net.links (λ server. server)))
       (record { homes = sound.homes; parents = λ u p takes. absurd (no_taker u p takes) }) holds
       (subst (λ links. AreRight (at_rest_of net) links (routes_in net)) sound.links right_now) among
 
   server_now : (t : Name) → IsAmong net.names t → Fits (at_rest_of net) t
-      (part_of (at_rest_of net) (world_now net) (routes_in net) t) (view_at net t)
+      (side_state_of (at_rest_of net) (world_now net) (routes_in net) t) (view_at net t)
   server_now t among = record {
     here = f.here;
     sound = side_now t among;
@@ -176,7 +176,7 @@ module _ (laws : AreRoomLaws) (net : Network) (sound : IsSound net)
     room = f.room;
   }
     where
-      f : Fits s t (part_of s (world_now net) sound.routes t) (view_at net t)
+      f : Fits s t (side_state_of s (world_now net) sound.routes t) (view_at net t)
       f = fits_now t among
 
       by : (k : ℕ) → IsNumberOf s k → IsNumberOf (at_rest_of net) k

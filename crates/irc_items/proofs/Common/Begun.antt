@@ -11,9 +11,9 @@ use Rattle.irc_relay.specs.Lemmas.ActsToldOn.{all_well, followed}
 use Rattle.irc_routes.specs.Known.{Known}
 use Rattle.irc_stage.specs.View.{View}
 use Rattle.irc_world.specs.World.{World}
-use Rattle.irc_follow.specs.AtRest.{part_of}
+use Rattle.irc_follow.specs.AtRest.{side_state_of}
 use Rattle.irc_follow.specs.Fits.{Fits}
-use Rattle.irc_follow.specs.Part.{Fixed, Part, is_home_of}
+use Rattle.irc_follow.specs.SideState.{ItemSetting, SideState, is_home_of}
 use Rattle.irc_follow.specs.Says.{machine, play}
 use Rattle.irc_network.specs.Network.{Network, received_by}
 use Rattle.irc_items.specs.GoodLines.{Answering, IsGoodLine}
@@ -24,17 +24,18 @@ use Rattle.irc_items.proofs.Good.GoodLines.{good_terms}
 
 -- as one client sees it: each server that takes lines is told of these deeds from this side on, and
 -- comes to the world by them; the others are there already
-pub record IsBegun (s : Fixed) (asks : Answering) (world : World) (routes : Name → Known)
+pub record IsBegun (s : ItemSetting) (asks : Answering) (world : World) (routes : Name → Known)
     (net : Network) (client : ℕ) (owed : List (List ℕ))
-    (part : Name → Part)
+    (part : Name → SideState)
     (deeds : Name → List Deed) : Type 0 where
   pub starts : Starts (machine s client) (play s client) (good_terms s asks world routes) s.streams
       (relayed s net client) part deeds
   pub away : GoesAway s.streams (relayed s net client)
   pub at_source : (t : Name) → IsAmong s.names t → s.streams.depth t ≡ 0
-      → Fits s t (part_of s world routes t) (view_at net t)
+      → Fits s t (side_state_of s world routes t) (view_at net t)
   pub comes_to : (t : Name) (view : View) → IsAmong s.names t → 0 < s.streams.depth t → Fits s t
-      (all_done (play s client) (part t) (deeds t)) view → Fits s t (part_of s world routes t) view
+      (all_done (play s client) (part t) (deeds t)) view
+      → Fits s t (side_state_of s world routes t) view
   pub told_source : (t : Name) → is_home_of s.homes t client ≡ true → s.streams.depth t ≡ 0
       → received_by net client ≡ owed
   pub told : (t : Name) → is_home_of s.homes t client ≡ true → 0 < s.streams.depth t
@@ -47,9 +48,9 @@ unfolding coming_within
 none_at_source m streams net t none = ap (λ n. coming_within m streams net n t) none
 
 -- an item that has begun, and how servers follow it along the links of the world that it makes
-pub record IsGoingOn (s : Fixed) (asks : Answering) (world : World) (source : Name → Name)
+pub record IsGoingOn (s : ItemSetting) (asks : Answering) (world : World) (source : Name → Name)
     (routes : Name → Known) (net : Network) (client : ℕ)
-    (owed : List (List ℕ)) (part : Name → Part) (deeds : Name → List Deed) : Type 0 where
+    (owed : List (List ℕ)) (part : Name → SideState) (deeds : Name → List Deed) : Type 0 where
   pub forest : IsForest world.links
   pub covers : Covers world.links source
   pub streams : s.streams ≡ streams_from world.links source
@@ -57,9 +58,9 @@ pub record IsGoingOn (s : Fixed) (asks : Answering) (world : World) (source : Na
       (good_terms s asks world routes) world.links s.streams
   pub begun : IsBegun s asks world routes net client owed part deeds
 
-module _ {s : Fixed} {asks : Answering} {world : World} {source : Name → Name}
+module _ {s : ItemSetting} {asks : Answering} {world : World} {source : Name → Name}
     {routes : Name → Known} {net : Network} {client : ℕ} {owed : List (List ℕ)}
-    {part : Name → Part} {deeds : Name → List Deed}
+    {part : Name → SideState} {deeds : Name → List Deed}
     (goes : IsGoingOn s asks world source routes net client owed part deeds) where
   -- the same, with the streams in full
   follow_along : Follows (machine s client) (play s client)
@@ -79,7 +80,7 @@ module _ {s : Fixed} {asks : Answering} {world : World} {source : Name → Name}
       subst (λ from. IsFollowing (machine s client) (play s client)
       (good_terms s asks world routes) from (relayed s net client) (part t) (deeds t) t)
       (sym goes.streams)
-      (followed View (List ℕ) (List ℕ) Part Deed (machine s client) (play s client)
+      (followed View (List ℕ) (List ℕ) SideState Deed (machine s client) (play s client)
       (good_terms s asks world routes) world.links source goes.forest goes.covers
       follow_along (relayed s net client) part deeds starts_along t
       (subst (λ from. 0 < from.depth t) goes.streams below))
@@ -89,18 +90,18 @@ module _ {s : Fixed} {asks : Answering} {world : World} {source : Name → Name}
   well =
       subst (λ from. GoesWell (machine s client) from (IsGoodLine s asks world routes)
       (relayed s net client)) (sym goes.streams)
-      (all_well View (List ℕ) (List ℕ) Part Deed (machine s client) (play s client)
+      (all_well View (List ℕ) (List ℕ) SideState Deed (machine s client) (play s client)
       (good_terms s asks world routes) world.links source goes.forest goes.covers
       follow_along (relayed s net client) part deeds starts_along)
 
-  will_fit : (t : Name) → IsAmong s.names t → Fits s t (part_of s world routes t)
+  will_fit : (t : Name) → IsAmong s.names t → Fits s t (side_state_of s world routes t)
       (final (machine s client) s.streams (relayed s net client) t)
   will_fit t among = by (s.streams.depth t) refl
     where
-      by : (n : ℕ) → s.streams.depth t ≡ n → Fits s t (part_of s world routes t)
+      by : (n : ℕ) → s.streams.depth t ≡ n → Fits s t (side_state_of s world routes t)
           (final (machine s client) s.streams (relayed s net client) t)
       by zero none =
-          subst (λ lines. Fits s t (part_of s world routes t)
+          subst (λ lines. Fits s t (side_state_of s world routes t)
           (after (machine s client) t (s.streams.parent t) (view_at net t) lines))
           (sym (none_at_source (machine s client) s.streams (relayed s net client) t none))
           (goes.begun.at_source t among none)

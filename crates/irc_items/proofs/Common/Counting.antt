@@ -17,7 +17,7 @@ use Rattle.irc_room.specs.Lemmas.Rows.{same_some}
 use Rattle.irc_stage.specs.View.{View}
 use Rattle.irc_world.specs.World.{Setting, servers_where}
 use Rattle.irc_world.specs.Bounds.{part_size}
-use Rattle.irc_network.specs.Network.{Network, Site}
+use Rattle.irc_network.specs.Network.{Network, Node}
 use Rattle.irc_items.specs.SetUp.{named_at, setting_at, setting_now, settings_of, IsSetUp}
 
 abbrev number : Bool → ℕ
@@ -310,27 +310,27 @@ abbrev rest_of : List (Option Name) → List (Option Name)
 rest_of [] = []
 rest_of (first ∷ rest) = rest
 
-names_set : (sites : List Site) (names : List Name) → map named_at sites ≡ map Some names
-    → map (λ (x : Setting). x.name) (filter_map setting_at sites) ≡ names
+names_set : (nodes : List Node) (names : List Name) → map named_at nodes ≡ map Some names
+    → map (λ (x : Setting). x.name) (filter_map setting_at nodes) ≡ names
 names_set [] [] named = refl
 names_set [] (name ∷ names) named = absurd (cc named)
-names_set (site ∷ sites) [] named = absurd (cc named)
-names_set (site ∷ sites) (name ∷ names) named =
-    by site.server (ap first_of named) (names_set sites names (ap rest_of named))
+names_set (node ∷ nodes) [] named = absurd (cc named)
+names_set (node ∷ nodes) (name ∷ names) named =
+    by node.server (ap first_of named) (names_set nodes names (ap rest_of named))
   where
     by : (o : Option View) → option_map (λ (view : View). view.routes.name) o ≡ Some name
-        → map (λ (x : Setting). x.name) (filter_map setting_at sites) ≡ names
+        → map (λ (x : Setting). x.name) (filter_map setting_at nodes) ≡ names
         → map (λ (x : Setting). x.name)
-        (cons_option (option_map setting_now o) (filter_map setting_at sites)) ≡ name ∷ names
+        (cons_option (option_map setting_now o) (filter_map setting_at nodes)) ≡ name ∷ names
     by None none later = absurd (cc none)
     by (Some view) is later =
-        ap (λ first. first ∷ map (λ (x : Setting). x.name) (filter_map setting_at sites))
+        ap (λ first. first ∷ map (λ (x : Setting). x.name) (filter_map setting_at nodes))
         (same_some view.routes.name name is)
         ∙ ap (λ rest. name ∷ rest) later
 
 pub settings_named : (net : Network) → IsSetUp net
     → map (λ (x : Setting). x.name) (settings_of net) ≡ net.names
-settings_named net set_up = names_set net.sites net.names set_up.named
+settings_named net set_up = names_set net.nodes net.names set_up.named
 
 -- A part has as many servers as names are joined to one of them.
 pub part_counted : (net : Network) → IsSetUp net → (links : List Link) (t : Name)

@@ -3,22 +3,22 @@ use Rattle.std.proofs.Common.{◌≡◌, ℕ, List, [], ◌∷◌, ◌++◌, ref
 use Rattle.irc_merge.specs.Deeds.{Deed}
 use Rattle.irc_relay.specs.Following.{all_done, all_seen}
 use Rattle.irc_relay.specs.Links.{Name}
-use Rattle.irc_follow.specs.Part.{Fixed, Part, done, shown_at}
+use Rattle.irc_follow.specs.SideState.{ItemSetting, SideState, done, shown_at}
 use Rattle.irc_follow.specs.Says.{play}
 
-module _ (s : Fixed) (client : ℕ) where
+module _ (s : ItemSetting) (client : ℕ) where
   -- whoever looks on, a side comes to the same
-  pub same_done : (deeds : List Deed) (w : Part)
+  pub same_done : (deeds : List Deed) (w : SideState)
       → all_done (play s client) w deeds ≡ all_done (play s 0) w deeds
   same_done [] w = refl
   same_done (deed ∷ deeds) w = same_done deeds (done s w deed)
 
-  pub done_in_turn : (first later : List Deed) (w : Part) → all_done (play s client) w
+  pub done_in_turn : (first later : List Deed) (w : SideState) → all_done (play s client) w
       (first ++ later) ≡ all_done (play s client) (all_done (play s client) w first) later
   done_in_turn [] later w = refl
   done_in_turn (deed ∷ first) later w = done_in_turn first later (done s w deed)
 
-  pub seen_in_turn : (t : Name) (first later : List Deed) (w : Part)
+  pub seen_in_turn : (t : Name) (first later : List Deed) (w : SideState)
       → all_seen (play s client) t w (first ++ later)
       ≡ all_seen (play s client) t w first ++ all_seen (play s client) t
       (all_done (play s client) w first) later

@@ -16,7 +16,7 @@ use Rattle.irc_relay.specs.Lemmas.ActsToldOn.{no_return}
 use Rattle.irc_routes.specs.Known.{Known}
 use Rattle.irc_stage.specs.View.{View}
 use Rattle.irc_world.specs.World.{World}
-use Rattle.irc_follow.specs.Part.{Fixed, Part}
+use Rattle.irc_follow.specs.SideState.{ItemSetting, SideState}
 use Rattle.irc_follow.specs.Says.{machine, play}
 use Rattle.irc_network.specs.Network.{Network}
 use Rattle.irc_items.specs.GoodLines.{no_answers, Answering}
@@ -91,9 +91,9 @@ onward links source forest covers t k above deep = record {
 
 -- ---- an item that is begun
 
-module _ {s : Fixed} {asks : Answering} {world : World} {source : Name → Name}
+module _ {s : ItemSetting} {asks : Answering} {world : World} {source : Name → Name}
     {routes : Name → Known} {net : Network} {client : ℕ} {owed : List (List ℕ)}
-    {part : Name → Part} {deeds : Name → List Deed}
+    {part : Name → SideState} {deeds : Name → List Deed}
     (goes : IsGoingOn s asks world source routes net client owed part deeds) where
   in_turn : (t : Name) → ComesInTurn (machine s client) s.streams (relayed s net client) t
   in_turn t =

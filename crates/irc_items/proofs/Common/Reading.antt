@@ -11,16 +11,16 @@ use Rattle.irc_relay.specs.Links.{Name, linked, same, AreLinked}
 use Rattle.irc_relay.specs.Lemmas.NextHops.{linked_joined}
 use Rattle.irc_relay.specs.Lemmas.LinkTakenOut.{tests_tell}
 use Rattle.irc_routes.specs.Known.{Known}
-use Rattle.irc_links.specs.Ends.{is_met as has_far}
+use Rattle.irc_stage.specs.Ends.{is_met as has_far}
 use Rattle.irc_stage.specs.View.{End, View}
 use Rattle.irc_world.specs.World.{World, home_in}
-use Rattle.irc_follow.specs.AtRest.{part_of}
+use Rattle.irc_follow.specs.AtRest.{side_state_of}
 use Rattle.irc_follow.specs.Fits.{Fits, far_of}
-use Rattle.irc_follow.specs.Part.{Fixed, Part, is_home_of, number}
+use Rattle.irc_follow.specs.SideState.{ItemSetting, SideState, is_home_of, number}
 use Rattle.irc_items.specs.Relayed.{is_met_with, owed_at, owed_to}
 use Rattle.irc_items.specs.SetUp.{no_view}
 
-pub owed_by_none : (s : Fixed) (y : Name) → owed_to s no_view y ≡ []
+pub owed_by_none : (s : ItemSetting) (y : Name) → owed_to s no_view y ≡ []
 owed_by_none s y =
     ap (λ o. option_map_or (owed_at s no_view y) o []) (get-empty nat_cmp (number s y))
 
@@ -44,7 +44,7 @@ home_is homes client t is = by (home_in homes client) refl
         (sym (same_text t home (sym (sym (ap (λ o. option_map_or (same t) o false) e) ∙ is))))
 
 -- a server that a side knows, and to which there is a link, has named itself
-pub known_met : (s : Fixed) (w : Part) (y x : Name) (view : View) → Fits s y w view
+pub known_met : (s : ItemSetting) (w : SideState) (y x : Name) (view : View) → Fits s y w view
     → IsAmong s.names x → linked w.tree.forest y x ≡ true → w.tree.knows x ≡ true
     → is_met_with s view x ≡ true
 known_met s w y x view fits among linked_so knows = by (get view.ends (number s x)) refl
@@ -62,11 +62,11 @@ known_met s w y x view fits among linked_so knows = by (get view.ends (number s 
         ∙ far_some end (sym (ap (option_map far_of) is) ∙ end_is)
 
 -- so has one that is linked at rest
-pub linked_met : (s : Fixed) (world : World) (routes : Name → Known) (y x : Name) (view : View)
-    → Fits s y (part_of s world routes y) view → IsAmong s.names x → AreLinked world.links y x
-    → is_met_with s view x ≡ true
+pub linked_met : (s : ItemSetting) (world : World) (routes : Name → Known) (y x : Name)
+    (view : View) → Fits s y (side_state_of s world routes y) view → IsAmong s.names x
+    → AreLinked world.links y x → is_met_with s view x ≡ true
 linked_met s world routes y x view fits among l =
-    known_met s (part_of s world routes y) y x view fits among
+    known_met s (side_state_of s world routes y) y x view fits among
     ((tests_tell world.links y x x).2.1 l)
     ((tests_tell world.links x y y).1.1 (sym (linked_joined world.links y x l)))
 

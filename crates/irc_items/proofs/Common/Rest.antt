@@ -6,7 +6,7 @@ use Rattle.std.proofs.Common.{is_some, if◌then◌else◌, unwrap_or}
 use Rattle.std.specs.FinMap.{get}
 use Rattle.std.specs.Option.{option_and_then, option_map, option_map_or}
 use Rattle.irc_line.specs.Messages.{line_text}
-use Rattle.irc_handshake.specs.GreetingLines.{greeting}
+use Rattle.irc_link_words.specs.GreetingLines.{greeting}
 use Rattle.irc_relay.specs.Distances.{EndsAreAmong, IsAmong}
 use Rattle.irc_relay.specs.Following.{AllAlong}
 use Rattle.irc_relay.specs.Laws.{ComingInTurn}
@@ -19,18 +19,18 @@ use Rattle.irc_relay.specs.Lemmas.NextHops.{distance_self, linked_back, linked_j
 use Rattle.irc_relay.specs.Lemmas.LinkTakenOut.{tests_tell}
 use Rattle.irc_routes.specs.Known.{Known}
 use Rattle.irc_stage.specs.View.{End, View}
-use Rattle.irc_links.specs.Ends.{is_met as has_far}
-use Rattle.irc_deeds.specs.LinkServed.{owed_by}
+use Rattle.irc_stage.specs.Ends.{is_met as has_far}
+use Rattle.irc_server.specs.LinkServed.{owed_by}
 use Rattle.irc_world.specs.World.{World}
-use Rattle.irc_follow.specs.AtRest.{part_of}
+use Rattle.irc_follow.specs.AtRest.{side_state_of}
 use Rattle.irc_follow.specs.Fits.{Fits, IsNumberOf, far_of}
-use Rattle.irc_follow.specs.Part.{Fixed, number}
+use Rattle.irc_follow.specs.SideState.{ItemSetting, number}
 use Rattle.irc_follow.specs.Says.{neighbour_served, lines_on, machine}
-use Rattle.irc_network.specs.Network.{Network, Site, begun, delivered, is_at_rest, server_place}
-use Rattle.irc_network.specs.Network.{site_at, taken_of, waiting}
+use Rattle.irc_network.specs.Network.{Network, Node, begun, delivered, is_at_rest, server_place}
+use Rattle.irc_network.specs.Network.{node_at, taken_of, waiting}
 use Rattle.irc_network.specs.Laws.{RestStays}
 use Rattle.irc_items.specs.GoodLines.{Answering, IsGoodLine}
-use Rattle.irc_items.specs.Relayed.{fixed_of, is_met_with, owed_at, owed_to, relayed, way_at}
+use Rattle.irc_items.specs.Relayed.{setting_of_item, is_met_with, owed_at, owed_to, relayed, way_at}
 use Rattle.irc_items.specs.Relayed.{way_between}
 use Rattle.irc_items.specs.SetUp.{view_at}
 use Rattle.irc_items.specs.Sound.{IsSound, IsUnderWay, owed_now, world_now, is_met, is_calling}
@@ -39,7 +39,7 @@ use Rattle.irc_items.specs.Sound.{HasCalled}
 -- ---- who owes nothing
 
 -- whoever has named itself, if its end is there
-paid_if : (s : Fixed) (view : View) (to : Name) → ((end : End)
+paid_if : (s : ItemSetting) (view : View) (to : Name) → ((end : End)
     → get view.ends (number s to) ≡ Some end → has_far end ≡ true) → owed_to s view to ≡ []
 paid_if s view to named = by (get view.ends (number s to)) refl
   where
@@ -50,7 +50,7 @@ paid_if s view to named = by (get view.ends (number s to)) refl
         ∙ ap (λ b. cond b [] (map line_text (owed_by view (number s to) to end))) (named end is)
 
 -- a server that has named itself is told what was owed
-pub met_is_paid : (s : Fixed) (view : View) (to : Name) → is_met_with s view to ≡ true
+pub met_is_paid : (s : ItemSetting) (view : View) (to : Name) → is_met_with s view to ≡ true
     → owed_to s view to ≡ []
 met_is_paid s view to met =
     paid_if s view to (λ end is. sym (ap (λ o. option_map_or has_far o false) is) ∙ met)
@@ -71,8 +71,8 @@ linked_so links t x far inner is = by (linked links t x) refl is
     by false e is = cc is
 
 -- at rest every end is that of a server that has named itself
-module _ (s : Fixed) (world : World) (routes : Name → Known) (t : Name) (view : View)
-    (fits : Fits s t (part_of s world routes t) view) where
+module _ (s : ItemSetting) (world : World) (routes : Name → Known) (t : Name) (view : View)
+    (fits : Fits s t (side_state_of s world routes t) view) where
   end_met : (to : Name) (end : End) → get view.ends (number s to) ≡ Some end → has_far end ≡ true
   end_met to end is = by (fits.no_others (number s to) end is)
     where
@@ -95,7 +95,8 @@ module _ (s : Fixed) (world : World) (routes : Name → Known) (t : Name) (view 
   nothing_owed to = paid_if s view to (end_met to)
 
 -- what is owed to another stays, line by line from a third
-pub owed_along : (s : Fixed) (asks : Answering) (world : World) (routes : Name → Known) (client : ℕ)
+pub owed_along : (s : ItemSetting) (asks : Answering) (world : World) (routes : Name → Known)
+    (client : ℕ)
     (p t u : Name) → u ≢ p → (view : View)
     (lines : List (List ℕ))
     → AllAlong (machine s client) (IsGoodLine s asks world routes) p t view lines
@@ -106,7 +107,7 @@ owed_along s asks world routes client p t u two view (line ∷ lines) all =
     all.1 ∙ (all.0.good.others u two).owes_as_before
 
 -- nobody is sent a line back
-passed_back : (s : Fixed) (client : ℕ) (t p : Name) (view : View) (lines : List (List ℕ))
+passed_back : (s : ItemSetting) (client : ℕ) (t p : Name) (view : View) (lines : List (List ℕ))
     → passed_on (machine s client) t p view lines p ≡ []
 passed_back s client t p view [] = refl
 passed_back s client t p view (line ∷ lines) =
@@ -117,40 +118,40 @@ passed_back s client t p view (line ∷ lines) =
 
 -- ---- no line is on its way
 
-none_left : (rest : RestStays) (net : Network) → is_at_rest net ≡ true → (from to : ℕ) (site : Site)
-    → site_at net from ≡ Some site → waiting site to ≡ []
+none_left : (rest : RestStays) (net : Network) → is_at_rest net ≡ true → (from to : ℕ) (node : Node)
+    → node_at net from ≡ Some node → waiting node to ≡ []
 unfolding delivered
-none_left rest net quiet from to site is = by (waiting site to) refl
+none_left rest net quiet from to node is = by (waiting node to) refl
   where
-    none : taken_of from to (begun net) site (waiting site to) ≡ None
-    none = sym (ap (option_and_then (λ (site : Site). taken_of from to (begun net) site
-        (waiting site to))) is) ∙ (rest (begun net) quiet).no_line from to
+    none : taken_of from to (begun net) node (waiting node to) ≡ None
+    none = sym (ap (option_and_then (λ (node : Node). taken_of from to (begun net) node
+        (waiting node to))) is) ∙ (rest (begun net) quiet).no_line from to
 
-    by : (lines : List (List ℕ)) → waiting site to ≡ lines → waiting site to ≡ []
+    by : (lines : List (List ℕ)) → waiting node to ≡ lines → waiting node to ≡ []
     by [] e = e
-    by (first ∷ more) e = cc (sym (ap (taken_of from to (begun net) site) e) ∙ none)
+    by (first ∷ more) e = cc (sym (ap (taken_of from to (begun net) node) e) ∙ none)
 
 pub quiet_ways : RestStays → (net : Network) → is_at_rest net ≡ true → (x : Name) (place : ℕ)
     → unwrap_or (way_at net x place) [] ≡ []
 quiet_ways rest net quiet x place = by (server_place net x) refl
   where
-    at : (from : ℕ) (o : Option Site) → site_at net from ≡ o
-        → unwrap_or (option_and_then (λ (site : Site). get site.queues place) o) [] ≡ []
+    at : (from : ℕ) (o : Option Node) → node_at net from ≡ o
+        → unwrap_or (option_and_then (λ (node : Node). get node.queues place) o) [] ≡ []
     at from None is = refl
-    at from (Some site) is = none_left rest net quiet from place site is
+    at from (Some node) is = none_left rest net quiet from place node is
 
     by : (o : Option ℕ) → server_place net x ≡ o → unwrap_or (way_at net x place) [] ≡ []
-    by None is = ap (λ o. unwrap_or (option_and_then (λ (site : Site). get site.queues place)
-        (option_and_then (site_at net) o)) []) is
+    by None is = ap (λ o. unwrap_or (option_and_then (λ (node : Node). get node.queues place)
+        (option_and_then (node_at net) o)) []) is
     by (Some from) is =
-        ap (λ o. unwrap_or (option_and_then (λ (site : Site). get site.queues place)
-        (option_and_then (site_at net) o)) []) is ∙ at from (site_at net from) refl
+        ap (λ o. unwrap_or (option_and_then (λ (node : Node). get node.queues place)
+        (option_and_then (node_at net) o)) []) is ∙ at from (node_at net from) refl
 
 -- ---- nothing is under way
 
 -- what is coming to a server that has named itself to its parent is nothing, where no line is on
 -- its way
-module _ (net : Network) (s : Fixed) (source : Name → Name)
+module _ (net : Network) (s : ItemSetting) (source : Name → Name)
     (streams : s.streams ≡ streams_from net.links source) (forest : IsForest net.links)
     (covers : Covers net.links source) (in_turn : ComingInTurn View (List ℕ) (List ℕ)) (client : ℕ)
     (quiet : (x y : Name) → (relayed s net client).queue x y ≡ []) where
@@ -203,8 +204,8 @@ module _ (laws : AreRestLaws) (net : Network) (sound : IsSound net) (rest : is_a
     (forest : IsForest net.links)
     (ends : EndsAreAmong net.names net.links) (world_links : net.links ≡ (world_now net).links)
     (client : ℕ) where
-  abbrev s : Fixed
-  s = fixed_of net (streams_from net.links sound.source)
+  abbrev s : ItemSetting
+  s = setting_of_item net (streams_from net.links sound.source)
 
   under : IsUnderWay s sound.asks (world_now net) sound.routes net client (owed_now net client)
   under = sound.coming.under_way client

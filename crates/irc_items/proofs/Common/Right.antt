@@ -18,7 +18,7 @@ use Rattle.irc_stage.specs.Lemmas.Counting.{get-kept}
 use Rattle.irc_stage.specs.Lemmas.Numbers.{same_clients}
 use Rattle.irc_follow.specs.AtRest.{created_in, AreRight}
 use Rattle.irc_follow.specs.Fits.{far_end, Fits}
-use Rattle.irc_follow.specs.Part.{Fixed, Part, info_in, is_home_of, IsSoundPart}
+use Rattle.irc_follow.specs.SideState.{ItemSetting, SideState, info_in, is_home_of, IsSoundSide}
 use Rattle.irc_follow.specs.Tree.{index_in, shape, shape_in}
 use Rattle.irc_follow.specs.Lemmas.NewLink.{kept_row}
 use Rattle.irc_items.proofs.Common.Ends.{OnSide, on_side, on_neither, chosen, chosen_aside}
@@ -27,7 +27,7 @@ use Rattle.irc_items.proofs.Common.Ends.{chosen_at, which_side}
 -- ---- one server
 
 -- what one server keeps is right
-pub record IsRightAt (s : Fixed) (links : List Link) (t : Name) (known : Known) : Type 0 where
+pub record IsRightAt (s : ItemSetting) (links : List Link) (t : Name) (known : Known) : Type 0 where
   pub named : known.name ≡ t
   pub described : known.info ≡ info_in s.settings t
   pub created : known.created ≡ created_in s.settings t
@@ -39,7 +39,7 @@ pub record IsRightAt (s : Fixed) (links : List Link) (t : Name) (known : Known) 
 
 -- where the same servers are joined to it along other links, and each is shaped as before, it is
 -- right as it is
-pub right_still : {s : Fixed} {old links : List Link} {routes : Name → Known} {t : Name}
+pub right_still : {s : ItemSetting} {old links : List Link} {routes : Name → Known} {t : Name}
     → AreRight s old routes → IsAmong s.names t → ((x : Name) → joined links x t ≡ joined old x t)
     → ((x : Name) → AreJoined old x t → shape_in s.names (info_in s.settings) old t x
     ≡ shape_in s.names (info_in s.settings) links t x) → IsRightAt s links t (routes t)
@@ -58,7 +58,7 @@ right_still {s} {old} {links} {routes} {t} right among joined_so stays = record 
 }
 
 -- what servers keep is right wherever lines come from
-pub right_wherever : {base : Fixed} (homes : List Name) (streams : Streams)
+pub right_wherever : {base : ItemSetting} (homes : List Name) (streams : Streams)
     {links : List Link} {routes : Name → Known} → AreRight base links routes
     → AreRight (record base { homes = homes; streams = streams }) links routes
 right_wherever homes streams right = record {
@@ -87,9 +87,9 @@ same_kept homes t one other alike =
     by q false there = refl
 
 -- A server that fits one side fits another, which knows and shows it the same.
-pub refits : {s : Fixed} (streams : Streams) {t : Name} {was now : Part} {view : View}
+pub refits : {s : ItemSetting} (streams : Streams) {t : Name} {was now : SideState} {view : View}
     → Fits (record s { streams = streams }) t was view → now.tree.here t ≡ true
-    → IsSoundPart s now → was.tree.routes t ≡ now.tree.routes t
+    → IsSoundSide s now → was.tree.routes t ≡ now.tree.routes t
     → ((x : Name) → IsAmong s.names x → far_end was t x ≡ far_end now t x)
     → retain_keys was.hall.clients (is_home_of s.homes t) ≡ retain_keys now.hall.clients
     (is_home_of s.homes t) → of_home t was.hall.room ≡ of_home t now.hall.room → Fits s t now view
@@ -111,7 +111,7 @@ refits streams fits here sound routes ends clients room = record {
 abbrev pub by_then : Link → List Link → (Name → Name → Name → Known) → (Name → Known) → Name → Known
 by_then l base of_end routes t = chosen l base (λ e o. of_end e o t) (routes t) t
 
-module _ (s : Fixed) (links base : List Link) (l : Link) (of_end : Name → Name → Name → Known)
+module _ (s : ItemSetting) (links base : List Link) (l : Link) (of_end : Name → Name → Name → Known)
     (routes : Name → Known)
     (apart : AreJoined base l.near l.far → ⊥) where
   abbrev now : Name → Known

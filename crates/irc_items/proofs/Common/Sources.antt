@@ -13,7 +13,7 @@ use Rattle.irc_relay.specs.Lemmas.LinkTakenOut.{tests_tell}
 use Rattle.irc_routes.specs.Known.{Known}
 use Rattle.irc_world.specs.World.{World, Hall}
 use Rattle.irc_follow.specs.Fits.{Fits}
-use Rattle.irc_follow.specs.Part.{Fixed, Part}
+use Rattle.irc_follow.specs.SideState.{ItemSetting, SideState}
 use Rattle.irc_follow.specs.Says.{machine, play}
 use Rattle.irc_network.specs.Network.{Network}
 use Rattle.irc_items.specs.GoodLines.{Answering}
@@ -59,7 +59,7 @@ source_of (aside none depth) below = absurd (let no : ⊥ = omega arith in no)
 -- a side at one moment: who is joined to t along `base` is of it, and it knows whom t is joined to
 -- along `known`
 abbrev pub side_at : List Link → List Link → List Link → (Name → Known) → (Name → Hall)
-    → Name → Part
+    → Name → SideState
 side_at base known forest routes hall t = record {
   tree = record {
     forest = forest;
@@ -86,13 +86,13 @@ one_moment base known forest routes hall t p on together one_hall i = record {
 
 -- Each server takes the lines of one list of deeds with the rest of its side, from the same moment
 -- of that.
-pub record AreSides (base : List Link) (side : Name → Part)
+pub record AreSides (base : List Link) (side : Name → SideState)
     (deeds : Name → List Deed) : Type 0 where
   pub one_side : (t p : Name) → AreJoined base t p → side t ≡ side p
   pub one_list : (t p : Name) → AreJoined base t p → deeds t ≡ deeds p
 
-pub starts_from : {Ends : Name → Name → Type 0} {base : List Link} {first : ℕ} {s : Fixed}
-    {side : Name → Part} {deeds : Name → List Deed} (asks : Answering)
+pub starts_from : {Ends : Name → Name → Type 0} {base : List Link} {first : ℕ} {s : ItemSetting}
+    {side : Name → SideState} {deeds : Name → List Deed} (asks : Answering)
     (after : World) (routes : Name → Known) (new : Network) (client : ℕ)
     → ((t : Name) → Stands Ends base s.streams first t) → first ≤ 1
     → AreSides base side deeds
@@ -122,7 +122,7 @@ pub as_many : {n m : ℕ} → n ≡ m → n ≤ m
 as_many is = omega (is, arith)
 
 -- To a source come so many lines, `most`, and to whoever is behind it `each`.
-pub record AreFew (Ends : Name → Name → Type 0) (base : List Link) (s : Fixed) (new : Network)
+pub record AreFew (Ends : Name → Name → Type 0) (base : List Link) (s : ItemSetting) (new : Network)
     (client : ℕ) (deeds : Name → List Deed)
     (most each : Name → Name → ℕ) : Type 0 where
   pub at_end : (e o : Name) → Ends e o
@@ -131,9 +131,11 @@ pub record AreFew (Ends : Name → Name → Type 0) (base : List Link) (s : Fixe
       → length (under_way (relayed s new client) (s.streams.parent t) t) ≤ each e o
   pub told : (t e o : Name) → Ends e o → AreJoined base t e → length (deeds t) ≤ each e o
 
-module _ {Ends : Name → Name → Type 0} {base : List Link} {first : ℕ} {s : Fixed} {asks : Answering}
+module _ {Ends : Name → Name → Type 0} {base : List Link} {first : ℕ} {s : ItemSetting}
+    {asks : Answering}
     {world : World} {source : Name → Name}
-    {routes : Name → Known} {net : Network} {client : ℕ} {owed : List (List ℕ)} {side : Name → Part}
+    {routes : Name → Known} {net : Network} {client : ℕ} {owed : List (List ℕ)}
+    {side : Name → SideState}
     {deeds : Name → List Deed} {most each : Name → Name → ℕ}
     (goes : IsGoingOn s asks world source routes net client owed side deeds)
     (stands : (t : Name) → Stands Ends base s.streams first t)
@@ -155,7 +157,7 @@ module _ {Ends : Name → Name → Type 0} {base : List Link} {first : ℕ} {s :
           omega arith
       by (suc (suc d)) deep =
           let most = deeper_are_few goes t (omega arith) in
-          let acts = few.told t e o ends on in
+          let told_few = few.told t e o ends on in
           omega arith
 
   none_aside : (t : Name) → ((e o : Name) → Ends e o → AreJoined base t e → ⊥) → count t ≡ 0

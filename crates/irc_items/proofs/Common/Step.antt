@@ -19,7 +19,7 @@ use Rattle.irc_world.specs.WithinLimits.{IsItemWithin}
 use Rattle.irc_world.specs.World.{World, home_in, new_world}
 use Rattle.irc_world.specs.WorldHolds.{IsWorld, StepKeepsWorld}
 use Rattle.irc_follow.specs.AtRest.{AreRight}
-use Rattle.irc_follow.specs.Part.{Fixed}
+use Rattle.irc_follow.specs.SideState.{ItemSetting}
 use Rattle.irc_follow.specs.Says.{machine}
 use Rattle.irc_follow.specs.Tree.{index_in}
 use Rattle.irc_network.specs.Network.{Network, is_at_rest}
@@ -27,7 +27,7 @@ use Rattle.irc_network.specs.Refusing.{fault_at_rest}
 use Rattle.irc_items.specs.GoodLines.{Answering}
 use Rattle.irc_items.specs.Laws.{RefusalsAreTheWorlds}
 use Rattle.irc_items.specs.OneRoom.{IsOneRoom}
-use Rattle.irc_items.specs.Relayed.{fixed_of, relayed, way_at, way_between}
+use Rattle.irc_items.specs.Relayed.{setting_of_item, relayed, way_at, way_between}
 use Rattle.irc_items.specs.SetUp.{settings_of, IsSetUp}
 use Rattle.irc_items.specs.Sound.{most_now, most_of_last, owed_now, world_now, AreCalled, HasCalled}
 use Rattle.irc_items.specs.Sound.{IsPlaceOf, IsSound, IsSoundFrom, IsUnderWay}
@@ -97,8 +97,8 @@ module _ (laws : AreStepLaws) (net : Network) (sound : IsSound net) (rest : is_a
   }
 
 -- what stays while the item's lines are delivered, which come along these links from these sources
-abbrev pub step_fixed : Network → List Name → List Link → (Name → Name) → Fixed
-step_fixed net homes links source = record {
+abbrev pub step_setting : Network → List Name → List Link → (Name → Name) → ItemSetting
+step_setting net homes links source = record {
   settings = settings_of net;
   names = net.names;
   homes = homes;
@@ -110,16 +110,16 @@ pub record ComesTo (net new : Network) (item : Item) (homes : List Name) (after 
     (source : Name → Name) (routes : Name → Known) (asks : Answering)
     : Type 0 where
   pub covers : Covers after.world.links source
-  pub right : AreRight (step_fixed net homes after.world.links source) after.world.links routes
+  pub right : AreRight (step_setting net homes after.world.links source) after.world.links routes
   pub called : (x y : Name) → AreLinked after.world.links x y
-      → HasCalled (step_fixed net homes after.world.links source) new x y
-      ⊎ HasCalled (step_fixed net homes after.world.links source) new y x
-  pub under_way : (client : ℕ) → IsUnderWay (step_fixed net homes after.world.links source) asks
+      → HasCalled (step_setting net homes after.world.links source) new x y
+      ⊎ HasCalled (step_setting net homes after.world.links source) new y x
+  pub under_way : (client : ℕ) → IsUnderWay (step_setting net homes after.world.links source) asks
       after.world routes new client (owed_now net client ++ after.lines client)
   pub few : (client : ℕ)
-      → lines_pending (machine (step_fixed net homes after.world.links source) client)
+      → lines_pending (machine (step_setting net homes after.world.links source) client)
       (streams_from after.world.links source)
-      (relayed (step_fixed net homes after.world.links source) new client) net.names asks.answered
+      (relayed (step_setting net homes after.world.links source) new client) net.names asks.answered
       asks.one asks.other
       ≤ most (settings_of net) (world_now net) item
   pub ways : (x y : Name)
@@ -131,10 +131,10 @@ module _ {net new : Network} {item : Item} {homes : List Name} {after : Stepped}
     {source : Name → Name} {routes : Name → Known} {asks : Answering}
     (only_connected : OnlyConnectedReceive) (given : IsStep net new item homes after)
     (comes : ComesTo net new item homes after source routes asks) where
-  abbrev s : Fixed
-  s = step_fixed net homes after.world.links source
+  abbrev s : ItemSetting
+  s = step_setting net homes after.world.links source
 
-  fixed_same : fixed_of new (streams_from new.links source) ≡ s
+  fixed_same : setting_of_item new (streams_from new.links source) ≡ s
   fixed_same i = record {
     settings = given.taken.settings i;
     names = given.taken.names i;

@@ -20,9 +20,9 @@ use Rattle.irc_stage.specs.Lemmas.Numbers.{one_number, same_number, same_number-
 use Rattle.irc_stage.specs.View.{View}
 use Rattle.irc_world.specs.Stepping.{parted, split_text}
 use Rattle.irc_world.specs.World.{World}
-use Rattle.irc_follow.specs.AtRest.{part_of}
+use Rattle.irc_follow.specs.AtRest.{side_state_of}
 use Rattle.irc_follow.specs.Fits.{Fits}
-use Rattle.irc_follow.specs.Part.{Fixed, Part, number}
+use Rattle.irc_follow.specs.SideState.{ItemSetting, SideState, number}
 use Rattle.irc_follow.specs.Says.{lines_on, machine, play}
 use Rattle.irc_follow.specs.Tree.{index_in}
 use Rattle.irc_follow.specs.Lemmas.SideAtRest.{joined_among}
@@ -39,7 +39,7 @@ use Rattle.irc_items.proofs.Common.Reading.{owed_by_none, put_behind}
 use Rattle.irc_items.proofs.Cut.Given.{parted_at}
 use Rattle.irc_items.proofs.Cut.Home.{IsParted}
 use Rattle.irc_items.proofs.Cut.Sides.{cut_side, deeds_of_cut, routes_after_cut}
-use Rattle.irc_items.proofs.Cut.Step.{apart, cut_fixed, cut_off, end_among, forest, left_of}
+use Rattle.irc_items.proofs.Cut.Step.{apart, cut_setting, cut_off, end_among, forest, left_of}
 use Rattle.irc_items.proofs.Cut.Step.{old_ends, source_at, stands, IsCutStep}
 use Rattle.irc_items.proofs.Good.GoodLines.{good_terms}
 use Rattle.irc_items.proofs.Common.Ends.{AtEnd, is_end, is_none, chosen, chosen_at, one_end}
@@ -50,45 +50,45 @@ use Rattle.irc_items.specs.Lemmas.SetUpFacts.{viewed_nowhere}
 use Rattle.irc_items.proofs.Common.SourceFacts.{next_to}
 
 -- the lines by which an end tells its neighbours of what it has lost
-abbrev pub squits_told : Fixed → (Name → Known) → Name → Name → List (List ℕ)
+abbrev pub squits_told : ItemSetting → (Name → Known) → Name → Name → List (List ℕ)
 squits_told s routes a b =
     map (λ x. line_text (squit_parts a x (split_text a b))) (names_behind (routes a) (number s b))
 
 -- no line of a cut is answered
-abbrev pub terms_of_cut : Network → Name → Name → Terms View (List ℕ) Part Deed
+abbrev pub terms_of_cut : Network → Name → Name → Terms View (List ℕ) SideState Deed
 terms_of_cut net near far =
-    good_terms (cut_fixed net near far) no_answers
+    good_terms (cut_setting net near far) no_answers
     (parted (settings_of net) (world_now net) (left_of net near far) near far).world
-    (routes_after_cut (cut_fixed net near far) (world_now net) (routes_in net)
+    (routes_after_cut (cut_setting net near far) (world_now net) (routes_in net)
     (left_of net near far) near far)
 
 -- what is known of each end, of who is told by it, and of where that brings the sides
 pub record AreSidesOfCut (net new : Network) (near far : Name) : Type 0 where
-  pub end_parted : (a b : Name) → HasEnds (record { near = near; far = far }) a b
-      → IsParted (cut_fixed net near far) (world_now net) (routes_in net) (left_of net near far) a b
+  pub end_parted : (a b : Name) → HasEnds (record { near = near; far = far }) a b → IsParted
+      (cut_setting net near far) (world_now net) (routes_in net) (left_of net near far) a b
       (view_at net a) (parted_at net a b)
   pub end_fits : (a b : Name) → HasEnds (record { near = near; far = far }) a b
-      → Fits (cut_fixed net near far) a (part_of (cut_fixed net near far)
+      → Fits (cut_setting net near far) a (side_state_of (cut_setting net near far)
       (parted (settings_of net) (world_now net) (left_of net near far) near far).world
-      (routes_after_cut (cut_fixed net near far) (world_now net) (routes_in net)
+      (routes_after_cut (cut_setting net near far) (world_now net) (routes_in net)
       (left_of net near far) near far) a) (view_at new a)
-  pub side_fits : (a b t : Name) → HasEnds (record { near = near; far = far }) a b
-      → AreJoined (left_of net near far) t a → t ≢ near → t ≢ far → Fits (cut_fixed net near far) t
+  pub side_fits : (a b t : Name) → HasEnds (record { near = near; far = far }) a b → AreJoined
+      (left_of net near far) t a → t ≢ near → t ≢ far → Fits (cut_setting net near far) t
       (cut_side (world_now net) (routes_in net) (left_of net near far) t) (view_at new t)
   pub told : (a b : Name) → HasEnds (record { near = near; far = far }) a b
-      → (client : ℕ) (t : Name) → TakesFrom (cut_fixed net near far).streams t a
-      → AreJoined (left_of net near far) t a → Fits (cut_fixed net near far) t
+      → (client : ℕ) (t : Name) → TakesFrom (cut_setting net near far).streams t a
+      → AreJoined (left_of net near far) t a → Fits (cut_setting net near far) t
       (cut_side (world_now net) (routes_in net) (left_of net near far) t) (view_at new t)
-      → Tells (machine (cut_fixed net near far) client) (play (cut_fixed net near far) client)
+      → Tells (machine (cut_setting net near far) client) (play (cut_setting net near far) client)
       (terms_of_cut net near far) a t
       (cut_side (world_now net) (routes_in net) (left_of net near far) t) (view_at new t)
-      (deeds_of_cut (cut_fixed net near far) (routes_in net) a b)
-      (squits_told (cut_fixed net near far) (routes_in net) a b)
+      (deeds_of_cut (cut_setting net near far) (routes_in net) a b)
+      (squits_told (cut_setting net near far) (routes_in net) a b)
 
 module _ {net new : Network} {near far : Name} (quiet : RestStays)
     (given : IsCutStep net new near far) (sides : AreSidesOfCut net new near far) where
-  abbrev s : Fixed
-  s = cut_fixed net near far
+  abbrev s : ItemSetting
+  s = cut_setting net near far
 
   abbrev world : World
   world = world_now net
@@ -199,15 +199,15 @@ module _ {net new : Network} {near far : Name} (quiet : RestStays)
 
   -- ---- the two sides
 
-  abbrev pub sides_of : Name → Part
+  abbrev pub sides_of : Name → SideState
   sides_of t = cut_side world routes left t
 
-  abbrev pub acts_of : Name → List Deed
-  acts_of t = chosen l left (λ a b. deeds_of_cut s routes a b) [] t
+  abbrev pub deeds : Name → List Deed
+  deeds t = chosen l left (λ a b. deeds_of_cut s routes a b) [] t
 
-  pub acts_at : (t a b : Name) → HasEnds l a b → AreJoined left t a
-      → acts_of t ≡ deeds_of_cut s routes a b
-  acts_at t a b ends on =
+  pub deeds_at : (t a b : Name) → HasEnds l a b → AreJoined left t a
+      → deeds t ≡ deeds_of_cut s routes a b
+  deeds_at t a b ends on =
       chosen_at l left (apart given) (λ a b. deeds_of_cut s routes a b) [] t a b ends on
 
   one_side : (t p : Name) → AreJoined left t p → sides_of t ≡ sides_of p
@@ -217,7 +217,7 @@ module _ {net new : Network} {near far : Name} (quiet : RestStays)
       before : AreJoined world.links t p
       before = ((cut_off given near far (inl (refl, refl))).kept t p together).joined
 
-  one_list : (t p : Name) → AreJoined left t p → acts_of t ≡ acts_of p
+  one_list : (t p : Name) → AreJoined left t p → deeds t ≡ deeds p
   one_list t p together =
       λ i. if same (together i) (part left near) then deeds_of_cut s routes near far
       else (if same (together i) (part left far) then deeds_of_cut s routes far near else [])
@@ -275,16 +275,16 @@ module _ {net new : Network} {near far : Name} (quiet : RestStays)
 
   module _ (client : ℕ) where
     abbrev IsToldFrom : Name → Name → List Deed → List (List ℕ) → Type 0
-    IsToldFrom p t acts lines = Tells (machine s client) (play s client)
-        (terms_of_cut net near far) p t (sides_of t) (view_at new t) acts lines
+    IsToldFrom p t deed_list lines = Tells (machine s client) (play s client)
+        (terms_of_cut net near far) p t (sides_of t) (view_at new t) deed_list lines
 
     first_at : (t : Name) → Takes t → s.streams.depth t ≡ 1 → IsToldFrom (s.streams.parent t) t
-        (acts_of t) (under_way (relayed s new client) (s.streams.parent t) t)
+        (deeds t) (under_way (relayed s new client) (s.streams.parent t) t)
     first_at t at one =
         let is = next_to_end t at.a at.b at.ends at.on one in
-        subst (λ p. IsToldFrom p t (acts_of t) (under_way (relayed s new client) p t)) (sym is.0)
-        (subst (λ acts. IsToldFrom at.a t acts (under_way (relayed s new client) at.a t))
-        (sym (acts_at t at.a at.b at.ends at.on))
+        subst (λ p. IsToldFrom p t (deeds t) (under_way (relayed s new client) p t)) (sym is.0)
+        (subst (λ deed_list. IsToldFrom at.a t deed_list (under_way (relayed s new client) at.a t))
+        (sym (deeds_at t at.a at.b at.ends at.on))
         (subst (IsToldFrom at.a t (deeds_of_cut s routes at.a at.b))
         (sym (from_end at.a at.b at.ends client t ∙ ap (λ c. if c then squits_told s routes at.a
         at.b else []) ((tests_tell left at.a t t).2.1 is.1)))
@@ -292,7 +292,7 @@ module _ {net new : Network} {near far : Name} (quiet : RestStays)
         (fits_taker t (omega arith)))))
 
     pub starts : Starts (machine s client) (play s client) (terms_of_cut net near far) s.streams
-        (relayed s new client) sides_of acts_of
+        (relayed s new client) sides_of deeds
     starts = starts_from no_answers after routes_now new client (stands given) (omega arith)
         (record { one_side = one_side; one_list = one_list }) fits_taker
         (λ t one. first_at t (takes t (omega arith)) one)

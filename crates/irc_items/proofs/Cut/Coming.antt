@@ -22,9 +22,10 @@ use Rattle.irc_stage.specs.View.{End, View}
 use Rattle.irc_world.specs.Stepping.{leaving_lines, parted, remaining, servers_on_side, split_text}
 use Rattle.irc_world.specs.World.{Hall, World}
 use Rattle.irc_world.specs.WorldHolds.{IsWorld}
-use Rattle.irc_follow.specs.AtRest.{part_of, AreRight, IsOfWorld}
+use Rattle.irc_follow.specs.AtRest.{side_state_of, AreRight, IsOfWorld}
 use Rattle.irc_follow.specs.Fits.{far_of, peers_of, Fits, IsNumberOf}
-use Rattle.irc_follow.specs.Part.{Fixed, info_in, is_home_of, number, IsFixed, IsSoundPart}
+use Rattle.irc_follow.specs.SideState.{ItemSetting, info_in, is_home_of, number, IsItemSetting}
+use Rattle.irc_follow.specs.SideState.{IsSoundSide}
 use Rattle.irc_follow.specs.Says.{play}
 use Rattle.irc_follow.specs.Tree.{shape_in}
 use Rattle.irc_follow.specs.Lemmas.SideAtRest.{ends_there, joined_alike, joined_so}
@@ -42,9 +43,9 @@ use Rattle.irc_items.proofs.Common.Ends.{both_ends, chosen_aside, chosen_at, not
 use Rattle.irc_items.proofs.Common.Right.{all_right, refits, right_still, same_kept}
 
 -- the world before the link between a and b is lost, and the sources from which its lines come then
-pub record IsCutWorld (s : Fixed) (world : World) (routes : Name → Known)
+pub record IsCutWorld (s : ItemSetting) (world : World) (routes : Name → Known)
     (a b : Name) : Type 0 where
-  pub fixed : IsFixed s
+  pub fixed : IsItemSetting s
   pub holds : IsWorld s.settings world
   pub homes : s.homes ≡ world.homes
   pub linked : AreLinked world.links a b
@@ -53,16 +54,16 @@ pub record IsCutWorld (s : Fixed) (world : World) (routes : Name → Known)
   pub streams : s.streams ≡ streams_from (links_without world.links a b)
       (from_near_end (links_without world.links a b) a b)
   pub sound : (e o : Name) → HasEnds (record { near = a; far = b }) e o
-      → IsSoundPart s (cut_after s world routes (links_without world.links a b) e o)
+      → IsSoundSide s (cut_after s world routes (links_without world.links a b) e o)
 
 -- What is known of an end of the link, which has lost the other's servers itself, and of what it
 -- was before: it is not linked to the other end any more, has all its other links, and is what its
 -- side is otherwise.
-pub record IsCutEnd (s : Fixed) (world : World) (routes : Name → Known) (left : List Link)
+pub record IsCutEnd (s : ItemSetting) (world : World) (routes : Name → Known) (left : List Link)
     (a b : Name) (view : View) : Type 0 where
   pub streams : Streams
   pub before : View
-  pub fitted : Fits (record s { streams = streams }) a (part_of s world routes a) before
+  pub fitted : Fits (record s { streams = streams }) a (side_state_of s world routes a) before
   pub peers : view.peers ≡ peers_of s.settings a
   pub known : view.routes ≡ (cut_after s world routes left a b).tree.routes a
   pub room : view.room ≡ of_home a
@@ -74,20 +75,21 @@ pub record IsCutEnd (s : Fixed) (world : World) (routes : Name → Known) (left 
 -- Once a server has followed the losses, it is what it has to be in the world without the link; so
 -- is the end itself, which lost them. Servers of other parts are it as they are, wherever lines
 -- came from before. Each client has seen what it receives.
-pub record ComesToCut (s : Fixed) (world : World) (routes : Name → Known) (left : List Link)
+pub record ComesToCut (s : ItemSetting) (world : World) (routes : Name → Known) (left : List Link)
     (a b : Name) : Type 0 where
   pub right : AreRight s left (routes_after_cut s world routes left a b)
   pub comes : (e o : Name) → HasEnds (record { near = a; far = b }) e o → (client : ℕ)
       (t : Name) (view : View) → IsAmong s.names t → AreJoined left t e → t ≢ e → Fits s t
       (all_done (play s client) (cut_side world routes left t) (deeds_of_cut s routes e o)) view
-      → Fits s t (part_of s (parted s.settings world left a b).world
+      → Fits s t (side_state_of s (parted s.settings world left a b).world
       (routes_after_cut s world routes left a b) t) view
   pub end_comes : (e o : Name) → HasEnds (record { near = a; far = b }) e o
-      → (view : View) → IsCutEnd s world routes left e o view → Fits s e (part_of s
+      → (view : View) → IsCutEnd s world routes left e o view → Fits s e (side_state_of s
       (parted s.settings world left a b).world (routes_after_cut s world routes left a b) e) view
   pub others : (streams : Streams) (t : Name) (view : View) → IsAmong s.names t
       → ((e o : Name) → HasEnds (record { near = a; far = b }) e o → AreJoined left t e → ⊥) → Fits
-      (record s { streams = streams }) t (part_of s world routes t) view → Fits s t (part_of s
+      (record s { streams = streams }) t (side_state_of s world routes t) view
+      → Fits s t (side_state_of s
       (parted s.settings world left a b).world (routes_after_cut s world routes left a b) t) view
   pub seen : (e o : Name) → HasEnds (record { near = a; far = b }) e o → (client : ℕ) (t : Name)
       → IsAmong s.names t → AreJoined left t e → is_home_of s.homes t client ≡ true
@@ -100,7 +102,8 @@ pub record ComesToCut (s : Fixed) (world : World) (routes : Name → Known) (lef
       → ((e o : Name) → HasEnds (record { near = a; far = b }) e o → AreJoined left t e → ⊥)
       → is_home_of s.homes t client ≡ true → (parted s.settings world left a b).lines client ≡ []
 
-module _ (law : IsKnownOfCuts) {s : Fixed} {world : World} {routes : Name → Known} {a b : Name}
+module _ (law : IsKnownOfCuts) {s : ItemSetting} {world : World} {routes : Name → Known}
+    {a b : Name}
     (so : IsCutWorld s world routes a b) where
   abbrev left : List Link
   left = links_without world.links a b
@@ -199,7 +202,7 @@ module _ (law : IsKnownOfCuts) {s : Fixed} {world : World} {routes : Name → Kn
   module _ (e o : Name) (ends : HasEnds l e o) where
     comes : (client : ℕ) (t : Name) (view : View) → IsAmong s.names t → AreJoined left t e
         → t ≢ e → Fits s t (all_done (play s client) (cut_side world routes left t)
-        (deeds_of_cut s routes e o)) view → Fits s t (part_of s now routes_now t) view
+        (deeds_of_cut s routes e o)) view → Fits s t (side_state_of s now routes_now t) view
     comes client t view among here away after =
         refits s.streams (fits_side law (side e o ends) client t view here after)
         (joined_test left t t refl)
@@ -259,7 +262,7 @@ module _ (law : IsKnownOfCuts) {s : Fixed} {world : World} {routes : Name → Kn
             record { server = at.server; among = at.among; is = at.is }
 
     end_comes : (view : View) → IsCutEnd s world routes left e o view
-        → Fits s e (part_of s now routes_now e) view
+        → Fits s e (side_state_of s now routes_now e) view
     end_comes view end = record {
       here = joined_test left e e refl;
       sound =
@@ -294,8 +297,8 @@ module _ (law : IsKnownOfCuts) {s : Fixed} {world : World} {routes : Name → Kn
 
   others : (streams : Streams) (t : Name) (view : View) → IsAmong s.names t
       → ((e o : Name) → HasEnds l e o → AreJoined left t e → ⊥)
-      → Fits (record s { streams = streams }) t (part_of s world routes t) view
-      → Fits s t (part_of s now routes_now t) view
+      → Fits (record s { streams = streams }) t (side_state_of s world routes t) view
+      → Fits s t (side_state_of s now routes_now t) view
   others streams t view among none fits =
       refits streams fits (joined_test left t t refl) (law.at_rest s now routes_now t so.fixed
       of_world so.after right_now among) (sym (aside_is t none))
@@ -325,6 +328,7 @@ module _ (law : IsKnownOfCuts) {s : Fixed} {world : World} {routes : Name → Kn
         (none_remains t client a b (inl (refl, refl)) (none a b (inl (refl, refl))) home);
   }
 
-pub cut_comes_to : IsKnownOfCuts → (s : Fixed) (world : World) (routes : Name → Known) (a b : Name)
-    → IsCutWorld s world routes a b → ComesToCut s world routes (links_without world.links a b) a b
+pub cut_comes_to : IsKnownOfCuts → (s : ItemSetting) (world : World)
+    (routes : Name → Known) (a b : Name) → IsCutWorld s world routes a b
+    → ComesToCut s world routes (links_without world.links a b) a b
 cut_comes_to law s world routes a b so = comes_to_cut law so

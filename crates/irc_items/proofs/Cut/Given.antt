@@ -17,7 +17,7 @@ use Rattle.irc_world.specs.World.{home_in}
 use Rattle.irc_follow.specs.Fits.{far_of}
 use Rattle.irc_follow.specs.Says.{lines_on}
 use Rattle.irc_follow.specs.Tree.{index_in}
-use Rattle.irc_network.specs.Network.{Course, Network, Reply, begun, given, item_kept}
+use Rattle.irc_network.specs.Network.{Progress, Network, begun, given, item_kept}
 use Rattle.irc_network.specs.Network.{servers_parted, received_by, reply, without_way}
 use Rattle.irc_network.specs.Refusing.{fault_at_rest, is_server}
 use Rattle.irc_items.specs.OneRoom.{IsOneRoom}
@@ -26,10 +26,10 @@ use Rattle.irc_items.specs.SetUp.{view_at, IsSetUp}
 use Rattle.irc_items.specs.Sound.{world_now, IsSound}
 use Rattle.irc_items.proofs.Common.Ends.{both_ends, other_end}
 use Rattle.irc_items.proofs.Common.Step.{HasTaken}
-use Rattle.irc_items.proofs.Sites.Asked.{reply_taken}
-use Rattle.irc_items.proofs.Sites.BothAsked.{asked_both, both_asked, both_found, both_taken}
-use Rattle.irc_items.proofs.Sites.BothAsked.{is_asked, HasAskedBoth, WillAskBoth}
-use Rattle.irc_items.proofs.Sites.SetWays.{closes}
+use Rattle.irc_items.proofs.Nodes.Asked.{reply_taken}
+use Rattle.irc_items.proofs.Nodes.BothAsked.{asked_both, both_asked, both_found, both_taken}
+use Rattle.irc_items.proofs.Nodes.BothAsked.{is_asked, HasAskedBoth, WillAskBoth}
+use Rattle.irc_items.proofs.Nodes.SetWays.{closes}
 use Rattle.irc_items.specs.Lemmas.SetUpFacts.{placed_if}
 
 -- two servers whose link may be lost
@@ -129,7 +129,7 @@ module _ (stays : ServedKeepsItsSetting) (net : Network) (sound : IsSound net)
   answers a b ends = reply_taken (view_at net a) (link_down (index_in net.names b))
       (has_end a b (among a b ends) (among b a (other_end l a b ends)) (are_linked a b ends))
 
-  abbrev answer : Name → Name → Reply
+  abbrev answer : Name → Name → Served
   answer a b = record { view = (parted_at net a b).view; out = (parted_at net a b).out }
 
   abbrev left : List Link
@@ -150,7 +150,7 @@ module _ (stays : ServedKeepsItsSetting) (net : Network) (sound : IsSound net)
     far_is = answers far near (inr (refl, refl));
   }
 
-  abbrev both_parted : Course
+  abbrev both_parted : Progress
   both_parted = both_asked will
 
   has_asked : HasAskedBoth net (item_kept (cut near far) both_parted).net near far None
@@ -185,5 +185,5 @@ module _ (stays : ServedKeepsItsSetting) (net : Network) (sound : IsSound net)
 pub cut_is_given : ServedKeepsItsSetting → (net : Network) → IsSound net → IsOneRoom net
     → (near far : Name) → IsParting net near far → IsCut net (given (cut near far) net).net near far
 cut_is_given stays net sound room near far m =
-    subst (λ (course : Course). IsCut net course.net near far)
+    subst (λ (progress : Progress). IsCut net progress.net near far)
     (sym (is_given stays net sound room near far m)) (cut_so stays net sound room near far m)

@@ -22,22 +22,23 @@ use Rattle.irc_relay.specs.Lemmas.NextHops.{linked_back, linked_joined, linked_o
 use Rattle.irc_relay.specs.Lemmas.LinkTakenOut.{taken_out, tests_tell}
 use Rattle.irc_routes.specs.Known.{Known, names_behind, without_link, without_server, IsNumbered}
 use Rattle.irc_burst_lines.specs.DeedLines.{squit_parts}
-use Rattle.irc_links.specs.Ends.{is_met}
-use Rattle.irc_links.specs.Ways.{but, met_links}
+use Rattle.irc_stage.specs.Ends.{is_met}
+use Rattle.irc_stage.specs.Ways.{but, met_links}
 use Rattle.irc_stage.specs.EffectTold.{Served, in_silence}
 use Rattle.irc_stage.specs.Linked.{unlinked}
 use Rattle.irc_stage.specs.View.{End, View}
 use Rattle.irc_stage.specs.Lemmas.Counting.{get-kept}
 use Rattle.irc_stage.specs.Lemmas.Numbers.{get-without, one_number, same_number, same_number-refl}
-use Rattle.irc_deeds.specs.DeedTold.{deeds_told, losses, lost_behind, split_text}
+use Rattle.irc_server.specs.DeedTold.{deeds_told, losses, lost_behind, split_text}
 use Rattle.irc_server.specs.Owed.{lines_to}
 use Rattle.irc_server.specs.Served.{link_down, served}
 use Rattle.irc_world.specs.Stepping.{leaving_lines, servers_on_side}
 use Rattle.irc_world.specs.World.{Setting, World}
 use Rattle.irc_world.specs.WorldHolds.{IsWorld}
-use Rattle.irc_follow.specs.AtRest.{part_of, AreRight}
+use Rattle.irc_follow.specs.AtRest.{side_state_of, AreRight}
 use Rattle.irc_follow.specs.Fits.{Fits}
-use Rattle.irc_follow.specs.Part.{Fixed, Part, done, is_home_of, number, IsFixed}
+use Rattle.irc_follow.specs.SideState.{ItemSetting, SideState, done, is_home_of, number}
+use Rattle.irc_follow.specs.SideState.{IsItemSetting}
 use Rattle.irc_follow.specs.Says.{lines_on, play}
 use Rattle.irc_follow.specs.Lemmas.SideAtRest.{ends_there}
 use Rattle.irc_follow.specs.Lemmas.BehindLinks.{behind_is_that_side}
@@ -57,17 +58,18 @@ use Rattle.irc_items.proofs.Cut.Names.{keys_distinct}
 
 -- ---- a link between a and b that is lost in a world at rest
 
-pub record IsCutAt (s : Fixed) (world : World) (routes : Name → Known) (left : List Link)
+pub record IsCutAt (s : ItemSetting) (world : World) (routes : Name → Known) (left : List Link)
     (a b : Name) : Type 0 where
-  pub fixed : IsFixed s
+  pub fixed : IsItemSetting s
   pub holds : IsWorld s.settings world
   pub right : AreRight s world.links routes
   pub linked_ends : AreLinked world.links a b
   pub is_left : left ≡ links_without world.links a b
 
 -- what a server of a side knows once that has lost these
-pub routes_lost : (s : Fixed) (client : ℕ) (a b : Name) (names : List Name) (w : Part) (t : Name)
-    → w.tree.here t ≡ true → (all_done (play s client) w (losses a b names)).tree.routes t
+pub routes_lost : (s : ItemSetting) (client : ℕ) (a b : Name)
+    (names : List Name) (w : SideState) (t : Name) → w.tree.here t ≡ true
+    → (all_done (play s client) w (losses a b names)).tree.routes t
     ≡ all_forgotten names (w.tree.routes t)
 unfolding done
 routes_lost s client a b [] w t here = refl
@@ -81,7 +83,7 @@ pub all_so : (P Q : Name → Type 0) → ((x : Name) → P x → Q x) → (names
 all_so P Q so [] all = tt
 all_so P Q so (name ∷ names) all = (so name all.0, all_so P Q so names all.1)
 
-module _ {s : Fixed} {world : World} {routes : Name → Known} {left : List Link} {a b : Name}
+module _ {s : ItemSetting} {world : World} {routes : Name → Known} {left : List Link} {a b : Name}
     (cut : IsCutAt s world routes left a b) where
   pub forest : IsForest world.links
   forest = cut.holds.sound.forest
@@ -149,7 +151,7 @@ module _ {s : Fixed} {world : World} {routes : Name → Known} {left : List Link
   named_a = cut.right.named a a_among
 
 -- what it is then, and what it puts out
-pub record IsParted (s : Fixed) (world : World) (routes : Name → Known) (left : List Link)
+pub record IsParted (s : ItemSetting) (world : World) (routes : Name → Known) (left : List Link)
     (a b : Name) (view : View) (now : Served) : Type 0 where
   pub peers : now.view.peers ≡ view.peers
   pub knows : now.view.routes ≡ (cut_after s world routes left a b).tree.routes a
@@ -166,9 +168,9 @@ pub record IsParted (s : Fixed) (world : World) (routes : Name → Known) (left 
       (get (world.hall a).clients client) else [])
   pub closes_none : closings now.out ≡ []
 
-module _ {s : Fixed} {world : World} {routes : Name → Known} {left : List Link} {a b : Name}
+module _ {s : ItemSetting} {world : World} {routes : Name → Known} {left : List Link} {a b : Name}
     (cut : IsCutAt s world routes left a b) (view : View)
-    (fits : Fits s a (part_of s world routes a) view) where
+    (fits : Fits s a (side_state_of s world routes a) view) where
   abbrev k : ℕ
   k = number s b
 
@@ -276,7 +278,7 @@ module _ {s : Fixed} {world : World} {routes : Name → Known} {left : List Link
       no_end two (Some end) there =
           absurd (apart (linked_still cut a u (λ e f. two f)
           (λ e f. linked_other world.links a b (forest cut) cut.linked_ends e)
-          (end_linked s world.links a (part_of s world routes a) view fits
+          (end_linked s world.links a (side_state_of s world routes a) view fits
           (linked_as_itself world.links a) u end there)))
 
       by : Telling u b

@@ -12,10 +12,10 @@ use Rattle.irc_server.specs.Served.{ServedKeepsItsSetting}
 use Rattle.irc_world.specs.Stepping.{Stepped, cut, parted, step}
 use Rattle.irc_world.specs.World.{World}
 use Rattle.irc_world.specs.WorldHolds.{IsWorld}
-use Rattle.irc_follow.specs.AtRest.{part_of, IsOfWorld}
+use Rattle.irc_follow.specs.AtRest.{side_state_of, IsOfWorld}
 use Rattle.irc_follow.specs.Fits.{Fits}
 use Rattle.irc_follow.specs.Laws.{DoneStaysSound}
-use Rattle.irc_follow.specs.Part.{Fixed, Part, IsSoundPart}
+use Rattle.irc_follow.specs.SideState.{ItemSetting, SideState, IsSoundSide}
 use Rattle.irc_follow.specs.Says.{machine, play}
 use Rattle.irc_follow.specs.Lemmas.SideAtRest.{joined_among}
 use Rattle.irc_follow.specs.Lemmas.BehindLinks.{joined_test}
@@ -40,7 +40,7 @@ use Rattle.irc_items.proofs.Cut.Parts.{ways_of_end, IsEnd}
 use Rattle.irc_items.proofs.Cut.Side.{IsKnownOfCuts}
 use Rattle.irc_items.proofs.Cut.Sides.{cut_side, deeds_of_cut, routes_after_cut}
 use Rattle.irc_items.proofs.Cut.Sound.{cut_sound, AreCutLaws}
-use Rattle.irc_items.proofs.Cut.Step.{cut_fixed, cut_off, end_among, ends_linked, fixed_here}
+use Rattle.irc_items.proofs.Cut.Step.{cut_setting, cut_off, end_among, ends_linked, fixed_here}
 use Rattle.irc_items.proofs.Cut.Step.{left_is, left_of, old_ends, right_here, IsCutStep}
 use Rattle.irc_items.proofs.Cut.Told.{side_without, tells_in_turn, IsLossOfCut, IsOfCut}
 use Rattle.irc_items.proofs.Good.GoodLines.{IsWithinSide, MayKill}
@@ -61,8 +61,8 @@ module _ (laws : AreCutItemLaws) (net : Network) (sound : IsSound net)
   abbrev new : Network
   new = (given (cut near far) net).net
 
-  abbrev s : Fixed
-  s = cut_fixed net near far
+  abbrev s : ItemSetting
+  s = cut_setting net near far
 
   abbrev world : World
   world = world_now net
@@ -126,7 +126,8 @@ module _ (laws : AreCutItemLaws) (net : Network) (sound : IsSound net)
   }
 
   -- a server that is at its part of the world, wherever lines come from
-  fits_here : (t : Name) → IsAmong net.names t → Fits s t (part_of s world routes t) (view_at net t)
+  fits_here : (t : Name) → IsAmong net.names t
+      → Fits s t (side_state_of s world routes t) (view_at net t)
   fits_here t among = refits (streams_from net.links (λ server. server)) (one.servers t among)
       (one.servers t among).here
       (laws.sides.at_rest s world routes t (fixed_here given_so) of_world holds
@@ -153,7 +154,7 @@ module _ (laws : AreCutItemLaws) (net : Network) (sound : IsSound net)
         by u (goes_back from _) =
             absurd ((cut_off given_so a b ends).apart (sym (ap (part left) from) ∙ on))
 
-    within : (w : Part) → IsOfCut world.links left a w → IsWithinSide s left w
+    within : (w : SideState) → IsOfCut world.links left a w → IsWithinSide s left w
     within w side = record {
       alike = λ t p here takes. subst (λ forest. AreLinkedAlike left forest t) (sym side.forest)
           (alike_at t p ((tests_tell left t a t).1.0 (sym (side.here t) ∙ here)) takes);
@@ -163,7 +164,7 @@ module _ (laws : AreCutItemLaws) (net : Network) (sound : IsSound net)
     }
 
     -- a loss kills nobody
-    loss_may : (t : Name) (w : Part) (deed : Deed) (line : List ℕ)
+    loss_may : (t : Name) (w : SideState) (deed : Deed) (line : List ℕ)
         → IsLossOfCut world.links left a w deed
         → MayKill s no_answers lost.world routes_now a t deed line
     loss_may t w (loses server name text) line is = tt
@@ -189,14 +190,14 @@ module _ (laws : AreCutItemLaws) (net : Network) (sound : IsSound net)
         → Fits s t (cut_side world routes left t) (view_at new t)
     side_fits t among on m n =
         cut_side_fits (cut_at a b ends) (an_end a b ends) t on (at_rest_of net) (view_at new t)
-        (subst (Fits (at_rest_of net) t (part_of (at_rest_of net) world routes t))
+        (subst (Fits (at_rest_of net) t (side_state_of (at_rest_of net) world routes t))
         (sym (cut_so.other_views t m n)) (one.servers t among))
 
     there : (t : Name) → AreJoined left t a → IsAmong net.names t
     there t on = joined_among net.names world.links t a holds.sound.forest (old_ends given_so)
         (end_among given_so a b ends) ((cut_off given_so a b ends).kept t a on).joined
 
-    lost_sound : IsSoundPart s
+    lost_sound : IsSoundSide s
         (all_done (play s 0) (cut_side world routes left a) (deeds_of_cut s routes a b))
     lost_sound =
         side_without laws.lines (cut_at a b ends)

@@ -6,7 +6,7 @@ use Rattle.std.specs.Cmp.Lexicographic.{bytes_decides}
 use Rattle.std.specs.FinMap.{get}
 use Rattle.std.specs.List.{list_any}
 use Rattle.std.specs.Option.{option_map_or}
-use Rattle.irc_deeds.specs.DeedTold.{losses, split_text}
+use Rattle.irc_server.specs.DeedTold.{losses, split_text}
 use Rattle.irc_merge.specs.Deeds.{Deed, loses, after_deed, after_deeds, shown_by, shown_by_all}
 use Rattle.irc_merge.specs.Split.{squits, split}
 use Rattle.irc_merge.specs.Lemmas.BooleanTests.{neither}
@@ -22,7 +22,8 @@ use Rattle.irc_stage.specs.Lemmas.Counting.{get-kept}
 use Rattle.irc_stage.specs.RoomMachine.{Clients}
 use Rattle.irc_world.specs.World.{home_in, Setting}
 use Rattle.irc_world.specs.Stepping.{leaving_lines, servers_on_side}
-use Rattle.irc_follow.specs.Part.{Fixed, Part, client_sees, clients_elsewhere, done, is_home_of}
+use Rattle.irc_follow.specs.SideState.{ItemSetting, SideState, client_sees, clients_elsewhere, done}
+use Rattle.irc_follow.specs.SideState.{is_home_of}
 use Rattle.irc_follow.specs.Says.{play}
 use Rattle.irc_follow.specs.Tree.{Tree, lost_at}
 use Rattle.irc_items.proofs.Cut.Names.{servers_distinct}
@@ -70,8 +71,8 @@ losses_are own far (name ∷ names) =
     ap (λ deeds. loses own name (split_text own far) ∷ deeds) (losses_are own far names)
 
 -- a side before it loses these servers, and afterwards
-pub record HasLost (s : Fixed) (own far : Name) (names : List Name)
-    (before after : Part) : Type 0 where
+pub record HasLost (s : ItemSetting) (own far : Name) (names : List Name)
+    (before after : SideState) : Type 0 where
   pub forest : after.tree.forest ≡ before.tree.forest
   pub here : after.tree.here ≡ before.tree.here
   pub knows : (x : Name)
@@ -130,8 +131,8 @@ sees_first server name text deeds room (Some (Registered nick)) =
     ap (λ lines. lines ++ shown_by_all nick (after_deed room (loses server name text)) deeds)
     (append-nil (shown_by nick room (loses server name text)))
 
-module _ (s : Fixed) (client : ℕ) (own far : Name) where
-  pub all_lost : (names : List Name) (w : Part)
+module _ (s : ItemSetting) (client : ℕ) (own far : Name) where
+  pub all_lost : (names : List Name) (w : SideState)
       → HasLost s own far names w (all_done (play s client) w (losses own far names))
   unfolding done
   all_lost [] w = record {
@@ -164,7 +165,7 @@ module _ (s : Fixed) (client : ℕ) (own far : Name) where
 
   -- a client whose home is not lost sees just the deeds
   pub seen_lost : (t : Name) → is_home_of s.homes t client ≡ true → (names : List Name) → list_any
-      (same t) names ≡ false → (w : Part) → all_seen (play s client) t w (losses own far names)
+      (same t) names ≡ false → (w : SideState) → all_seen (play s client) t w (losses own far names)
       ≡ staying_sees (losses own far names) w.hall.room (get w.hall.clients client)
   unfolding done
   seen_lost t home [] two w = nothing_yet w.hall.room (get w.hall.clients client)

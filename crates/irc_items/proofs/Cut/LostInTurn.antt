@@ -24,13 +24,13 @@ use Rattle.irc_merge.specs.Lemmas.DeedsAlike.{alike_do_alike, home_follows_deed}
 use Rattle.irc_relay.specs.Links.{Name}
 use Rattle.irc_routes.specs.Known.{Known, without_server}
 use Rattle.irc_burst_lines.specs.DeedLines.{squit_parts}
-use Rattle.irc_links.specs.Ways.{but, met_links}
+use Rattle.irc_stage.specs.Ways.{but, met_links}
 use Rattle.irc_stage.specs.declared.clients.Client.{Client}
 use Rattle.irc_stage.specs.declared.clients.Client.TheVariants.{Registering, Registered}
 use Rattle.irc_stage.specs.EffectTold.{Served, all_changed, on_links}
 use Rattle.irc_stage.specs.Linked.{without_row}
 use Rattle.irc_stage.specs.View.{View}
-use Rattle.irc_deeds.specs.DeedTold.{deed_told, deeds_told, losses, split_text}
+use Rattle.irc_server.specs.DeedTold.{deed_told, deeds_told, losses, split_text}
 use Rattle.irc_server.specs.Owed.{lines_to}
 use Rattle.irc_follow.specs.Says.{lines_on}
 use Rattle.irc_follow.specs.Lemmas.DeedEffects.{all_view, quits_calm, IsCounted}

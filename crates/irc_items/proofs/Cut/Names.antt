@@ -16,7 +16,7 @@ use Rattle.irc_names.specs.TableLaws.{row-keys, row-tabulate, same_fold}
 use Rattle.irc_relay.specs.Distances.{IsAmong}
 use Rattle.irc_relay.specs.Links.{Name, same}
 use Rattle.irc_world.specs.World.{Setting, servers_where}
-use Rattle.irc_follow.specs.Part.{Fixed, IsFixed}
+use Rattle.irc_follow.specs.SideState.{ItemSetting, IsItemSetting}
 use Rattle.irc_follow.specs.Lemmas.NamedRows.{listed, names_of}
 
 -- ---- each once
@@ -69,8 +69,8 @@ is_there : (b : Bool) → is_some (cond b (Some (tt {0})) None) ≡ b
 is_there true = refl
 is_there false = refl
 
-pub listed_where : (s : Fixed) (test : Name → Bool) (x : Name) → IsFixed s → IsAmong s.names x
-    → list_any (same x) (servers_where s.settings test) ≡ test x
+pub listed_where : (s : ItemSetting) (test : Name → Bool) (x : Name) → IsItemSetting s
+    → IsAmong s.names x → list_any (same x) (servers_where s.settings test) ≡ test x
 listed_where s test x fixed among =
     by_bytes x (servers_where s.settings test)
     ∙ row-keys

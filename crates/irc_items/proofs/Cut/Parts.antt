@@ -11,12 +11,12 @@ use Rattle.irc_relay.specs.Lemmas.NextHops.{next_hop, toward_linked}
 use Rattle.irc_relay.specs.Lemmas.LinkTakenOut.{tests_tell}
 use Rattle.irc_routes.specs.Known.{Known, names_behind}
 use Rattle.irc_burst_lines.specs.DeedLines.{squit_parts}
-use Rattle.irc_deeds.specs.DeedTold.{split_text}
+use Rattle.irc_server.specs.DeedTold.{split_text}
 use Rattle.irc_stage.specs.View.{View}
 use Rattle.irc_world.specs.World.{World}
-use Rattle.irc_follow.specs.AtRest.{part_of}
+use Rattle.irc_follow.specs.AtRest.{side_state_of}
 use Rattle.irc_follow.specs.Fits.{Fits}
-use Rattle.irc_follow.specs.Part.{Fixed, Part, number, IsSoundPart}
+use Rattle.irc_follow.specs.SideState.{ItemSetting, SideState, number, IsSoundSide}
 use Rattle.irc_follow.specs.Relinked.{taking_from, FlowsAlong}
 use Rattle.irc_follow.specs.SideFlows.{IsSide, IsToldOf}
 use Rattle.irc_follow.specs.Lemmas.SideAtRest.{joined_alike, joined_so}
@@ -37,7 +37,7 @@ pub record IsEnd (world : World) (routes : Name → Known) (left : List Link) (s
       → IsToldOf left source (cut_side world routes left e).tree x
   pub source_is : (t : Name) → AreJoined left t e → source t ≡ e
 
-module _ {s : Fixed} {world : World} {routes : Name → Known} {left : List Link} {a b : Name}
+module _ {s : ItemSetting} {world : World} {routes : Name → Known} {left : List Link} {a b : Name}
     (cut : IsCutAt s world routes left a b) where
   side_at : (e : Name) → IsSide left e (cut_side world routes left e).tree
   side_at e = λ t. (tests_tell left t e t).1
@@ -65,10 +65,10 @@ module _ {s : Fixed} {world : World} {routes : Name → Known} {left : List Link
     source_is = λ t on. ((sources_are left a b t parted_ends).1 on).1;
   }
 
-module _ {s : Fixed} {world : World} {routes : Name → Known} {left : List Link} {e o : Name}
+module _ {s : ItemSetting} {world : World} {routes : Name → Known} {left : List Link} {e o : Name}
     (cut : IsCutAt s world routes left e o) {source : Name → Name}
     (is_end : IsEnd world routes left source e o) where
-  abbrev side : Part
+  abbrev side : SideState
   side = cut_side world routes left e
 
   kept : IsLeft left world.links e o
@@ -97,8 +97,8 @@ module _ {s : Fixed} {world : World} {routes : Name → Known} {left : List Link
     joined_before x is = joined_test world.links x t (kept.kept x t (joined_so left x t is)).joined
 
     -- the same side, as long as the link is known
-    smaller_sound : (base : Fixed) → IsSoundPart base (part_of base world routes t)
-        → IsSoundPart base (cut_side world routes left t)
+    smaller_sound : (base : ItemSetting) → IsSoundSide base (side_state_of base world routes t)
+        → IsSoundSide base (cut_side world routes left t)
     smaller_sound base sound = record {
       tree = record {
         forest = sound.tree.forest;
@@ -119,13 +119,13 @@ module _ {s : Fixed} {world : World} {routes : Name → Known} {left : List Link
       registered = sound.registered;
     }
 
-    pub cut_side_sound : (base : Fixed) → IsSoundPart base (part_of base world routes t)
-        → IsSoundPart (taking_from left source base) (cut_side world routes left t)
+    pub cut_side_sound : (base : ItemSetting) → IsSoundSide base (side_state_of base world routes t)
+        → IsSoundSide (taking_from left source base) (cut_side world routes left t)
     cut_side_sound base sound = other_sources base (cut_side world routes left t) left source
         (smaller_sound base sound) flows_there
 
-    pub cut_side_fits : (base : Fixed) (view : View)
-        → Fits base t (part_of base world routes t) view
+    pub cut_side_fits : (base : ItemSetting) (view : View)
+        → Fits base t (side_state_of base world routes t) view
         → Fits (taking_from left source base) t (cut_side world routes left t) view
     cut_side_fits base view fits =
         refits base.streams fits (joined_test left t t refl) (cut_side_sound base fits.sound) refl

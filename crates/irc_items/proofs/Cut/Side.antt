@@ -8,7 +8,7 @@ use Rattle.std.specs.Cmp.Lexicographic.{bytes_decides}
 use Rattle.std.specs.FinMap.{get}
 use Rattle.std.specs.List.{list_any}
 use Rattle.std.specs.Option.{option_map_or}
-use Rattle.irc_deeds.specs.DeedTold.{losses}
+use Rattle.irc_server.specs.DeedTold.{losses}
 use Rattle.irc_merge.specs.Laws.{SquitsSplit}
 use Rattle.irc_relay.specs.Distances.{EndsAreAmong, IsAmong}
 use Rattle.irc_relay.specs.Following.{all_done, all_seen}
@@ -21,9 +21,10 @@ use Rattle.irc_stage.specs.View.{View}
 use Rattle.irc_world.specs.Stepping.{leaving_lines, remaining, servers_on_side}
 use Rattle.irc_world.specs.World.{Hall, World, home_in}
 use Rattle.irc_world.specs.WorldHolds.{IsWorld}
-use Rattle.irc_follow.specs.AtRest.{AreRight, BehindIsThatSide, PartAtRestIsSound}
+use Rattle.irc_follow.specs.AtRest.{AreRight, BehindIsThatSide, SideAtRestIsSound}
 use Rattle.irc_follow.specs.Fits.{Fits}
-use Rattle.irc_follow.specs.Part.{Fixed, Part, info_in, number, is_home_of, IsFixed, IsSoundPart}
+use Rattle.irc_follow.specs.SideState.{ItemSetting, SideState, info_in, number, is_home_of}
+use Rattle.irc_follow.specs.SideState.{IsItemSetting, IsSoundSide}
 use Rattle.irc_follow.specs.Relinked.{with_links, TreeAfterCut}
 use Rattle.irc_follow.specs.Says.{play}
 use Rattle.irc_follow.specs.Tree.{index_in, shape_in, IsSoundTree}
@@ -39,21 +40,21 @@ use Rattle.irc_items.proofs.Common.DeedsInTurn.{same_done}
 use Rattle.irc_items.proofs.Common.Sources.{one_moment}
 
 pub record IsKnownOfCuts : Type 0 where
-  pub at_rest : PartAtRestIsSound
+  pub at_rest : SideAtRestIsSound
   pub behind : BehindIsThatSide
   pub after_cut : TreeAfterCut
   pub squits : SquitsSplit
 
 -- the side of a, whose link to b is lost
-pub record IsCutSide (s : Fixed) (world : World) (routes : Name → Known) (left : List Link)
+pub record IsCutSide (s : ItemSetting) (world : World) (routes : Name → Known) (left : List Link)
     (a b : Name) : Type 0 where
-  pub fixed : IsFixed s
+  pub fixed : IsItemSetting s
   pub holds : IsWorld s.settings world
   pub homes : s.homes ≡ world.homes
   pub right : AreRight s world.links routes
   pub linked : AreLinked world.links a b
   pub is_left : links_without world.links a b ≡ left
-  pub sound : IsSoundPart s (cut_after s world routes left a b)
+  pub sound : IsSoundSide s (cut_after s world routes left a b)
 
 -- whether a client is on a server's side is whether its home is
 pub home_passes : (homes : List Name) (left : List Link) (a t : Name) (q : ℕ) → is_home_of homes t q
@@ -69,7 +70,7 @@ and_under : (b c d : Bool) → (b ≡ true → c ≡ d) → (b && not c) ≡ (b 
 and_under true c d one = ap not (one refl)
 and_under false c d one = refl
 
-module _ (known : IsKnownOfCuts) {s : Fixed} {world : World} {routes : Name → Known}
+module _ (known : IsKnownOfCuts) {s : ItemSetting} {world : World} {routes : Name → Known}
     {left : List Link} {a b : Name} (so : IsCutSide s world routes left a b)
   where
     forest : IsForest world.links
@@ -110,7 +111,7 @@ module _ (known : IsKnownOfCuts) {s : Fixed} {world : World} {routes : Name → 
         (all_lost s 0 a b (names_behind (routes a) (number s b)) (cut_side world routes left a))
 
     -- that side
-    abbrev pub side_left : Part
+    abbrev pub side_left : SideState
     side_left = record {
       tree = record {
         forest = world.links;
@@ -150,7 +151,7 @@ module _ (known : IsKnownOfCuts) {s : Fixed} {world : World} {routes : Name → 
         subst (λ links. IsSoundTree s.names (info_in s.settings) (with_links links side_left.tree))
         so.is_left
         (known.after_cut s.names (info_in s.settings) side_left.tree a b
-        (subst (IsSoundPart s) side_is so.sound).tree (record {
+        (subst (IsSoundSide s) side_is so.sound).tree (record {
           linked = so.linked;
           still = λ t x here knows. subst (λ links. AreJoined links t x) (sym so.is_left)
               (joined_so left t a here ∙ sym (joined_so left x a knows));

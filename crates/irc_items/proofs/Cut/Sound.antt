@@ -6,7 +6,7 @@ use Rattle.std.proofs.lemmas.List.{length-map}
 use Rattle.std.specs.FinMap.{get}
 use Rattle.std.specs.Option.{option_map_or}
 use Rattle.irc_burst_lines.specs.DeedLines.{squit_parts}
-use Rattle.irc_deeds.specs.DeedTold.{losses}
+use Rattle.irc_server.specs.DeedTold.{losses}
 use Rattle.irc_line.specs.Messages.{line_text}
 use Rattle.irc_merge.specs.Deeds.{Deed}
 use Rattle.irc_relay.specs.Distances.{IsAmong}
@@ -26,9 +26,9 @@ use Rattle.irc_world.specs.Bounds.{most, part_size}
 use Rattle.irc_world.specs.Bystanders.{OnlyConnectedReceive}
 use Rattle.irc_world.specs.Stepping.{Stepped, cut, leaving_lines, parted, split_text}
 use Rattle.irc_world.specs.World.{World}
-use Rattle.irc_follow.specs.AtRest.{part_of, BehindIsThatSide}
+use Rattle.irc_follow.specs.AtRest.{side_state_of, BehindIsThatSide}
 use Rattle.irc_follow.specs.Fits.{Fits}
-use Rattle.irc_follow.specs.Part.{Fixed, is_home_of, number}
+use Rattle.irc_follow.specs.SideState.{ItemSetting, is_home_of, number}
 use Rattle.irc_follow.specs.Says.{lines_on, machine, play}
 use Rattle.irc_follow.specs.Lemmas.SidesFollowed.{IsKnownOfLine}
 use Rattle.irc_follow.specs.Lemmas.PlacesOfNames.{one_place}
@@ -48,13 +48,13 @@ use Rattle.irc_items.proofs.Common.Reading.{home_is, linked_met, stays_some}
 use Rattle.irc_items.proofs.Common.Sources.{Stands, at_end, behind, aside, as_many, few_from_two}
 use Rattle.irc_items.proofs.Common.Sources.{AreFew}
 use Rattle.irc_items.proofs.Common.Step.{item_sound, ComesTo}
-use Rattle.irc_items.proofs.Cut.Begins.{acts_at, acts_of, away, from_end, next_to_end, sides_of}
+use Rattle.irc_items.proofs.Cut.Begins.{deeds_at, deeds, away, from_end, next_to_end, sides_of}
 use Rattle.irc_items.proofs.Cut.Begins.{squits_told, starts, taker_among, takes, AreSidesOfCut}
 use Rattle.irc_items.proofs.Cut.Coming.{ComesToCut}
 use Rattle.irc_items.proofs.Cut.Ends.{linked_same, side_linked}
 use Rattle.irc_items.proofs.Cut.Given.{parted_at}
 use Rattle.irc_items.proofs.Cut.Sides.{routes_after_cut}
-use Rattle.irc_items.proofs.Cut.Step.{apart, covers, cut_fixed, cut_off, ends_linked, fixed_here}
+use Rattle.irc_items.proofs.Cut.Step.{apart, covers, cut_setting, cut_off, ends_linked, fixed_here}
 use Rattle.irc_items.proofs.Cut.Step.{forest, left_is, left_of, old_ends, right_here, source_at}
 use Rattle.irc_items.proofs.Cut.Step.{stands, IsCutStep}
 use Rattle.irc_items.proofs.Good.GoodLines.{well_follow}
@@ -80,10 +80,10 @@ turned sum p q k j near far most e f =
 
 module _ {net new : Network} {near far : Name} (laws : AreCutLaws)
     (given : IsCutStep net new near far) (sides : AreSidesOfCut net new near far)
-    (comes : ComesToCut (cut_fixed net near far) (world_now net) (routes_in net)
+    (comes : ComesToCut (cut_setting net near far) (world_now net) (routes_in net)
     (left_of net near far) near far) where
-  abbrev s : Fixed
-  s = cut_fixed net near far
+  abbrev s : ItemSetting
+  s = cut_setting net near far
 
   abbrev world : World
   world = world_now net
@@ -171,12 +171,12 @@ module _ {net new : Network} {near far : Name} (laws : AreCutLaws)
 
     told_taker : (t : Name) → is_home_of s.homes t client ≡ true → 0 < s.streams.depth t
         → received_by new client ++ all_seen (play s client) t (sides_of laws.quiet given sides t)
-        (acts_of laws.quiet given sides t) ≡ owed
+        (deeds laws.quiet given sides t) ≡ owed
     told_taker t home below =
         let at = takes laws.quiet given sides t below in
         (λ i. elsewhere t home at.not_near at.not_far i
         ++ all_seen (play s client) t (sides_of laws.quiet given sides t)
-        (acts_at laws.quiet given sides t at.a at.b at.ends at.on i))
+        (deeds_at laws.quiet given sides t at.a at.b at.ends at.on i))
         ∙ ap (λ more. owed_now net client ++ more)
         (comes.seen at.a at.b at.ends client t
         (taker_among laws.quiet given sides t below) at.on home)
@@ -184,33 +184,33 @@ module _ {net new : Network} {near far : Name} (laws : AreCutLaws)
     -- ---- what servers come to
 
     at_source : (t : Name) → IsAmong net.names t → s.streams.depth t ≡ 0
-        → Fits s t (part_of s lost.world routes t) (view_at new t)
+        → Fits s t (side_state_of s lost.world routes t) (view_at new t)
     at_source t among none = by (stands given t)
       where
         by : Stands (HasEnds l) left s.streams 0 t
-            → Fits s t (part_of s lost.world routes t) (view_at new t)
+            → Fits s t (side_state_of s lost.world routes t) (view_at new t)
         by (at_end b ends _) = sides.end_fits t b ends
         by (behind a b ends on two above below) = absurd (let no : ⊥ = omega arith in no)
         by (aside away _) =
             comes.others (streams_from net.links (λ server. server)) t (view_at new t) among away
             (subst (Fits (record s { streams = streams_from net.links (λ server. server) }) t
-            (part_of s world (routes_in net) t))
+            (side_state_of s world (routes_in net) t))
             (sym (given.cut_so.other_views t (λ e. away near far (inl (refl, refl)) (ap
             (part left) e)) (λ e. away far near (inr (refl, refl)) (ap (part left) e))))
             (given.step.one.servers t among))
 
     comes_so : (t : Name) (view : View) → IsAmong net.names t → 0 < s.streams.depth t
         → Fits s t (all_done (play s client) (sides_of laws.quiet given sides t)
-        (acts_of laws.quiet given sides t)) view → Fits s t (part_of s lost.world routes t) view
+        (deeds laws.quiet given sides t)) view → Fits s t (side_state_of s lost.world routes t) view
     comes_so t view among below fits =
         let at = takes laws.quiet given sides t below in
         comes.comes at.a at.b at.ends client t view among at.on at.other
-        (subst (λ acts.
-        Fits s t (all_done (play s client) (sides_of laws.quiet given sides t) acts) view)
-        (acts_at laws.quiet given sides t at.a at.b at.ends at.on) fits)
+        (subst (λ deeds.
+        Fits s t (all_done (play s client) (sides_of laws.quiet given sides t) deeds) view)
+        (deeds_at laws.quiet given sides t at.a at.b at.ends at.on) fits)
 
     goes_on : IsGoingOn s no_answers lost.world source routes new client owed
-        (sides_of laws.quiet given sides) (acts_of laws.quiet given sides)
+        (sides_of laws.quiet given sides) (deeds laws.quiet given sides)
     goes_on = record {
       forest = forest given;
       covers = covers given;
@@ -242,7 +242,7 @@ module _ {net new : Network} {near far : Name} (laws : AreCutLaws)
     if_few true told n e = omega arith
     if_few false told n e = omega arith
 
-    few : AreFew (HasEnds l) left s new client (acts_of laws.quiet given sides) (λ a b. 0)
+    few : AreFew (HasEnds l) left s new client (deeds laws.quiet given sides) (λ a b. 0)
         (λ a b. part_size (settings_of net) left b)
     few = record {
       at_end = λ a b ends. as_many (ap (λ (lines : List (List ℕ)). length lines)
@@ -258,7 +258,7 @@ module _ {net new : Network} {near far : Name} (laws : AreCutLaws)
           (length-map (names_behind (routes_in net a) (number s b))
           (λ x. line_text (squit_parts a x (split_text a b))) ∙ lost_behind a b ends));
       told = λ t a b ends on. as_many
-          (ap (λ (acts : List Deed). length acts) (acts_at laws.quiet given sides t a b ends on)
+          (ap (λ (deeds : List Deed). length deeds) (deeds_at laws.quiet given sides t a b ends on)
           ∙ losses_long a b (names_behind (routes_in net a) (number s b)) ∙ lost_behind a b ends);
     }
 

@@ -12,10 +12,10 @@ use Rattle.irc_relay.specs.Lemmas.LinkTakenOut.{without_turned}
 use Rattle.irc_world.specs.Stepping.{cut, parted}
 use Rattle.irc_world.specs.World.{World}
 use Rattle.irc_follow.specs.AtRest.{AreRight}
-use Rattle.irc_follow.specs.Part.{Fixed, IsFixed}
+use Rattle.irc_follow.specs.SideState.{ItemSetting, IsItemSetting}
 use Rattle.irc_network.specs.Network.{Network}
 use Rattle.irc_items.specs.OneRoom.{at_rest_of}
-use Rattle.irc_items.specs.Relayed.{fixed_of}
+use Rattle.irc_items.specs.Relayed.{setting_of_item}
 use Rattle.irc_items.specs.SetUp.{routes_in, settings_of}
 use Rattle.irc_items.specs.Sound.{world_now}
 use Rattle.irc_items.proofs.Common.Ends.{OnSide, on_side, on_neither, both_ends, chosen_at}
@@ -32,8 +32,8 @@ abbrev pub left_of : Network → Name → Name → List Link
 left_of net near far = links_without (world_now net).links near far
 
 -- what stays while each side loses the other's servers
-abbrev pub cut_fixed : Network → Name → Name → Fixed
-cut_fixed net near far = fixed_of net
+abbrev pub cut_setting : Network → Name → Name → ItemSetting
+cut_setting net near far = setting_of_item net
     (streams_from (left_of net near far) (from_near_end (left_of net near far) near far))
 
 pub record IsCutStep (net new : Network) (near far : Name) : Type 0 where
@@ -43,8 +43,8 @@ pub record IsCutStep (net new : Network) (near far : Name) : Type 0 where
   pub cut_so : IsCut net new near far
 
 module _ {net new : Network} {near far : Name} (given : IsCutStep net new near far) where
-  abbrev s : Fixed
-  s = cut_fixed net near far
+  abbrev s : ItemSetting
+  s = cut_setting net near far
 
   abbrev world : World
   world = world_now net
@@ -79,7 +79,7 @@ module _ {net new : Network} {near far : Name} (given : IsCutStep net new near f
   pub covers : Covers left (from_near_end left near far)
   covers = near_ends_cover left near far
 
-  pub fixed_here : IsFixed s
+  pub fixed_here : IsItemSetting s
   fixed_here = fixed net given.step.sound.set_up s.streams
 
   pub old_ends : EndsAreAmong net.names world.links

@@ -40,14 +40,15 @@ use Rattle.irc_burst_lines.specs.Lemmas.WholeLines.{squit_fits}
 use Rattle.irc_link_reader.specs.Reader.{Reader, reader_of, is_behind_link, may_come}
 use Rattle.irc_link_words.specs.Words.{are_words}
 use Rattle.irc_stage.specs.View.{View}
-use Rattle.irc_deeds.specs.DeedTold.{losses, split_text}
-use Rattle.irc_deeds.specs.Heard.{heard, of_met, opened, tells}
+use Rattle.irc_server.specs.DeedTold.{losses, split_text}
+use Rattle.irc_server.specs.Heard.{heard, of_met, opened, tells}
 use Rattle.irc_wire.specs.Lemmas.LinesReadBack.{carried_no_nul, command_plain, from_plain}
 use Rattle.irc_world.specs.World.{World}
 use Rattle.irc_follow.specs.Tree.{shape_in}
 use Rattle.irc_follow.specs.Fits.{Fits}
 use Rattle.irc_follow.specs.Laws.{DoneStaysSound}
-use Rattle.irc_follow.specs.Part.{Fixed, Part, done, info_in, number, IsFixed, IsSoundPart}
+use Rattle.irc_follow.specs.SideState.{ItemSetting, SideState, done, info_in, number, IsItemSetting}
+use Rattle.irc_follow.specs.SideState.{IsSoundSide}
 use Rattle.irc_follow.specs.Says.{neighbour_served, machine, play, IsDoableLoss, IsFar, Says}
 use Rattle.irc_follow.specs.Lemmas.CarriedLines.{squit_carried}
 use Rattle.irc_follow.specs.Lemmas.Neighbours.{both, met_end, HasEnd, IsKnownOfLines}
@@ -84,10 +85,11 @@ text_carried names near far near_named far_named = record {
 
 -- ---- the line of a loss, by the server that is the source
 
-module _ (known : IsKnownOfLines) (s : Fixed) (fixed : IsFixed s) (t u : Name) (w : Part)
+module _ (known : IsKnownOfLines) (s : ItemSetting) (fixed : IsItemSetting s) (t u : Name)
+    (w : SideState)
     (other : View) (next : TakesFrom s.streams u t)
     (reader : Fits s u w other) (name text : List ℕ) (doable : IsDoableLoss s w t name text) where
-  sound : IsSoundPart s w
+  sound : IsSoundSide s w
   sound = reader.sound
 
   u_linked : AreLinked w.tree.forest u t
@@ -198,19 +200,21 @@ module _ (known : IsKnownOfLines) (s : Fixed) (fixed : IsFixed s) (t u : Name) (
 -- ---- lines that say deeds in turn
 
 -- Each line says its deed at its turn, where this is so of the side and the deed.
-pub data SaysInTurn (s : Fixed) (p t : Name) (Q : Part → Deed → Type 0) : Part → View → List Deed
+pub data SaysInTurn (s : ItemSetting) (p t : Name) (Q : SideState → Deed → Type 0) : SideState
+    → View → List Deed
     → List (List ℕ) → Type 0 where
-  says_none : {w : Part} {view : View} → SaysInTurn s p t Q w view [] []
-  says_first : {w : Part} {view : View} {deed : Deed} {deeds : List Deed}
+  says_none : {w : SideState} {view : View} → SaysInTurn s p t Q w view [] []
+  says_first : {w : SideState} {view : View} {deed : Deed} {deeds : List Deed}
       {line : List ℕ} {lines : List (List ℕ)} → Q w deed → Says s p t w view deed line
       → SaysInTurn s p t Q (done s w deed) (neighbour_served s p view line).view deeds lines
       → SaysInTurn s p t Q w view (deed ∷ deeds) (line ∷ lines)
 
 -- So they tell of the deeds, in whatever terms ask no more.
-pub tells_in_turn : (s : Fixed) (client : ℕ) (p t : Name) (Q : Part → Deed → Type 0)
-    (x : Terms View (List ℕ) Part Deed) → ((w : Part) (view : View) (deed : Deed) (line : List ℕ)
+pub tells_in_turn : (s : ItemSetting) (client : ℕ) (p t : Name) (Q : SideState → Deed → Type 0)
+    (x : Terms View (List ℕ) SideState Deed)
+    → ((w : SideState) (view : View) (deed : Deed) (line : List ℕ)
     → Q w deed → Says s p t w view deed line → x.says p t w view deed line)
-    → (w : Part) (view : View) (deeds : List Deed) (lines : List (List ℕ))
+    → (w : SideState) (view : View) (deeds : List Deed) (lines : List (List ℕ))
     → SaysInTurn s p t Q w view deeds lines
     → Tells (machine s client) (play s client) x p t w view deeds lines
 tells_in_turn s client p t Q x so w view [] [] says_none = nothing
@@ -227,17 +231,19 @@ IsLoss (loses server name text) = ⊤
 IsLoss other = ⊥
 
 -- a moment of the side of a, of which no link is taken yet
-pub record IsOfCut (links left : List Link) (a : Name) (w : Part) : Type 0 where
+pub record IsOfCut (links left : List Link) (a : Name) (w : SideState) : Type 0 where
   pub forest : w.tree.forest ≡ links
   pub here : (x : Name) → w.tree.here x ≡ joined left x a
 
-pub record IsLossOfCut (links left : List Link) (a : Name) (w : Part) (deed : Deed) : Type 0 where
+pub record IsLossOfCut (links left : List Link) (a : Name) (w : SideState)
+    (deed : Deed) : Type 0 where
   pub side : IsOfCut links left a w
   pub loss : IsLoss deed
 
 -- What is known of the ways along which lines come to the side of a: it is told of each server on
 -- the side of b.
-pub record IsToldByEnd (s : Fixed) (world : World) (left : List Link) (a b : Name) : Type 0 where
+pub record IsToldByEnd (s : ItemSetting) (world : World) (left : List Link)
+    (a b : Name) : Type 0 where
   pub far : (t p x : Name) → AreJoined left t a → TakesFrom s.streams t p → AreJoined left x b
       → toward world.links t x ≡ p
   pub end_far : (t p : Name) → AreJoined left t a → TakesFrom s.streams t p
@@ -246,29 +252,30 @@ pub record IsToldByEnd (s : Fixed) (world : World) (left : List Link) (a b : Nam
       → AreJoined left x b → AreLinked world.links t x → ⊥
 
 -- a loss at its turn, which can be told where the side is sound
-record IsNextLoss (s : Fixed) (links left : List Link) (a b : Name) (w : Part)
+record IsNextLoss (s : ItemSetting) (links left : List Link) (a b : Name) (w : SideState)
     (name : Name) : Type 0 where
   side : IsOfCut links left a w
-  doable : IsSoundPart s w → IsDoableLoss s w a name (split_text a b)
+  doable : IsSoundSide s w → IsDoableLoss s w a name (split_text a b)
 
-abbrev CanBeLost : Fixed → List Link → List Link → Name → Name → Part → List Name → Type 0
+abbrev CanBeLost : ItemSetting → List Link → List Link → Name → Name → SideState → List Name
+    → Type 0
 CanBeLost s links left a b w [] = ⊤
 CanBeLost s links left a b w (name ∷ names) =
     IsNextLoss s links left a b w name
     × CanBeLost s links left a b (done s w (loses a name (split_text a b))) names
 
-module _ (known : IsKnownOfLines) {s : Fixed} {world : World} {routes : Name → Known}
+module _ (known : IsKnownOfLines) {s : ItemSetting} {world : World} {routes : Name → Known}
     {left : List Link} {a b : Name} (cut : IsCutAt s world routes left a b)
     (ways : IsToldByEnd s world left a b) where
   abbrev text : List ℕ
   text = split_text a b
 
-  here_joined : (w : Part) → IsOfCut world.links left a w → (t : Name) → w.tree.here t ≡ true
+  here_joined : (w : SideState) → IsOfCut world.links left a w → (t : Name) → w.tree.here t ≡ true
       → AreJoined left t a
   here_joined w side t here = (tests_tell left t a t).1.0 (sym (side.here t) ∙ here)
 
   -- a loss can be told at its turn
-  doable_loss : (w : Part) (name : Name) → IsOfCut world.links left a w → IsSoundPart s w
+  doable_loss : (w : SideState) (name : Name) → IsOfCut world.links left a w → IsSoundSide s w
       → w.tree.knows a ≡ true → w.tree.knows name ≡ true → AreJoined left name b
       → IsDoableLoss s w a name text
   doable_loss w name side sound knows_a knows_it beyond = record {
@@ -311,10 +318,10 @@ module _ (known : IsKnownOfLines) {s : Fixed} {world : World} {routes : Name →
       two : exactly_same name x ≡ false → name ≢ x
       two other e = cc (sym other ∙ (bytes_decides name x).1 e)
 
-  abbrev CanAll : Part → List Name → Type 0
+  abbrev CanAll : SideState → List Name → Type 0
   CanAll w names = CanBeLost s world.links left a b w names
 
-  can_in_turn : (names : List Name) (w : Part) → IsOfCut world.links left a w
+  can_in_turn : (names : List Name) (w : SideState) → IsOfCut world.links left a w
       → w.tree.knows a ≡ true → AllByRecursion (λ x. w.tree.knows x ≡ true) names
       → AllByRecursion (λ x. AreJoined left x b) names → are_distinct names ≡ true → CanAll w names
   unfolding done
@@ -332,7 +339,7 @@ module _ (known : IsKnownOfLines) {s : Fixed} {world : World} {routes : Name →
             (known_still w.tree.knows name names parts.0 knows.1) beyond.1 parts.1,
       )
 
-  all_can : (w : Part) → IsOfCut world.links left a w → ((x : Name) → AreJoined world.links x a
+  all_can : (w : SideState) → IsOfCut world.links left a w → ((x : Name) → AreJoined world.links x a
       → w.tree.knows x ≡ true) → CanAll w (names_behind (routes a) (number s b))
   all_can w side knows =
       can_in_turn (names_behind (routes a) (number s b)) w side (knows a refl)
@@ -341,12 +348,12 @@ module _ (known : IsKnownOfLines) {s : Fixed} {world : World} {routes : Name →
       (names_behind (routes a) (number s b)) (lost_beyond cut)) (lost_beyond cut) (lost_once cut)
 
   module _ (u : Name) (next : TakesFrom s.streams u a) where
-    abbrev AreSaid : Part → View → List Name → Type 0
+    abbrev AreSaid : SideState → View → List Name → Type 0
     AreSaid w other names = SaysInTurn s a u (IsLossOfCut world.links left a) w other
         (losses a b names) (map (λ x. line_text (squit_parts a x text)) names)
 
-    said_along : (names : List Name) (w : Part) (other : View) → CanAll w names → Fits s u w other
-        → AreSaid w other names
+    said_along : (names : List Name) (w : SideState) (other : View) → CanAll w names
+        → Fits s u w other → AreSaid w other names
     said_along [] w other can reader = says_none
     said_along (name ∷ names) w other can reader =
         let said = loss_said known s cut.fixed a u w other next reader name text
@@ -358,7 +365,7 @@ module _ (known : IsKnownOfLines) {s : Fixed} {world : World} {routes : Name →
         (line_text (squit_parts a name text)) said))
 
     -- whoever fits the side that it is on is told of all of them
-    pub said_to : (w : Part) (other : View) → IsOfCut world.links left a w
+    pub said_to : (w : SideState) (other : View) → IsOfCut world.links left a w
         → ((x : Name) → AreJoined world.links x a → w.tree.knows x ≡ true) → Fits s u w other
         → SaysInTurn s a u (IsLossOfCut world.links left a) w other (deeds_of_cut s routes a b)
         (map (λ x. line_text (squit_parts a x text)) (names_behind (routes a) (number s b)))
@@ -367,16 +374,16 @@ module _ (known : IsKnownOfLines) {s : Fixed} {world : World} {routes : Name →
 
   -- ---- what they come to
 
-  lost_along : DoneStaysSound → (names : List Name) (w : Part) → CanAll w names → IsSoundPart s w
-      → IsSoundPart s (all_done (play s 0) w (losses a b names))
+  lost_along : DoneStaysSound → (names : List Name) (w : SideState) → CanAll w names
+      → IsSoundSide s w → IsSoundSide s (all_done (play s 0) w (losses a b names))
   lost_along law [] w can sound = sound
   lost_along law (name ∷ names) w can sound =
       lost_along law names (done s w (loses a name text)) can.1
       (law s w (loses a name text) cut.fixed sound (can.0.doable sound))
 
   -- the side is sound once all of them are lost
-  pub side_without : DoneStaysSound → (w : Part) → IsOfCut world.links left a w
-      → ((x : Name) → AreJoined world.links x a → w.tree.knows x ≡ true) → IsSoundPart s w
-      → IsSoundPart s (all_done (play s 0) w (deeds_of_cut s routes a b))
+  pub side_without : DoneStaysSound → (w : SideState) → IsOfCut world.links left a w
+      → ((x : Name) → AreJoined world.links x a → w.tree.knows x ≡ true) → IsSoundSide s w
+      → IsSoundSide s (all_done (play s 0) w (deeds_of_cut s routes a b))
   side_without law w side knows sound =
       lost_along law (names_behind (routes a) (number s b)) w (all_can w side knows) sound

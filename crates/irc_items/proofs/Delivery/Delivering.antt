@@ -5,7 +5,7 @@ use Rattle.std.proofs.Common.{ap, subst, ◌∙◌, arith, inl, inr, unwrap_or, 
 use Rattle.std.specs.Prelude.{codes}
 use Rattle.std.specs.List.{slice_get, AllByRecursion}
 use Rattle.std.specs.Option.{option_map, option_map_or}
-use Rattle.irc_handshake.specs.GreetingLines.{greeting}
+use Rattle.irc_link_words.specs.GreetingLines.{greeting}
 use Rattle.irc_line.specs.Messages.{line_text, nobody}
 use Rattle.irc_line.specs.Reading.{read_of}
 use Rattle.irc_relay.specs.Distances.{EndsAreAmong, IsAmong}
@@ -25,7 +25,7 @@ use Rattle.irc_relay.specs.Lemmas.LinkTakenOut.{tests_tell}
 use Rattle.irc_stage.specs.EffectTold.{Served}
 use Rattle.irc_stage.specs.Lemmas.Numbers.{one_number, same_number, same_number-is}
 use Rattle.irc_stage.specs.View.{View}
-use Rattle.irc_links.specs.Ends.{is_met as has_far}
+use Rattle.irc_stage.specs.Ends.{is_met as has_far}
 use Rattle.irc_server.specs.Owed.{lines_to}
 use Rattle.irc_server.specs.Served.{IsSetAlike, ServedKeepsItsSetting, link_says}
 use Rattle.irc_world.specs.Owed.{owed_by_network, world_of}
@@ -34,26 +34,27 @@ use Rattle.irc_world.specs.Stepping.{Item}
 use Rattle.irc_world.specs.WithinLimits.{IsItemWithin}
 use Rattle.irc_world.specs.World.{Setting, World, home_in, new_world}
 use Rattle.irc_world.specs.WorldHolds.{IsWorld, TakenMakeWorld}
-use Rattle.irc_follow.specs.AtRest.{part_of, AreRight}
+use Rattle.irc_follow.specs.AtRest.{side_state_of, AreRight}
 use Rattle.irc_follow.specs.Fits.{Fits}
-use Rattle.irc_follow.specs.Part.{Fixed, is_home_of, number}
+use Rattle.irc_follow.specs.SideState.{ItemSetting, is_home_of, number}
 use Rattle.irc_follow.specs.Says.{neighbour_served as asked_line, lines_on, machine}
 use Rattle.irc_follow.specs.Tree.{index_in}
 use Rattle.irc_follow.specs.Lemmas.PlacesOfNames.{one_place}
 use Rattle.irc_follow.specs.Lemmas.SaidEffectShown.{append_nil}
-use Rattle.irc_network.specs.Network.{Course, Network, Reply, site_asked, delivered, received_by}
+use Rattle.irc_network.specs.Network.{Progress, Network, node_asked, delivered, received_by}
 use Rattle.irc_network.specs.Network.{reply}
 use Rattle.irc_items.specs.GoodLines.{closings, IsGoodLine, IsGoodReply, IsUnheard}
 use Rattle.irc_items.specs.Laws.{DeliveryStaysSound}
-use Rattle.irc_items.specs.Relayed.{fixed_of, is_met_with, owed_to, relayed, way_at, way_between}
+use Rattle.irc_items.specs.Relayed.{setting_of_item, is_met_with, owed_to, relayed, way_at}
+use Rattle.irc_items.specs.Relayed.{way_between}
 use Rattle.irc_items.specs.SetUp.{settings_of, view_at, IsConfigured}
 use Rattle.irc_items.specs.Sound.{most_now, most_of_last, owed_now, world_now, is_met, is_calling}
 use Rattle.irc_items.specs.Sound.{AreCalled, HasCalled, IsPlaceOf, IsSound, IsSoundFrom, IsUnderWay}
-use Rattle.irc_items.proofs.Sites.Asked.{asked_there, reply_alike, IsAskedAt}
+use Rattle.irc_items.proofs.Nodes.Asked.{asked_there, reply_alike, IsAskedAt}
 use Rattle.irc_items.proofs.Common.AtRest.{ends_now, flowing, forest_now, holds_now}
 use Rattle.irc_items.proofs.Common.Reading.{home_is}
 use Rattle.irc_items.proofs.Common.Reading.{stays_some}
-use Rattle.irc_items.proofs.Sites.Delivered.{delivered_between, IsDeliveredTo}
+use Rattle.irc_items.proofs.Nodes.Delivered.{delivered_between, IsDeliveredTo}
 use Rattle.irc_items.proofs.Delivery.FirstOnWay.{goes_well}
 use Rattle.irc_items.proofs.Handshake.Greetings.{GreetingIsMet}
 use Rattle.irc_items.proofs.Delivery.Unheard.{all_go_well, all_harmless}
@@ -71,7 +72,7 @@ pending_of net sound =
     sound.asks.other
 
 -- a line fewer is coming
-pub record IsOneFewer (old new : Course) (sound : IsSound old.net) : Type 0 where
+pub record IsOneFewer (old new : Progress) (sound : IsSound old.net) : Type 0 where
   pub sound_now : IsSound new.net
   pub fewer : pending_of new.net sound_now < pending_of old.net sound
 
@@ -84,9 +85,9 @@ append_both : (a b c : List (List ℕ)) → (a ++ b) ++ c ≡ a ++ (b ++ c)
 append_both [] b c = refl
 append_both (x ∷ a) b c = ap (λ lines. x ∷ lines) (append_both a b c)
 
-module _ (laws : AreDeliveryLaws) (old new : Course) (sound : IsSound old.net) (p t : Name)
+module _ (laws : AreDeliveryLaws) (old new : Progress) (sound : IsSound old.net) (p t : Name)
     (line : List ℕ) (d : IsDeliveredTo p t line old new) where
-  abbrev s : Fixed
+  abbrev s : ItemSetting
   s = flowing old.net sound
 
   abbrev view : View
@@ -137,9 +138,9 @@ module _ (laws : AreDeliveryLaws) (old new : Course) (sound : IsSound old.net) (
       subst (IsAskedAt t (record { view = after.view; out = after.out }) d.mid)
       (sym d.asked_is ∙ refl)
       (subst (λ place. IsAskedAt t (record { view = after.view; out = after.out }) d.mid
-      (site_asked place (link_says (index_in old.net.names p) (read_of line)) d.mid))
+      (node_asked place (link_says (index_in old.net.names p) (read_of line)) d.mid))
       (ap (λ names. index_in names t) d.names)
-      (subst (λ r. IsAskedAt t r d.mid (site_asked (index_in d.mid.net.names t)
+      (subst (λ r. IsAskedAt t r d.mid (node_asked (index_in d.mid.net.names t)
       (link_says (index_in old.net.names p) (read_of line)) d.mid))
       (ap (λ v. reply v (link_says (index_in old.net.names p) (read_of line))) (d.views t)
       ∙ reply_is)
@@ -355,7 +356,7 @@ module _ (laws : AreDeliveryLaws) (old new : Course) (sound : IsSound old.net) (
   items_same : new.net.items ≡ old.net.items
   items_same = answered.items ∙ d.items
 
-  fixed_same : fixed_of new.net (streams_from new.net.links sound.source) ≡ s
+  fixed_same : setting_of_item new.net (streams_from new.net.links sound.source) ≡ s
   fixed_same i = record {
     settings = same_settings i;
     names = names_same i;
@@ -398,7 +399,7 @@ module _ (laws : AreDeliveryLaws) (old new : Course) (sound : IsSound old.net) (
       away = delivery_away (machine s client) old.net.links s.streams p t line back
           (relayed s old.net client) (relayed s new.net client) flow under.away
           (delivers client) (relays client);
-      fits = λ u among. subst (Fits s u (part_of s (world_now old.net) sound.routes u))
+      fits = λ u among. subst (Fits s u (side_state_of s (world_now old.net) sound.routes u))
           (sym (outcome.same_final u)) (under.fits u among);
       told = λ home is. outcome.same_told home ∙ under.told home is;
       well = delivery_goes_well (machine s client) old.net.links sound.source p t line back
@@ -448,7 +449,7 @@ module _ (laws : AreDeliveryLaws) (old new : Course) (sound : IsSound old.net) (
   greeting_same x = by (tell x t)
     where
       alike_after : IsSetAlike view after.view
-      alike_after = subst (λ (r : Reply). IsSetAlike view r.view) reply_is
+      alike_after = subst (λ (r : Served). IsSetAlike view r.view) reply_is
           (reply_alike laws.kept view (link_says (index_in old.net.names p) (read_of line)))
 
       by : Telling x t → greeting (view_at new.net x).routes ≡ greeting (view_at old.net x).routes
@@ -640,7 +641,7 @@ module _ (laws : AreDeliveryLaws) (old new : Course) (sound : IsSound old.net) (
   fewer_now : pending_of new.net delivered_sound < pending_of old.net sound
   unfolding delivered_sound
   fewer_now =
-      subst (λ (f : Fixed). lines_pending (machine f 0) f.streams
+      subst (λ (f : ItemSetting). lines_pending (machine f 0) f.streams
       (relayed f new.net 0) new.net.names sound.asks.answered sound.asks.one sound.asks.other
       < pending_of old.net sound)
       (sym fixed_same) (subst (λ names. pending 0 new.net names < pending 0 old.net old.net.names)
@@ -649,8 +650,8 @@ module _ (laws : AreDeliveryLaws) (old new : Course) (sound : IsSound old.net) (
   pub one_fewer : IsOneFewer old new sound
   one_fewer = record { sound_now = delivered_sound; fewer = fewer_now }
 
-pub leaves_one_fewer : AreDeliveryLaws → (from to : ℕ) (old new : Course) (sound : IsSound old.net)
-    → delivered from to old ≡ Some new → IsOneFewer old new sound
+pub leaves_one_fewer : AreDeliveryLaws → (from to : ℕ) (old new : Progress)
+    (sound : IsSound old.net) → delivered from to old ≡ Some new → IsOneFewer old new sound
 leaves_one_fewer laws from to old new sound is =
     let d = delivered_between old sound from to new is in
     one_fewer laws old new sound d.giver d.taker d.line d.delivered_to

@@ -13,9 +13,9 @@ use Rattle.irc_relay.specs.Relay.{ComesInTurn, TakesFrom}
 use Rattle.irc_relay.specs.Lemmas.Deliveries.{comes_in_turn}
 use Rattle.irc_relay.specs.Lemmas.StreamsFlow.{covers_flows, IsFlow}
 use Rattle.irc_stage.specs.View.{View}
-use Rattle.irc_follow.specs.Part.{Fixed}
+use Rattle.irc_follow.specs.SideState.{ItemSetting}
 use Rattle.irc_follow.specs.Says.{machine}
-use Rattle.irc_network.specs.Network.{Network, Site, site_at}
+use Rattle.irc_network.specs.Network.{Network, Node, node_at}
 use Rattle.irc_world.specs.WorldHolds.{TakenMakeWorld}
 use Rattle.irc_items.specs.GoodLines.{IsGoodLine}
 use Rattle.irc_items.specs.Laws.{NoLinkIsClosed, WaitingAreLines}
@@ -28,7 +28,7 @@ use Rattle.irc_items.specs.Lemmas.SetUpFacts.{at_place, there}
 module _ (net : Network) (sound : IsSound net) (forest : IsForest net.links) (p t : Name)
     (line : List ℕ) (rest : List (List ℕ))
     (waited : way_between net p t ≡ Some (line ∷ rest)) where
-  abbrev s : Fixed
+  abbrev s : ItemSetting
   s = flowing net sound
 
   abbrev view : View
@@ -115,12 +115,12 @@ module _ (net : Network) (sound : IsSound net) (forest : IsForest net.links) whe
       between_are_lines p reader.server (Some lines) (ap (way_at net p) reader.is ∙ is)
 
 pub waiting_are_lines : TakenMakeWorld → WaitingAreLines
-waiting_are_lines world net place to site sound at =
-    let writer = at_place net sound.set_up place site at in
+waiting_are_lines world net place to node sound at =
+    let writer = at_place net sound.set_up place node at in
     let here = there net sound.set_up writer.server writer.among in
     from_are_lines net sound (forest_now net sound (holds_now world net sound)) writer.server to
-    (get site.queues to)
-    (ap (λ o. option_and_then (λ (x : Site). get x.queues to) (option_and_then (site_at net) o))
+    (get node.queues to)
+    (ap (λ o. option_and_then (λ (x : Node). get x.queues to) (option_and_then (node_at net) o))
     here.place
-    ∙ ap (λ n. option_and_then (λ (x : Site). get x.queues to) (site_at net n)) writer.is
-    ∙ ap (option_and_then (λ (x : Site). get x.queues to)) at)
+    ∙ ap (λ n. option_and_then (λ (x : Node). get x.queues to) (node_at net n)) writer.is
+    ∙ ap (option_and_then (λ (x : Node). get x.queues to)) at)

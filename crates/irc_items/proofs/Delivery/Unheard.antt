@@ -10,17 +10,17 @@ use Rattle.irc_relay.specs.Relay.{AreHarmless, IsHarmless}
 use Rattle.irc_routes.specs.Known.{Known}
 use Rattle.irc_stage.specs.EffectTold.{Served}
 use Rattle.irc_stage.specs.View.{View}
-use Rattle.irc_deeds.specs.LinkServed.{after_heard, line_served}
+use Rattle.irc_server.specs.LinkServed.{after_heard, line_served}
 use Rattle.irc_server.specs.Owed.{lines_to}
 use Rattle.irc_server.specs.Served.{served}
 use Rattle.irc_world.specs.World.{World}
-use Rattle.irc_follow.specs.Part.{Fixed, is_home_of, number}
+use Rattle.irc_follow.specs.SideState.{ItemSetting, is_home_of, number}
 use Rattle.irc_follow.specs.Says.{neighbour_served, lines_on, machine}
 use Rattle.irc_items.specs.GoodLines.{Answering, IsGoodLine, IsGoodReply, IsUnheard}
 use Rattle.irc_items.specs.Relayed.{owed_to}
 use Rattle.irc_items.proofs.Good.GoodLines.{no_answer}
 
-module _ (s : Fixed) (t p : Name) (view : View) where
+module _ (s : ItemSetting) (t p : Name) (view : View) where
   abbrev silent : Served
   silent = record { view = view; out = [] }
 

@@ -13,7 +13,7 @@ use Rattle.irc_room.specs.effect.Effect.TheVariants.{Rename}
 use Rattle.irc_room.specs.Room.{Room}
 use Rattle.irc_burst.specs.DeedsMeant.{a_deed}
 use Rattle.irc_burst_lines.specs.DeedLines.{deed_parts}
-use Rattle.irc_links.specs.Ways.{but, met_links}
+use Rattle.irc_stage.specs.Ways.{but, met_links}
 use Rattle.irc_merge.specs.Deeds.{Deed, does, gains, loses, kills, brings, sets, tops, effects_of}
 use Rattle.irc_relay.specs.Links.{Name, Link, AreLinked}
 use Rattle.irc_relay.specs.Relay.{TakesFrom}
@@ -24,11 +24,11 @@ use Rattle.irc_stage.specs.Linked.{told_on_all}
 use Rattle.irc_stage.specs.RoomMachine.{Clients}
 use Rattle.irc_stage.specs.View.{View}
 use Rattle.irc_stage.specs.Lemmas.Numbers.{get-each}
-use Rattle.irc_deeds.specs.DeedTold.{deed_told, told_by}
-use Rattle.irc_deeds.specs.Heard.{heard, tells}
+use Rattle.irc_server.specs.DeedTold.{deed_told, told_by}
+use Rattle.irc_server.specs.Heard.{heard, tells}
 use Rattle.irc_server.specs.Owed.{lines_to}
-use Rattle.irc_follow.specs.Part.{Fixed, number}
-use Rattle.irc_follow.specs.Part as of_side
+use Rattle.irc_follow.specs.SideState.{ItemSetting, number}
+use Rattle.irc_follow.specs.SideState as of_side
 use Rattle.irc_follow.specs.Fits.{Fits}
 use Rattle.irc_follow.specs.Says.{neighbour_served, Says}
 use Rattle.irc_follow.specs.Lemmas.LinesOnLinks.{but_another, ends_by_all, none_by_all}
@@ -78,7 +78,7 @@ module _ (client : ℕ) where
 
 -- What is put out is what clients are shown of effects in turn, done in a room, and then a line on
 -- all links but that of arrival. The ends of links stay.
-pub record IsToldOnce (s : Fixed) (p : Name) (view : View) (after : Served) : Type 0 where
+pub record IsToldOnce (s : ItemSetting) (p : Name) (view : View) (after : Served) : Type 0 where
   pub room : Room
   pub effects : List Effect
   pub parts : Written
@@ -86,7 +86,7 @@ pub record IsToldOnce (s : Fixed) (p : Name) (view : View) (after : Served) : Ty
   pub out : after.out ≡ (all_changed effects (in_silence (record view { room = room }))).out
       ++ on_links (but (Some (number s p)) (met_links view.ends)) parts
 
-module _ (s : Fixed) (links : List Link) (p t : Name) (w : of_side.Part) (view : View)
+module _ (s : ItemSetting) (links : List Link) (p t : Name) (w : of_side.SideState) (view : View)
     (takes : TakesFrom s.streams t p) (fits : Fits s t w view)
     (forest : AreLinkedAlike links w.tree.forest t) where
   abbrev others : List ℕ

@@ -6,14 +6,14 @@ use Rattle.irc_line.specs.Reading.{read_of}
 use Rattle.irc_room.specs.effect.Effect.{Effect}
 use Rattle.irc_burst.specs.DeedsMeant.{a_deed}
 use Rattle.irc_link_writer.specs.Written.{wire}
-use Rattle.irc_links.specs.Ways.{told_homes, ways_toward}
+use Rattle.irc_stage.specs.Ways.{told_homes, ways_toward}
 use Rattle.irc_merge.specs.Deeds.{does}
 use Rattle.irc_relay.specs.Links.{Name, Link, AreLinked}
 use Rattle.irc_relay.specs.Relay.{TakesFrom}
 use Rattle.irc_stage.specs.EffectTold.{Served, shown_at, ways_at}
 use Rattle.irc_stage.specs.View.{View}
-use Rattle.irc_follow.specs.Part.{Fixed, number}
-use Rattle.irc_follow.specs.Part as of_side
+use Rattle.irc_follow.specs.SideState.{ItemSetting, number}
+use Rattle.irc_follow.specs.SideState as of_side
 use Rattle.irc_follow.specs.Fits.{Fits}
 use Rattle.irc_follow.specs.Says.{neighbour_served, lines_on, Says}
 use Rattle.irc_follow.specs.Lemmas.LinesOnLinks.{but_another, none_by_effect}
@@ -23,7 +23,7 @@ use Rattle.irc_items.proofs.Good.MetEnds.{met_known, ways_linked, AreLinkedAlike
 use Rattle.irc_items.proofs.Good.PutOut.{but_itself, none_closed_by_effect, none_shown}
 use Rattle.irc_items.proofs.Good.Replies.{lines_put_out, reply_so, teller_is_met, IsPutOutSo}
 
-module _ (s : Fixed) (links : List Link) (p t : Name) (w : of_side.Part) (view : View)
+module _ (s : ItemSetting) (links : List Link) (p t : Name) (w : of_side.SideState) (view : View)
     (takes : TakesFrom s.streams t p) (fits : Fits s t w view)
     (forest : AreLinkedAlike links w.tree.forest t) (effect : Effect) (line : List ℕ)
     (says : Says s p t w view (does effect) line) where

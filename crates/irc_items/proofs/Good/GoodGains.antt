@@ -7,8 +7,8 @@ use Rattle.irc_line.specs.Messages.{Written, line_text}
 use Rattle.irc_line.specs.Reading.{read_of}
 use Rattle.irc_burst.specs.DeedsMeant.{a_server}
 use Rattle.irc_burst_lines.specs.DeedLines.{deed_parts}
-use Rattle.irc_links.specs.Ends.{is_met}
-use Rattle.irc_links.specs.Ways.{but, met_links}
+use Rattle.irc_stage.specs.Ends.{is_met}
+use Rattle.irc_stage.specs.Ways.{but, met_links}
 use Rattle.irc_merge.specs.Deeds.{gains}
 use Rattle.irc_relay.specs.Links.{Name, Link, distance, same, AreLinked}
 use Rattle.irc_relay.specs.Relay.{TakesFrom}
@@ -16,13 +16,13 @@ use Rattle.irc_relay.specs.Lemmas.TellingNames.{Telling, alike, unlike, tell}
 use Rattle.irc_stage.specs.EffectTold.{Served, in_silence, on_links, with_sent}
 use Rattle.irc_stage.specs.Linked.{is_taken, with_row}
 use Rattle.irc_stage.specs.View.{View}
-use Rattle.irc_deeds.specs.DeedTold.{gain_told, told_by}
-use Rattle.irc_deeds.specs.Heard.{Heard, meets, tells}
-use Rattle.irc_deeds.specs.LinkServed.{after_heard, line_served, on_link, owed_by, owes}
+use Rattle.irc_server.specs.DeedTold.{gain_told, told_by}
+use Rattle.irc_server.specs.Heard.{Heard, meets, tells}
+use Rattle.irc_server.specs.LinkServed.{after_heard, line_served, on_link, owed_by, owes}
 use Rattle.irc_server.specs.Served.{served}
 use Rattle.irc_follow.specs.Tree.{told_token}
-use Rattle.irc_follow.specs.Part.{Fixed, done, number, IsFixed}
-use Rattle.irc_follow.specs.Part as of_side
+use Rattle.irc_follow.specs.SideState.{ItemSetting, done, number, IsItemSetting}
+use Rattle.irc_follow.specs.SideState as of_side
 use Rattle.irc_follow.specs.Fits.{Fits}
 use Rattle.irc_follow.specs.Says.{neighbour_served, lines_on, Says}
 use Rattle.irc_follow.specs.Lemmas.LinesOnLinks.{but_another}
@@ -38,7 +38,7 @@ use Rattle.irc_items.proofs.Good.Replies.{answer_so, lines_put_out, teller_is_me
 
 -- What is put out goes on the link of arrival, and then on all others that count. The first is just
 -- what is owed there.
-pub record IsToldOn (s : Fixed) (p : Name) (view : View) (after : Served) : Type 0 where
+pub record IsToldOn (s : ItemSetting) (p : Name) (view : View) (after : Served) : Type 0 where
   pub answered : List Written
   pub parts : Written
   pub out : after.out ≡ on_link (number s p) answered
@@ -56,7 +56,7 @@ gained_there k uplink name distance token info before is =
     ap (λ b. if b then gain_told k uplink name info (record before
     { view = with_row k uplink name distance token info before.view }) else before) is
 
-module _ (s : Fixed) (links : List Link) (p t : Name) (w : of_side.Part) (view : View)
+module _ (s : ItemSetting) (links : List Link) (p t : Name) (w : of_side.SideState) (view : View)
     (takes : TakesFrom s.streams t p) (fits : Fits s t w view)
     (forest : AreLinkedAlike links w.tree.forest t) where
   -- ---- of what is told on
@@ -65,7 +65,7 @@ module _ (s : Fixed) (links : List Link) (p t : Name) (w : of_side.Part) (view :
     abbrev others : List ℕ
     others = but (Some (number s p)) (met_links after.view.ends)
 
-    module _ (later : of_side.Part) (stays : IsLaterSide links t w later)
+    module _ (later : of_side.SideState) (stays : IsLaterSide links t w later)
         (fits_after : Fits s t later after.view) where
       put_out : IsPutOutSo s links p t view after
       put_out = record {
@@ -101,7 +101,7 @@ module _ (s : Fixed) (links : List Link) (p t : Name) (w : of_side.Part) (view :
 
   -- ---- what a line of a server's gain is served as
 
-  module _ (fixed : IsFixed s) (uplink name words line : List ℕ)
+  module _ (fixed : IsItemSetting s) (uplink name words line : List ℕ)
       (says : Says s p t w view (gains uplink name words) line) where
     abbrev k : ℕ
     k = number s p
@@ -117,7 +117,7 @@ module _ (s : Fixed) (links : List Link) (p t : Name) (w : of_side.Part) (view :
         ap (line_served view k (read_of line)) says.is_end
         ∙ ap (after_heard view k) (says.means ∙ ap heard_as is)
 
-    abbrev later_side : of_side.Part
+    abbrev later_side : of_side.SideState
     later_side = done s w (gains uplink name words)
 
     later : IsLaterSide links t w later_side

@@ -13,8 +13,8 @@ use Rattle.irc_room.specs.Effects.{has_user}
 use Rattle.irc_room.specs.Seen.{Showing}
 use Rattle.irc_burst.specs.DeedsMeant.{a_deed}
 use Rattle.irc_burst_lines.specs.DeedLines.{kill_parts}
-use Rattle.irc_links.specs.Ends.{is_met}
-use Rattle.irc_links.specs.Ways.{but, met_links}
+use Rattle.irc_stage.specs.Ends.{is_met}
+use Rattle.irc_stage.specs.Ways.{but, met_links}
 use Rattle.irc_merge.specs.Deeds.{kills}
 use Rattle.irc_merge.specs.Quits.{collision_text}
 use Rattle.irc_relay.specs.Links.{Name, Link, same, AreLinked}
@@ -25,10 +25,10 @@ use Rattle.irc_stage.specs.EffectTold.{shown_at}
 use Rattle.irc_stage.specs.Handle.{is_client, to_viewer}
 use Rattle.irc_stage.specs.Linked.{told_on_all}
 use Rattle.irc_stage.specs.View.{View}
-use Rattle.irc_deeds.specs.DeedTold.{deed_told, told_by}
+use Rattle.irc_server.specs.DeedTold.{deed_told, told_by}
 use Rattle.irc_server.specs.Owed.{line_to_conn, lines_to}
-use Rattle.irc_follow.specs.Part.{Fixed, number}
-use Rattle.irc_follow.specs.Part as of_side
+use Rattle.irc_follow.specs.SideState.{ItemSetting, number}
+use Rattle.irc_follow.specs.SideState as of_side
 use Rattle.irc_follow.specs.Fits.{Fits}
 use Rattle.irc_follow.specs.Says.{neighbour_served, lines_on, Says}
 use Rattle.irc_follow.specs.Lemmas.ClientLines.{to_one, told_line}
@@ -44,7 +44,7 @@ use Rattle.irc_items.proofs.Good.MetEnds.{met_known, met_linked, AreLinkedAlike}
 use Rattle.irc_items.proofs.Good.PutOut.{but_itself, closed_behind, is_on, none_closed_by_effect}
 use Rattle.irc_items.proofs.Good.PutOut.{none_shown}
 use Rattle.irc_items.proofs.Good.Replies.{lines_put_out, reply_so, teller_is_met, IsPutOutSo}
-use Rattle.irc_registering.specs.Closing.{error_line}
+use Rattle.irc_commands.specs.Closing.{error_line}
 
 -- ---- what clients are told of it: who shares a channel sees the QUIT, and the one that is killed
 -- is told why, and closed
@@ -84,7 +84,7 @@ module _ (view : View) (nick : List ℕ) where
       (told_to.none_to_killed reason_of (λ conn line. refl) (λ conn. refl) view.clients nick
       (error_line collision_text))
 
-module _ (s : Fixed) (links : List Link) (p t : Name) (w : of_side.Part) (view : View)
+module _ (s : ItemSetting) (links : List Link) (p t : Name) (w : of_side.SideState) (view : View)
     (takes : TakesFrom s.streams t p) (fits : Fits s t w view)
     (forest : AreLinkedAlike links w.tree.forest t) where
   module _ (server nick line : List ℕ) (says : Says s p t w view (kills server nick) line) where

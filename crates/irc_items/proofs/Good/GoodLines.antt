@@ -17,15 +17,15 @@ use Rattle.irc_routes.specs.Known.{Known}
 use Rattle.irc_stage.specs.Linked.{with_password}
 use Rattle.irc_stage.specs.View.{End, View}
 use Rattle.irc_stage.specs.Lemmas.Numbers.{get-with, same_number-is}
-use Rattle.irc_deeds.specs.Heard.{Heard, closes, ignored, meets, password, tells, heard}
-use Rattle.irc_deeds.specs.LinkServed.{after_heard, line_served}
+use Rattle.irc_server.specs.Heard.{Heard, closes, ignored, meets, password, tells, heard}
+use Rattle.irc_server.specs.LinkServed.{after_heard, line_served}
 use Rattle.irc_server.specs.Owed.{lines_to}
 use Rattle.irc_server.specs.Served.{served}
 use Rattle.irc_world.specs.World.{World}
-use Rattle.irc_follow.specs.AtRest.{part_of}
+use Rattle.irc_follow.specs.AtRest.{side_state_of}
 use Rattle.irc_follow.specs.Fits.{Fits}
 use Rattle.irc_follow.specs.Laws.{PutsOutNothing}
-use Rattle.irc_follow.specs.Part.{Fixed, Part, number, IsFixed}
+use Rattle.irc_follow.specs.SideState.{ItemSetting, SideState, number, IsItemSetting}
 use Rattle.irc_follow.specs.Says.{neighbour_served, lines_on, machine, play, terms, Aside}
 use Rattle.irc_follow.specs.Says.{IsDoableKill, IsNothing, PassesBy, Says}
 use Rattle.irc_follow.specs.Lemmas.SidesFollowed.{servers_follow, IsKnownOfLine}
@@ -40,16 +40,16 @@ use Rattle.irc_items.proofs.Good.MetEnds.{good_reply, AreLinkedAlike}
 
 -- Upon this line t kills a user of its own side, and tells p of it too: the line may be answered,
 -- from one end of a new link to the other, and there the answer does nothing.
-pub record CanAnswer (s : Fixed) (asks : Answering) (world : World) (routes : Name → Known)
+pub record CanAnswer (s : ItemSetting) (asks : Answering) (world : World) (routes : Name → Known)
     (p t : Name) (nick line : List ℕ) : Type 0 where
   pub answered : asks.answered line ≡ true
   pub not_again : asks.answered (line_text (kill_parts t nick)) ≡ false
   pub between : ((p ≡ asks.one) × (t ≡ asks.other)) ⊎ ((p ≡ asks.other) × (t ≡ asks.one))
   pub to_end : (s.streams.parent p ≡ t) × (s.streams.depth p ≡ 1)
-  pub unheard : (view : View) → Fits s p (part_of s world routes p) view
+  pub unheard : (view : View) → Fits s p (side_state_of s world routes p) view
       → IsUnheard s t view (line_text (kill_parts t nick))
 
-abbrev pub MayKill : Fixed → Answering → World → (Name → Known) → Name → Name → Deed → List ℕ
+abbrev pub MayKill : ItemSetting → Answering → World → (Name → Known) → Name → Name → Deed → List ℕ
     → Type 0
 MayKill s asks world routes p t (kills server nick) line = server ≡ t
     → CanAnswer s asks world routes p t nick line
@@ -57,25 +57,26 @@ MayKill s asks world routes p t other line = ⊤
 
 -- who takes lines on this side has just these links; each neighbour of it, but the one that it
 -- takes lines from, is of this side too
-pub record IsWithinSide (s : Fixed) (links : List Link) (w : Part) : Type 0 where
+pub record IsWithinSide (s : ItemSetting) (links : List Link) (w : SideState) : Type 0 where
   pub alike : (t p : Name) → w.tree.here t ≡ true → TakesFrom s.streams t p
       → AreLinkedAlike links w.tree.forest t
   pub here : (t p u : Name) → w.tree.here t ≡ true → TakesFrom s.streams t p → AreLinked links t u
       → u ≢ p → w.tree.here u ≡ true
 
-pub record SaysWell (s : Fixed) (asks : Answering) (world : World) (routes : Name → Known)
-    (p t : Name) (w : Part) (view : View) (deed : Deed)
+pub record SaysWell (s : ItemSetting) (asks : Answering) (world : World) (routes : Name → Known)
+    (p t : Name) (w : SideState) (view : View) (deed : Deed)
     (line : List ℕ) : Type 0 where
   pub says : Says s p t w view deed line
   pub may : MayKill s asks world routes p t deed line
   pub side : IsWithinSide s world.links w
 
-pub record AsideWell (s : Fixed) (world : World) (p t : Name) (w : Part) (view : View)
+pub record AsideWell (s : ItemSetting) (world : World) (p t : Name) (w : SideState) (view : View)
     (line : List ℕ) : Type 0 where
   pub aside : Aside s p t w view line
   pub side : IsWithinSide s world.links w
 
-abbrev pub good_terms : Fixed → Answering → World → (Name → Known) → Terms View (List ℕ) Part Deed
+abbrev pub good_terms : ItemSetting → Answering → World → (Name → Known)
+    → Terms View (List ℕ) SideState Deed
 good_terms s asks world routes = record {
   fits = Fits s;
   meet = λ t u one other. ⊤;
@@ -87,7 +88,7 @@ good_terms s asks world routes = record {
 
 -- ---- what goes back
 
-module _ (s : Fixed) (asks : Answering) (world : World) (routes : Name → Known) (p t : Name)
+module _ (s : ItemSetting) (asks : Answering) (world : World) (routes : Name → Known) (p t : Name)
     (line : List ℕ) where
   pub no_answer : IsAnswered s asks world routes p t line []
   no_answer = record {
@@ -130,8 +131,8 @@ module _ (s : Fixed) (asks : Answering) (world : World) (routes : Name → Known
       by true own = kill_answer nick (may ((bytes_decides server t).0 own))
       by false other = no_answer
 
-module _ (s : Fixed) (asks : Answering) (world : World) (routes : Name → Known) (p t : Name)
-    (w : Part) (view : View) (line : List ℕ)
+module _ (s : ItemSetting) (asks : Answering) (world : World) (routes : Name → Known) (p t : Name)
+    (w : SideState) (view : View) (line : List ℕ)
     (takes : TakesFrom s.streams t p)
     (fits : Fits s t w view) (side : IsWithinSide s world.links w) where
   abbrev Good : Type 0
@@ -147,7 +148,7 @@ module _ (s : Fixed) (asks : Answering) (world : World) (routes : Name → Known
 
   -- ---- of a line that says a deed
 
-  module _ (known : IsKnownOfLine) (fixed : IsFixed s) where
+  module _ (known : IsKnownOfLine) (fixed : IsItemSetting s) where
     unanswered : (deed : Deed) → Says s p t w view deed line
         → IsGoodReply s world.links p t view (neighbour_served s p view line) [] → Good
     unanswered deed says good =
@@ -244,7 +245,7 @@ module _ (s : Fixed) (asks : Answering) (world : World) (routes : Name → Known
 -- ---- the next server hears of a KILL that is another server's: it came by another link, or is the
 -- writer's own
 
-not_readers : (s : Fixed) (p t u : Name) (w : Part) (view : View) (server nick : List ℕ)
+not_readers : (s : ItemSetting) (p t u : Name) (w : SideState) (view : View) (server nick : List ℕ)
     → Fits s t w view → TakesFrom s.streams t p → TakesFrom s.streams u t → u ≢ p
     → IsDoableKill s w server nick → server ≢ u
 not_readers s p t u w view server nick fits takes next apart doable is =
@@ -259,8 +260,9 @@ not_readers s p t u w view server nick fits takes next apart doable is =
         (linked_back w.tree.forest u t u_linked))
         ∙ ap (toward w.tree.forest t) (sym is) ∙ way)
 
-told_on_may : (s : Fixed) (asks : Answering) (world : World) (routes : Name → Known) (p t u : Name)
-    (w : Part) (view : View) (deed : Deed)
+told_on_may : (s : ItemSetting) (asks : Answering) (world : World) (routes : Name → Known)
+    (p t u : Name)
+    (w : SideState) (view : View) (deed : Deed)
     (line next_line : List ℕ)
     → Fits s t w view → TakesFrom s.streams t p → TakesFrom s.streams u t → u ≢ p
     → Says s p t w view deed line
@@ -272,7 +274,7 @@ told_on_may s asks world routes p t u w view deed line next_line fits takes next
 
 -- ---- servers follow
 
-pub well_follow : IsKnownOfLine → (s : Fixed) (client : ℕ) → IsFixed s
+pub well_follow : IsKnownOfLine → (s : ItemSetting) (client : ℕ) → IsItemSetting s
     → (asks : Answering) (world : World) (routes : Name → Known) → Follows (machine s client)
     (play s client) (good_terms s asks world routes) world.links s.streams
 well_follow known s client fixed asks world routes = record {
@@ -307,7 +309,7 @@ well_follow known s client fixed asks world routes = record {
         (terms s (λ p t view line. ⊤)) world.links s.streams
     all = servers_follow known s client fixed world.links
 
-    on : (t u : Name) (w : Part) (other : View) (deed : Deed) (after : View)
+    on : (t u : Name) (w : SideState) (other : View) (deed : Deed) (after : View)
         (lines : List (List ℕ)) → IsWithinSide s world.links w
         → ((line : List ℕ) → MayKill s asks world routes t u deed line)
         → SaysOn (machine s client) (terms s (λ p t view line. ⊤)) t u w other deed after lines

@@ -9,8 +9,8 @@ use Rattle.std.specs.List.{cons_option, filter_map, list_any}
 use Rattle.std.specs.Option.{option_map_or}
 use Rattle.irc_line.specs.Messages.{line_text}
 use Rattle.irc_room.specs.Lemmas.Rows.{same_some}
-use Rattle.irc_links.specs.Ends.{is_met}
-use Rattle.irc_links.specs.Ways.{links_toward, met_links, ways_toward}
+use Rattle.irc_stage.specs.Ends.{is_met}
+use Rattle.irc_stage.specs.Ways.{links_toward, met_links, ways_toward}
 use Rattle.irc_relay.specs.Distances.{IsAmong}
 use Rattle.irc_relay.specs.Links.{Name, Link, linked, same, toward, AreLinked}
 use Rattle.irc_relay.specs.Lemmas.TellingNames.{Telling, alike, unlike, tell}
@@ -22,10 +22,10 @@ use Rattle.irc_routes.specs.Known as of_known
 use Rattle.irc_server.specs.Owed.{lines_to}
 use Rattle.irc_stage.specs.EffectTold.{Served}
 use Rattle.irc_stage.specs.View.{End, View}
-use Rattle.irc_deeds.specs.LinkServed.{owed_by}
+use Rattle.irc_server.specs.LinkServed.{owed_by}
 use Rattle.irc_follow.specs.Tree.{Shape, shape, shape_in}
-use Rattle.irc_follow.specs.Part.{Fixed, info_in, is_home_of, number, IsSoundPart}
-use Rattle.irc_follow.specs.Part as of_side
+use Rattle.irc_follow.specs.SideState.{ItemSetting, info_in, is_home_of, number, IsSoundSide}
+use Rattle.irc_follow.specs.SideState as of_side
 use Rattle.irc_follow.specs.Fits.{far_of, Fits}
 use Rattle.irc_follow.specs.Says.{lines_on}
 use Rattle.irc_follow.specs.Lemmas.LinesOnLinks.{among_keys, among_met}
@@ -42,10 +42,10 @@ pub record AreLinkedAlike (links forest : List Link) (t : Name) : Type 0 where
 pub linked_as_itself : (links : List Link) (t : Name) → AreLinkedAlike links links t
 linked_as_itself links t = record { there = λ u near. near; back = λ u near. near }
 
-module _ (s : Fixed) (links : List Link) (t : Name) (w : of_side.Part) (view : View)
+module _ (s : ItemSetting) (links : List Link) (t : Name) (w : of_side.SideState) (view : View)
     (fits : Fits s t w view)
     (forest : AreLinkedAlike links w.tree.forest t) where
-  sound : IsSoundPart s w
+  sound : IsSoundSide s w
   sound = fits.sound
 
   -- ---- an end that is there
@@ -205,7 +205,7 @@ module _ (s : Fixed) (links : List Link) (t : Name) (w : of_side.Part) (view : V
 -- ---- a reply
 
 -- what a line has to be looked at for
-pub record IsAnswer (s : Fixed) (links : List Link) (p t : Name) (view : View)
+pub record IsAnswer (s : ItemSetting) (links : List Link) (p t : Name) (view : View)
     (after : Served) : Type 0 where
   pub closes_none : closings after.out ≡ []
   pub to_linked : (u : Name) (line : List ℕ) (lines : List (List ℕ))
@@ -215,13 +215,13 @@ pub record IsAnswer (s : Fixed) (links : List Link) (p t : Name) (view : View)
   pub pays : lines_on (number s p) after.out ++ owed_to s after.view p ≡ owed_to s view p
 
 -- a side with the same links, that knows all that another does
-pub record IsLaterSide (links : List Link) (t : Name) (w later : of_side.Part) : Type 0 where
+pub record IsLaterSide (links : List Link) (t : Name) (w later : of_side.SideState) : Type 0 where
   pub forest : AreLinkedAlike links later.tree.forest t
   pub knows : (u : Name) → w.tree.knows u ≡ true → later.tree.knows u ≡ true
 
 -- the rest is so of each server that fits its side, before and after, where all linked servers but
 -- p are known
-pub good_reply : (s : Fixed) (links : List Link) (p t : Name) (w later : of_side.Part)
+pub good_reply : (s : ItemSetting) (links : List Link) (p t : Name) (w later : of_side.SideState)
     (view : View) (after : Served) → Fits s t w view → Fits s t later after.view
     → AreLinkedAlike links w.tree.forest t → ((u : Name) → AreLinked links t u → u ≢ p
     → w.tree.knows u ≡ true) → IsLaterSide links t w later → IsAnswer s links p t view after

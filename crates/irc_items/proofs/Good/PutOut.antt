@@ -9,12 +9,12 @@ use Rattle.irc_batch.specs.Batches.{Sent}
 use Rattle.irc_line.specs.Messages.{Written, line_text, text}
 use Rattle.irc_room.specs.effect.Effect.{Effect}
 use Rattle.irc_room.specs.Seen.{Showing, seen}
-use Rattle.irc_links.specs.Ways.{but}
+use Rattle.irc_stage.specs.Ways.{but}
 use Rattle.irc_stage.specs.EffectTold.{is_elsewhere, on_links, shown_at, Served, all_changed}
 use Rattle.irc_stage.specs.Handle.{to_viewer}
 use Rattle.irc_stage.specs.RoomMachine.{Clients}
 use Rattle.irc_stage.specs.View.{View}
-use Rattle.irc_deeds.specs.LinkServed.{on_link}
+use Rattle.irc_server.specs.LinkServed.{on_link}
 use Rattle.irc_server.specs.Owed.{lines_to}
 use Rattle.irc_follow.specs.Says.{body, lines_on}
 use Rattle.irc_follow.specs.Lemmas.LinesOnLinks.{bare}

@@ -9,24 +9,24 @@ use Rattle.std.specs.FinMap.{get}
 use Rattle.std.specs.Option.{option_map_or}
 use Rattle.irc_batch.specs.Batches.{Sent}
 use Rattle.irc_batch.specs.declared.close_reason.CloseReason.{CloseReason}
-use Rattle.irc_handshake.specs.declared.openings.Opening.{Opening}
-use Rattle.irc_handshake.specs.declared.openings.Opening.TheVariants as opening
-use Rattle.irc_handshake.specs.Peers.{refusal}
+use Rattle.irc_link_words.specs.declared.openings.Opening.{Opening}
+use Rattle.irc_link_words.specs.declared.openings.Opening.TheVariants as opening
+use Rattle.irc_link_words.specs.Peers.{refusal}
 use Rattle.irc_line.specs.declared.reading.LineFault.{LineFault}
 use Rattle.irc_line.specs.declared.reading.LineFault.TheVariants as fault
 use Rattle.irc_line.specs.Messages.{Parsed, Written, line_text}
 use Rattle.irc_burst.specs.DeedsMeant.{Told, deeds_meant}
 use Rattle.irc_burst.specs.HandshakeMeant.{handshake_meant}
-use Rattle.irc_links.specs.Ends.{is_met}
+use Rattle.irc_stage.specs.Ends.{is_met}
 use Rattle.irc_relay.specs.Links.{Name, Link, AreLinked}
 use Rattle.irc_relay.specs.Relay.{TakesFrom}
 use Rattle.irc_stage.specs.EffectTold.{Served, on_links}
 use Rattle.irc_stage.specs.View.{End, View, password_for}
-use Rattle.irc_deeds.specs.LinkServed.{owed_by}
-use Rattle.irc_deeds.specs.Heard.{tells, heard, met_unless, of_met, opened}
+use Rattle.irc_server.specs.LinkServed.{owed_by}
+use Rattle.irc_server.specs.Heard.{tells, heard, met_unless, of_met, opened}
 use Rattle.irc_server.specs.Owed.{lines_to}
-use Rattle.irc_follow.specs.Part.{Fixed, is_home_of, number}
-use Rattle.irc_follow.specs.Part as of_side
+use Rattle.irc_follow.specs.SideState.{ItemSetting, is_home_of, number}
+use Rattle.irc_follow.specs.SideState as of_side
 use Rattle.irc_follow.specs.Fits.{Fits}
 use Rattle.irc_follow.specs.Says.{lines_on}
 use Rattle.irc_follow.specs.Lemmas.LinesOnLinks.{lines_behind, on_these}
@@ -71,7 +71,7 @@ teller_is_met view k end (Err fault.HasNul) told later is = cc is
 
 -- For own clients and on the link of arrival, and then a line on links, each of which but that of
 -- arrival is one of the server's.
-pub record IsPutOutSo (s : Fixed) (links : List Link) (p t : Name) (view : View)
+pub record IsPutOutSo (s : ItemSetting) (links : List Link) (p t : Name) (view : View)
     (after : Served) : Type 0 where
   pub first : List Sent
   pub ways : List ℕ
@@ -85,7 +85,7 @@ pub record IsPutOutSo (s : Fixed) (links : List Link) (p t : Name) (view : View)
       (lines : List (List ℕ)) → map (λ _. line_text parts) (filter (is_on (number s u)) ways)
       ≡ line ∷ lines → AreLinked links t u
 
-module _ (s : Fixed) (links : List Link) (p t : Name) (w : of_side.Part) (view : View)
+module _ (s : ItemSetting) (links : List Link) (p t : Name) (w : of_side.SideState) (view : View)
     (takes : TakesFrom s.streams t p) (fits : Fits s t w view)
     (forest : AreLinkedAlike links w.tree.forest t) where
   -- the end by which it came is that of p

@@ -10,27 +10,27 @@ use Rattle.std.specs.Option.{option_map_or}
 use Rattle.irc_batch.specs.Batches.{end_of_link}
 use Rattle.irc_batch.specs.declared.close_reason.CloseReason.{CloseReason}
 use Rattle.irc_batch.specs.declared.close_reason.CloseReason.TheVariants as reason
-use Rattle.irc_handshake.specs.GreetingLines.{greeting}
-use Rattle.irc_handshake.specs.Openings.{greeting_opens, opening_of}
-use Rattle.irc_handshake.specs.Peers.{refusal}
-use Rattle.irc_handshake.specs.WholeLines.{GreetingFits, PassFits}
-use Rattle.irc_handshake.specs.declared.openings.Opening.TheVariants as opening
+use Rattle.irc_link_words.specs.GreetingLines.{greeting}
+use Rattle.irc_link_words.specs.Openings.{greeting_opens, opening_of}
+use Rattle.irc_link_words.specs.Peers.{refusal}
+use Rattle.irc_link_words.specs.WholeLines.{GreetingFits, PassFits}
+use Rattle.irc_link_words.specs.declared.openings.Opening.TheVariants as opening
 use Rattle.irc_burst.specs.DeedsMeant.{a_server, deeds_meant}
 use Rattle.irc_burst.specs.HandshakeMeant.{handshake_meant, out_of_place}
 use Rattle.irc_line.specs.Messages.{IsPlain, line_text, message_of}
 use Rattle.irc_line.specs.Reading.{read_of}
 use Rattle.irc_names.specs.Names.{IsServer}
-use Rattle.irc_links.specs.Ends.{End, is_met}
+use Rattle.irc_stage.specs.Ends.{End, is_met}
 use Rattle.irc_routes.specs.Info.{IsInfo, is_text_byte}
 use Rattle.irc_routes.specs.Known.{Known}
 use Rattle.irc_stage.specs.EffectTold.{Served, in_silence, with_sent}
 use Rattle.irc_stage.specs.Linked.{is_taken, with_far, with_row}
 use Rattle.irc_stage.specs.Lemmas.Numbers.{get-with, same_number-refl}
 use Rattle.irc_stage.specs.View.{View, password_for}
-use Rattle.irc_deeds.specs.DeedTold.{gain_told, told_by}
-use Rattle.irc_deeds.specs.Heard.{Heard, closes, heard, meets, met_unless, opened}
-use Rattle.irc_deeds.specs.LinkServed.{after_heard, line_served, on_link, owes}
-use Rattle.irc_deeds.specs.Lemmas.Fronts.{lost_link_behind}
+use Rattle.irc_server.specs.DeedTold.{gain_told, told_by}
+use Rattle.irc_server.specs.Heard.{Heard, closes, heard, meets, met_unless, opened}
+use Rattle.irc_server.specs.LinkServed.{after_heard, line_served, on_link, owes}
+use Rattle.irc_server.specs.Lemmas.Fronts.{lost_link_behind}
 use Rattle.irc_server.specs.Served.{link_says, served}
 use Rattle.irc_wire.specs.Lemmas.LinesReadBack.{command_plain}
 use Rattle.irc_follow.specs.Lemmas.Neighbours.{IsKnownOfLines}
@@ -104,7 +104,7 @@ module _ (laws : IsKnownOfHandshakes) (view : View) (k : ℕ) (end : End) (known
   unfolding heard handshake_meant
   heard_is =
       ap (heard view k end) (greeting_is_read laws known name info)
-      ∙ ap (λ b. if b then Rattle.irc_deeds.specs.Heard.of_met
+      ∙ ap (λ b. if b then Rattle.irc_server.specs.Heard.of_met
       (deeds_meant view.room view.routes k (message_of (greeting known)))
       else opened view end (handshake_meant (is_some end.password) view.room view.routes k
       (message_of (greeting known)))) not_met

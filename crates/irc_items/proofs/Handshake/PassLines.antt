@@ -14,15 +14,15 @@ use Rattle.irc_line.specs.Bytes.{begins, has_nul, is_colon, is_space}
 use Rattle.irc_line.specs.Messages.{IsPlain, IsPlainWord, line_text, message_of}
 use Rattle.irc_line.specs.Reading.{read_of}
 use Rattle.irc_names.specs.Names.{starts_without_colon}
-use Rattle.irc_handshake.specs.GreetingLines.{pass_parts}
-use Rattle.irc_handshake.specs.Openings.{opening_of, pass_opens}
-use Rattle.irc_handshake.specs.Passwords.{is_password}
+use Rattle.irc_link_words.specs.GreetingLines.{pass_parts}
+use Rattle.irc_link_words.specs.Openings.{opening_of, pass_opens}
+use Rattle.irc_link_words.specs.Passwords.{is_password}
 use Rattle.irc_burst.specs.DeedsMeant.{deeds_meant}
 use Rattle.irc_burst.specs.HandshakeMeant.{handshake_meant, out_of_place}
 use Rattle.irc_stage.specs.Lemmas.Numbers.{get-with, same_number-refl}
 use Rattle.irc_stage.specs.View.{End, View}
-use Rattle.irc_deeds.specs.Heard.{heard, of_met, opened, password}
-use Rattle.irc_deeds.specs.LinkServed.{after_heard, line_served}
+use Rattle.irc_server.specs.Heard.{heard, of_met, opened, password}
+use Rattle.irc_server.specs.LinkServed.{after_heard, line_served}
 use Rattle.irc_server.specs.Served.{link_says, served}
 use Rattle.irc_wire.specs.Lemmas.LinesReadBack.{command_plain}
 use Rattle.irc_follow.specs.Lemmas.MemberLines.{other_byte}

@@ -8,7 +8,7 @@ use Rattle.std.specs.Option.{option_map_or}
 use Rattle.irc_line.specs.Messages.{IsPlain, Written, line_text, message_of}
 use Rattle.irc_line.specs.Reading.{read_of}
 use Rattle.irc_names.specs.Names.{IsServer, is_nick, is_server}
-use Rattle.irc_handshake.specs.Peers.{not_taken}
+use Rattle.irc_link_words.specs.Peers.{not_taken}
 use Rattle.irc_names.specs.Digits.{number_of}
 use Rattle.irc_routes.specs.Info.{IsInfo, is_info, is_text_byte}
 use Rattle.irc_routes.specs.Known.{Known, distance_of, token_in}
@@ -20,7 +20,7 @@ use Rattle.irc_link_reader.specs.Reader.{Reader, reader_of, is_behind_link, may_
 use Rattle.irc_link_words.specs.Numbers.{is_number, max_number}
 use Rattle.irc_link_writer.specs.Written.{next_distance, written_token}
 use Rattle.irc_stage.specs.View.{End, View}
-use Rattle.irc_deeds.specs.Heard.{heard, of_met, opened, tells}
+use Rattle.irc_server.specs.Heard.{heard, of_met, opened, tells}
 use Rattle.irc_wire.specs.Lemmas.LinesReadBack.{command_plain, from_plain}
 use Rattle.irc_wire.specs.Lemmas.NumberText.{number_read, number_taken}
 use Rattle.irc_follow.specs.Lemmas.Neighbours.{IsKnownOfLines, both}

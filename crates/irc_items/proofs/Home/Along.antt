@@ -20,9 +20,9 @@ use Rattle.irc_acts.specs.declared.act.Act.{Act}
 use Rattle.irc_acts.specs.declared.act.Act.TheVariants.{Answer, Raw, Do}
 use Rattle.irc_acts.specs.Acts.{effects_among}
 use Rattle.irc_commands.specs.Decide.{decide}
-use Rattle.irc_registering.specs.Register.{register}
-use Rattle.irc_links.specs.Ends.{is_met}
-use Rattle.irc_links.specs.Ways.{told_homes, ways_toward}
+use Rattle.irc_commands.specs.Register.{register}
+use Rattle.irc_stage.specs.Ends.{is_met}
+use Rattle.irc_stage.specs.Ways.{told_homes, ways_toward}
 use Rattle.irc_link_writer.specs.Written.{wire}
 use Rattle.irc_stage.specs.declared.clients.Client.{Client}
 use Rattle.irc_stage.specs.declared.clients.Client.TheVariants.{Registering, Registered}

@@ -32,13 +32,13 @@ use Rattle.irc_acts.specs.Acts.{effects_among}
 use Rattle.irc_acts.specs.Doing.{DoesSomething}
 use Rattle.irc_acts.specs.Possible.{ArePossible}
 use Rattle.irc_acts.specs.Sendable.{AreSendable}
-use Rattle.irc_registering.specs.declared.pending.Pending.{Pending}
+use Rattle.irc_commands.specs.declared.pending.Pending.{Pending}
 use Rattle.irc_commands.specs.Comings.{AddsFirst, is_effect}
 use Rattle.irc_commands.specs.Decide.{decide}
 use Rattle.irc_commands.specs.Decisions.{Decided}
 use Rattle.irc_commands.specs.Doers.{IsDoneBy}
 use Rattle.irc_commands.specs.Doing.{DecidedDoes}
-use Rattle.irc_registering.specs.Register.{register, Registered as Given}
+use Rattle.irc_commands.specs.Register.{register, Registered as Given}
 use Rattle.irc_commands.specs.Sendable.{DecidedIsSendable, IsPendingWithin, RegisteringIsSendable}
 use Rattle.irc_relay.specs.Links.{Name}
 use Rattle.irc_stage.specs.declared.clients.Client.{Client}

@@ -25,9 +25,9 @@ use Rattle.irc_world.specs.ClientsUsers.{fold_of}
 use Rattle.irc_world.specs.Stepping.{by_machine}
 use Rattle.irc_world.specs.World.{Hall, World, home_in, machine_at, place_at}
 use Rattle.irc_world.specs.WorldHolds.{IsWorld}
-use Rattle.irc_follow.specs.AtRest.{part_of, AreRight, IsOfWorld, PartAtRestIsSound}
+use Rattle.irc_follow.specs.AtRest.{side_state_of, AreRight, IsOfWorld, SideAtRestIsSound}
 use Rattle.irc_follow.specs.Fits.{Fits}
-use Rattle.irc_follow.specs.Part.{Fixed, info_in, is_home_of, IsFixed}
+use Rattle.irc_follow.specs.SideState.{ItemSetting, info_in, is_home_of, IsItemSetting}
 use Rattle.irc_follow.specs.Tree.{shape, shape_in}
 use Rattle.irc_items.specs.GoodLines.{closings}
 use Rattle.irc_items.proofs.Client.Due.{IsDueAtHome, client_in}
@@ -35,9 +35,9 @@ use Rattle.irc_items.proofs.Home.Clients.{staying}
 use Rattle.irc_items.proofs.Home.Effects.{AreOneAt, KnowsWays, view_in}
 use Rattle.irc_items.proofs.Home.Events.{AreDecisionLaws, IsHomeOf, handled_so}
 
-pub record DoesAsMachine (s : Fixed) (world : World) (routes : Name → Known) (h : Name)
+pub record DoesAsMachine (s : ItemSetting) (world : World) (routes : Name → Known) (h : Name)
     (view : View) (happening : Happening) : Type 0 where
-  pub fits : Fits s h (part_of s (by_machine s.settings world h happening).world routes h)
+  pub fits : Fits s h (side_state_of s (by_machine s.settings world h happening).world routes h)
       (client_told view happening).view
   pub lines : (client : ℕ) → is_home_of s.homes h client ≡ true → lines_to client
       (client_told view happening).out ≡ (by_machine s.settings world h happening).lines client
@@ -48,9 +48,9 @@ pub record DoesAsMachine (s : Fixed) (world : World) (routes : Name → Known) (
 
 pub record AreHomeLaws : Type 0 where
   pub decisions : AreDecisionLaws
-  pub sound : PartAtRestIsSound
+  pub sound : SideAtRestIsSound
 
-pub due_mine : (s : Fixed) (world : World) (h : Name) (happening : Happening)
+pub due_mine : (s : ItemSetting) (world : World) (h : Name) (happening : Happening)
     → IsDueAtHome s world h happening → is_home_of s.homes h (client_in happening) ≡ true
 due_mine s world h happening due = ap (λ o. option_map_or (same h) o false) (at_home happening due)
     ∙ (bytes_decides h h).1 refl
@@ -60,8 +60,8 @@ due_mine s world h happening due = ap (λ o. option_map_or (same h) o false) (at
     at_home (connects conn host) due = due.0
     at_home happening due = due.0
 
-module _ (s : Fixed) (world : World) (routes : Name → Known) (h : Name) (view : View)
-    (fits : Fits s h (part_of s world routes h) view) where
+module _ (s : ItemSetting) (world : World) (routes : Name → Known) (h : Name) (view : View)
+    (fits : Fits s h (side_state_of s world routes h) view) where
   -- each other server of its part is behind one of its links
   pub ways_known : KnowsWays h (is_home_of s.homes h) view (λ x. joined world.links x h)
   ways_known home known =
@@ -104,7 +104,7 @@ module _ (s : Fixed) (world : World) (routes : Name → Known) (h : Name) (view 
     room = record { well = fits.sound.well; at_known = fits.sound.at_known; own = own_users };
   }
 
-  module _ (laws : AreHomeLaws) (happening : Happening) (fixed : IsFixed s)
+  module _ (laws : AreHomeLaws) (happening : Happening) (fixed : IsItemSetting s)
       (among : IsAmong s.names h) (of_world : IsOfWorld s world)
       (right : AreRight s world.links routes)
       (after : IsWorld s.settings (by_machine s.settings world h happening).world)
@@ -118,7 +118,7 @@ module _ (s : Fixed) (world : World) (routes : Name → Known) (h : Name) (view 
     hall_now = ap (λ b. if b then record { clients = now.clients; room = now.room }
         else world.hall h) fits.here
 
-    fits_now : Fits s h (part_of s (by_machine s.settings world h happening).world routes h)
+    fits_now : Fits s h (side_state_of s (by_machine s.settings world h happening).world routes h)
         (view_in h (is_home_of s.homes h) view now)
     fits_now = record {
       here = fits.here;
@@ -144,7 +144,8 @@ module _ (s : Fixed) (world : World) (routes : Name → Known) (h : Name) (view 
 
     does_so : DoesAsMachine s world routes h view happening
     does_so = record {
-      fits = subst (Fits s h (part_of s (by_machine s.settings world h happening).world routes h))
+      fits = subst
+          (Fits s h (side_state_of s (by_machine s.settings world h happening).world routes h))
           (sym one.view) fits_now;
       lines = λ client mine.
           one.told client ∙ ap (λ b. cond b
@@ -155,9 +156,12 @@ module _ (s : Fixed) (world : World) (routes : Name → Known) (h : Name) (view 
       closes_none = one.closes_none;
     }
 
-pub does_as_machine : AreHomeLaws → (s : Fixed) (world : World) (routes : Name → Known) (h : Name)
-    (view : View) (happening : Happening) → IsFixed s → IsAmong s.names h → IsWorld s.settings world
-    → IsOfWorld s world → AreRight s world.links routes → Fits s h (part_of s world routes h) view
+pub does_as_machine : AreHomeLaws → (s : ItemSetting) (world : World) (routes : Name → Known)
+    (h : Name)
+    (view : View) (happening : Happening) → IsItemSetting s → IsAmong s.names h
+    → IsWorld s.settings world
+    → IsOfWorld s world → AreRight s world.links routes
+    → Fits s h (side_state_of s world routes h) view
     → IsWorld s.settings (by_machine s.settings world h happening).world
     → place_of (routes h) ≡ place_at s.settings world.links h → IsDueAtHome s world h happening
     → DoesAsMachine s world routes h view happening

@@ -14,8 +14,8 @@ use Rattle.irc_room.specs.effect.Effect.{Effect}
 use Rattle.irc_room.specs.Effects.{brings_free}
 use Rattle.irc_room.specs.OtherInvitations.{AreAlike}
 use Rattle.irc_room.specs.Lemmas.AlikeLaw.{alike_take_alike, home_is_alike}
-use Rattle.irc_links.specs.Ends.{End, is_met}
-use Rattle.irc_links.specs.Ways.{told_homes, ways_toward}
+use Rattle.irc_stage.specs.Ends.{End, is_met}
+use Rattle.irc_stage.specs.Ways.{told_homes, ways_toward}
 use Rattle.irc_merge.specs.Deeds.{does}
 use Rattle.irc_relay.specs.Distances.{IsAmong}
 use Rattle.irc_relay.specs.Links.{Name, linked, same, toward, AreLinked}
@@ -31,11 +31,12 @@ use Rattle.irc_burst.specs.HandshakeMeant.{handshake_meant}
 use Rattle.irc_link_writer.specs.Written.{wire}
 use Rattle.irc_stage.specs.EffectTold.{on_links, ways_at}
 use Rattle.irc_stage.specs.View.{View}
-use Rattle.irc_deeds.specs.Heard.{heard, of_met, opened, tells}
+use Rattle.irc_server.specs.Heard.{heard, of_met, opened, tells}
 use Rattle.irc_wire.specs.EachReadBack.{EachIsReadBack}
 use Rattle.irc_wire.specs.ReadBack.{IsReadBack}
 use Rattle.irc_follow.specs.Tree.{shape_in}
-use Rattle.irc_follow.specs.Part.{Fixed, Part, info_in, number, IsFixed, IsSoundPart}
+use Rattle.irc_follow.specs.SideState.{ItemSetting, SideState, info_in, number, IsItemSetting}
+use Rattle.irc_follow.specs.SideState.{IsSoundSide}
 use Rattle.irc_follow.specs.Fits.{far_end, far_of, Fits, IsNumberOf}
 use Rattle.irc_follow.specs.Laws.{GoesOn, told, passed}
 use Rattle.irc_follow.specs.Says.{lines_on, Says, IsDoableEffect}
@@ -47,8 +48,8 @@ use Rattle.irc_follow.specs.Lemmas.EffectsReadNext.{agrees, can_be_read, link_of
 use Rattle.irc_follow.specs.Lemmas.SaidEffect.{rooms_alike}
 use Rattle.irc_follow.specs.Lemmas.SaidEffectToldOn.{no_row, one_deed, sent_by, told_alike}
 
-module _ {s : Fixed} {h : Name} {w : Part} {view : View} (writer : Fits s h w view) where
-  sound : IsSoundPart s w
+module _ {s : ItemSetting} {h : Name} {w : SideState} {view : View} (writer : Fits s h w view) where
+  sound : IsSoundSide s w
   sound = writer.sound
 
   h_among : IsAmong s.names h
@@ -204,7 +205,7 @@ module _ {s : Fixed} {h : Name} {w : Part} {view : View} (writer : Fits s h w vi
 
     -- ---- one line for a neighbour that takes its lines, or none
 
-    module _ (read_back : EachIsReadBack) (fixed : IsFixed s) (other : View)
+    module _ (read_back : EachIsReadBack) (fixed : IsItemSetting s) (other : View)
         (next : TakesFrom s.streams u h) (reader : Fits s u w other) (effect : Effect)
         (doable : IsDoableEffect s w effect) where
       u_linked : AreLinked w.tree.forest u h

@@ -33,11 +33,11 @@ use Rattle.irc_wire.specs.EachReadBack.{EachIsReadBack}
 use Rattle.irc_world.specs.Bounds.{effects_at}
 use Rattle.irc_world.specs.World.{World, machine_at, place_at}
 use Rattle.irc_world.specs.WorldHolds.{IsWorld}
-use Rattle.irc_follow.specs.AtRest.{part_of}
+use Rattle.irc_follow.specs.AtRest.{side_state_of}
 use Rattle.irc_follow.specs.Fits.{Fits}
 use Rattle.irc_follow.specs.Laws.{DoneStaysSound, GoesOn, told, passed}
-use Rattle.irc_follow.specs.Part.{Fixed, done, is_home_of, number, IsFixed}
-use Rattle.irc_follow.specs.Part as of_side
+use Rattle.irc_follow.specs.SideState.{ItemSetting, done, is_home_of, number, IsItemSetting}
+use Rattle.irc_follow.specs.SideState as of_side
 use Rattle.irc_follow.specs.Relinked.{BehindSourceIsFar}
 use Rattle.irc_follow.specs.Says.{neighbour_served, lines_on, machine, play, ComesFar}
 use Rattle.irc_follow.specs.Says.{IsDoableEffect, IsFar}
@@ -83,25 +83,26 @@ next_takes links h u forest there = record {
     hop = next_hop links u h forest (linked_joined links u h back)
         (linked_other links u h forest back)
 
-module _ (laws : AreTellingLaws) (s : Fixed) (fixed : IsFixed s) (links : List Link) (h : Name)
+module _ (laws : AreTellingLaws) (s : ItemSetting) (fixed : IsItemSetting s) (links : List Link)
+    (h : Name)
     (view : View) where
   -- the server, but for its clients, at a moment of its side
-  abbrev twin : of_side.Part → View
+  abbrev twin : of_side.SideState → View
   twin w = record view {
     clients = retain_keys w.hall.clients (is_home_of s.homes h);
     room = of_home h w.hall.room;
   }
 
   -- the side whose source the server is, after some of the effects
-  record IsTelling (w : of_side.Part) : Type 0 where
+  record IsTelling (w : of_side.SideState) : Type 0 where
     pub writer : Fits s h w (twin w)
     pub far : IsFar s w h
     pub everybody : (x p : Name) → TakesFrom s.streams x p → w.tree.here x ≡ true
     pub side : IsWithinSide s links w
     pub ways : KnowsWays h (is_home_of s.homes h) view w.tree.knows
 
-  comes_far : (w : of_side.Part) → IsTelling w → (effect : Effect) → IsOwnTold h w.hall.room effect
-      → ComesFar s w effect
+  comes_far : (w : of_side.SideState) → IsTelling w → (effect : Effect)
+      → IsOwnTold h w.hall.room effect → ComesFar s w effect
   comes_far w telling (AddUser user) its =
       let at_home : h ≡ user.home = sym ((bytes_decides user.home h).0 its.step.own) in
       record {
@@ -111,8 +112,8 @@ module _ (laws : AreTellingLaws) (s : Fixed) (fixed : IsFixed s) (links : List L
       }
   comes_far w telling effect its = tt
 
-  doable_now : (w : of_side.Part) → IsTelling w → (effect : Effect) → IsOwnTold h w.hall.room effect
-      → IsDoableEffect s w effect
+  doable_now : (w : of_side.SideState) → IsTelling w → (effect : Effect)
+      → IsOwnTold h w.hall.room effect → IsDoableEffect s w effect
   doable_now w telling effect its = record {
     possible = its.step.possible;
     busy = its.busy;
@@ -123,7 +124,7 @@ module _ (laws : AreTellingLaws) (s : Fixed) (fixed : IsFixed s) (links : List L
     everybody = λ homes is x p takes. telling.everybody x p takes;
   }
 
-  still_tells : (w : of_side.Part) (effect : Effect) → IsTelling w → IsDoableEffect s w effect
+  still_tells : (w : of_side.SideState) (effect : Effect) → IsTelling w → IsDoableEffect s w effect
       → IsTelling (done s w (does effect))
   unfolding done
   still_tells w effect telling doable = record {
@@ -143,7 +144,7 @@ module _ (laws : AreTellingLaws) (s : Fixed) (fixed : IsFixed s) (links : List L
     ways = telling.ways;
   }
 
-  room_so : (w : of_side.Part) (effect : Effect) → IsTelling w → IsPossible w.hall.room effect
+  room_so : (w : of_side.SideState) (effect : Effect) → IsTelling w → IsPossible w.hall.room effect
       → room_after (in_room view (of_home h w.hall.room)) effect
       ≡ of_home h (after w.hall.room effect)
   room_so w effect telling possible =
@@ -160,11 +161,11 @@ module _ (laws : AreTellingLaws) (s : Fixed) (fixed : IsFixed s) (links : List L
 
   module _ (later : World) (same_links : later.links ≡ links) (routes : Name → Known) (client : ℕ)
       (u : Name) (next : TakesFrom s.streams u h) where
-    abbrev AreToldTo : of_side.Part → View → List Deed → List (List ℕ) → Type 0
+    abbrev AreToldTo : of_side.SideState → View → List Deed → List (List ℕ) → Type 0
     AreToldTo w other deeds lines = Tells (machine s client) (play s client)
         (good_terms s no_answers later routes) h u w other deeds lines
 
-    one_more : (w : of_side.Part) (other : View) (effect : Effect) (deeds : List Deed)
+    one_more : (w : of_side.SideState) (other : View) (effect : Effect) (deeds : List Deed)
         (first more : List (List ℕ)) → IsWithinSide s links w → Fits s u w other
         → GoesOn s h u w other (does effect) first → ((now : View) → Fits s u
         (done s w (does effect)) now → AreToldTo (done s w (does effect)) now deeds more)
@@ -183,7 +184,7 @@ module _ (laws : AreTellingLaws) (s : Fixed) (fixed : IsFixed s) (links : List L
         (passing_by passes
         (rest other ((laws.line.passed s u w (does effect) passes).fits other reader)))
 
-    tells_along : (effects : List Effect) (w : of_side.Part) (other : View) → IsTelling w
+    tells_along : (effects : List Effect) (w : of_side.SideState) (other : View) → IsTelling w
         → Fits s u w other → EachInTurn (IsOwnTold h) w.hall.room effects → AreToldTo w other
         (map does effects) (lines_along (number s u) view (of_home h w.hall.room) effects)
     unfolding done
@@ -201,8 +202,9 @@ module _ (laws : AreTellingLaws) (s : Fixed) (fixed : IsFixed s) (links : List L
 
   -- ---- a server that it is not linked to
 
-  none_along : (v : Name) (effects : List Effect) (w : of_side.Part) → (AreLinked w.tree.forest h v
-      → ⊥) → IsTelling w → EachInTurn (IsOwnTold h) w.hall.room effects
+  none_along : (v : Name) (effects : List Effect) (w : of_side.SideState)
+      → (AreLinked w.tree.forest h v → ⊥) → IsTelling w
+      → EachInTurn (IsOwnTold h) w.hall.room effects
       → lines_along (number s v) view (of_home h w.hall.room) effects ≡ []
   unfolding done
   none_along v [] w apart telling each = refl
@@ -215,15 +217,16 @@ module _ (laws : AreTellingLaws) (s : Fixed) (fixed : IsFixed s) (links : List L
 
 -- ---- the server at rest, by a client's event
 
-module _ (laws : AreTellingLaws) (s : Fixed) (world : World) (routes : Name → Known) (h : Name)
-    (view : View) (happening : Happening) (fixed : IsFixed s)
+module _ (laws : AreTellingLaws) (s : ItemSetting) (world : World) (routes : Name → Known)
+    (h : Name)
+    (view : View) (happening : Happening) (fixed : IsItemSetting s)
     (forest : IsForest world.links) (streams : s.streams ≡ streams_from world.links
     (from_one world.links h)) (is_world : IsWorld s.settings world)
-    (fits : Fits s h (part_of s world routes h) view)
+    (fits : Fits s h (side_state_of s world routes h) view)
     (place : place_of (routes h) ≡ place_at s.settings world.links h)
     (due : IsDueAtHome s world h happening) where
-  abbrev here : of_side.Part
-  here = part_of s world routes h
+  abbrev here : of_side.SideState
+  here = side_state_of s world routes h
 
   abbrev effects : List Effect
   effects = effects_at (machine_at s.settings world h) happening
@@ -311,7 +314,7 @@ module _ (laws : AreTellingLaws) (s : Fixed) (world : World) (routes : Name → 
       (next_takes world.links h u forest there)) effects here other begins reader each)
 
   same_part : (u : Name) → AreJoined world.links u h
-      → part_of s world routes h ≡ part_of s world routes u
+      → side_state_of s world routes h ≡ side_state_of s world routes u
   same_part u together = λ i. record {
     tree = record {
       forest = world.links;
@@ -335,9 +338,9 @@ module _ (laws : AreTellingLaws) (s : Fixed) (world : World) (routes : Name → 
   }
     where
       told : (u : Name) (other : View) (client : ℕ) → AreLinked world.links h u
-          → Fits s u (part_of s world routes u) other
+          → Fits s u (side_state_of s world routes u) other
           → Tells (machine s client) (play s client) (good_terms s no_answers later routes) h u
-          (part_of s world routes u) other (map does effects)
+          (side_state_of s world routes u) other (map does effects)
           (lines_on (number s u) (client_told view happening).out)
       told u other client there reader =
           let one =

@@ -22,7 +22,7 @@ use Rattle.irc_users.specs.declared.user.User.{User}
 use Rattle.irc_link_writer.specs.Written.{wire}
 use Rattle.irc_world.specs.Stepping.{merged}
 use Rattle.irc_world.specs.World.{Hall, World}
-use Rattle.irc_follow.specs.Part.{Fixed}
+use Rattle.irc_follow.specs.SideState.{ItemSetting}
 use Rattle.irc_follow.specs.Lemmas.BehindLinks.{joined_test}
 use Rattle.irc_follow.specs.Lemmas.Neighbours.{IsKnownOfLines}
 use Rattle.irc_items.proofs.Burst.Collisions.{answers_of, kill_introduces_nobody, kill_unheard}
@@ -46,7 +46,8 @@ both_are_gone one other well well_other q here there =
         users_without room beside well_formed q
         ∙ (λ i. cond (this i && that i) None (row room.users q))
 
-module _ (laws : IsKnownOfLines) (known : IsKnownOfSides) {s : Fixed} {l : Link} {world : World}
+module _ (laws : IsKnownOfLines) (known : IsKnownOfSides) {s : ItemSetting} {l : Link}
+    {world : World}
     {routes : Name → Known} {t b : Name}
     (is : IsSideOfLink s l world routes t b) where
   abbrev forest : List Link

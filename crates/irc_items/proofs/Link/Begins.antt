@@ -9,8 +9,8 @@ use Rattle.irc_relay.specs.Relay.{under_way, GoesAway, TakesFrom}
 use Rattle.irc_stage.specs.View.{View}
 use Rattle.irc_world.specs.Stepping.{link_made}
 use Rattle.irc_world.specs.World.{World}
-use Rattle.irc_follow.specs.Part.{Fixed, Part}
-use Rattle.irc_follow.specs.Relinked.{PartAfterLink}
+use Rattle.irc_follow.specs.SideState.{ItemSetting, SideState}
+use Rattle.irc_follow.specs.Relinked.{SideAfterLink}
 use Rattle.irc_follow.specs.Says.{machine, play}
 use Rattle.irc_follow.specs.Lemmas.SideAtRest.{joined_among}
 use Rattle.irc_network.specs.Laws.{RestStays}
@@ -24,35 +24,35 @@ use Rattle.irc_items.proofs.Common.Ends.{chosen, chosen_at, other_end}
 use Rattle.irc_items.proofs.Common.Sources.{Stands, at_end, behind, aside, source_of, starts_from}
 use Rattle.irc_items.proofs.Common.Sources.{one_moment}
 use Rattle.irc_items.proofs.Link.Step.{apart, end_among, fits_begun, from_other, has_ends_so}
-use Rattle.irc_items.proofs.Link.Step.{link_fixed, not_ends, old_ends, stands, IsLinkStep}
+use Rattle.irc_items.proofs.Link.Step.{link_setting, not_ends, old_ends, stands, IsLinkStep}
 use Rattle.irc_items.proofs.Link.Sides.{deeds_of_link, routes_after, side_of}
 use Rattle.irc_items.proofs.Link.Ways.{link_lines, nothing_else, to_end}
 
 -- how the servers' lines are about their sides, while a link is made
-abbrev pub terms_of_link : Network → Name → Name → Terms View (List ℕ) Part Deed
+abbrev pub terms_of_link : Network → Name → Name → Terms View (List ℕ) SideState Deed
 terms_of_link net near far =
-    good_terms (link_fixed net near far) (answers_of (record { near = near; far = far }))
+    good_terms (link_setting net near far) (answers_of (record { near = near; far = far }))
     (link_made (world_now net) near far).world
-    (routes_after (link_fixed net near far) (record { near = near; far = far }) (world_now net)
+    (routes_after (link_setting net near far) (record { near = near; far = far }) (world_now net)
     (routes_in net))
 
 -- what the two ends tell each other, and where that brings the sides
-abbrev pub IsToldByLink : {net new : Network} {near far : Name} → PartAfterLink → RestStays
+abbrev pub IsToldByLink : {net new : Network} {near far : Name} → SideAfterLink → RestStays
     → IsLinkStep net new near far → Type 0
 IsToldByLink {net} {new} {near} {far} after_link quiet given = (t b : Name)
     → HasEnds (record { near = near; far = far }) t b → (client : ℕ)
-    → Tells (machine (link_fixed net near far) client) (play (link_fixed net near far) client)
+    → Tells (machine (link_setting net near far) client) (play (link_setting net near far) client)
     (terms_of_link net near far) b t
-    (side_of (link_fixed net near far) (record { near = near; far = far }) (world_now net)
+    (side_of (link_setting net near far) (record { near = near; far = far }) (world_now net)
     (routes_in net) t) (view_at new t)
-    (deeds_of_link (link_fixed net near far) (world_now net) (routes_in net) t b)
+    (deeds_of_link (link_setting net near far) (world_now net) (routes_in net) t b)
     (link_lines after_link quiet given b t)
 
-module _ {net new : Network} {near far : Name} (after_link : PartAfterLink) (quiet : RestStays)
+module _ {net new : Network} {near far : Name} (after_link : SideAfterLink) (quiet : RestStays)
     (given : IsLinkStep net new near far)
     (tells : IsToldByLink after_link quiet given) (client : ℕ) where
-  abbrev s : Fixed
-  s = link_fixed net near far
+  abbrev s : ItemSetting
+  s = link_setting net near far
 
   abbrev world : World
   world = world_now net
@@ -82,9 +82,9 @@ module _ {net new : Network} {near far : Name} (after_link : PartAfterLink) (qui
       then deeds_of_link s world (routes_in net) far near else [])
 
   abbrev IsTold : Name → Name → List Deed → List (List ℕ) → Type 0
-  IsTold p t acts lines =
+  IsTold p t deed_list lines =
       Tells (machine s client) (play s client) (terms_of_link net near far) p t
-      (side_of s l world (routes_in net) t) (view_at new t) acts lines
+      (side_of s l world (routes_in net) t) (view_at new t) deed_list lines
 
   abbrev IsToldFirst : Name → Type 0
   IsToldFirst t = IsTold (s.streams.parent t) t (deeds t)
@@ -94,7 +94,7 @@ module _ {net new : Network} {near far : Name} (after_link : PartAfterLink) (qui
   told_at t b ends =
       subst (λ p. IsTold p t (deeds t) (under_way (relayed s new client) p t))
       (sym (from_other given t b ends).0)
-      (subst (λ acts. IsTold b t acts (under_way (relayed s new client) b t))
+      (subst (λ deed_list. IsTold b t deed_list (under_way (relayed s new client) b t))
       (sym (deeds_at t t b ends refl))
       (subst (IsTold b t (deeds_of_link s world (routes_in net) t b))
       (sym (to_end after_link quiet given client t b ends)) (tells t b ends client)))

@@ -25,9 +25,9 @@ use Rattle.irc_stage.specs.View.{View}
 use Rattle.irc_world.specs.Stepping.{link_made, merged}
 use Rattle.irc_world.specs.World.{Hall, World}
 use Rattle.irc_world.specs.WorldHolds.{IsWorld}
-use Rattle.irc_follow.specs.AtRest.{part_of, AreRight, IsOfWorld, PartAtRestIsSound}
+use Rattle.irc_follow.specs.AtRest.{side_state_of, AreRight, IsOfWorld, SideAtRestIsSound}
 use Rattle.irc_follow.specs.Fits.{Fits}
-use Rattle.irc_follow.specs.Part.{Fixed, info_in, is_home_of, IsFixed, IsSoundPart}
+use Rattle.irc_follow.specs.SideState.{ItemSetting, info_in, is_home_of, IsItemSetting, IsSoundSide}
 use Rattle.irc_follow.specs.Says.{play}
 use Rattle.irc_follow.specs.Tree.{index_in, shape_in}
 use Rattle.irc_follow.specs.Lemmas.SideAtRest.{ends_there}
@@ -46,9 +46,9 @@ use Rattle.irc_items.proofs.Common.Right.{all_right, refits, right_still, same_k
 
 -- The world before a link is made between two parts. Each line that the one tells of its room is
 -- read at the other as what it says, or as the KILL of a user there.
-pub record IsLinkedWorld (s : Fixed) (l : Link) (world : World)
+pub record IsLinkedWorld (s : ItemSetting) (l : Link) (world : World)
     (routes : Name → Known) : Type 0 where
-  pub fixed : IsFixed s
+  pub fixed : IsItemSetting s
   pub holds : IsWorld s.settings world
   pub homes : s.homes ≡ world.homes
   pub apart : AreJoined world.links l.near l.far → ⊥
@@ -56,24 +56,24 @@ pub record IsLinkedWorld (s : Fixed) (l : Link) (world : World)
   pub right : AreRight s world.links routes
   pub read : (e o : Name) → HasEnds l e o → AllByRecursion (IsReadDeed e) (room_deeds world e o)
   pub after : IsWorld s.settings (link_made world l.near l.far).world
-  pub sound : (e o : Name) → HasEnds l e o → IsSoundPart s
+  pub sound : (e o : Name) → HasEnds l e o → IsSoundSide s
       (all_done (play s 0) (side_of s l world routes e) (deeds_of_link s world routes e o))
 
 -- Once a server has followed the deeds of the link, it is what it has to be in the world with that
 -- link, and each of its clients has seen what it receives.
 -- Servers of other parts are it as they are, wherever lines came from before, and their clients
 -- receive nothing.
-pub record ComesToLinked (s : Fixed) (l : Link) (world : World)
+pub record ComesToLinked (s : ItemSetting) (l : Link) (world : World)
     (routes : Name → Known) : Type 0 where
   pub right : AreRight s (l ∷ world.links) (routes_after s l world routes)
   pub comes : (e o : Name) → HasEnds l e o → (client : ℕ) (t : Name) (view : View)
       → IsAmong s.names t → AreJoined world.links t e → Fits s t (all_done (play s client)
       (side_of s l world routes t) (deeds_of_link s world routes e o)) view → Fits s t
-      (part_of s (link_made world l.near l.far).world (routes_after s l world routes) t) view
+      (side_state_of s (link_made world l.near l.far).world (routes_after s l world routes) t) view
   pub others : (streams : Streams) (t : Name) (view : View) → IsAmong s.names t
       → ((e o : Name) → HasEnds l e o → AreJoined world.links t e → ⊥)
-      → Fits (record s { streams = streams }) t (part_of s world routes t) view → Fits s t
-      (part_of s (link_made world l.near l.far).world (routes_after s l world routes) t) view
+      → Fits (record s { streams = streams }) t (side_state_of s world routes t) view → Fits s t
+      (side_state_of s (link_made world l.near l.far).world (routes_after s l world routes) t) view
   pub seen : (e o : Name) → HasEnds l e o → (client : ℕ) (t : Name)
       → AreJoined world.links t e → is_home_of s.homes t client ≡ true
       → all_seen (play s client) t (side_of s l world routes t) (deeds_of_link s world routes e o)
@@ -83,13 +83,13 @@ pub record ComesToLinked (s : Fixed) (l : Link) (world : World)
       → (link_made world l.near l.far).lines client ≡ []
 
 pub record IsKnownOfLinks : Type 0 where
-  pub at_rest : PartAtRestIsSound
+  pub at_rest : SideAtRestIsSound
   pub reads : BurstReadIsMerge
   pub shows : ShownIsMergeShown
   pub even : MergeIsEven
   pub told : WithinLimitsIsTold
 
-module _ (s : Fixed) (l : Link) (world : World) (routes : Name → Known)
+module _ (s : ItemSetting) (l : Link) (world : World) (routes : Name → Known)
     (so : IsLinkedWorld s l world routes) where
   forest : IsForest world.links
   forest = so.holds.sound.forest
@@ -246,7 +246,7 @@ module _ (s : Fixed) (l : Link) (world : World) (routes : Name → Known)
     comes : (e o : Name) → HasEnds l e o → (client : ℕ) (t : Name) (view : View)
         → IsAmong s.names t → AreJoined world.links t e → Fits s t (all_done (play s client)
         (side_of s l world routes t) (deeds_of_link s world routes e o)) view
-        → Fits s t (part_of s now routes_now t) view
+        → Fits s t (side_state_of s now routes_now t) view
     comes e o ends client t view among on follows =
         refits s.streams
         (fits_side s l world routes e o forest known_ends so.right (are_ends e o ends)
@@ -267,8 +267,8 @@ module _ (s : Fixed) (l : Link) (world : World) (routes : Name → Known)
 
     others : (streams : Streams) (t : Name) (view : View) → IsAmong s.names t
         → ((e o : Name) → HasEnds l e o → AreJoined world.links t e → ⊥)
-        → Fits (record s { streams = streams }) t (part_of s world routes t) view
-        → Fits s t (part_of s now routes_now t) view
+        → Fits (record s { streams = streams }) t (side_state_of s world routes t) view
+        → Fits s t (side_state_of s now routes_now t) view
     others streams t view among none fits =
         refits streams fits (joined_test (l ∷ world.links) t t refl)
         (known.at_rest s now routes_now t so.fixed of_world so.after right_now among)
@@ -301,6 +301,6 @@ module _ (s : Fixed) (l : Link) (world : World) (routes : Name → Known)
           (none l.near l.far (inl (refl, refl))) (none l.far l.near (inr (refl, refl)));
     }
 
-pub link_comes_to : IsKnownOfLinks → (s : Fixed) (l : Link) (world : World) (routes : Name → Known)
-    → IsLinkedWorld s l world routes → ComesToLinked s l world routes
+pub link_comes_to : IsKnownOfLinks → (s : ItemSetting) (l : Link) (world : World)
+    (routes : Name → Known) → IsLinkedWorld s l world routes → ComesToLinked s l world routes
 link_comes_to known s l world routes so = comes_to_linked s l world routes so known

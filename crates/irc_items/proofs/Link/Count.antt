@@ -17,7 +17,7 @@ use Rattle.irc_routes.specs.Lemmas.TableRows.{length-values}
 use Rattle.irc_routes.specs.declared.server_row.ServerRow.{ServerRow}
 use Rattle.irc_world.specs.Bounds.{part_size}
 use Rattle.irc_follow.specs.AtRest.{AreRight}
-use Rattle.irc_follow.specs.Part.{Fixed, info_in}
+use Rattle.irc_follow.specs.SideState.{ItemSetting, info_in}
 use Rattle.irc_follow.specs.Tree.{shape, shape_in}
 use Rattle.irc_follow.specs.Lemmas.SideAtRest.{joined_among}
 use Rattle.irc_follow.specs.Lemmas.FewRows.{few_rows, AllAmong}
@@ -58,7 +58,7 @@ among_filtered p (x ∷ xs) q passes among = by (p x) refl (tell q x) (among_fil
     by false e (alike _ one) rest = absurd (let no = sym passes ∙ ap p one ∙ e in cc no)
     by false e (unlike z _) rest = rest (later z)
 
-joined_rows : (s : Fixed) (links : List Link) (routes : Name → Known) (b : Name)
+joined_rows : (s : ItemSetting) (links : List Link) (routes : Name → Known) (b : Name)
     → AreRight s links routes → IsForest links → EndsAreAmong s.names links → IsAmong s.names b
     → AllAmong (filter (but b (joined links b)) s.names) (routes b).rows
 joined_rows s links routes b right forest ends among q r there =
@@ -83,7 +83,7 @@ joined_rows s links routes b right forest ends among q r there =
         ((tests_tell links b q q).1.1 (sym ((tests_tell links q b b).1.0 e))))
         (joined_among s.names links q b forest ends among ((tests_tell links q b b).1.0 e))
 
-pub told_counted : (net : Network) → IsSetUp net → (s : Fixed) → s.names ≡ net.names
+pub told_counted : (net : Network) → IsSetUp net → (s : ItemSetting) → s.names ≡ net.names
     → (links : List Link) (routes : Name → Known) (b : Name) (link : ℕ)
     → AreRight s links routes → IsForest links → EndsAreAmong s.names links → IsAmong s.names b
     → length (servers_told (routes b) link) < part_size (settings_of net) links b

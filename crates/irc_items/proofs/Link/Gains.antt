@@ -20,7 +20,8 @@ use Rattle.irc_stage.specs.declared.clients.Client.TheVariants.{Registering, Reg
 use Rattle.irc_stage.specs.EffectTold.{is_another}
 use Rattle.irc_stage.specs.RoomMachine.{Clients}
 use Rattle.irc_world.specs.World.{Hall}
-use Rattle.irc_follow.specs.Part.{Fixed, Part, client_sees, done, is_home_of, shown_at}
+use Rattle.irc_follow.specs.SideState.{ItemSetting, SideState, client_sees, done, is_home_of}
+use Rattle.irc_follow.specs.SideState.{shown_at}
 use Rattle.irc_follow.specs.Says.{play}
 use Rattle.irc_follow.specs.Tree.{Tree, gained, gained_at, index_in, known_told, told_token}
 use Rattle.irc_items.proofs.Link.Sides.{IsReadDeed}
@@ -104,7 +105,7 @@ abbrev pub gain_of : ServerRow → Deed
 gain_of r = gains r.uplink r.name r.info
 
 -- a side before it gains these servers, and afterwards
-pub record HasGained (rows : List ServerRow) (before after : Part) : Type 0 where
+pub record HasGained (rows : List ServerRow) (before after : SideState) : Type 0 where
   pub forest : after.tree.forest ≡ before.tree.forest
   pub here : after.tree.here ≡ before.tree.here
   pub hall : after.hall ≡ before.hall
@@ -122,8 +123,8 @@ pub or_in_turn : (a b c : Bool) → ((a || b) || c) ≡ (a || (b || c))
 or_in_turn true b c = refl
 or_in_turn false b c = refl
 
-module _ (s : Fixed) (client : ℕ) where
-  pub all_gained : (rows : List ServerRow) (w : Part)
+module _ (s : ItemSetting) (client : ℕ) where
+  pub all_gained : (rows : List ServerRow) (w : SideState)
       → HasGained rows w (all_done (play s client) w (map gain_of rows))
   unfolding done
   all_gained [] w = record {
@@ -158,7 +159,7 @@ module _ (s : Fixed) (client : ℕ) where
   sees_gain uplink name info room (Some (Registering pending)) = refl
   sees_gain uplink name info room (Some (Registered nick)) = refl
 
-  shown_gain : (t : Name) (w : Part) (uplink name info : List ℕ)
+  shown_gain : (t : Name) (w : SideState) (uplink name info : List ℕ)
       → shown_at s client t w (gains uplink name info) ≡ []
   shown_gain t w uplink name info = by (is_home_of s.homes t client)
     where
@@ -167,7 +168,7 @@ module _ (s : Fixed) (client : ℕ) where
       by true = sees_gain uplink name info w.hall.room (get w.hall.clients client)
       by false = refl
 
-  pub nothing_seen : (t : Name) (rows : List ServerRow) (w : Part)
+  pub nothing_seen : (t : Name) (rows : List ServerRow) (w : SideState)
       → all_seen (play s client) t w (map gain_of rows) ≡ []
   nothing_seen t [] w = refl
   nothing_seen t (r ∷ rows) w =
@@ -192,11 +193,11 @@ hall_left deeds hall =
     record { clients = clients_left deeds hall.clients; room = after_deeds hall.room deeds }
 
 -- a side with another hall
-abbrev pub in_hall : Hall → Part → Part
+abbrev pub in_hall : Hall → SideState → SideState
 in_hall hall w = record w { hall = hall }
 
-pub read_deed_done : (s : Fixed) (own : Name) (deed : Deed) (w : Part) → IsReadDeed own deed
-    → done s w deed ≡ in_hall (hall_left (deed ∷ []) w.hall) w
+pub read_deed_done : (s : ItemSetting) (own : Name) (deed : Deed) (w : SideState)
+    → IsReadDeed own deed → done s w deed ≡ in_hall (hall_left (deed ∷ []) w.hall) w
 unfolding done after_deed
 read_deed_done s own (does (AddUser user)) w read = refl
 read_deed_done s own (brings server channel members) w read = refl
@@ -205,7 +206,7 @@ read_deed_done s own (tops server channel topic) w read = refl
 read_deed_done s own (kills server nick) w read = refl
 read_deed_done s own other w read = absurd read
 
-pub burst_done : (s : Fixed) (client : ℕ) (own : Name) (deeds : List Deed) (w : Part)
+pub burst_done : (s : ItemSetting) (client : ℕ) (own : Name) (deeds : List Deed) (w : SideState)
     → AllByRecursion (IsReadDeed own) deeds
     → all_done (play s client) w deeds ≡ in_hall (hall_left deeds w.hall) w
 burst_done s client own [] w read = refl

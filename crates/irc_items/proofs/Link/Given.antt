@@ -9,7 +9,7 @@ use Rattle.std.specs.List.{cons_option, find, list_any, AllByRecursion}
 use Rattle.std.specs.Option.{option_map, option_map_or}
 use Rattle.irc_batch.specs.Batches.{end_of_link}
 use Rattle.irc_batch.specs.declared.close_reason.CloseReason.TheVariants as reason
-use Rattle.irc_handshake.specs.Passwords.{is_password}
+use Rattle.irc_link_words.specs.Passwords.{is_password}
 use Rattle.irc_line.specs.Messages.{Written, line_text, text}
 use Rattle.irc_relay.specs.Distances.{IsAmong}
 use Rattle.irc_relay.specs.Lemmas.TellingNames.{Telling, alike, unlike, tell}
@@ -18,7 +18,7 @@ use Rattle.irc_relay.specs.Lemmas.NextHops.{linked_joined}
 use Rattle.irc_relay.specs.Lemmas.LinkTakenOut.{tests_tell}
 use Rattle.irc_stage.specs.EffectTold.{in_silence, with_sent}
 use Rattle.irc_stage.specs.View.{KnownPeer, View, is_named, password_for, with_end}
-use Rattle.irc_deeds.specs.LinkServed.{on_link, opening_parts}
+use Rattle.irc_server.specs.LinkServed.{on_link, opening_parts}
 use Rattle.irc_server.specs.Served.{Served, ServedKeepsItsSetting, link_up, served}
 use Rattle.irc_world.specs.Refused.{are_equal, link_refused}
 use Rattle.irc_world.specs.Stepping.{link}
@@ -26,8 +26,8 @@ use Rattle.irc_world.specs.World.{home_in}
 use Rattle.irc_follow.specs.Fits.{far_of}
 use Rattle.irc_follow.specs.Says.{body, lines_on}
 use Rattle.irc_follow.specs.Tree.{index_in}
-use Rattle.irc_network.specs.Network.{Course, Network, Reply, begun, given, item_kept}
-use Rattle.irc_network.specs.Network.{servers_linked, received_by, reply, site_view, with_way}
+use Rattle.irc_network.specs.Network.{Progress, Network, begun, given, item_kept}
+use Rattle.irc_network.specs.Network.{servers_linked, received_by, reply, node_view, with_way}
 use Rattle.irc_network.specs.Refusing.{are_peers, fault_at_rest, link_fault, meeting_fault}
 use Rattle.irc_items.specs.GoodLines.{closings}
 use Rattle.irc_items.specs.Laws.{NewLinkIsOpen}
@@ -37,10 +37,10 @@ use Rattle.irc_items.specs.SetUp.{view_at, HasPassword, IsSetUp}
 use Rattle.irc_items.specs.Sound.{world_now, IsSound}
 use Rattle.irc_items.proofs.Common.AtRest.{nothing_received}
 use Rattle.irc_items.proofs.Common.Step.{HasTaken}
-use Rattle.irc_items.proofs.Sites.Asked.{reply_taken}
-use Rattle.irc_items.proofs.Sites.BothAsked.{asked_both, both_asked, both_found, both_taken}
-use Rattle.irc_items.proofs.Sites.BothAsked.{is_asked, HasAskedBoth, WillAskBoth}
-use Rattle.irc_items.proofs.Sites.SetWays.{opens}
+use Rattle.irc_items.proofs.Nodes.Asked.{reply_taken}
+use Rattle.irc_items.proofs.Nodes.BothAsked.{asked_both, both_asked, both_found, both_taken}
+use Rattle.irc_items.proofs.Nodes.BothAsked.{is_asked, HasAskedBoth, WillAskBoth}
+use Rattle.irc_items.proofs.Nodes.SetWays.{opens}
 use Rattle.irc_items.specs.Lemmas.SetUpFacts.{viewed, viewed_nowhere}
 use Rattle.irc_items.proofs.Good.PutOut.{all_on_it, none_to_clients}
 
@@ -165,7 +165,7 @@ meeting net set_up near far taken =
         let f = sym (λ i. link_fault net near far (viewed net set_up near near_among i)
         (viewed_nowhere net far none i)) ∙ taken in absurd (cc f)
     by false none c other =
-        let f = sym (ap (λ o. link_fault net near far o (site_view net far))
+        let f = sym (ap (λ o. link_fault net near far o (node_view net far))
         (viewed_nowhere net near none)) ∙ taken in absurd (cc f)
 
 -- ---- what is put out
@@ -272,10 +272,10 @@ module _ (stays : ServedKeepsItsSetting) (net : Network) (sound : IsSound net)
   abbrev parts : List Written
   parts = opening_parts (view_at net near) far
 
-  abbrev calls : Reply
+  abbrev calls : Served
   calls = record { view = with_end q (Some far) (view_at net near); out = on_link q parts }
 
-  abbrev waits : Reply
+  abbrev waits : Served
   waits = record { view = with_end p None (view_at net far); out = [] }
 
   will : WillAskBoth net near far (record { near = near; far = far } ∷ net.links) with_way (Some [])
@@ -362,5 +362,5 @@ pub link_is_given : ServedKeepsItsSetting → (net : Network) → IsSound net
     → IsOneRoom net → (near far : Name) → IsMeeting net near far
     → IsLinked net (given (link near far) net).net near far
 link_is_given stays net sound room near far m =
-    subst (λ (course : Course). IsLinked net course.net near far)
+    subst (λ (progress : Progress). IsLinked net progress.net near far)
     (sym (is_given stays net sound room near far m)) (linked_so stays net sound room near far m)

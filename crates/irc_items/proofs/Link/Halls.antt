@@ -29,7 +29,7 @@ use Rattle.irc_world.specs.Stepping.{clashes_in, merged}
 use Rattle.irc_world.specs.World.{Hall, Setting, World}
 use Rattle.irc_world.specs.WorldHolds.{IsWorld}
 use Rattle.irc_world.specs.Lemmas.MergedClients.{first_of, get-merged}
-use Rattle.irc_follow.specs.Part.{is_home_of}
+use Rattle.irc_follow.specs.SideState.{is_home_of}
 use Rattle.irc_follow.specs.Lemmas.SideAtRest.{joined_so}
 use Rattle.irc_items.proofs.Link.Gains.{hall_left}
 use Rattle.irc_items.proofs.Link.Kills.{Fares, burst_fares, client_left, left_of, none_left}

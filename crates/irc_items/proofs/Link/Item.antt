@@ -10,7 +10,7 @@ use Rattle.irc_server.specs.Served.{ServedKeepsItsSetting}
 use Rattle.irc_world.specs.Stepping.{link, link_made, step}
 use Rattle.irc_world.specs.World.{World}
 use Rattle.irc_world.specs.WorldHolds.{IsWorld}
-use Rattle.irc_follow.specs.Part.{Fixed, Part, IsSoundPart}
+use Rattle.irc_follow.specs.SideState.{ItemSetting, SideState, IsSoundSide}
 use Rattle.irc_follow.specs.Says.{machine, play}
 use Rattle.irc_network.specs.Network.{Network, given, is_at_rest}
 use Rattle.irc_network.specs.Refusing.{fault_at_rest}
@@ -28,7 +28,7 @@ use Rattle.irc_items.proofs.Link.Count.{told_counted}
 use Rattle.irc_items.proofs.Link.Given.{link_is_given, meeting, IsLinked, IsMeeting}
 use Rattle.irc_items.proofs.Link.RoomTold.{AreRoomLaws}
 use Rattle.irc_items.proofs.Link.Rooms.{rooms_meet, AreRooms}
-use Rattle.irc_items.proofs.Link.Step.{apart, covers, fixed_here, forest, link_fixed, old_ends}
+use Rattle.irc_items.proofs.Link.Step.{apart, covers, fixed_here, forest, link_setting, old_ends}
 use Rattle.irc_items.proofs.Link.Step.{right_here, IsLinkStep, end_among, from_other}
 use Rattle.irc_items.proofs.Link.Sides.{deeds_of_link, routes_after, side_of}
 use Rattle.irc_items.proofs.Link.Sound.{link_sound, AreLinkLaws, ComesToOne}
@@ -48,8 +48,8 @@ module _ (laws : AreLinkItemLaws) (net : Network) (sound : IsSound net)
   abbrev new : Network
   new = (given (link near far) net).net
 
-  abbrev s : Fixed
-  s = link_fixed net near far
+  abbrev s : ItemSetting
+  s = link_setting net near far
 
   abbrev world : World
   world = world_now net
@@ -85,10 +85,11 @@ module _ (laws : AreLinkItemLaws) (net : Network) (sound : IsSound net)
   tells = told_by_link laws.rooms laws.link.after_link laws.link.quiet given_so
 
   -- each end follows its side
-  end_sound : (t b : Name) → HasEnds l t b → IsSoundPart s (all_done (play s 0)
+  end_sound : (t b : Name) → HasEnds l t b → IsSoundSide s (all_done (play s 0)
       (side_of s l world (routes_in net) t) (deeds_of_link s world (routes_in net) t b))
   end_sound t b ends =
-      subst (λ acts. IsSoundPart s (all_done (play s 0) (side_of s l world (routes_in net) t) acts))
+      subst (λ deed_list. IsSoundSide s
+      (all_done (play s 0) (side_of s l world (routes_in net) t) deed_list))
       (deeds_at laws.link.after_link laws.link.quiet given_so tells 0 t t b ends refl)
       following.fits.sound
     where
@@ -96,7 +97,7 @@ module _ (laws : AreLinkItemLaws) (net : Network) (sound : IsSound net)
           (relayed s new 0) (side_of s l world (routes_in net) t)
           (deeds laws.link.after_link laws.link.quiet given_so tells 0 t) t
       following =
-          followed View (List ℕ) (List ℕ) Part Deed (machine s 0) (play s 0)
+          followed View (List ℕ) (List ℕ) SideState Deed (machine s 0) (play s 0)
           (terms_of_link net near far) (l ∷ world.links)
           (from_other_end world.links near far) (forest given_so) (covers given_so)
           (well_follow laws.link.line s 0 (fixed_here given_so) (answers_of l)

@@ -41,17 +41,18 @@ use Rattle.irc_stage.specs.Handle.{is_client}
 use Rattle.irc_stage.specs.Lemmas.Counting.{get-kept}
 use Rattle.irc_stage.specs.RoomMachine.{Clients}
 use Rattle.irc_users.specs.declared.user.User.{User}
-use Rattle.irc_follow.specs.Part.{Fixed, Part, client_sees, done, is_home_of, told_end}
+use Rattle.irc_follow.specs.SideState.{ItemSetting, SideState, client_sees, done, is_home_of}
+use Rattle.irc_follow.specs.SideState.{told_end}
 use Rattle.irc_follow.specs.Says.{play}
 use Rattle.irc_follow.specs.Lemmas.DeedEffects.{AllQuiet, members_quiet, sets_quiet, tops_quiet}
 use Rattle.irc_follow.specs.Lemmas.DeedEffects.{users_stay}
-use Rattle.irc_follow.specs.Lemmas.PartEffects.{same_folds}
+use Rattle.irc_follow.specs.Lemmas.EffectsOnSide.{same_folds}
 use Rattle.irc_items.proofs.Burst.ChannelLines.{deeds_of_channels, IsOfChannel}
 use Rattle.irc_items.proofs.Burst.Stated.{both_all}
 use Rattle.irc_items.proofs.Link.Gains.{clients_left, clients_spared, hall_left, in_hall}
 use Rattle.irc_items.proofs.Link.Gains.{read_deed_done}
 use Rattle.irc_items.proofs.Link.Sides.{IsReadDeed}
-use Rattle.irc_registering.specs.Closing.{error_line}
+use Rattle.irc_commands.specs.Closing.{error_line}
 
 -- ---- one client
 
@@ -110,8 +111,8 @@ left_of (deed ∷ deeds) clients q =
     left_of deeds (clients_spared deed clients) q ∙ ap (client_left deeds) (spares deed clients q)
 
 -- and this is what one sees at its home
-pub burst_seen : (s : Fixed) (client : ℕ) (own t : Name) → is_home_of s.homes t client ≡ true
-    → (deeds : List Deed) (w : Part) → AllByRecursion (IsReadDeed own) deeds
+pub burst_seen : (s : ItemSetting) (client : ℕ) (own t : Name) → is_home_of s.homes t client ≡ true
+    → (deeds : List Deed) (w : SideState) → AllByRecursion (IsReadDeed own) deeds
     → all_seen (play s client) t w deeds ≡ seen_in w.hall.room deeds (get w.hall.clients client)
 burst_seen s client own t home [] w read = refl
 burst_seen s client own t home (deed ∷ deeds) w read =

@@ -35,7 +35,7 @@ use Rattle.irc_stage.specs.View.{View}
 use Rattle.irc_wire.specs.EachReadBack.{EachIsReadBack}
 use Rattle.irc_world.specs.World.{Hall, World}
 use Rattle.irc_follow.specs.Fits.{Fits}
-use Rattle.irc_follow.specs.Part.{Fixed, Part, done, info_in, number}
+use Rattle.irc_follow.specs.SideState.{ItemSetting, SideState, done, info_in, number}
 use Rattle.irc_follow.specs.Says.{neighbour_served, Aside, Says}
 use Rattle.irc_follow.specs.Tree.{Shape, shape, shape_in}
 use Rattle.irc_follow.specs.Lemmas.SideAtRest.{joined_so}
@@ -63,7 +63,7 @@ pub record AreRoomLaws : Type 0 where
   pub read_back : EachIsReadBack
   pub doable : LinesCanBeDone
 
-module _ (laws : AreRoomLaws) {s : Fixed} {l : Link} {world : World} {routes : Name → Known}
+module _ (laws : AreRoomLaws) {s : ItemSetting} {l : Link} {world : World} {routes : Name → Known}
     {t b : Name} (is : IsSideOfLink s l world routes t b)
     (client : ℕ) (known_at : Name → Known) (at_b : known_at b ≡ routes b) where
   abbrev links : List Link
@@ -80,7 +80,7 @@ module _ (laws : AreRoomLaws) {s : Fixed} {l : Link} {world : World} {routes : N
   their_room = (world.hall b).room
 
   -- this side, with this hall
-  abbrev w : Hall → Part
+  abbrev w : Hall → SideState
   w hall = moment laws.sides is knows known_at hall
 
   abbrev IsTold : Hall → View → List Deed → List (List ℕ) → Type 0
@@ -378,7 +378,8 @@ module _ (laws : AreRoomLaws) {s : Fixed} {l : Link} {world : World} {routes : N
       (λ now fits_now. tells_room deeds
       (hall_left (read_deed t far hall.room deed) hall) now fits_now told.1 held.1)
 
-pub room_told : (laws : AreRoomLaws) (s : Fixed) (l : Link) (world : World) (routes : Name → Known)
+pub room_told : (laws : AreRoomLaws) (s : ItemSetting) (l : Link) (world : World)
+    (routes : Name → Known)
     (t b : Name) (is : IsSideOfLink s l world routes t b)
     (client : ℕ) → IsToldThen laws.sides is client (knows_all laws.sides is) (world.hall t)
     (room_deeds world t b)

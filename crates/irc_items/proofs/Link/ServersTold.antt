@@ -14,7 +14,7 @@ use Rattle.irc_routes.specs.Known.{Known, is_behind, others, servers_told}
 use Rattle.irc_routes.specs.Lemmas.TableRows.{row_passes, some_stands}
 use Rattle.irc_routes.specs.Lemmas.DistinctLinks.{both_so}
 use Rattle.irc_follow.specs.AtRest.{AreRight}
-use Rattle.irc_follow.specs.Part.{Fixed, info_in, number}
+use Rattle.irc_follow.specs.SideState.{ItemSetting, info_in, number}
 use Rattle.irc_follow.specs.Tree.{Shape, shape, shape_in}
 use Rattle.irc_follow.specs.Lemmas.SideAtRest.{joined_so}
 use Rattle.irc_follow.specs.Lemmas.BehindLinks.{joined_test, row_is_there, row_says}
@@ -22,7 +22,7 @@ use Rattle.irc_follow.specs.Lemmas.PlacesOfNames.{one_place}
 use Rattle.irc_follow.specs.Lemmas.ToldServers.{any_filtered, any_told, or_none}
 
 -- b tells a, which it is not joined to
-module _ (s : Fixed) (links : List Link) (routes : Name → Known) (b a x : Name)
+module _ (s : ItemSetting) (links : List Link) (routes : Name → Known) (b a x : Name)
     (forest : IsForest links) (ends : EndsAreAmong s.names links)
     (right : AreRight s links routes) (among : IsAmong s.names b)
     (apart : AreJoined links b a → ⊥) where

@@ -16,7 +16,7 @@ use Rattle.irc_stage.specs.declared.clients.Client.TheVariants.{Registering, Reg
 use Rattle.irc_world.specs.Stepping.{link_made, meeting_lines}
 use Rattle.irc_world.specs.World.{Hall, World}
 use Rattle.irc_world.specs.WorldHolds.{IsWorld}
-use Rattle.irc_follow.specs.Part.{Fixed, Part, is_home_of}
+use Rattle.irc_follow.specs.SideState.{ItemSetting, SideState, is_home_of}
 use Rattle.irc_follow.specs.Says.{play}
 use Rattle.irc_items.proofs.Common.Ends.{both_ends}
 use Rattle.irc_items.proofs.Common.DeedsInTurn.{seen_in_turn}
@@ -29,7 +29,7 @@ use Rattle.irc_items.proofs.Link.Side.{told_rows}
 
 -- ---- one side
 
-module _ (shows : ShownIsMergeShown) (told : WithinLimitsIsTold) (s : Fixed) (l : Link)
+module _ (shows : ShownIsMergeShown) (told : WithinLimitsIsTold) (s : ItemSetting) (l : Link)
     (world : World) (routes : Name → Known)
     (holds : IsWorld s.settings world) (a b : Name) (apart : AreJoined world.links b a → ⊥)
     (read : AllByRecursion (IsReadDeed a) (room_deeds world a b)) where
@@ -68,7 +68,7 @@ module _ (shows : ShownIsMergeShown) (told : WithinLimitsIsTold) (s : Fixed) (l 
       (get hall.clients client)) hall_is
       ∙ shown_meeting client
     where
-      knows : Part
+      knows : SideState
       knows = all_done (play s client) (side_of s l world routes t) (server_deeds s routes a b)
 
       hall_is : knows.hall ≡ world.hall a
@@ -77,7 +77,7 @@ module _ (shows : ShownIsMergeShown) (told : WithinLimitsIsTold) (s : Fixed) (l 
 
 -- ---- both sides
 
-module _ (s : Fixed) (l : Link) (world : World) (holds : IsWorld s.settings world)
+module _ (s : ItemSetting) (l : Link) (world : World) (holds : IsWorld s.settings world)
     (homes : s.homes ≡ world.homes) (client : ℕ) (t : Name)
     (home : is_home_of s.homes t client ≡ true) where
   abbrev shown : Name → Name → Option Client → List (List ℕ)

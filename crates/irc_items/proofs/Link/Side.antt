@@ -15,7 +15,7 @@ use Rattle.irc_stage.specs.View.{View}
 use Rattle.irc_world.specs.World.{World}
 use Rattle.irc_follow.specs.AtRest.{AreRight}
 use Rattle.irc_follow.specs.Fits.{Fits}
-use Rattle.irc_follow.specs.Part.{Fixed, Part, info_in, number, IsSoundPart}
+use Rattle.irc_follow.specs.SideState.{ItemSetting, SideState, info_in, number, IsSoundSide}
 use Rattle.irc_follow.specs.Says.{play}
 use Rattle.irc_follow.specs.Tree.{index_in, shape_in}
 use Rattle.irc_follow.specs.Lemmas.BehindLinks.{joined_test}
@@ -29,7 +29,7 @@ use Rattle.irc_items.proofs.Link.ServersTold.{told_are_that_side}
 use Rattle.irc_items.proofs.Common.Sources.{one_moment}
 
 -- the servers that the side of t is told of, by b and of it
-abbrev pub told_rows : Fixed → (Name → Known) → Name → Name → List ServerRow
+abbrev pub told_rows : ItemSetting → (Name → Known) → Name → Name → List ServerRow
 told_rows s routes t b =
     record {
       link = 0;
@@ -41,12 +41,12 @@ told_rows s routes t b =
       info = info_in s.settings b;
     } ∷ servers_told (routes b) (number s t)
 
-module _ (s : Fixed) (l : Link) (world : World) (routes : Name → Known) (a b : Name) where
+module _ (s : ItemSetting) (l : Link) (world : World) (routes : Name → Known) (a b : Name) where
   abbrev routes_now : Name → Known
   routes_now = (side_after s l world routes a b).tree.routes
 
   -- that side, once it knows the other's servers, and none of their users yet
-  abbrev met_side : Part
+  abbrev met_side : SideState
   met_side = record {
     tree = record {
       forest = l ∷ world.links;
@@ -58,7 +58,7 @@ module _ (s : Fixed) (l : Link) (world : World) (routes : Name → Known) (a b :
   }
 
   -- and once it has read all that the other tells
-  abbrev pub linked_side : Part
+  abbrev pub linked_side : SideState
   linked_side = record {
     tree = met_side.tree;
     hall = hall_left (room_deeds world a b) (world.hall a);
@@ -124,10 +124,10 @@ module _ (s : Fixed) (l : Link) (world : World) (routes : Name → Known) (a b :
           (side_alike t here one_hall) ∙ side_comes client)
           fits
 
-      module _ (sound : IsSoundPart s (all_done (play s 0) (side_of s l world routes a)
+      module _ (sound : IsSoundSide s (all_done (play s 0) (side_of s l world routes a)
           (deeds_of_link s world routes a b))) where
-        pub side_sound : IsSoundPart s linked_side
-        side_sound = subst (IsSoundPart s) (side_comes 0) sound
+        pub side_sound : IsSoundSide s linked_side
+        side_sound = subst (IsSoundSide s) (side_comes 0) sound
 
         pub side_right : (t : Name) → IsAmong s.names t → AreJoined world.links t a
             → IsRightAt s (l ∷ world.links) t (routes_now t)

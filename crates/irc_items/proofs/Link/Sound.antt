@@ -2,7 +2,7 @@
 use Rattle.std.proofs.Common.{◌≡◌, ◌≢◌, ◌⊎◌, ℕ, suc, ◌+◌, ◌*◌, ◌-◌, ◌<◌, ◌≤◌, Bool, true, false}
 use Rattle.std.proofs.Common.{◌||◌, Some, is_some, List, [], ◌∷◌, ◌++◌, length, count_by, refl, sym}
 use Rattle.std.proofs.Common.{ap, subst, ◌∙◌, arith, inl, inr, unwrap_or}
-use Rattle.irc_handshake.specs.GreetingLines.{greeting, pass_parts}
+use Rattle.irc_link_words.specs.GreetingLines.{greeting, pass_parts}
 use Rattle.irc_line.specs.Messages.{line_text}
 use Rattle.std.proofs.lemmas.List.{length-append, length-map}
 use Rattle.std.proofs.Math.Nat.{mul-le-mul_right}
@@ -22,10 +22,10 @@ use Rattle.irc_world.specs.Bounds.{most, part_size}
 use Rattle.irc_world.specs.Bystanders.{OnlyConnectedReceive}
 use Rattle.irc_world.specs.Stepping.{Stepped, link, link_made}
 use Rattle.irc_world.specs.World.{World}
-use Rattle.irc_follow.specs.AtRest.{part_of}
+use Rattle.irc_follow.specs.AtRest.{side_state_of}
 use Rattle.irc_follow.specs.Fits.{Fits}
-use Rattle.irc_follow.specs.Part.{Fixed, Part, is_home_of, number}
-use Rattle.irc_follow.specs.Relinked.{PartAfterLink}
+use Rattle.irc_follow.specs.SideState.{ItemSetting, SideState, is_home_of, number}
+use Rattle.irc_follow.specs.Relinked.{SideAfterLink}
 use Rattle.irc_follow.specs.Says.{machine, play}
 use Rattle.irc_follow.specs.Tree.{index_in}
 use Rattle.irc_follow.specs.Lemmas.SidesFollowed.{IsKnownOfLine}
@@ -49,13 +49,13 @@ use Rattle.irc_items.proofs.Good.GoodLines.{well_follow}
 use Rattle.irc_items.proofs.Link.Begins.{away, deeds, deeds_at, starts, IsToldByLink}
 use Rattle.irc_items.proofs.Link.Coming.{ComesToLinked}
 use Rattle.irc_items.proofs.Link.Step.{apart, as_before, covers, fixed_here, forest, from_other}
-use Rattle.irc_items.proofs.Link.Step.{has_ends_so, link_fixed, met_before, not_ends, stands}
+use Rattle.irc_items.proofs.Link.Step.{has_ends_so, link_setting, met_before, not_ends, stands}
 use Rattle.irc_items.proofs.Link.Step.{IsLinkStep}
 use Rattle.irc_items.proofs.Link.Sides.{room_deeds, routes_after, server_deeds, side_of}
 use Rattle.irc_items.proofs.Link.Ways.{link_lines, to_end}
 
 pub record AreLinkLaws : Type 0 where
-  pub after_link : PartAfterLink
+  pub after_link : SideAfterLink
   pub quiet : RestStays
   pub line : IsKnownOfLine
   pub only_connected : OnlyConnectedReceive
@@ -68,18 +68,18 @@ told_by net t way =
 -- where the sides come to, and how many lines that takes
 pub record ComesToOne {net new : Network} {near far : Name} (laws : AreLinkLaws)
     (given : IsLinkStep net new near far) : Type 0 where
-  pub comes : ComesToLinked (link_fixed net near far) (record { near = near; far = far })
+  pub comes : ComesToLinked (link_setting net near far) (record { near = near; far = far })
       (world_now net) (routes_in net)
   pub few_lines : (t b : Name) → HasEnds (record { near = near; far = far }) t b
       → length (link_lines laws.after_link laws.quiet given b t) ≤ 2 + told_by net b
-      (number (link_fixed net near far) t)
+      (number (link_setting net near far) t)
   pub few_answered : (t b : Name) → HasEnds (record { near = near; far = far }) t b
       → count_by introduces (link_lines laws.after_link laws.quiet given b t) ≤ 1 + told_by net b
-      (number (link_fixed net near far) t)
+      (number (link_setting net near far) t)
   pub few_read : (t b : Name) → HasEnds (record { near = near; far = far }) t b
       → length (room_deeds (world_now net) t b) ≤ length (burst b ((world_now net).hall b).room)
   pub counted : (t b : Name) → HasEnds (record { near = near; far = far }) t b
-      → length (servers_told (routes_in net t) (number (link_fixed net near far) b)) < part_size
+      → length (servers_told (routes_in net t) (number (link_setting net near far) b)) < part_size
       (settings_of net) (world_now net).links t
 
 -- one side, of p servers, is told by an end that has k lines besides its own, of which there are at
@@ -128,8 +128,8 @@ told_at_most servers room size less = omega arith
 module _ {net new : Network} {near far : Name} (laws : AreLinkLaws)
     (given : IsLinkStep net new near far)
     (tells : IsToldByLink laws.after_link laws.quiet given) (one : ComesToOne laws given) where
-  abbrev s : Fixed
-  s = link_fixed net near far
+  abbrev s : ItemSetting
+  s = link_setting net near far
 
   abbrev world : World
   world = world_now net
@@ -150,11 +150,11 @@ module _ {net new : Network} {near far : Name} (laws : AreLinkLaws)
     received_same : received_by new client ≡ owed_now net client
     received_same = given.linked.received client ∙ given.step.one.received client
 
-    abbrev sides : Name → Part
+    abbrev sides : Name → SideState
     sides = side_of s l world (routes_in net)
 
-    abbrev acts : Name → List Deed
-    acts = deeds laws.after_link laws.quiet given tells client
+    abbrev link_deeds : Name → List Deed
+    link_deeds = deeds laws.after_link laws.quiet given tells client
 
     abbrev owed : List (List ℕ)
     owed = owed_now net client ++ made.lines client
@@ -177,11 +177,11 @@ module _ {net new : Network} {near far : Name} (laws : AreLinkLaws)
         home (source_aside t none)) ∙ append_nil (owed_now net client))
 
     at_source : (t : Name) → IsAmong net.names t → s.streams.depth t ≡ 0
-        → Fits s t (part_of s made.world routes t) (view_at new t)
+        → Fits s t (side_state_of s made.world routes t) (view_at new t)
     at_source t among none =
         one.comes.others (streams_from net.links (λ server. server)) t (view_at new t) among away
         (subst (Fits (record s { streams = streams_from net.links (λ server. server) }) t
-        (part_of s world (routes_in net) t))
+        (side_state_of s world (routes_in net) t))
         (sym (given.linked.other_views t
         (λ e. away near far (inl (refl, refl)) (ap (part world.links) e))
         (λ e. away far near (inr (refl, refl)) (ap (part world.links) e))))
@@ -191,8 +191,8 @@ module _ {net new : Network} {near far : Name} (laws : AreLinkLaws)
         away = source_aside t none
 
     comes_to : (t : Name) (view : View) → IsAmong net.names t → 0 < s.streams.depth t
-        → Fits s t (all_done (play s client) (sides t) (acts t)) view
-        → Fits s t (part_of s made.world routes t) view
+        → Fits s t (all_done (play s client) (sides t) (link_deeds t)) view
+        → Fits s t (side_state_of s made.world routes t) view
     comes_to t view among below fits =
         let at = source_of (stands given t) below in
         one.comes.comes at.e at.o at.ends client t view among at.on
@@ -200,16 +200,16 @@ module _ {net new : Network} {near far : Name} (laws : AreLinkLaws)
         (deeds_at laws.after_link laws.quiet given tells client t at.e at.o at.ends at.on) fits)
 
     told_taker : (t : Name) → is_home_of s.homes t client ≡ true → 0 < s.streams.depth t
-        → received_by new client ++ all_seen (play s client) t (sides t) (acts t) ≡ owed
+        → received_by new client ++ all_seen (play s client) t (sides t) (link_deeds t) ≡ owed
     told_taker t home below =
         let at = source_of (stands given t) below in
-        ap (λ shown. shown ++ all_seen (play s client) t (sides t) (acts t)) received_same
+        ap (λ shown. shown ++ all_seen (play s client) t (sides t) (link_deeds t)) received_same
         ∙ ap (λ deeds. owed_now net client ++ all_seen (play s client) t (sides t) deeds)
         (deeds_at laws.after_link laws.quiet given tells client t at.e at.o at.ends at.on)
         ∙ ap (λ more. owed_now net client ++ more)
         (one.comes.seen at.e at.o at.ends client t at.on home)
 
-    goes_on : IsGoingOn s (answers_of l) made.world source routes new client owed sides acts
+    goes_on : IsGoingOn s (answers_of l) made.world source routes new client owed sides link_deeds
     goes_on = record {
       forest = forest given;
       covers = covers given;
@@ -234,9 +234,9 @@ module _ {net new : Network} {near far : Name} (laws : AreLinkLaws)
         ∙ ap (λ p. under_way (relayed s new client) p t) (from_other given t b ends).0
         ∙ to_end laws.after_link laws.quiet given client t b ends
 
-    acts_few : (t a b : Name) → HasEnds l a b → AreJoined world.links t a
-        → length (acts t) ≤ 1 + told_by net b (number s a)
-    acts_few t a b ends on =
+    deeds_few : (t a b : Name) → HasEnds l a b → AreJoined world.links t a
+        → length (link_deeds t) ≤ 1 + told_by net b (number s a)
+    deeds_few t a b ends on =
         let all = ap (λ (deeds : List Deed). length deeds)
         (deeds_at laws.after_link laws.quiet given tells client t a b ends on)
         ∙ length-append (server_deeds s (routes_in net) a b) (room_deeds world a b) in
@@ -255,13 +255,14 @@ module _ {net new : Network} {near far : Name} (laws : AreLinkLaws)
         by (behind e o its _ _ _ deep) = let no : ⊥ = omega arith in no
         by (aside away _) = away a b ends on
 
-    few : AreFew (HasEnds l) world.links s new client acts (λ t b. 2 + told_by net b (number s t))
+    few : AreFew (HasEnds l) world.links s new client link_deeds
+        (λ t b. 2 + told_by net b (number s t))
         (λ t b. 1 + told_by net b (number s t))
     few = record {
       at_end = λ t b ends. subst (λ lines. length lines ≤ 2 + told_by net b (number s t))
           (sym (lines_come t b ends)) (one.few_lines t b ends);
       next = λ t a b ends on two depth. absurd (none_next t a b ends on two depth);
-      told = acts_few;
+      told = deeds_few;
     }
 
     answered_few : (t b : Name) → HasEnds l t b → count_by introduces (coming

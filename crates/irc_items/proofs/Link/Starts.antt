@@ -17,11 +17,11 @@ use Rattle.irc_batch.specs.declared.close_reason.CloseReason.TheVariants as reas
 use Rattle.irc_line.specs.Messages.{line_text}
 use Rattle.irc_line.specs.Reading.{read_of}
 use Rattle.irc_names.specs.Names.{IsServer}
-use Rattle.irc_handshake.specs.GreetingLines.{greeting, pass_parts}
-use Rattle.irc_handshake.specs.Openings.{greeting_opens}
-use Rattle.irc_handshake.specs.Passwords.{is_password}
-use Rattle.irc_handshake.specs.Peers.{not_taken, refusal}
-use Rattle.irc_handshake.specs.declared.openings.Opening.TheVariants as opening
+use Rattle.irc_link_words.specs.GreetingLines.{greeting, pass_parts}
+use Rattle.irc_link_words.specs.Openings.{greeting_opens}
+use Rattle.irc_link_words.specs.Passwords.{is_password}
+use Rattle.irc_link_words.specs.Peers.{not_taken, refusal}
+use Rattle.irc_link_words.specs.declared.openings.Opening.TheVariants as opening
 use Rattle.irc_burst.specs.DeedsMeant.{a_server}
 use Rattle.irc_burst_lines.specs.BurstLines.{burst_parts, is_near}
 use Rattle.irc_burst_lines.specs.DeedLines.{deed_parts, server_parts}
@@ -48,15 +48,16 @@ use Rattle.irc_routes.specs.Known.{servers_told, smallest_free, token_in, token_
 use Rattle.irc_routes.specs.Known as of_known
 use Rattle.irc_routes.specs.declared.server_row.ServerRow.{ServerRow}
 use Rattle.irc_stage.specs.View.{End, View, password_for}
-use Rattle.irc_deeds.specs.Heard.{heard, meets, met_unless, opened, tells}
-use Rattle.irc_deeds.specs.LinkServed.{opening_parts}
+use Rattle.irc_server.specs.Heard.{heard, meets, met_unless, opened, tells}
+use Rattle.irc_server.specs.LinkServed.{opening_parts}
 use Rattle.irc_world.specs.Homes.{HomesPass}
 use Rattle.irc_world.specs.Stepping.{link_made}
 use Rattle.irc_world.specs.World.{Hall, World}
 use Rattle.irc_world.specs.WorldHolds.{IsWorld}
 use Rattle.irc_follow.specs.AtRest.{AreRight}
 use Rattle.irc_follow.specs.Fits.{Fits}
-use Rattle.irc_follow.specs.Part.{Fixed, Part, done, info_in, number, IsFixed, IsSoundPart}
+use Rattle.irc_follow.specs.SideState.{ItemSetting, SideState, done, info_in, number, IsItemSetting}
+use Rattle.irc_follow.specs.SideState.{IsSoundSide}
 use Rattle.irc_follow.specs.Says.{IsDoableGain, IsNothing, neighbour_served, machine, play}
 use Rattle.irc_follow.specs.Tree.{Shape, gained_at, shape_in, known_told, told_token}
 use Rattle.irc_follow.specs.Lemmas.AsideLines.{aside_stays}
@@ -86,12 +87,12 @@ use Rattle.irc_items.proofs.Handshake.ServerLines.{IsNewTo, IsWritten, server_he
 use Rattle.irc_items.proofs.Link.ToldFirst.{ComeInTurn, IsNext, come_in_turn}
 
 -- the side of t, which is being linked to b
-pub record IsSideOfLink (s : Fixed) (l : Link) (world : World) (routes : Name → Known)
+pub record IsSideOfLink (s : ItemSetting) (l : Link) (world : World) (routes : Name → Known)
     (t b : Name) : Type 0 where
   pub ends : HasEnds l t b
   pub t_among : IsAmong s.names t
   pub b_among : IsAmong s.names b
-  pub fixed : IsFixed s
+  pub fixed : IsItemSetting s
   pub streams : s.streams ≡ streams_from (l ∷ world.links) (from_other_end world.links l.near l.far)
   pub forest : IsForest (l ∷ world.links)
   pub right : AreRight s world.links routes
@@ -111,7 +112,8 @@ pub record IsKnownOfSides : Type 0 where
   pub whole : WholeSide
   pub untold : BurstTellsNoInvitation
 
-module _ (known : IsKnownOfSides) {s : Fixed} {l : Link} {world : World} {routes : Name → Known}
+module _ (known : IsKnownOfSides) {s : ItemSetting} {l : Link} {world : World}
+    {routes : Name → Known}
     {t b : Name} (is : IsSideOfLink s l world routes t b) where
   abbrev laws : IsKnownOfHandshakes
   laws = known.handshakes
@@ -162,7 +164,7 @@ module _ (known : IsKnownOfSides) {s : Fixed} {l : Link} {world : World} {routes
   way = way_over l links s.streams t b over
 
   -- this side, by what it knows
-  abbrev pub moment : (Name → Bool) → (Name → Known) → Hall → Part
+  abbrev pub moment : (Name → Bool) → (Name → Known) → Hall → SideState
   moment knows known_at hall = record {
     tree =
         record { forest = forest; here = λ x. joined links x t; knows = knows; routes = known_at };
@@ -170,7 +172,7 @@ module _ (known : IsKnownOfSides) {s : Fixed} {l : Link} {world : World} {routes
   }
 
   module _ (knows : Name → Bool) (known_at : Name → Known) (hall : Hall) where
-    abbrev w : Part
+    abbrev w : SideState
     w = moment knows known_at hall
 
     pub within : IsWithinSide s forest w
@@ -221,7 +223,7 @@ module _ (known : IsKnownOfSides) {s : Fixed} {l : Link} {world : World} {routes
       }
 
     module _ (view : View) (fits : Fits s t w view) where
-      sound : IsSoundPart s w
+      sound : IsSoundSide s w
       sound = fits.sound
 
       ends : EndsAreAmong s.names links
@@ -473,7 +475,7 @@ module _ (known : IsKnownOfSides) {s : Fixed} {l : Link} {world : World} {routes
 
   -- ---- line by line
 
-  abbrev pub AreTold : ℕ → Part → View → List Deed → List (List ℕ) → Type 0
+  abbrev pub AreTold : ℕ → SideState → View → List Deed → List (List ℕ) → Type 0
   AreTold client part view deeds lines = Tells (machine s client) (play s client)
       (good_terms s answers linked_world linked_routes) b t part view deeds lines
 
@@ -531,7 +533,7 @@ module _ (known : IsKnownOfSides) {s : Fixed} {l : Link} {world : World} {routes
   abbrev knows_first : Name → Bool
   knows_first x = joined links x t
 
-  abbrev first : Part
+  abbrev first : SideState
   first = moment knows_first routes (world.hall t)
 
   abbrev greeting_line : List ℕ

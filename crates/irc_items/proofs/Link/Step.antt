@@ -14,17 +14,17 @@ use Rattle.irc_relay.specs.Lemmas.LinkTakenOut.{tests_tell}
 use Rattle.irc_relay.specs.Lemmas.NextHops.{distance_self, linked_back, linked_joined, next_hop}
 use Rattle.irc_stage.specs.Lemmas.Numbers.{get-with, one_number, same_number, same_number-refl}
 use Rattle.irc_stage.specs.View.{End, View, fresh_end, with_end}
-use Rattle.irc_links.specs.Ends.{Ends}
+use Rattle.irc_stage.specs.Ends.{Ends}
 use Rattle.irc_world.specs.Stepping.{link, link_made}
 use Rattle.irc_world.specs.World.{World}
-use Rattle.irc_follow.specs.AtRest.{part_of, AreRight}
+use Rattle.irc_follow.specs.AtRest.{side_state_of, AreRight}
 use Rattle.irc_follow.specs.Fits.{Fits, IsNumberOf, far_of}
-use Rattle.irc_follow.specs.Part.{Fixed, number, IsFixed}
-use Rattle.irc_follow.specs.Relinked.{PartAfterLink}
+use Rattle.irc_follow.specs.SideState.{ItemSetting, number, IsItemSetting}
+use Rattle.irc_follow.specs.Relinked.{SideAfterLink}
 use Rattle.irc_follow.specs.Lemmas.PlacesOfNames.{one_place}
 use Rattle.irc_network.specs.Network.{Network}
 use Rattle.irc_items.specs.OneRoom.{at_rest_of}
-use Rattle.irc_items.specs.Relayed.{fixed_of, is_met_with}
+use Rattle.irc_items.specs.Relayed.{setting_of_item, is_met_with}
 use Rattle.irc_items.specs.SetUp.{routes_in, view_at}
 use Rattle.irc_items.specs.Sound.{world_now}
 use Rattle.irc_items.proofs.Common.Ends.{AtEnd, is_end, is_none, OnSide, on_side, on_neither}
@@ -39,9 +39,9 @@ use Rattle.irc_items.proofs.Link.Sides.{side_of}
 use Rattle.irc_items.specs.Lemmas.SetUpFacts.{fixed}
 
 -- what stays while two sides come to know each other
-abbrev pub link_fixed : Network → Name → Name → Fixed
-link_fixed net near far =
-    fixed_of net (streams_from (record { near = near; far = far } ∷ (world_now net).links)
+abbrev pub link_setting : Network → Name → Name → ItemSetting
+link_setting net near far =
+    setting_of_item net (streams_from (record { near = near; far = far } ∷ (world_now net).links)
     (from_other_end (world_now net).links near far))
 
 pub record IsLinkStep (net new : Network) (near far : Name) : Type 0 where
@@ -55,8 +55,8 @@ fresh ends k starts = get-with ends k (fresh_end starts) k
     ∙ ap (λ c. cond c (Some (fresh_end starts)) (get ends k)) (same_number-refl k)
 
 module _ {net new : Network} {near far : Name} (given : IsLinkStep net new near far) where
-  abbrev s : Fixed
-  s = link_fixed net near far
+  abbrev s : ItemSetting
+  s = link_setting net near far
 
   abbrev world : World
   world = world_now net
@@ -74,7 +74,7 @@ module _ {net new : Network} {near far : Name} (given : IsLinkStep net new near 
   pub covers : Covers (l ∷ world.links) (from_other_end world.links near far)
   covers = other_ends_cover l world.links forest
 
-  pub fixed_here : IsFixed s
+  pub fixed_here : IsItemSetting s
   fixed_here = fixed net given.step.sound.set_up s.streams
 
   pub old_ends : EndsAreAmong net.names world.links
@@ -231,11 +231,11 @@ module _ {net new : Network} {near far : Name} (given : IsLinkStep net new near 
           old (sym (ap (λ (v : View). get v.ends k) (given.linked.other_views t m n)) ∙ is)
 
   -- each server is at its side, of which nobody knows of the link
-  pub fits_begun : PartAfterLink → (t : Name) → IsAmong net.names t
+  pub fits_begun : SideAfterLink → (t : Name) → IsAmong net.names t
       → Fits s t (side_of s l world (routes_in net) t) (view_at new t)
   fits_begun after_link t among = record {
     here = same_when (part world.links t) (part world.links t) refl;
-    sound = after_link (at_rest_of net) (part_of (at_rest_of net) world (routes_in net) t) l
+    sound = after_link (at_rest_of net) (side_state_of (at_rest_of net) world (routes_in net) t) l
         (from_other_end world.links near far) f.sound
         (record {
           near = given.meeting.near_among;
@@ -250,11 +250,12 @@ module _ {net new : Network} {near far : Name} (given : IsLinkStep net new near 
     room = as_before (λ v. v.room) (λ k starts view. refl) t ∙ f.room;
   }
     where
-      f : Fits (at_rest_of net) t (part_of (at_rest_of net) world (routes_in net) t) (view_at net t)
+      f : Fits (at_rest_of net) t (side_state_of (at_rest_of net) world (routes_in net) t)
+          (view_at net t)
       f = given.step.one.servers t among
 
   -- who was linked has named itself
-  pub met_before : PartAfterLink → (t x : Name) → AreLinked world.links t x
+  pub met_before : SideAfterLink → (t x : Name) → AreLinked world.links t x
       → is_met_with s (view_at new t) x ≡ true
   met_before after_link t x linked_so =
       known_met s (side_of s l world (routes_in net) t) t x (view_at new t)

@@ -7,8 +7,8 @@ use Rattle.irc_room.specs.Invitations.{of_home}
 use Rattle.irc_routes.specs.Known.{servers_told}
 use Rattle.irc_stage.specs.View.{fresh_end, password_for}
 use Rattle.irc_world.specs.World.{World}
-use Rattle.irc_follow.specs.Part.{Fixed, number}
-use Rattle.irc_follow.specs.Relinked.{PartAfterLink}
+use Rattle.irc_follow.specs.SideState.{ItemSetting, number}
+use Rattle.irc_follow.specs.Relinked.{SideAfterLink}
 use Rattle.irc_network.specs.Laws.{RestStays}
 use Rattle.irc_network.specs.Network.{Network}
 use Rattle.irc_items.specs.SetUp.{routes_in, settings_of, view_at}
@@ -18,7 +18,7 @@ use Rattle.irc_items.proofs.Link.Begins.{terms_of_link}
 use Rattle.irc_items.proofs.Link.RoomTold.{room_told, AreRoomLaws}
 use Rattle.irc_items.proofs.Link.Rooms.{rooms_meet}
 use Rattle.irc_items.proofs.Link.Step.{apart, as_before, end_among, end_is, fits_begun, fixed_here}
-use Rattle.irc_items.proofs.Link.Step.{forest, link_fixed, opened, right_here, IsLinkStep}
+use Rattle.irc_items.proofs.Link.Step.{forest, link_setting, opened, right_here, IsLinkStep}
 use Rattle.irc_items.proofs.Link.Starts.{answered_of_link, lines_of_link, link_tells, IsSideOfLink}
 use Rattle.irc_items.proofs.Link.Ways.{link_lines}
 use Rattle.irc_items.proofs.Link.Sides.{deeds_of_link, side_of}
@@ -26,11 +26,11 @@ use Rattle.irc_items.proofs.Common.Ends.{both_ends, not_both, other_end}
 use Rattle.irc_follow.specs.Says.{machine, play}
 use Rattle.irc_relay.specs.Following.{Tells}
 
-module _ {net new : Network} {near far : Name} (laws : AreRoomLaws) (after_link : PartAfterLink)
+module _ {net new : Network} {near far : Name} (laws : AreRoomLaws) (after_link : SideAfterLink)
     (quiet : RestStays)
     (given : IsLinkStep net new near far) where
-  abbrev s : Fixed
-  s = link_fixed net near far
+  abbrev s : ItemSetting
+  s = link_setting net near far
 
   abbrev world : World
   world = world_now net

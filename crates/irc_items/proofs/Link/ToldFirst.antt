@@ -26,7 +26,7 @@ use Rattle.irc_routes.specs.Known.{Known, is_behind, is_told_before, others, put
 use Rattle.irc_routes.specs.Known.{servers_told, IsNumbered}
 use Rattle.irc_routes.specs.Lemmas.TableRows.{row_passes, told}
 use Rattle.irc_follow.specs.AtRest.{by_distance, AreRight}
-use Rattle.irc_follow.specs.Part.{Fixed, info_in, number}
+use Rattle.irc_follow.specs.SideState.{ItemSetting, info_in, number}
 use Rattle.irc_follow.specs.Tree.{Shape, shape, shape_in}
 use Rattle.irc_follow.specs.Lemmas.BehindLinks.{row_is_there, row_says, RowIsThere, RowSays}
 use Rattle.irc_follow.specs.Lemmas.PlacesOfNames.{one_place}
@@ -127,7 +127,7 @@ not_before_itself r is =
     let clash = sym is ∙ before_is r r ∙ ap is_lt (tied_itself nat_list_cmp_total (by_distance r).0)
     in cc clash
 
-module _ (s : Fixed) (links : List Link) (routes : Name → Known) (b : Name)
+module _ (s : ItemSetting) (links : List Link) (routes : Name → Known) (b : Name)
     (forest : IsForest links) (right : AreRight s links routes)
     (among : IsAmong s.names b) where
   abbrev known : Known

@@ -14,12 +14,12 @@ use Rattle.irc_relay.specs.Links.{Name, Link, has_ends, joined, linked, same, Ha
 use Rattle.irc_relay.specs.Relay.{under_way}
 use Rattle.irc_relay.specs.Lemmas.LinkTakenOut.{tests_tell}
 use Rattle.irc_stage.specs.View.{End, View, fresh_end}
-use Rattle.irc_links.specs.Ends.{is_met as has_far}
-use Rattle.irc_deeds.specs.LinkServed.{opening_parts, owed_by}
+use Rattle.irc_stage.specs.Ends.{is_met as has_far}
+use Rattle.irc_server.specs.LinkServed.{opening_parts, owed_by}
 use Rattle.irc_world.specs.World.{World}
 use Rattle.irc_follow.specs.Fits.{IsNumberOf, far_of}
-use Rattle.irc_follow.specs.Part.{Fixed, number}
-use Rattle.irc_follow.specs.Relinked.{PartAfterLink}
+use Rattle.irc_follow.specs.SideState.{ItemSetting, number}
+use Rattle.irc_follow.specs.Relinked.{SideAfterLink}
 use Rattle.irc_follow.specs.Tree.{index_in}
 use Rattle.irc_follow.specs.Lemmas.PlacesOfNames.{one_place}
 use Rattle.irc_network.specs.Laws.{RestStays}
@@ -27,17 +27,17 @@ use Rattle.irc_network.specs.Network.{Network}
 use Rattle.irc_items.specs.Relayed.{owed_at, owed_to, relayed, way_at, way_between}
 use Rattle.irc_items.specs.SetUp.{no_view, view_at}
 use Rattle.irc_items.specs.Sound.{world_now}
-use Rattle.irc_items.proofs.Link.Step.{fits_begun, fresh, has_ends_so, link_fixed, as_before}
+use Rattle.irc_items.proofs.Link.Step.{fits_begun, fresh, has_ends_so, link_setting, as_before}
 use Rattle.irc_items.proofs.Link.Step.{met_before, IsLinkStep}
 use Rattle.irc_items.proofs.Common.Ends.{both_ends}
 use Rattle.irc_items.proofs.Common.Reading.{owed_by_none}
 use Rattle.irc_items.proofs.Common.Rest.{quiet_ways}
 use Rattle.irc_items.specs.Lemmas.SetUpFacts.{viewed_nowhere}
 
-module _ {net new : Network} {near far : Name} (after_link : PartAfterLink) (quiet : RestStays)
+module _ {net new : Network} {near far : Name} (after_link : SideAfterLink) (quiet : RestStays)
     (given : IsLinkStep net new near far) where
-  abbrev s : Fixed
-  s = link_fixed net near far
+  abbrev s : ItemSetting
+  s = link_setting net near far
 
   abbrev world : World
   world = world_now net

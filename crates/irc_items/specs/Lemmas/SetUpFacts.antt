@@ -19,10 +19,10 @@ use Rattle.irc_stage.specs.View.{View}
 use Rattle.irc_names.specs.Names.{IsServer}
 use Rattle.irc_world.specs.WithinLimits.{AreNamed}
 use Rattle.irc_world.specs.World.{Setting, is_server, setting_of}
-use Rattle.irc_follow.specs.Part.{IsFixed}
+use Rattle.irc_follow.specs.SideState.{IsItemSetting}
 use Rattle.irc_follow.specs.Tree.{index_in}
-use Rattle.irc_network.specs.Network.{Network, Site, server_place, site_at, site_of, site_view}
-use Rattle.irc_items.specs.Relayed.{fixed_of}
+use Rattle.irc_network.specs.Network.{Network, Node, server_place, node_at, node_of, node_view}
+use Rattle.irc_items.specs.Relayed.{setting_of_item}
 use Rattle.irc_items.specs.SetUp.{named_at, no_view, setting_at, setting_now, settings_of, view_at}
 use Rattle.irc_items.specs.SetUp.{IsSetUp}
 use Rattle.irc_items.specs.Sound.{IsPlaceOf}
@@ -137,79 +137,79 @@ one_name e = cc e
 not_named : {A B : Type 0} {x : A} → None ≡ Some x → B
 not_named e = absurd (cc e)
 
--- sites stand in the order of the names
+-- nodes stand in the order of the names
 named_here : (net : Network) → IsSetUp net → (place : ℕ)
-    → option_map named_at (site_at net place) ≡ option_map some_name (slice_get net.names place)
+    → option_map named_at (node_at net place) ≡ option_map some_name (slice_get net.names place)
 named_here net set_up place =
-    sym (slice_get-map named_at net.sites place) ∙ ap (λ xs. slice_get xs place) set_up.named
+    sym (slice_get-map named_at net.nodes place) ∙ ap (λ xs. slice_get xs place) set_up.named
     ∙ slice_get-map some_name net.names place
 
-seen_there : (net : Network) (server : Name) → IsAmong net.names server → (site : Site)
-    → site_at net (index_in net.names server) ≡ Some site → (view : View) → site.server ≡ Some view
+seen_there : (net : Network) (server : Name) → IsAmong net.names server → (node : Node)
+    → node_at net (index_in net.names server) ≡ Some node → (view : View) → node.server ≡ Some view
     → view_at net server ≡ view
-seen_there net server among site at view is =
-    ap (λ o. unwrap_or (option_and_then (λ (s : Site). s.server) (option_and_then (site_at net) o))
+seen_there net server among node at view is =
+    ap (λ o. unwrap_or (option_and_then (λ (s : Node). s.server) (option_and_then (node_at net) o))
     no_view) (found_there net.names server among)
-    ∙ ap (λ o. unwrap_or (option_and_then (λ (s : Site). s.server) o) no_view) at
+    ∙ ap (λ o. unwrap_or (option_and_then (λ (s : Node). s.server) o) no_view) at
     ∙ ap (λ o. unwrap_or o no_view) is
 
 -- the server of a name, at its place
 pub record IsThere (net : Network) (server : Name) : Type 0 where
-  pub site : Site
+  pub node : Node
   pub place : server_place net server ≡ Some (index_in net.names server)
   pub within : index_in net.names server < length net.names
-  pub is_site : site_at net (index_in net.names server) ≡ Some site
-  pub is_view : site.server ≡ Some (view_at net server)
+  pub is_node : node_at net (index_in net.names server) ≡ Some node
+  pub is_view : node.server ≡ Some (view_at net server)
   pub named : (view_at net server).routes.name ≡ server
 
 pub there : (net : Network) → IsSetUp net → (server : Name) → IsAmong net.names server
     → IsThere net server
-there net set_up server among = by_site (site_at net (index_in net.names server)) refl
+there net set_up server among = by_node (node_at net (index_in net.names server)) refl
   where
-    given : option_map named_at (site_at net (index_in net.names server)) ≡ Some (Some server)
+    given : option_map named_at (node_at net (index_in net.names server)) ≡ Some (Some server)
     given = named_here net set_up (index_in net.names server)
         ∙ ap (option_map some_name) (placed net.names server among).is_there
 
-    of_view : (site : Site) → site_at net (index_in net.names server) ≡ Some site → (view : View)
-        → site.server ≡ Some view → IsThere net server
-    of_view site at view is =
-        let seen : view_at net server ≡ view = seen_there net server among site at view is in
+    of_view : (node : Node) → node_at net (index_in net.names server) ≡ Some node → (view : View)
+        → node.server ≡ Some view → IsThere net server
+    of_view node at view is =
+        let seen : view_at net server ≡ view = seen_there net server among node at view is in
         record {
-          site = site;
+          node = node;
           place = found_there net.names server among;
           within = (placed net.names server among).within;
-          is_site = at;
+          is_node = at;
           is_view = is ∙ ap Some (sym seen);
           named = ap (λ (v : View). v.routes.name) seen
               ∙ one_name (one_name (sym (ap (option_map named_at) at
               ∙ ap (λ o. Some (option_map (λ (v : View). v.routes.name) o)) is) ∙ given));
         }
 
-    by_view : (site : Site) → site_at net (index_in net.names server) ≡ Some site
-        → (o : Option View) → site.server ≡ o → IsThere net server
-    by_view site at (Some view) is = of_view site at view is
-    by_view site at None is =
+    by_view : (node : Node) → node_at net (index_in net.names server) ≡ Some node
+        → (o : Option View) → node.server ≡ o → IsThere net server
+    by_view node at (Some view) is = of_view node at view is
+    by_view node at None is =
         not_named (one_name (sym (ap (option_map named_at) at
         ∙ ap (λ o. Some (option_map (λ (v : View). v.routes.name) o)) is) ∙ given))
 
-    by_site : (o : Option Site) → site_at net (index_in net.names server) ≡ o → IsThere net server
-    by_site (Some site) at = by_view site at site.server refl
-    by_site None at = not_named (sym (ap (option_map named_at) at) ∙ given)
+    by_node : (o : Option Node) → node_at net (index_in net.names server) ≡ o → IsThere net server
+    by_node (Some node) at = by_view node at node.server refl
+    by_node None at = not_named (sym (ap (option_map named_at) at) ∙ given)
 
 -- what is found under its name
 pub viewed : (net : Network) → IsSetUp net → (server : Name) → IsAmong net.names server
-    → site_view net server ≡ Some (view_at net server)
+    → node_view net server ≡ Some (view_at net server)
 viewed net set_up server among =
     let here = there net set_up server among in
-    ap (λ o. option_and_then (λ (s : Site). s.server) (option_and_then (site_at net) o)) here.place
-    ∙ ap (option_and_then (λ (s : Site). s.server)) here.is_site
+    ap (λ o. option_and_then (λ (s : Node). s.server) (option_and_then (node_at net) o)) here.place
+    ∙ ap (option_and_then (λ (s : Node). s.server)) here.is_node
     ∙ here.is_view
 
 -- a name that is none
 pub nowhere : (net : Network) (server : Name) → list_any (same server) net.names ≡ false
-    → site_of net server ≡ None
+    → node_of net server ≡ None
 nowhere net server not_among =
-    ap (option_and_then (site_at net)) (found_nowhere net.names server not_among)
+    ap (option_and_then (node_at net)) (found_nowhere net.names server not_among)
 
 pub among_at : (names : List Name) (a : Name) (place : ℕ) → slice_get names place ≡ Some a
     → IsAmong names a
@@ -277,17 +277,17 @@ only_place (first ∷ names) a (suc place) once is = by (tell first a) (only_pla
         (step false (same_unless a first (λ e. two (sym e)))) once) is)
 
 pub viewed_nowhere : (net : Network) (server : Name) → list_any (same server) net.names ≡ false
-    → site_view net server ≡ None
+    → node_view net server ≡ None
 viewed_nowhere net server not_among =
-    ap (option_and_then (λ (site : Site). site.server)) (nowhere net server not_among)
+    ap (option_and_then (λ (node : Node). node.server)) (nowhere net server not_among)
 
--- each site is at the place of a server
-pub at_place : (net : Network) → IsSetUp net → (place : ℕ) (site : Site)
-    → site_at net place ≡ Some site → IsPlaceOf net place
-at_place net set_up place site is_site = by (slice_get net.names place) refl
+-- each node is at the place of a server
+pub at_place : (net : Network) → IsSetUp net → (place : ℕ) (node : Node)
+    → node_at net place ≡ Some node → IsPlaceOf net place
+at_place net set_up place node is_node = by (slice_get net.names place) refl
   where
-    given : Some (named_at site) ≡ option_map some_name (slice_get net.names place)
-    given = sym (ap (option_map named_at) is_site) ∙ named_here net set_up place
+    given : Some (named_at node) ≡ option_map some_name (slice_get net.names place)
+    given = sym (ap (option_map named_at) is_node) ∙ named_here net set_up place
 
     by : (o : Option Name) → slice_get net.names place ≡ o → IsPlaceOf net place
     by (Some server) is = record {
@@ -305,37 +305,37 @@ one_tail : {X : Type 0} {x y : X} {xs ys : List X} → x ∷ xs ≡ y ∷ ys →
 one_tail e = cc e
 
 -- the settings stand in the order of the names, too
-setting_found : (sites : List Site) (names : List Name) (server : Name)
-    → map named_at sites ≡ map some_name names → setting_of (filter_map setting_at sites) server
-    ≡ option_and_then setting_at (slice_get sites (index_in names server))
+setting_found : (nodes : List Node) (names : List Name) (server : Name)
+    → map named_at nodes ≡ map some_name names → setting_of (filter_map setting_at nodes) server
+    ≡ option_and_then setting_at (slice_get nodes (index_in names server))
 setting_found [] names server named = refl
-setting_found (site ∷ sites) [] server named = absurd (cc named)
-setting_found (site ∷ sites) (first ∷ names) server named =
-    by site.server refl (setting_found sites names server (one_tail named))
+setting_found (node ∷ nodes) [] server named = absurd (cc named)
+setting_found (node ∷ nodes) (first ∷ names) server named =
+    by node.server refl (setting_found nodes names server (one_tail named))
   where
     rest_is : Type 0
-    rest_is = setting_of (filter_map setting_at sites) server ≡ option_and_then setting_at
-        (slice_get sites (index_in names server))
+    rest_is = setting_of (filter_map setting_at nodes) server ≡ option_and_then setting_at
+        (slice_get nodes (index_in names server))
 
-    head : named_at site ≡ Some first
+    head : named_at node ≡ Some first
     head = one_head named
 
-    at_first : (view : View) → site.server ≡ Some view
+    at_first : (view : View) → node.server ≡ Some view
         → (b : Bool) → same first server ≡ b → rest_is
-        → cond b (Some (setting_now view)) (setting_of (filter_map setting_at sites) server)
+        → cond b (Some (setting_now view)) (setting_of (filter_map setting_at nodes) server)
         ≡ option_and_then setting_at
-        (slice_get (site ∷ sites) (if b then 0 else suc (index_in names server)))
+        (slice_get (node ∷ nodes) (if b then 0 else suc (index_in names server)))
     at_first view is true e rest = sym (ap (option_map setting_now) is)
     at_first view is false e rest = rest
 
-    by : (o : Option View) → site.server ≡ o → rest_is
-        → setting_of (filter_map setting_at (site ∷ sites)) server ≡ option_and_then setting_at
-        (slice_get (site ∷ sites) (index_in (first ∷ names) server))
+    by : (o : Option View) → node.server ≡ o → rest_is
+        → setting_of (filter_map setting_at (node ∷ nodes)) server ≡ option_and_then setting_at
+        (slice_get (node ∷ nodes) (index_in (first ∷ names) server))
     by (Some view) is rest =
         ap (λ o. setting_of
-        (cons_option (option_map setting_now o) (filter_map setting_at sites)) server) is
+        (cons_option (option_map setting_now o) (filter_map setting_at nodes)) server) is
         ∙ ap (λ name. cond (same name server) (Some (setting_now view))
-        (setting_of (filter_map setting_at sites) server))
+        (setting_of (filter_map setting_at nodes) server))
         (one_name (sym (ap (option_map (λ (v : View). v.routes.name)) is) ∙ head))
         ∙ at_first view is (same first server) refl rest
     by None is rest = not_named (sym (ap (option_map (λ (v : View). v.routes.name)) is) ∙ head)
@@ -344,8 +344,8 @@ pub setting_there : (net : Network) → IsSetUp net → (server : Name) → IsAm
     → setting_of (settings_of net) server ≡ Some (setting_now (view_at net server))
 setting_there net set_up server among =
     let here = there net set_up server among in
-    setting_found net.sites net.names server set_up.named
-    ∙ ap (λ o. option_and_then setting_at o) here.is_site
+    setting_found net.nodes net.names server set_up.named
+    ∙ ap (λ o. option_and_then setting_at o) here.is_node
     ∙ ap (option_map setting_now) here.is_view
 
 pub listed : (net : Network) → IsSetUp net → (server : Name)
@@ -355,19 +355,19 @@ listed net set_up server = by (list_any (same server) net.names) refl
     past : (k n : ℕ) → k ≡ n → k ≤ n
     past k n e = omega (arith, e)
 
-    as_many : length net.sites ≡ length net.names
-    as_many = sym (length-map net.sites named_at) ∙ ap length set_up.named
+    as_many : length net.nodes ≡ length net.names
+    as_many = sym (length-map net.nodes named_at) ∙ ap length set_up.named
         ∙ length-map net.names some_name
 
     by : (b : Bool) → list_any (same server) net.names ≡ b → is_server (settings_of net) server ≡ b
     by true among = ap is_some (setting_there net set_up server among)
     by false not_among =
         ap is_some
-        (setting_found net.sites net.names server set_up.named
-        ∙ ap (λ place. option_and_then setting_at (slice_get net.sites place))
+        (setting_found net.nodes net.names server set_up.named
+        ∙ ap (λ place. option_and_then setting_at (slice_get net.nodes place))
         (no_place net.names server not_among)
-        ∙ ap (option_and_then setting_at) (slice_get_past net.sites (length net.names)
-        (past (length net.sites) (length net.names) as_many)))
+        ∙ ap (option_and_then setting_at) (slice_get_past net.nodes (length net.names)
+        (past (length net.nodes) (length net.names) as_many)))
 
 pub servers_named : (net : Network) → IsSetUp net → AreNamed (settings_of net)
 servers_named net set_up server is_one =
@@ -375,7 +375,8 @@ servers_named net set_up server is_one =
     subst (λ name. IsServer name) (there net set_up server among).named
     (set_up.configured server among).name
 
-pub fixed : (net : Network) → IsSetUp net → (streams : Streams) → IsFixed (fixed_of net streams)
+pub fixed : (net : Network) → IsSetUp net → (streams : Streams)
+    → IsItemSetting (setting_of_item net streams)
 fixed net set_up streams = record {
   servers = record {
     named = λ x among. servers_named net set_up x (listed net set_up x ∙ among);

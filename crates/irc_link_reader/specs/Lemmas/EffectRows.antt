@@ -4,7 +4,7 @@ use Rattle.std.proofs.Common.{◌∙◌}
 use Rattle.std.specs.Char.{to_ascii_lowercase}
 use Rattle.std.specs.List.{find}
 use Rattle.std.specs.Str.{bytes_eq}
-use Rattle.irc_link_words.specs.declared.commands.Command.TheVariants.{OfEffects, OfServers}
+use Rattle.irc_link_words.specs.declared.commands.LinkCommand.TheVariants.{OfEffects, OfServers}
 use Rattle.irc_link_words.specs.declared.commands.EffectCommand.{EffectCommand}
 use Rattle.irc_link_words.specs.declared.commands.EffectCommand.TheVariants as command
 use Rattle.irc_link_words.specs.declared.commands.ServerCommand.{ServerCommand}
@@ -12,12 +12,12 @@ use Rattle.irc_link_words.specs.declared.commands.ServerCommand.TheVariants as s
 use Rattle.irc_link_words.specs.Commands.{command_of, effect_name, server_name}
 use Rattle.irc_link_words.specs.Lemmas.CommandsNamed.{letters_of_command, no_row_of}
 use Rattle.irc_link_reader.specs.Loops.Readings.{row}
-use Rattle.irc_link_reader.specs.Means.{Row, wire_row_of, wire_table}
+use Rattle.irc_link_reader.specs.Means.{LinkCommandRow, wire_row_of, wire_table}
 
 -- the row of a word by its letters
-abbrev row_of_letters : List ℕ → Option Row
+abbrev row_of_letters : List ℕ → Option LinkCommandRow
 row_of_letters letters =
-    find (λ (r : Row). bytes_eq letters (map to_ascii_lowercase r.command)) wire_table
+    find (λ (r : LinkCommandRow). bytes_eq letters (map to_ascii_lowercase r.command)) wire_table
 
 row_of_effect : (command : EffectCommand)
     → row_of_letters (map to_ascii_lowercase (effect_name command)) ≡ Some (row command)
@@ -52,7 +52,7 @@ no_effect_row word command is =
 
 pub no_command_row : (word : List ℕ) → command_of word ≡ None → wire_row_of word ≡ None
 no_command_row word is =
-    no_row_of (λ (r : Row). r.command) [] wire_table
+    no_row_of (λ (r : LinkCommandRow). r.command) [] wire_table
     (server_name server.Server ∷ server_name server.Squit ∷ server_name server.Kill
     ∷ server_name server.Njoin ∷ server_name server.Pass ∷ []) word refl is
 

@@ -27,9 +27,9 @@ use Rattle.irc_link_reader.specs.declared.arrival.Arrival.{Arrival}
 use Rattle.irc_link_reader.specs.declared.deed.Deed.{Deed as Code}
 use Rattle.irc_link_reader.specs.declared.reading_channels.Doer.{Doer}
 use Rattle.irc_link_reader.specs.declared.reading_channels.Doer.TheVariants as doer
-use Rattle.irc_link_reader.specs.declared.reading_users.Newcomer.{Newcomer}
+use Rattle.irc_link_reader.specs.declared.reading_users.IntroductionWords.{IntroductionWords}
 use Rattle.irc_link_reader.specs.Reader.{Reader, reader_of}
-use Rattle.irc_link_reader.specs.Means.{Checked, Row, line, if_there, home_of_token}
+use Rattle.irc_link_reader.specs.Means.{Checked, LinkCommandRow, line, if_there, home_of_token}
 use Rattle.irc_link_reader.specs.Means.{introduction_line, nick_line, of_either, quit_line}
 use Rattle.irc_link_reader.specs.Means.{join_line, part_line, kick_line, mode_line, topic_line}
 use Rattle.irc_link_reader.specs.Means.{say_line, invite_line, user_mode_line}
@@ -89,7 +89,7 @@ check_of command.Topic = topic_line
 check_of (command.Say notice) = say_line notice
 check_of command.Invite = invite_line
 
-abbrev pub row : EffectCommand → Row
+abbrev pub row : EffectCommand → LinkCommandRow
 row command = line (effect_name command) (check_of command)
 
 -- what is read of a line of this command is what it tells, or why it closes the link
@@ -134,13 +134,13 @@ abbrev pub is_far_user : Reader → List ℕ → Bool
 is_far_user reader nick = option_map_or reader.is_far (reader.home nick) false
 
 -- the words of an introduction
-abbrev pub introduction_of : Reader → Newcomer → Checked
+abbrev pub introduction_of : Reader → IntroductionWords → Checked
 introduction_of reader words =
     introduction_line reader words.nick.now words.distance.now words.user.now words.host.now
     words.token.now words.mode.now words.real.now
 
 -- whether the words of an introduction that are neither names nor numbers keep their rules
-abbrev pub are_right : Newcomer → Bool
+abbrev pub are_right : IntroductionWords → Bool
 are_right words = is_user_name words.user.now
     && (is_come_mode words.mode.now && fits max_real_name words.real.now)
 
@@ -149,7 +149,7 @@ home_or_bad (Some home) = Ok home
 home_or_bad None = Err reason.BadToken
 
 -- the server that a user comes from, or why the words of its introduction are refused
-abbrev pub home_or_fault : Reader → Newcomer → Result (List ℕ) CloseReason
+abbrev pub home_or_fault : Reader → IntroductionWords → Result (List ℕ) CloseReason
 home_or_fault reader words =
     if not (introduction_of reader words).parameters then Err reason.Parameters
     else home_or_bad (home_of_token reader words.token.now)
@@ -176,7 +176,7 @@ is_member_far reader member = option_map_or reader.is_far (reader.home member.na
 -- ---- the words of an introduction
 
 -- the seven words of an introduction, or what a line means that has another number of them
-abbrev pub IsNewcomer : List (List ℕ) → Result Newcomer CloseReason → Type 0
+abbrev pub IsNewcomer : List (List ℕ) → Result IntroductionWords CloseReason → Type 0
 IsNewcomer words (Ok w) =
     words ≡ w.nick.now ∷ w.distance.now ∷ w.user.now ∷ w.host.now ∷ w.token.now ∷ w.mode.now
     ∷ w.real.now ∷ []

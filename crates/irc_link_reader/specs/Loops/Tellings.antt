@@ -1,5 +1,5 @@
 -- What the code that reads a line of a link as a deed gives.
-use Rattle.std.specs.Prelude.{◌≡◌, Option, Some, None, Result, Ok, Err, List, [], ◌∷◌, map}
+use Rattle.std.specs.Prelude.{◌≡◌, Option, Result, Ok, Err, List, [], ◌∷◌, map}
 use Rattle.std.specs.Prelude.{ℕ, option_to_list}
 use Rattle.std.specs.List.{flat_map}
 use Rattle.irc_batch.specs.declared.close_reason.CloseReason.{CloseReason}
@@ -10,12 +10,12 @@ use Rattle.irc_room.specs.effect.Effect.TheVariants.{ChangeModes, SetTopic}
 use Rattle.irc_merge.specs.Deeds.{Deed, does, loses, kills, brings, sets, tops}
 use Rattle.irc_link_reader.specs.declared.deed.Deed.{Deed as Code}
 use Rattle.irc_link_reader.specs.declared.deed.Deed.TheVariants as code
-use Rattle.irc_link_reader.specs.declared.deed.Arrivals.{Arrivals}
+use Rattle.irc_link_reader.specs.declared.deed.NewMembers.{NewMembers}
 use Rattle.irc_link_reader.specs.declared.deed.Killing.{Killing}
 use Rattle.irc_link_reader.specs.declared.deed.Loss.{Loss}
 use Rattle.irc_link_reader.specs.declared.deed.NewMember.{NewMember}
 use Rattle.irc_link_reader.specs.declared.deed.NewServer.{NewServer}
-use Rattle.irc_link_reader.specs.declared.deed.Setting.{Setting}
+use Rattle.irc_link_reader.specs.declared.deed.ModeSetting.{ModeSetting}
 use Rattle.irc_link_reader.specs.declared.deed.Topic.{Topic}
 use Rattle.irc_link_reader.specs.Told.{Judged, Told, a_deed, a_doing, a_server, first_reason}
 
@@ -35,28 +35,28 @@ told_member member = (member.nick, member.flags)
 abbrev pub told_members : List NewMember → List (List ℕ × Flags)
 told_members members = map told_member members
 
-abbrev pub arrivals_told : Arrivals → Deed
+abbrev pub arrivals_told : NewMembers → Deed
 arrivals_told arrivals =
     brings arrivals.server arrivals.channel (told_members arrivals.members.items)
 
-abbrev pub setting_told : Setting → Deed
+abbrev pub setting_told : ModeSetting → Deed
 setting_told setting = sets setting.server setting.channel setting.changes
 
 abbrev pub topic_told : Topic → Deed
 topic_told topic = tops topic.server topic.channel topic.text
 
-abbrev pub act_told : Code → Told
-act_told (code.Does effect) = a_deed (does effect)
-act_told (code.Server server) = server_told server
-act_told (code.Lost loss) = a_deed (loss_told loss)
-act_told (code.Kill killing) = killing_told killing
-act_told (code.Members arrivals) = a_deed (arrivals_told arrivals)
-act_told (code.Modes setting) = a_deed (setting_told setting)
-act_told (code.Topic topic) = a_deed (topic_told topic)
+abbrev pub told_of_deed : Code → Told
+told_of_deed (code.Does effect) = a_deed (does effect)
+told_of_deed (code.Server server) = server_told server
+told_of_deed (code.Lost loss) = a_deed (loss_told loss)
+told_of_deed (code.Kill killing) = killing_told killing
+told_of_deed (code.Members arrivals) = a_deed (arrivals_told arrivals)
+told_of_deed (code.Modes setting) = a_deed (setting_told setting)
+told_of_deed (code.Topic topic) = a_deed (topic_told topic)
 
 -- the deed that there is, as a list
 abbrev pub told_if : Option Code → List Told
-told_if one = map act_told (option_to_list one)
+told_if one = map told_of_deed (option_to_list one)
 
 -- what is read, as a list
 abbrev pub told_found : Result (Option Code) CloseReason → Result (List Told) CloseReason

@@ -1,10 +1,10 @@
 -- What is known of a word by the command that it is, or by that it is none.
-use Rattle.std.proofs.Common.{◌≡◌, ℕ, Bool, true, false, ◌||◌, cond, Option, Some, None, unwrap_or}
+use Rattle.std.proofs.Common.{◌≡◌, ℕ, Bool, true, false, ◌||◌, cond, Some, None, unwrap_or}
 use Rattle.std.proofs.Common.{List, [], ◌∷◌, ◌++◌, map, refl, sym, ◌∙◌, ap}
 use Rattle.std.proofs.lemmas.Slice.Eq.{bytes_eq-Decides}
 use Rattle.std.specs.Char.{to_ascii_lowercase}
 use Rattle.std.specs.List.{find, list_any}
-use Rattle.irc_link_words.specs.declared.commands.Command.{Command}
+use Rattle.irc_link_words.specs.declared.commands.LinkCommand.{LinkCommand}
 use Rattle.irc_link_words.specs.Commands.{command_of, commands, name_of}
 use Rattle.irc_link_words.specs.Words.{is_command}
 
@@ -20,7 +20,7 @@ found_passes test (first ∷ xs) x is = by (test first) refl is (found_passes te
     by false so is later = later is
 
 -- a word that is a command has the letters of its name
-pub letters_of_command : (word : List ℕ) (command : Command) → command_of word ≡ Some command
+pub letters_of_command : (word : List ℕ) (command : LinkCommand) → command_of word ≡ Some command
     → map to_ascii_lowercase word ≡ map to_ascii_lowercase (name_of command)
 letters_of_command word command is =
     (bytes_eq-Decides (map to_ascii_lowercase word) (map to_ascii_lowercase (name_of command))).0

@@ -1,5 +1,5 @@
 -- What the code that reads the changes of a MODE gives on its way.
-use Rattle.std.specs.Prelude.{◌≡◌, ℕ, Bool, ⊤, ◌&&◌, Option, Some, None, List, [], ◌∷◌, ◌++◌, drop}
+use Rattle.std.specs.Prelude.{◌≡◌, ℕ, ⊤, ◌&&◌, Option, Some, None, List, [], ◌∷◌, ◌++◌, drop}
 use Rattle.std.specs.Prelude.{length, nat_eq, option_to_list, if◌then◌else◌}
 use Rattle.std.specs.Borrow.{Bor}
 use Rattle.std.specs.List.{list_all, starts_with}
@@ -8,8 +8,8 @@ use Rattle.std.specs.Option.{option_map}
 use Rattle.std.specs.Str.{bytes_eq}
 use Rattle.irc_line.specs.PartViews.{words_now}
 use Rattle.irc_modes.specs.declared.modes.ModeChange.{ModeChange}
-use Rattle.irc_mode_words.specs.ModeWords.{Asked, change}
-use Rattle.irc_mode_words.specs.ModeWritten.{changes_written}
+use Rattle.irc_modes.specs.ModeWords.{Asked, change}
+use Rattle.irc_modes.specs.ModeWritten.{changes_written}
 use Rattle.irc_modes.specs.Texts.{IsKept}
 use Rattle.irc_link_words.specs.Words.{keeps_word}
 

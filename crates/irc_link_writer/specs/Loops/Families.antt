@@ -5,7 +5,7 @@ use Rattle.irc_users.specs.declared.user.User.{User}
 use Rattle.irc_room.specs.effect.Effect.{Effect}
 use Rattle.irc_room.specs.effect.Effect.TheVariants.{AddUser, Rename, Quit, Say, Invite, UserMode}
 use Rattle.irc_room.specs.Room.{Room}
-use Rattle.irc_room.specs.Seen.{changes_words, stored_channel, stored_nick}
+use Rattle.irc_room.specs.Seen.{changes_words}
 use Rattle.irc_modes.specs.declared.modes.ModeChange.{ModeChange}
 use Rattle.irc_link_words.specs.Words.{with_i, without_i, no_mode, marked}
 use Rattle.irc_link_writer.specs.Written.{from}
@@ -40,19 +40,15 @@ abbrev pub written_modes : Room → List ℕ → List ℕ → List ModeChange �
 written_modes room name channel changes =
     from name (codes "MODE") (channel ∷ changes_words room changes) None
 
-abbrev pub written_join : Room → List ℕ → List ℕ → Bool → Written
-written_join room nick channel op =
-    from (stored_nick room nick) (codes "JOIN") (marked channel op ∷ []) None
+abbrev pub written_join : List ℕ → List ℕ → Bool → Written
+written_join nick channel op = from nick (codes "JOIN") (marked channel op ∷ []) None
 
-abbrev pub written_kick : Room → List ℕ → List ℕ → List ℕ → List ℕ → Written
-written_kick room by channel nick text =
-    from (stored_nick room by) (codes "KICK")
-    (stored_channel room channel ∷ stored_nick room nick ∷ []) (Some text)
+abbrev pub written_kick : List ℕ → List ℕ → List ℕ → List ℕ → Written
+written_kick by channel nick text =
+    from by (codes "KICK") (channel ∷ nick ∷ []) (Some text)
 
-abbrev pub written_invite : Room → List ℕ → List ℕ → List ℕ → Written
-written_invite room by nick channel =
-    from (stored_nick room by) (codes "INVITE")
-    (stored_nick room nick ∷ stored_channel room channel ∷ []) None
+abbrev pub written_invite : List ℕ → List ℕ → List ℕ → Written
+written_invite by nick channel = from by (codes "INVITE") (nick ∷ channel ∷ []) None
 
 abbrev pub written_user_mode : List ℕ → Bool → Written
 written_user_mode nick invisible =

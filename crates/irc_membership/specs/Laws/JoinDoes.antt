@@ -31,7 +31,7 @@ use Rattle.irc_acts.specs.OtherInvitationsLaws.{IsKeeping, in_turn_alike, joined
 use Rattle.irc_acts.specs.OtherInvitationsLaws.{member_alike, join_keeps_alike}
 use Rattle.irc_acts.specs.Own.{AreOwn}
 use Rattle.irc_acts.specs.Standing.{is_banned}
-use Rattle.irc_answers.specs.Names.{names_of, end_of_names}
+use Rattle.irc_acts.specs.Names.{names_of, end_of_names}
 use Rattle.irc_membership.specs.Limits.{max_joined}
 use Rattle.irc_membership.specs.Join.{JoinEntry, asked_for, opens, is_full, is_zero, kept_out}
 use Rattle.irc_membership.specs.Join.{topic_for_joiner, joins, admitted, joins_found, joins_asked}

@@ -26,7 +26,7 @@ use Rattle.irc_acts.specs.AheadLaws.{none-both}
 use Rattle.irc_acts.specs.ByTest.{by_test}
 use Rattle.irc_acts.specs.Moves.{own_channels}
 use Rattle.irc_acts.specs.Standing.{is_banned}
-use Rattle.irc_answers.specs.Names.{in_lines, name_line, named_members, names_of, end_of_names}
+use Rattle.irc_acts.specs.Names.{in_lines, name_line, named_members, names_of, end_of_names}
 use Rattle.irc_membership.specs.Limits.{max_joined}
 use Rattle.irc_membership.specs.Join.{JoinEntry, opens, is_full, kept_out, topic_for_joiner, joins}
 use Rattle.irc_membership.specs.Join.{admitted, joins_found, join_one}

@@ -11,7 +11,7 @@ use Rattle.irc_acts.specs.declared.act.Act.{Act}
 use Rattle.irc_acts.specs.declared.context.Context.{Context}
 use Rattle.irc_acts.specs.Ahead.{ahead, in_turn}
 use Rattle.irc_acts.specs.CommaLists.{entries}
-use Rattle.irc_membership.specs.declared.kick.Lists.{Lists}
+use Rattle.irc_membership.specs.declared.kick.KickLists.{KickLists}
 use Rattle.irc_membership.specs.Kick.{Kicking, kick_one, kicking, kicks}
 
 -- what is left of them, where one channel is meant for all nicknames, or each for its own
@@ -22,19 +22,19 @@ kicks_left one (channel ∷ channels) (nick ∷ nicks) =
     kicking channel nick ∷ kicks_left one (if one then channel ∷ channels else channels) nicks
 
 -- what is left of the code's two lists
-abbrev pub kicks_of : Lists → List Kicking
+abbrev pub kicks_of : KickLists → List Kicking
 kicks_of left = kicks_left left.is_one (entries left.channels.now) (entries left.nicks.now)
 
 -- the channel and the nickname that come next, and the lists behind them, which are shorter; none
 -- where nothing is left
-abbrev pub IsNextKick : Lists → Option (Bor (List ℕ) × Bor (List ℕ) × Lists) → Type 0
+abbrev pub IsNextKick : KickLists → Option (Bor (List ℕ) × Bor (List ℕ) × KickLists) → Type 0
 IsNextKick left next =
     MatchOption next (kicks_of left ≡ [])
     (λ n. (kicks_of left ≡ kicking n.0.now n.1.now ∷ kicks_of n.2)
     × (length n.2.nicks.now < length left.nicks.now))
 
 -- what is left is kicked, one after another
-abbrev pub kick_list : Room → User → List ℕ → Lists → List Act
+abbrev pub kick_list : Room → User → List ℕ → KickLists → List Act
 kick_list room me text left = in_turn (kick_one me text) room (kicks_of left)
 
 -- an act is what kicking one nickname does, in the room as some steps leave it

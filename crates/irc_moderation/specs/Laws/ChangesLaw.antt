@@ -25,20 +25,20 @@ use Rattle.irc_names.specs.Digits.{number_of}
 use Rattle.irc_modes.specs.Modes.{is_limit, private_changed, secret_changed, with_ban, without_ban}
 use Rattle.irc_modes.specs.Lemmas.BanPlaces.{taken_gone}
 use Rattle.irc_channels.specs.Channels.{changed, all_changed}
-use Rattle.irc_mode_words.specs.ModeWords.{Asked, change, list, no_word, unknown, modes_read}
+use Rattle.irc_modes.specs.ModeWords.{Asked, change, list, no_word, unknown, modes_read}
 use Rattle.irc_room.specs.effect.Effect.{Effect}
 use Rattle.irc_room.specs.effect.Effect.TheVariants.{ChangeModes, UserMode}
 use Rattle.irc_room.specs.Room.{Room, IsWellFormed}
 use Rattle.irc_room.specs.InTurn.{IsSoFirst, EachInTurn}
 use Rattle.irc_acts.specs.Acts.{effects_among}
-use Rattle.irc_judging.specs.declared.verdict.Verdict.{Verdict}
-use Rattle.irc_judging.specs.declared.verdict.Verdict.TheVariants.{Says, Keeps, Nothing}
-use Rattle.irc_judging.specs.Judging.{without_zeros, turns_private, turns_secret, judge, differs}
+use Rattle.irc_moderation.specs.declared.verdict.Verdict.{Verdict}
+use Rattle.irc_moderation.specs.declared.verdict.Verdict.TheVariants.{Says, Keeps, Nothing}
+use Rattle.irc_moderation.specs.Judging.{without_zeros, turns_private, turns_secret, judge, differs}
 use Rattle.irc_moderation.specs.ChannelMode.{outcome_of, one_served, served}
 use Rattle.irc_moderation.specs.Mode.{mode_steps}
-use Rattle.irc_judging.specs.Laws.BansFound.{find_any, find_passes, any_alike, stored_is_mask}
-use Rattle.irc_judging.specs.Laws.JudgedWalk.{IsSo, judged_so}
-use Rattle.irc_judging.specs.Laws.LimitsWritten.{limit_still, number_still}
+use Rattle.irc_moderation.specs.Laws.BansFound.{find_any, find_passes, any_alike, stored_is_mask}
+use Rattle.irc_moderation.specs.Laws.JudgedWalk.{IsSo, judged_so}
+use Rattle.irc_moderation.specs.Laws.LimitsWritten.{limit_still, number_still}
 use Rattle.irc_moderation.specs.Laws.ModeLaw.{changed_by, mode_so}
 
 -- each of some changes leaves another channel than those before it have left

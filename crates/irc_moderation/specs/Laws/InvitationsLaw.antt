@@ -10,15 +10,15 @@ use Rattle.irc_modes.specs.declared.modes.ModeChange.{ModeChange}
 use Rattle.irc_modes.specs.declared.modes.ModeLetter.{ModeLetter}
 use Rattle.irc_modes.specs.declared.modes.ModeLetter.TheVariants as letter
 use Rattle.irc_channels.specs.Channels.{letter_changed, changed, all_changed}
-use Rattle.irc_mode_words.specs.ModeWords.{Asked, change, list, no_word, unknown, modes_read}
+use Rattle.irc_modes.specs.ModeWords.{Asked, change, list, no_word, unknown, modes_read}
 use Rattle.irc_numerics.specs.declared.replies.Reply.TheVariants.{ChanOPrivsNeeded}
 use Rattle.irc_room.specs.Room.{Room}
 use Rattle.irc_acts.specs.declared.act.Act.TheVariants.{Answer}
 use Rattle.irc_acts.specs.OtherInvitations.{uninviting, AreAlike}
 use Rattle.irc_acts.specs.Standing.{is_operator}
-use Rattle.irc_judging.specs.Judging.{judge}
+use Rattle.irc_moderation.specs.Judging.{judge}
 use Rattle.irc_moderation.specs.UserMode.{user_mode}
-use Rattle.irc_moderation.specs.ChannelMode.{Outcome, outcome_of, letter_replies, one_served}
+use Rattle.irc_moderation.specs.ChannelMode.{ModeOutcome, outcome_of, letter_replies, one_served}
 use Rattle.irc_moderation.specs.ChannelMode.{served, denied, in_one, asked_of, channel_mode}
 use Rattle.irc_acts.specs.Words.{names_channel}
 use Rattle.irc_moderation.specs.Mode.{mode_steps}
@@ -85,7 +85,7 @@ one_aside users start now list = refl
 one_aside users start now no_word = refl
 one_aside users start now (unknown byte) = refl
 
-abbrev both_outcomes : Outcome → Outcome → Outcome
+abbrev both_outcomes : ModeOutcome → ModeOutcome → ModeOutcome
 both_outcomes first rest =
     record { replies = first.replies ++ rest.replies; changes = first.changes ++ rest.changes }
 
@@ -94,7 +94,7 @@ served_aside : (users : Table User) (start now : Channel) (items : List Asked)
 served_aside users start now [] = refl
 served_aside users start now (item ∷ items) =
     let first = one_served users start now item in
-    ap (λ (o : Outcome). both_outcomes o (served users (uninviting start)
+    ap (λ (o : ModeOutcome). both_outcomes o (served users (uninviting start)
     (all_changed o.changes (uninviting now)) items)) (one_aside users start now item)
     ∙ ap (λ (c : Channel). both_outcomes first (served users (uninviting start) c items))
     (changed_aside first.changes now)

@@ -8,7 +8,7 @@ use Rattle.irc_channels.specs.declared.channel.Channel.{Channel}
 use Rattle.irc_modes.specs.declared.modes.ModeChange.{ModeChange}
 use Rattle.irc_channels.specs.Channels.{all_changed}
 use Rattle.irc_modes.specs.Modes.{is_nil}
-use Rattle.irc_mode_words.specs.ModeWords.{Asked, change, list, no_word, unknown, modes_read}
+use Rattle.irc_modes.specs.ModeWords.{Asked, change, list, no_word, unknown, modes_read}
 use Rattle.irc_numerics.specs.declared.replies.Reply.TheVariants.{UsersDontMatch, UModeUnknownFlag}
 use Rattle.irc_numerics.specs.declared.replies.Reply.TheVariants.{EndOfBanList}
 use Rattle.irc_room.specs.effect.By.TheVariants as by
@@ -23,9 +23,9 @@ use Rattle.irc_acts.specs.AheadLaws.{among-append, none-both, none-flat}
 use Rattle.irc_acts.specs.ByTest.{by_test}
 use Rattle.irc_acts.specs.Own as own
 use Rattle.irc_acts.specs.Own.{IsOwn, AreOwn}
-use Rattle.irc_judging.specs.declared.verdict.Verdict.{Verdict}
-use Rattle.irc_judging.specs.declared.verdict.Verdict.TheVariants.{Says, Keeps, Nothing}
-use Rattle.irc_judging.specs.Judging.{judge, differs}
+use Rattle.irc_moderation.specs.declared.verdict.Verdict.{Verdict}
+use Rattle.irc_moderation.specs.declared.verdict.Verdict.TheVariants.{Says, Keeps, Nothing}
+use Rattle.irc_moderation.specs.Judging.{judge, differs}
 use Rattle.irc_moderation.specs.ModesShown.{ban_shown}
 use Rattle.irc_moderation.specs.UserMode.{is_unknown_flag, invisible_after, unknown_told}
 use Rattle.irc_moderation.specs.UserMode.{made_invisible, own_mode, user_mode}

@@ -14,13 +14,13 @@ use Rattle.irc_modes.specs.declared.modes.ModeChange.{ModeChange}
 use Rattle.irc_modes.specs.declared.modes.ModeLetter.{ModeLetter}
 use Rattle.irc_modes.specs.Modes.{is_limit, is_nil}
 use Rattle.irc_channels.specs.Channels.{all_changed}
-use Rattle.irc_mode_words.specs.ModeWords.{Asked, change, list, no_word, unknown, modes_read}
-use Rattle.irc_mode_words.specs.Readable.{is_written_limit, has_its_word, AreSomeAsked}
-use Rattle.irc_mode_words.specs.Readable as some
+use Rattle.irc_modes.specs.ModeWords.{Asked, change, list, no_word, unknown, modes_read}
+use Rattle.irc_modes.specs.Readable.{is_written_limit, has_its_word, AreSomeAsked}
+use Rattle.irc_modes.specs.Readable as some
 use Rattle.irc_names.specs.Names.{IsKey}
 use Rattle.irc_modes.specs.Lemmas.LimitFacts.{limit-digits}
-use Rattle.irc_mode_words.specs.Lemmas.FewRead.{some_asked_are_readable}
-use Rattle.irc_mode_words.specs.Lemmas.WrittenLimit.{plain_limit}
+use Rattle.irc_modes.specs.Lemmas.FewRead.{some_asked_are_readable}
+use Rattle.irc_modes.specs.Lemmas.WrittenLimit.{plain_limit}
 use Rattle.irc_room.specs.Limits.{IsChannelWithin, IsWithinLimits, IsBanCarried}
 use Rattle.irc_room.specs.Room.{Room, IsWellFormed}
 use Rattle.irc_room.specs.Sendable.{IsSentChange}
@@ -28,14 +28,14 @@ use Rattle.irc_room.specs.Lemmas.ModesWithin.{changes_within}
 use Rattle.irc_acts.specs.CarriedWords.{key_carried, digits_carried}
 use Rattle.irc_acts.specs.Sendable.{AreSendable, AreSentWhole, CarriesSendable, CarrySendable}
 use Rattle.irc_acts.specs.SendableLaws.{nick_stored, own_are_sendable}
-use Rattle.irc_judging.specs.declared.verdict.Verdict.{Verdict}
-use Rattle.irc_judging.specs.declared.verdict.Verdict.TheVariants.{Says, Keeps, Nothing}
-use Rattle.irc_judging.specs.Judging.{without_zeros, judge}
+use Rattle.irc_moderation.specs.declared.verdict.Verdict.{Verdict}
+use Rattle.irc_moderation.specs.declared.verdict.Verdict.TheVariants.{Says, Keeps, Nothing}
+use Rattle.irc_moderation.specs.Judging.{without_zeros, judge}
 use Rattle.irc_moderation.specs.ChannelMode.{outcome_of, served}
 use Rattle.irc_moderation.specs.Mode.{mode_steps}
-use Rattle.irc_judging.specs.Laws.BansFound.{stored_is_mask}
-use Rattle.irc_judging.specs.Laws.JudgedWalk.{IsAskedFor, IsSo, judged_for}
-use Rattle.irc_judging.specs.Laws.LimitsWritten.{limit_still}
+use Rattle.irc_moderation.specs.Laws.BansFound.{stored_is_mask}
+use Rattle.irc_moderation.specs.Laws.JudgedWalk.{IsAskedFor, IsSo, judged_for}
+use Rattle.irc_moderation.specs.Laws.LimitsWritten.{limit_still}
 use Rattle.irc_moderation.specs.Laws.ModeLaw.{changed_by, mode_is_own, mode_so}
 use Rattle.irc_moderation.specs.Laws.WordsCarried.{IsCarriedAsked, read_carried}
 

@@ -8,9 +8,9 @@ use Rattle.irc_line.specs.Carried.{IsCarried}
 use Rattle.irc_modes.specs.declared.modes.ModeLetter.{ModeLetter}
 use Rattle.irc_modes.specs.declared.modes.ModeLetter.TheVariants as letter
 use Rattle.irc_modes.specs.Letters.{plus_byte}
-use Rattle.irc_mode_words.specs.ModeWords.{Asked, change, Reading, mode_of, needs, answer}
-use Rattle.irc_mode_words.specs.ModeWords.{reading_of, reading, next_word, letter_asks, words_after}
-use Rattle.irc_mode_words.specs.ModeWords.{is_sign, letters_read, counts, counted, modes_read}
+use Rattle.irc_modes.specs.ModeWords.{Asked, change, Reading, mode_of, needs, answer}
+use Rattle.irc_modes.specs.ModeWords.{reading_of, reading, next_word, letter_asks, words_after}
+use Rattle.irc_modes.specs.ModeWords.{is_sign, letters_read, counts, counted, modes_read}
 use Rattle.irc_acts.specs.ByTest.{by_test}
 
 abbrev pub IsCarriedAsked : Asked → Type 0

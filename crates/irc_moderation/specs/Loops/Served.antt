@@ -3,21 +3,21 @@ use Rattle.std.specs.Prelude.{◌≡◌, List, Result, OnOk}
 use Rattle.std.specs.Global.{Vec}
 use Rattle.std.specs.declared.alloc.AllocError.{AllocError}
 use Rattle.irc_channels.specs.declared.channel.Channel.{Channel}
-use Rattle.irc_mode_words.specs.declared.mode_words.ModeItem.{ModeItem}
-use Rattle.irc_mode_words.specs.ModeViews.{all_asked, asked}
+use Rattle.irc_modes.specs.declared.mode_words.ModeItem.{ModeItem}
+use Rattle.irc_modes.specs.ModeViews.{all_asked, asked}
 use Rattle.irc_room.specs.Applying.{Kept}
 use Rattle.irc_acts.specs.declared.act.Act.{Act}
 use Rattle.irc_acts.specs.Steps.{AddsTo}
-use Rattle.irc_judging.specs.declared.kept_changes.KeptChanges.{KeptChanges}
-use Rattle.irc_moderation.specs.ChannelMode.{Outcome, one_served, served}
-use Rattle.irc_judging.specs.Loops.Judged.{channel_behind}
+use Rattle.irc_moderation.specs.declared.kept_changes.KeptChanges.{KeptChanges}
+use Rattle.irc_moderation.specs.ChannelMode.{ModeOutcome, one_served, served}
+use Rattle.irc_moderation.specs.Loops.Judged.{channel_behind}
 
 -- what comes of all letters
-abbrev pub outcome_of_each : Kept → Channel → List ModeItem → Outcome
+abbrev pub outcome_of_each : Kept → Channel → List ModeItem → ModeOutcome
 outcome_of_each room channel items = served room.room.users channel channel (all_asked items)
 
 -- what comes of one, in the channel as the changes that are kept leave it
-abbrev pub outcome_of_one : Kept → Channel → KeptChanges → ModeItem → Outcome
+abbrev pub outcome_of_one : Kept → Channel → KeptChanges → ModeItem → ModeOutcome
 outcome_of_one room channel kept item =
     one_served room.room.users channel (channel_behind kept channel) (asked item)
 

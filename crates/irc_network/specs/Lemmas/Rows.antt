@@ -5,15 +5,16 @@ use Rattle.std.specs.List.{slice_get, slice_set}
 use Rattle.std.specs.Option.{option_map_or}
 use Rattle.std.specs.FinMap.{FinMap, remove}
 use Rattle.std.specs.Ordering.{nat_cmp}
-use Rattle.irc_network.specs.Network.{Course, LinkPlaces, Network, Receipt, given}
+use Rattle.irc_network.specs.Network.{Progress, LinkPlaces, Network, Receipt, given}
 use Rattle.irc_world.specs.Stepping.{Item}
-use Rattle.irc_wires.specs.Wires.{Wire, Wires, advanced, put_in, wire_at, with_wire, without_wire}
+use Rattle.irc_wires.specs.Wires.{LinkWire, Wires, advanced, put_in, wire_at, with_wire}
+use Rattle.irc_wires.specs.Wires.{without_wire}
 use Rattle.irc_network.specs.ByteNetwork.{ByteNetwork, HasRows, all_heard, lost_along}
 use Rattle.irc_network.specs.ByteNetwork.{wires_after}
-use Rattle.irc_network.specs.Lemmas.SitesStay.{all_heard_stay, given_stays}
+use Rattle.irc_network.specs.Lemmas.NodesStay.{all_heard_stay, given_stays}
 
-abbrev Row : Type 0
-Row = FinMap nat_cmp Wire
+abbrev WireRow : Type 0
+WireRow = FinMap nat_cmp LinkWire
 
 pub length_set : {X : Type 0} (xs : List X) (place : ℕ) (x : X)
     → length (slice_set xs place x) ≡ length xs
@@ -21,11 +22,11 @@ length_set [] place x = refl
 length_set (first ∷ xs) zero x = refl
 length_set (first ∷ xs) (suc place) x = ap suc (length_set xs place x)
 
-pub rows_stay : (from to : ℕ) (wire : Wire) (wires : Wires)
+pub rows_stay : (from to : ℕ) (wire : LinkWire) (wires : Wires)
     → length (with_wire from to wire wires) ≡ length wires
 rows_stay from to wire wires = by (slice_get wires from)
   where
-    by : (o : Option Row) → length
+    by : (o : Option WireRow) → length
         (option_map_or (λ row. slice_set wires from (put_in to wire row)) o wires) ≡ length wires
     by None = refl
     by (Some row) = length_set wires from (put_in to wire row)
@@ -33,7 +34,7 @@ rows_stay from to wire wires = by (slice_get wires from)
 one_closed : (from to : ℕ) (wires : Wires) → length (without_wire from to wires) ≡ length wires
 one_closed from to wires = by (slice_get wires from)
   where
-    by : (o : Option (FinMap nat_cmp Wire)) → length
+    by : (o : Option (FinMap nat_cmp LinkWire)) → length
         (option_map_or (λ row. slice_set wires from (remove row to)) o wires) ≡ length wires
     by None = refl
     by (Some row) = length_set wires from (remove row to)
@@ -46,18 +47,18 @@ closed_rows (Some ends) wires = one_closed ends.far ends.near
 
 pub rows_after_item : (old : ByteNetwork) (item : Item) (net : Network) (wires : Wires)
     → HasRows old → net ≡ (given item old.network).net
-    → wires ≡ wires_after old.network item old.wires → length wires ≡ length net.sites
+    → wires ≡ wires_after old.network item old.wires → length wires ≡ length net.nodes
 rows_after_item old item net wires rows net_is wires_are =
     ap (λ (ws : Wires). length ws) wires_are ∙ closed_rows _ old.wires ∙ rows
-    ∙ sym (ap (λ (n : Network). length n.sites) net_is ∙ given_stays item old.network)
+    ∙ sym (ap (λ (n : Network). length n.nodes) net_is ∙ given_stays item old.network)
 
 pub rows_after_lines : (old : ByteNetwork) (from to count : ℕ) (lines : List (List ℕ))
-    (before : List Receipt) (last : Course) (wires : Wires) → HasRows old
+    (before : List Receipt) (last : Progress) (wires : Wires) → HasRows old
     → last ≡ all_heard from to (record { net = old.network; receipts = before }) lines
     → wires ≡ with_wire from to (advanced count (wire_at old.wires from to)) old.wires
-    → length wires ≡ length last.net.sites
+    → length wires ≡ length last.net.nodes
 rows_after_lines old from to count lines before last wires rows last_is wires_are =
     ap (λ (ws : Wires). length ws) wires_are
     ∙ rows_stay from to (advanced count (wire_at old.wires from to)) old.wires ∙ rows
-    ∙ sym (ap (λ (c : Course). length c.net.sites) last_is
+    ∙ sym (ap (λ (c : Progress). length c.net.nodes) last_is
     ∙ all_heard_stay from to (record { net = old.network; receipts = before }) lines)

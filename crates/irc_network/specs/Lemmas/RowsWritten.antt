@@ -9,21 +9,21 @@ use Rattle.std.specs.FinMap.Entries.{below_all, is_sorted}
 use Rattle.std.specs.List.{slice_get, slice_set}
 use Rattle.std.specs.Option.{option_map_or}
 use Rattle.std.specs.Ordering.{nat_cmp}
-use Rattle.irc_network.specs.Network.{LinkPlaces, Network, Site, waiting}
+use Rattle.irc_network.specs.Network.{LinkPlaces, Network, Node, waiting}
 use Rattle.irc_tables.specs.Lemmas.OrderedEntries.{above-is, find-above}
-use Rattle.irc_wires.specs.Wires.{AreLean, IsLean, SameWires, Wire, Wires, is_still, put_in}
+use Rattle.irc_wires.specs.Wires.{AreLean, IsLean, SameWires, LinkWire, Wires, is_still, put_in}
 use Rattle.irc_wires.specs.Wires.{wire_at, wire_in, with_wire, without_wire}
 use Rattle.irc_wires.specs.Lemmas.PutWires.{get-put, get-without, wire_put}
-use Rattle.irc_network.specs.Behind.{emptied_site}
+use Rattle.irc_network.specs.Behind.{emptied_node}
 use Rattle.irc_network.specs.ByteNetwork.{ByteNetwork, all_written, lost_along, row_written}
 use Rattle.irc_network.specs.ByteNetwork.{rows_written, queues_written}
 use Rattle.irc_network.specs.Loops.Writing.{IsWritten}
 
-abbrev Row : Type 0
-Row = FinMap nat_cmp Wire
+abbrev WireRow : Type 0
+WireRow = FinMap nat_cmp LinkWire
 
-abbrev Way : Type 0
-Way = ℕ × List (List ℕ)
+abbrev LineQueue : Type 0
+LineQueue = ℕ × List (List ℕ)
 
 -- ---- in a row
 
@@ -32,12 +32,13 @@ told true is = refl
 told false is = absurd is
 
 -- no way behind one goes where it goes
-none_behind : (way : Way) (ways : List Way) → below_all nat_cmp way.0 ways ≡ true
+none_behind : (way : LineQueue) (ways : List LineQueue) → below_all nat_cmp way.0 ways ≡ true
     → find nat_cmp way.0 ways ≡ None
 none_behind way ways below =
     find-above nat_cmp_total way.0 ways (sym (above-is nat_cmp_total way.0 ways) ∙ below)
 
-row_at : (ways : List Way) (row : Row) (to : ℕ) → is_sorted nat_cmp ways ≡ true → wire_in to
+row_at : (ways : List LineQueue) (row : WireRow) (to : ℕ) → is_sorted nat_cmp ways ≡ true
+    → wire_in to
     (row_written ways row) ≡ all_written (unwrap_or (find nat_cmp to ways) []) (wire_in to row)
 row_at [] row to sorted = refl
 row_at (way ∷ ways) row to sorted =
@@ -62,7 +63,7 @@ row_at (way ∷ ways) row to sorted =
 
 -- ---- no wire is kept that is still
 
-lean_put : (row : Row) (to : ℕ) (wire : Wire) → IsLean row → IsLean (put_in to wire row)
+lean_put : (row : WireRow) (to : ℕ) (wire : LinkWire) → IsLean row → IsLean (put_in to wire row)
 lean_put row to wire lean q found is =
     by (nat_eq q to) (is_still wire) refl (sym (get-put row to wire q) ∙ is)
   where
@@ -72,42 +73,42 @@ lean_put row to wire lean q found is =
     by true false moves one = ap (λ o. is_still (unwrap_or o found)) (sym one) ∙ moves
     by false b still other = lean q found other
 
-lean_without : (row : Row) (to : ℕ) → IsLean row → IsLean (remove row to)
+lean_without : (row : WireRow) (to : ℕ) → IsLean row → IsLean (remove row to)
 lean_without row to lean q found is = by (nat_eq q to) (sym (get-without row to q) ∙ is)
   where
     by : (a : Bool) → cond a None (get row q) ≡ Some found → is_still found ≡ false
     by true one = cc one
     by false other = lean q found other
 
-lean_row : (ways : List Way) (row : Row) → IsLean row → IsLean (row_written ways row)
+lean_row : (ways : List LineQueue) (row : WireRow) → IsLean row → IsLean (row_written ways row)
 lean_row [] row lean = lean
 lean_row (way ∷ ways) row lean =
     lean_row ways (put_in way.0 (all_written way.1 (wire_in way.0 row)) row)
     (lean_put row way.0 (all_written way.1 (wire_in way.0 row)) lean)
 
-lean_rows : (sites : List Site) (wires : Wires) → AreLean wires → AreLean (rows_written sites wires)
+lean_rows : (nodes : List Node) (wires : Wires) → AreLean wires → AreLean (rows_written nodes wires)
 lean_rows [] wires lean = lean
-lean_rows (site ∷ sites) [] lean = tt
-lean_rows (site ∷ sites) (row ∷ wires) lean =
-    (lean_row (entries site.queues) row lean.0, lean_rows sites wires lean.1)
+lean_rows (node ∷ nodes) [] lean = tt
+lean_rows (node ∷ nodes) (row ∷ wires) lean =
+    (lean_row (entries node.queues) row lean.0, lean_rows nodes wires lean.1)
 
-lean_at : (wires : Wires) (place : ℕ) (row : Row) → slice_get wires place ≡ Some row → AreLean wires
-    → IsLean row
+lean_at : (wires : Wires) (place : ℕ) (row : WireRow) → slice_get wires place ≡ Some row
+    → AreLean wires → IsLean row
 lean_at [] place row at lean = cc at
 lean_at (first ∷ wires) zero row at lean = subst IsLean (ap (λ o. unwrap_or o first) at) lean.0
 lean_at (first ∷ wires) (suc place) row at lean = lean_at wires place row at lean.1
 
-lean_set : (wires : Wires) (place : ℕ) (row : Row) → IsLean row → AreLean wires
+lean_set : (wires : Wires) (place : ℕ) (row : WireRow) → IsLean row → AreLean wires
     → AreLean (slice_set wires place row)
 lean_set [] place row one lean = tt
 lean_set (first ∷ wires) zero row one lean = (one, lean.1)
 lean_set (first ∷ wires) (suc place) row one lean = (lean.0, lean_set wires place row one lean.1)
 
-pub lean_with : (from to : ℕ) (wire : Wire) (wires : Wires) → AreLean wires
+pub lean_with : (from to : ℕ) (wire : LinkWire) (wires : Wires) → AreLean wires
     → AreLean (with_wire from to wire wires)
 lean_with from to wire wires lean = by (slice_get wires from) refl
   where
-    by : (o : Option Row) → slice_get wires from ≡ o
+    by : (o : Option WireRow) → slice_get wires from ≡ o
         → AreLean (option_map_or (λ row. slice_set wires from (put_in to wire row)) o wires)
     by None is = lean
     by (Some row) is = lean_set wires from (put_in to wire row)
@@ -116,7 +117,7 @@ lean_with from to wire wires lean = by (slice_get wires from) refl
 one_closed : (from to : ℕ) (wires : Wires) → AreLean wires → AreLean (without_wire from to wires)
 one_closed from to wires lean = by (slice_get wires from) refl
   where
-    by : (o : Option Row) → slice_get wires from ≡ o
+    by : (o : Option WireRow) → slice_get wires from ≡ o
         → AreLean (option_map_or (λ row. slice_set wires from (remove row to)) o wires)
     by None is = lean
     by (Some row) is = lean_set wires from (remove row to)
@@ -133,33 +134,33 @@ lean_along (Some ends) wires lean = one_closed ends.far ends.near
 less : (a b : ℕ) → suc a ≡ suc b → a ≡ b
 less a b is = cc is
 
-rows_at : (sites : List Site) (wires : Wires) (from to : ℕ) → length wires ≡ length sites
-    → wire_at (rows_written sites wires) from to
-    ≡ all_written (option_map_or (λ site. waiting site to) (slice_get sites from) [])
+rows_at : (nodes : List Node) (wires : Wires) (from to : ℕ) → length wires ≡ length nodes
+    → wire_at (rows_written nodes wires) from to
+    ≡ all_written (option_map_or (λ node. waiting node to) (slice_get nodes from) [])
     (wire_at wires from to)
 rows_at [] wires from to long = refl
-rows_at (site ∷ sites) [] from to long = cc long
-rows_at (site ∷ sites) (row ∷ wires) zero to long =
-    row_at (entries site.queues) row to
-    (told (is_sorted nat_cmp (entries site.queues)) (entries_sorted site.queues))
-    ∙ sym (ap (λ o. all_written (unwrap_or o []) (wire_in to row)) (get-entries site.queues to))
-rows_at (site ∷ sites) (row ∷ wires) (suc from) to long =
-    rows_at sites wires from to (less (length wires) (length sites) long)
+rows_at (node ∷ nodes) [] from to long = cc long
+rows_at (node ∷ nodes) (row ∷ wires) zero to long =
+    row_at (entries node.queues) row to
+    (told (is_sorted nat_cmp (entries node.queues)) (entries_sorted node.queues))
+    ∙ sym (ap (λ o. all_written (unwrap_or o []) (wire_in to row)) (get-entries node.queues to))
+rows_at (node ∷ nodes) (row ∷ wires) (suc from) to long =
+    rows_at nodes wires from to (less (length wires) (length nodes) long)
 
-as_many : (sites : List Site) (wires : Wires) → length wires ≡ length sites
-    → length (rows_written sites wires) ≡ length (map emptied_site sites)
+as_many : (nodes : List Node) (wires : Wires) → length wires ≡ length nodes
+    → length (rows_written nodes wires) ≡ length (map emptied_node nodes)
 as_many [] wires long = long
-as_many (site ∷ sites) [] long = cc long
-as_many (site ∷ sites) (row ∷ wires) long =
-    ap suc (as_many sites wires (less (length wires) (length sites) long))
+as_many (node ∷ nodes) [] long = cc long
+as_many (node ∷ nodes) (row ∷ wires) long =
+    ap suc (as_many nodes wires (less (length wires) (length nodes) long))
 
-pub is_written : (net : Network) (wires : Wires) → AreLean wires → length wires ≡ length net.sites
+pub is_written : (net : Network) (wires : Wires) → AreLean wires → length wires ≡ length net.nodes
     → IsWritten net wires (queues_written net wires)
 is_written net wires lean long = record {
   network_is = refl;
-  wires_are = λ from to. rows_at net.sites wires from to long;
-  rows = as_many net.sites wires long;
-  lean = lean_rows net.sites wires lean;
+  wires_are = λ from to. rows_at net.nodes wires from to long;
+  rows = as_many net.nodes wires long;
+  lean = lean_rows net.nodes wires lean;
 }
 
 -- ---- and nothing else is
@@ -168,7 +169,7 @@ pub same_written : SameWires → (net : Network) (wires : Wires) (one other : By
     → IsWritten net wires one → IsWritten net wires other → one ≡ other
 same_written same net wires one other is too =
     let networks = is.network_is ∙ sym too.network_is in
-    let rows = is.rows ∙ ap (λ (n : Network). length n.sites) networks ∙ sym too.rows in
+    let rows = is.rows ∙ ap (λ (n : Network). length n.nodes) networks ∙ sym too.rows in
     let alike = same one.wires other.wires is.lean too.lean rows
     (λ from to. is.wires_are from to ∙ sym (too.wires_are from to)) in
     λ i. record { network = networks i; wires = alike i }

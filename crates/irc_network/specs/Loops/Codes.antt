@@ -3,11 +3,11 @@ use Rattle.std.specs.Prelude.{◌≡◌, ◌⊎◌, ℕ, List, refl}
 use Rattle.std.proofs.Common.{inl, inr}
 use Rattle.std.specs.Coded.{Coded, code_by, coded×, coded⊎, coded_ℕ, coded_list}
 use Rattle.irc_relay.specs.Links.{Name, Link}
-use Rattle.irc_network.specs.Loops.SiteCodes.{text_code}
-use Rattle.irc_network.specs.contracts.site.Site.{the_row as site_row}
+use Rattle.irc_network.specs.Loops.NodeCodes.{text_code}
+use Rattle.irc_network.specs.contracts.node.Node.{the_row as node_row}
 use Rattle.irc_world.specs.Stepping.{Item, connect, line, gone, link, cut}
 use Rattle.irc_network.specs.Histories.{Past}
-use Rattle.irc_network.specs.Network.{Network, Site}
+use Rattle.irc_network.specs.Network.{Network, Node}
 use Rattle.irc_network.specs.ByteNetwork.{ByteNetwork}
 use Rattle.irc_wires.specs.Wires.{Wires}
 use Rattle.irc_wires.specs.contracts.wires.Wires.{the_row as wires_row}
@@ -59,14 +59,14 @@ past_code =
 abbrev pub network_code : Coded Network
 network_code =
     code_by (List Name
-    × (List Site × (List Link × (List Name × (List (List (List ℕ)) × (List Item × ℕ))))))
-    (coded× (coded_list text_code) (coded× (coded_list site_row.coded)
+    × (List Node × (List Link × (List Name × (List (List (List ℕ)) × (List Item × ℕ))))))
+    (coded× (coded_list text_code) (coded× (coded_list node_row.coded)
     (coded× (coded_list link_code) (coded× (coded_list text_code)
     (coded× (coded_list (coded_list text_code)) (coded× (coded_list item_code) coded_ℕ))))))
-    (λ n. (n.names, (n.sites, (n.links, (n.homes, (n.received, (n.items, n.taken)))))))
+    (λ n. (n.names, (n.nodes, (n.links, (n.homes, (n.received, (n.items, n.taken)))))))
     (λ p. record {
       names = p.0;
-      sites = p.1.0;
+      nodes = p.1.0;
       links = p.1.1.0;
       homes = p.1.1.1.0;
       received = p.1.1.1.1.0;

@@ -1,9 +1,9 @@
 -- How many bytes are on their way.
 use Rattle.std.specs.Prelude.{ℕ, ◌+◌, List, [], ◌∷◌, length}
 use Rattle.std.specs.FinMap.{entries}
-use Rattle.irc_wires.specs.Wires.{Wire, Wires}
+use Rattle.irc_wires.specs.Wires.{LinkWire, Wires}
 
-abbrev pub bytes_of_entries : List (ℕ × Wire) → ℕ
+abbrev pub bytes_of_entries : List (ℕ × LinkWire) → ℕ
 bytes_of_entries [] = 0
 bytes_of_entries (entry ∷ more) = length entry.1.bytes + bytes_of_entries more
 

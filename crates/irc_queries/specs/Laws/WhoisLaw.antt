@@ -13,7 +13,7 @@ use Rattle.irc_acts.specs.declared.act.Act.TheVariants.{Answer}
 use Rattle.irc_acts.specs.Acts.{client_words, effects_among}
 use Rattle.irc_acts.specs.AheadLaws.{none-both, none-flat}
 use Rattle.irc_acts.specs.CommaLists.{entries}
-use Rattle.irc_answers.specs.Names.{in_lines}
+use Rattle.irc_acts.specs.Names.{in_lines}
 use Rattle.irc_queries.specs.Whois.{channels_line, places, told_if_there, told_of_one, told_of_list}
 use Rattle.irc_queries.specs.Whois.{whois_steps}
 

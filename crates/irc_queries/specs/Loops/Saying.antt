@@ -16,8 +16,8 @@ use Rattle.irc_room.specs.Room.{Room}
 use Rattle.irc_routes.specs.Known.{place_of}
 use Rattle.irc_acts.specs.declared.context.Context.{Context}
 use Rattle.irc_acts.specs.Standing.{is_seen_from}
-use Rattle.irc_answers.specs.Loops.NameLines.{is_shown}
-use Rattle.irc_answers.specs.Names.{listed, named_members}
+use Rattle.irc_acts.specs.Loops.NameLines.{is_shown}
+use Rattle.irc_acts.specs.Names.{listed, named_members}
 use Rattle.irc_queries.specs.List.{asked_entry, list_steps, listed_entries}
 use Rattle.irc_queries.specs.Said.{SaysSteps}
 use Rattle.irc_queries.specs.Who.{end_of_who, member_line, replies_of_members, who_replies}

@@ -16,8 +16,8 @@ use Rattle.irc_acts.specs.declared.act.Act.{Act}
 use Rattle.irc_acts.specs.declared.act.Act.TheVariants.{Answer}
 use Rattle.irc_acts.specs.Acts.{bytes_kept}
 use Rattle.irc_acts.specs.declared.context.Context.{Context}
-use Rattle.irc_answers.specs.Loops.FilledLines.{Came}
-use Rattle.irc_answers.specs.Names.{in_lines}
+use Rattle.irc_acts.specs.Loops.FilledLines.{Came}
+use Rattle.irc_acts.specs.Names.{in_lines}
 use Rattle.irc_queries.specs.Ison.{ison_steps, users_named}
 use Rattle.irc_queries.specs.Lusers.{lusers_steps}
 use Rattle.irc_queries.specs.Whois.{channels_line, info_of, place_in, places, whois_replies}

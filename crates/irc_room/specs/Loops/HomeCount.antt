@@ -6,9 +6,9 @@ use Rattle.irc_names.specs.Fold.{key}
 use Rattle.irc_names.specs.Tables.{Table, row}
 use Rattle.irc_users.specs.declared.user.User.{User}
 use Rattle.irc_users.specs.UserTable.{is_home}
-use Rattle.irc_shown.specs.effect.Effect.{Effect}
-use Rattle.irc_shown.specs.effect.Effect.TheVariants.{AddUser, Quit}
-use Rattle.irc_shown.specs.Room.{Room}
+use Rattle.irc_effects.specs.declared.effect.Effect.{Effect}
+use Rattle.irc_effects.specs.declared.effect.Effect.TheVariants.{AddUser, Quit}
+use Rattle.irc_effects.specs.Room.{Room}
 
 -- the users of a server
 abbrev pub home_count : List ℕ → Table User → ℕ

@@ -4,7 +4,7 @@ use Rattle.std.specs.List.{filter_map}
 use Rattle.std.specs.Option.{option_map, option_to_list}
 use Rattle.std.specs.declared.alloc.Global.{Global}
 use denote.Ref.{Bor}
-use Rattle.irc_script.specs.declared.commands.Command.{Command}
+use Rattle.irc_script.specs.declared.commands.ScriptCommand.{ScriptCommand}
 use Rattle.irc_script.specs.Scripts.{Request, request_in, request_of}
 use Rattle.irc_script.specs.ScriptViews.{lines_now, request, requests}
 
@@ -17,6 +17,7 @@ abbrev pub requests_in : List (Bor (List ℕ)) → List Request
 requests_in lines = filter_map request_of (lines_now lines)
 
 -- a command, if there is one, stands behind the others
-abbrev pub AddsCommand : Option Command → Vec Command Global → Vec Command Global → Type 0
+abbrev pub AddsCommand : Option ScriptCommand → Vec ScriptCommand Global → Vec ScriptCommand Global
+    → Type 0
 AddsCommand command old new =
     requests new.items ≡ requests old.items ++ option_to_list (option_map request command)

@@ -8,7 +8,7 @@ use Rattle.irc_net.specs.ByteNetwork.{ByteNetwork}
 use Rattle.irc_net.specs.declared.fault.NetFault.{NetFault}
 use Rattle.irc_net.specs.receipt.Receipt.{Receipt}
 use Rattle.irc_net.specs.NetworkViews.{receipt_of, receipts_of}
-use Rattle.irc_script.specs.declared.commands.Command.{Command}
+use Rattle.irc_script.specs.declared.commands.ScriptCommand.{ScriptCommand}
 use Rattle.irc_script.specs.declared.script_run.ScriptRun.{ScriptRun}
 use Rattle.irc_script.specs.declared.fault.Trouble.{Trouble}
 use Rattle.irc_script.specs.declared.fault.Trouble.TheVariants.{Memory, Device}
@@ -156,14 +156,14 @@ PlaysMoves held result moves first old before last new after =
 
 -- these commands are run
 abbrev pub PerformsAll : {W : Type 0} → (W → Option (List ℕ)) → Result (Unit {0}) Trouble
-    → List Command → ScriptRun → W → ArrayVec ℕ → ScriptRun → W → ArrayVec ℕ → Type 0
+    → List ScriptCommand → ScriptRun → W → ArrayVec ℕ → ScriptRun → W → ArrayVec ℕ → Type 0
 PerformsAll held result commands first old before last new after =
     HasRun result first.net.network (requests commands) last.net.network (sink_of held old before)
     (sink_of held new after)
 
 -- and nothing waits before and after
-abbrev pub RunsAll : {W : Type 0} → (W → Option (List ℕ)) → Result (Unit {0}) Trouble → List Command
-    → ScriptRun → W → ScriptRun → W → Type 0
+abbrev pub RunsAll : {W : Type 0} → (W → Option (List ℕ)) → Result (Unit {0}) Trouble
+    → List ScriptCommand → ScriptRun → W → ScriptRun → W → Type 0
 RunsAll held result commands first old last new =
     HasRun result first.net.network (requests commands) last.net.network (sink (held old) [])
     (sink (held new) [])

@@ -13,9 +13,9 @@ use Rattle.irc_names.specs.Tables.{row}
 use Rattle.irc_users.specs.declared.user.User.{User}
 use Rattle.irc_batch.specs.Batches.{line_to}
 use Rattle.irc_link_writer.specs.Written.{wire}
-use Rattle.irc_links.specs.Ends.{End, Ends, is_met}
-use Rattle.irc_links.specs.Lemmas.Listed.{listed}
-use Rattle.irc_links.specs.Ways.{but, met_links, told_homes, ways_toward}
+use Rattle.irc_stage.specs.Ends.{End, Ends, is_met}
+use Rattle.irc_stage.specs.Lemmas.Listed.{listed}
+use Rattle.irc_stage.specs.Ways.{but, met_links, told_homes, ways_toward}
 use Rattle.irc_numerics.specs.Replies.{reply_text}
 use Rattle.irc_room.specs.effect.Effect.{Effect}
 use Rattle.irc_room.specs.effect.Effect.TheVariants.{AddUser, Rename, Quit, Join, Part, Kick}
@@ -31,7 +31,7 @@ use Rattle.irc_tables.specs.Lemmas.RowsAsTable.{nothing-sorted, nothing-table}
 use Rattle.irc_acts.specs.declared.act.Act.{Act}
 use Rattle.irc_acts.specs.declared.act.Act.TheVariants.{Answer, Raw, Do}
 use Rattle.irc_commands.specs.Decide.{decide}
-use Rattle.irc_registering.specs.Register.{register}
+use Rattle.irc_commands.specs.Register.{register}
 use Rattle.irc_stage.specs.declared.clients.Client.{Client}
 use Rattle.irc_stage.specs.declared.clients.Client.TheVariants.{Registering, Registered}
 use Rattle.irc_stage.specs.RoomMachine.{RoomMachine, client_of, with_client, without_client}

@@ -18,13 +18,13 @@ use Rattle.irc_room.specs.Lemmas.Rows.{same_some}
 use Rattle.irc_acts.specs.declared.act.Act.{Act}
 use Rattle.irc_acts.specs.declared.act.Act.TheVariants.{Do}
 use Rattle.irc_acts.specs.Possible.{ArePossible}
-use Rattle.irc_registering.specs.declared.pending.Pending.{Pending}
+use Rattle.irc_commands.specs.declared.pending.Pending.{Pending}
 use Rattle.irc_commands.specs.Comings.{is_effect, AddsFirst, QuitFirst, RegisteredIsAdded}
 use Rattle.irc_commands.specs.Comings.{RegisteredStays, UnregisteredChangesNothing}
 use Rattle.irc_commands.specs.Comings.{WhoIsClosedQuits, WhoStaysIsUser}
 use Rattle.irc_commands.specs.Decide.{decide}
 use Rattle.irc_commands.specs.Possible.{DecidedIsPossible, RegisteringIsPossible}
-use Rattle.irc_registering.specs.Register.{register, Registered as Given}
+use Rattle.irc_commands.specs.Register.{register, Registered as Given}
 use Rattle.irc_stage.specs.declared.clients.Client.{Client}
 use Rattle.irc_stage.specs.declared.clients.Client.TheVariants.{Registering, Registered}
 use Rattle.irc_stage.specs.RoomMachine.{RoomMachine, client_of, with_client, without_client}
@@ -33,7 +33,7 @@ use Rattle.irc_stage.specs.Handle.{all_stepped, unchanged, pending_decided, user
 use Rattle.irc_stage.specs.Handle.{quits, gone, user_of, lost_text, fresh, machine_after}
 use Rattle.irc_stage.specs.Handle.{with_effect}
 use Rattle.irc_stage.specs.Matched.{IsMatched, StaysMatched}
-use Rattle.irc_stage.specs.Loops.Stage.{AreFit, IsFit, IsFreeOf, IsNoUser}
+use Rattle.irc_stage.specs.Loops.Parts.{AreFit, IsFit, IsFreeOf, IsNoUser}
 use Rattle.irc_stage.specs.Lemmas.Numbers.{get-with, same_number-refl}
 use Rattle.irc_stage.specs.Lemmas.Matching.{fit_by, quiet_fit, quiet_steps, still_so, still_steps}
 use Rattle.irc_stage.specs.Lemmas.Matching.{pending_matched, left_matched, free_of, added_fit}

@@ -31,8 +31,8 @@ use Rattle.irc_stage.specs.RoomMachine.{without_client}
 use Rattle.irc_stage.specs.Handle.{Handled, renamed_in, machine_after, clients_after, stepped}
 use Rattle.irc_stage.specs.Handle.{all_stepped}
 use Rattle.irc_stage.specs.Matched.{has_client, is_user_here, is_user_of, IsMatched}
-use Rattle.irc_stage.specs.Loops.Stage.{IsFit, AreFit, AreInTurn, LeavesApart, IsFreeFor, IsFreeOf}
-use Rattle.irc_stage.specs.Loops.Stage.{IsRegisteredAs, IsNoUser}
+use Rattle.irc_stage.specs.Loops.Parts.{IsFit, AreFit, AreInTurn, LeavesApart, IsFreeFor, IsFreeOf}
+use Rattle.irc_stage.specs.Loops.Parts.{IsRegisteredAs, IsNoUser}
 use Rattle.irc_stage.specs.Lemmas.Numbers.{here, later, same_number, one_number, same_number-refl}
 use Rattle.irc_stage.specs.Lemmas.Numbers.{same_number-is, get-with, get-without, get-each}
 

@@ -10,7 +10,7 @@ use Rattle.std.specs.FinMap.{FinMap, get, insert, remove, entries, find, get-fro
 use Rattle.std.specs.FinMap.{get-entries, get-insert, get-remove, same_map, nat_cmp-IsAntisymmetric}
 use Rattle.irc_stage.specs.declared.clients.Client.{Client}
 use Rattle.irc_stage.specs.RoomMachine.{Clients, each_client}
-use Rattle.irc_stage.specs.Loops.Stage.{numbered}
+use Rattle.irc_stage.specs.Loops.Parts.{numbered}
 use Rattle.irc_tables.specs.Lemmas.OrderedMaps.{get-mapped, put-mapped, taken-mapped}
 
 -- whether two numbers are one

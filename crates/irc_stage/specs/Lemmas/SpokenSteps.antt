@@ -21,16 +21,16 @@ use Rattle.irc_room.specs.Lemmas.Rows.{is_some_map, not_true, same_some}
 use Rattle.irc_acts.specs.declared.act.Act.{Act}
 use Rattle.irc_acts.specs.declared.act.Act.TheVariants.{Answer, Raw, Do}
 use Rattle.irc_acts.specs.Acts.{effects_among}
-use Rattle.irc_registering.specs.declared.pending.Pending.{Pending}
+use Rattle.irc_commands.specs.declared.pending.Pending.{Pending}
 use Rattle.irc_commands.specs.Comings.{RegisteredIsAdded, UnregisteredChangesNothing}
 use Rattle.irc_commands.specs.Decide.{decide}
 use Rattle.irc_commands.specs.Doers.{DecidedByItself, IsDoneBy}
-use Rattle.irc_registering.specs.Register.{register, Registered as Given}
+use Rattle.irc_commands.specs.Register.{register, Registered as Given}
 use Rattle.irc_stage.specs.declared.clients.Client.TheVariants.{Registered}
 use Rattle.irc_stage.specs.RoomMachine.{RoomMachine, client_of}
 use Rattle.irc_stage.specs.Handle.{machine_after, renamed_in}
 use Rattle.irc_stage.specs.Matched.{IsMatched}
-use Rattle.irc_stage.specs.Loops.Stage.{AreFit, IsRegisteredAs}
+use Rattle.irc_stage.specs.Loops.Parts.{AreFit, IsRegisteredAs}
 use Rattle.irc_stage.specs.Loops.Speaking.{AreSpoken, IsSaidByClient}
 use Rattle.irc_stage.specs.Lemmas.Numbers.{get-each}
 use Rattle.irc_stage.specs.Lemmas.Matching.{named_is, same_by_key, still_so}

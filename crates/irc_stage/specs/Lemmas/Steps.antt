@@ -11,7 +11,7 @@ use Rattle.irc_stage.specs.View.{View}
 use Rattle.irc_stage.specs.EffectTold.{Served, changed, effect_told, in_silence, on_links, shown_at}
 use Rattle.irc_stage.specs.EffectTold.{view_after, ways_at, with_sent}
 use Rattle.irc_stage.specs.ClientTold.{closed_told, step_told, steps_told, unseated}
-use Rattle.irc_stage.specs.Loops.Stage.{behind_sent}
+use Rattle.irc_stage.specs.Loops.Parts.{behind_sent}
 
 -- what a server does, whatever it put out before
 abbrev pub LeavesInFront : (Served → Served) → Type 0

@@ -20,7 +20,7 @@ use Rattle.irc_routes.specs.Known.{place_of}
 use Rattle.irc_acts.specs.declared.act.Act.{Act}
 use Rattle.irc_acts.specs.declared.act.Act.TheVariants.{Answer, Raw, Do}
 use Rattle.irc_commands.specs.Decide.{decide}
-use Rattle.irc_registering.specs.Register.{register}
+use Rattle.irc_commands.specs.Register.{register}
 use Rattle.irc_stage.specs.declared.clients.Client.{Client}
 use Rattle.irc_stage.specs.declared.clients.Client.TheVariants.{Registering, Registered}
 use Rattle.irc_stage.specs.RoomMachine.{Clients, RoomMachine, client_of}
@@ -34,8 +34,8 @@ use Rattle.irc_stage.specs.EffectTold.{Served, in_silence, is_elsewhere, room_af
 use Rattle.irc_stage.specs.ClientTold.{client_told, closed_told, message_told, quit_told}
 use Rattle.irc_stage.specs.ClientTold.{step_told, steps_told, unseated, user_told}
 use Rattle.irc_stage.specs.Loops.Speaking.{AreSpoken, AreSpokenAt, IsSaidByClient}
-use Rattle.irc_stage.specs.Loops.Stage.{AreFit, AreFitAt, AreInTurn, AreInTurnAt, IsFit}
-use Rattle.irc_stage.specs.Loops.Stage.{IsRegisteredAs, LeavesApart}
+use Rattle.irc_stage.specs.Loops.Parts.{AreFit, AreFitAt, AreInTurn, AreInTurnAt, IsFit}
+use Rattle.irc_stage.specs.Loops.Parts.{IsRegisteredAs, LeavesApart}
 
 pub record AreTwins (one other : RoomMachine) : Type 0 where
   pub place : one.place ≡ other.place

@@ -1,13 +1,15 @@
 -- How a server is stored.
-use Rattle.std.specs.Prelude.{ℕ, Option, List, refl}
+use Rattle.std.specs.Prelude.{ℕ, Option, List, [], refl}
 use Rattle.std.specs.Coded.{Coded, code_by, coded×, coded_ℕ, coded_list, coded_option}
 use Rattle.std.specs.FinMap.{code}
 use Rattle.irc_names.specs.Tables.{Table}
+use Rattle.irc_batch.specs.Batches.{Batch, batch_of}
 use Rattle.irc_routes.specs.Known.{Known}
 use Rattle.irc_users.specs.declared.user.User.{User}
 use Rattle.irc_channels.specs.declared.channel.Channel.{Channel}
 use Rattle.irc_stage.specs.declared.clients.Client.{Client}
 use Rattle.irc_stage.specs.RoomMachine.{Clients}
+use Rattle.irc_stage.specs.EffectTold.{Served}
 use Rattle.irc_stage.specs.View.{KnownPeer, End, Ends, View}
 
 abbrev pub peer_code : Coded KnownPeer
@@ -38,3 +40,9 @@ view_code routes client users channel =
       room = record { users = p.1.1.1.1.0; channels = p.1.1.1.1.1 };
     })
     (λ _. refl)
+
+-- with what it has put out
+abbrev pub served_code : Coded View → Coded Batch → Coded Served
+served_code view batch =
+    code_by (View × Batch) (coded× view batch) (λ s. (s.view, batch_of s.out []))
+    (λ p. record { view = p.0; out = p.1.outs }) (λ _. refl)

@@ -8,7 +8,7 @@ use Rattle.irc_stage.specs.declared.origin.Origin.{Origin}
 use Rattle.irc_stage.specs.declared.origin.Origin.TheVariants.{Client, Link, Own}
 use Rattle.irc_stage.specs.RoomMachine.{RoomMachine, client_of}
 use Rattle.irc_stage.specs.View.{View}
-use Rattle.irc_stage.specs.Loops.Stage.{AreInTurn, AreInTurnAt, IsRegisteredAs}
+use Rattle.irc_stage.specs.Loops.Parts.{AreInTurn, AreInTurnAt, IsRegisteredAs}
 
 -- the connection of who acts, where it is a client
 abbrev pub conn_of : Origin → Option ℕ

@@ -19,10 +19,10 @@ use Rattle.irc_modes.specs.declared.modes.ModeLetter.TheVariants as letter
 use Rattle.irc_modes.specs.Letters.{letter_byte, sign_byte}
 use Rattle.irc_modes.specs.Limits.{max_mode_word}
 use Rattle.irc_modes.specs.Modes.{is_limit, is_nil}
-use Rattle.irc_mode_words.specs.ModeWritten.{changes_written, letters_behind, letters_text}
-use Rattle.irc_mode_words.specs.Lemmas.FewChanges.{counted_first, letters_few}
-use Rattle.irc_mode_words.specs.Readable.{AreReadable, has_its_word, is_parameter, is_worded}
-use Rattle.irc_mode_words.specs.Readable.{word_fits}
+use Rattle.irc_modes.specs.ModeWritten.{changes_written, letters_behind, letters_text}
+use Rattle.irc_modes.specs.Lemmas.FewChanges.{counted_first, letters_few}
+use Rattle.irc_modes.specs.Readable.{AreReadable, has_its_word, is_parameter, is_worded}
+use Rattle.irc_modes.specs.Readable.{word_fits}
 use Rattle.irc_room.specs.Laws.{NamesAreLineWords}
 use Rattle.irc_room.specs.Room.{Room}
 use Rattle.irc_room.specs.Seen.{names_member}

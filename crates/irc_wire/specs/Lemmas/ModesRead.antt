@@ -19,13 +19,13 @@ use Rattle.irc_channels.specs.declared.channel.Channel.{Channel}
 use Rattle.irc_modes.specs.declared.modes.ModeChange.{ModeChange}
 use Rattle.irc_modes.specs.declared.modes.ModeLetter.{ModeLetter}
 use Rattle.irc_modes.specs.declared.modes.ModeLetter.TheVariants as letter
-use Rattle.irc_mode_words.specs.ModeLaws.{RewordedIsReadable, RewordedIsWritten}
-use Rattle.irc_mode_words.specs.ModeLaws.{SomeAskedAreReadable, WrittenIsRead, asked_for}
+use Rattle.irc_modes.specs.ModeLaws.{RewordedIsReadable, RewordedIsWritten}
+use Rattle.irc_modes.specs.ModeLaws.{SomeAskedAreReadable, WrittenIsRead, asked_for}
 use Rattle.irc_modes.specs.Modes.{is_nil}
-use Rattle.irc_mode_words.specs.ModeWords.{Asked, change, list, modes_read, no_word, unknown}
-use Rattle.irc_mode_words.specs.ModeWritten.{changes_written, letters_text}
-use Rattle.irc_mode_words.specs.Readable.{AreReadable, AreSomeAsked, has_its_word, nothing_left}
-use Rattle.irc_mode_words.specs.Readable.{one_left_out, one_made, word_fits}
+use Rattle.irc_modes.specs.ModeWords.{Asked, change, list, modes_read, no_word, unknown}
+use Rattle.irc_modes.specs.ModeWritten.{changes_written, letters_text}
+use Rattle.irc_modes.specs.Readable.{AreReadable, AreSomeAsked, has_its_word, nothing_left}
+use Rattle.irc_modes.specs.Readable.{one_left_out, one_made, word_fits}
 use Rattle.irc_room.specs.effect.By.{By}
 use Rattle.irc_room.specs.effect.By.TheVariants as by
 use Rattle.irc_room.specs.effect.Effect.{Effect}

@@ -6,7 +6,7 @@ use Rattle.std.specs.Cmp.{first_so, second_so, unsigned_tied}
 use Rattle.std.specs.List.{list_all, list_any}
 use Rattle.std.specs.Ordering.{eq_by_cmp, nat_cmp}
 use Rattle.irc_line.specs.Lines.{has_nothing, is_empty, nothing_begun}
-use Rattle.irc_wires.specs.Wires.{Wire, is_none, is_still, new_wire}
+use Rattle.irc_wires.specs.Wires.{LinkWire, is_none, is_still, new_wire}
 
 nothing_is : (kept : List ℕ) (nul : Bool) → (is_empty kept && not nul) ≡ true
     → record { kept = kept; nul_seen = nul } ≡ nothing_begun
@@ -19,7 +19,7 @@ none_is [] is = refl
 none_is (byte ∷ bytes) is = cc is
 
 -- it is as one along which nothing was written yet
-pub still_is_new : (wire : Wire) → is_still wire ≡ true → wire ≡ new_wire
+pub still_is_new : (wire : LinkWire) → is_still wire ≡ true → wire ≡ new_wire
 still_is_new wire is =
     ap (λ begun. record { begun = begun; bytes = wire.bytes })
     (nothing_is wire.begun.kept wire.begun.nul_seen

@@ -5,7 +5,7 @@ use Rattle.std.specs.List.{flat_map, list_all}
 use Rattle.arrayvec.specs.ArrayVec.{ArrayVec}
 use Rattle.irc_line.specs.Bytes.{line_feed}
 use Rattle.irc_line.specs.Lines.{Begun, HasTaken, stream_for}
-use Rattle.irc_wires.specs.Wires.{Wire, advanced, lines_by}
+use Rattle.irc_wires.specs.Wires.{LinkWire, advanced, lines_by}
 
 -- all bytes of some texts, in order
 abbrev pub joined : List (ArrayVec ℕ) → List ℕ
@@ -42,7 +42,8 @@ pub record IsOnItsWay (come : ℕ) (texts : List (ArrayVec ℕ)) (begun : Begun)
   pub of_some_stream : HasTaken begun (stream_for begun)
 
 -- So much has come of what was on its way, and it completed these lines.
-pub record HasCome (count taken : ℕ) (old new : Wire) (before after : List (List ℕ)) : Type 0 where
+pub record HasCome (count taken : ℕ) (old new : LinkWire)
+    (before after : List (List ℕ)) : Type 0 where
   pub within : taken ≤ count
   pub at_most : taken ≤ length old.bytes
   pub new_is : new ≡ advanced taken old

@@ -3,7 +3,7 @@ use Rattle.irc_line.specs.Bytes.{cut}
 use Rattle.irc_line.specs.Messages.{middle_text}
 use Rattle.irc_modes.specs.declared.modes.ModeChange.{ModeChange}
 use Rattle.irc_line.specs.Lemmas.CutPieces.{piece_on}
-use Rattle.irc_mode_words.specs.Lemmas.ModePieces.{words_next, words_done}
+use Rattle.irc_modes.specs.Lemmas.ModePieces.{words_next, words_done}
 use Rattle.irc_burst_lines.proofs.mode_line.push_words.Goals as goal
 
 pub loop-change-init : goal.loop-change-init

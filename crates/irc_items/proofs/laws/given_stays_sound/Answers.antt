@@ -71,14 +71,14 @@ returns c = given_stays_sound (record {
             added = c.registered_is_added.ensures;
             unchanging = c.unregistered_changes_nothing.ensures;
           };
-          at_rest = c.part_at_rest_is_sound.ensures;
+          at_rest = c.side_at_rest_is_sound.ensures;
         };
         line = line;
         quiet = c.rest_stays.ensures;
         other_parts = c.other_parts_stay.ensures;
         only_connected = c.only_connected_receive.ensures;
       };
-      home = record { decisions = decisions; sound = c.part_at_rest_is_sound.ensures };
+      home = record { decisions = decisions; sound = c.side_at_rest_is_sound.ensures };
       tells = λ s world after routes h view happening same_links fixed forest streams among is_world
           of_world right fits place due.
           tells_from_home telling s world routes h view happening fixed forest streams is_world fits
@@ -98,7 +98,7 @@ returns c = given_stays_sound (record {
         behind = c.behind_is_that_side.ensures;
       };
       sides = record {
-        at_rest = c.part_at_rest_is_sound.ensures;
+        at_rest = c.side_at_rest_is_sound.ensures;
         behind = c.behind_is_that_side.ensures;
         after_cut = c.tree_after_cut.ensures;
         squits = c.squits_split.ensures;
@@ -118,7 +118,7 @@ returns c = given_stays_sound (record {
     link : AreLinkItemLaws
     link = record {
       link = record {
-        after_link = c.part_after_link.ensures;
+        after_link = c.side_after_link.ensures;
         quiet = c.rest_stays.ensures;
         line = line;
         only_connected = c.only_connected_receive.ensures;
@@ -143,7 +143,7 @@ returns c = given_stays_sound (record {
         doable = c.lines_can_be_done.ensures;
       };
       links = record {
-        at_rest = c.part_at_rest_is_sound.ensures;
+        at_rest = c.side_at_rest_is_sound.ensures;
         reads = c.burst_read_is_merge.ensures;
         shows = c.shown_is_merge_shown.ensures;
         even = c.merge_is_even.ensures;

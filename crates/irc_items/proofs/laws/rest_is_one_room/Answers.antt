@@ -13,6 +13,6 @@ returns c = rest_is_one_room (record {
         (streams_from links source) net t (covers_flows links source forest covers);
   };
   world = c.taken_make_world.ensures;
-  side = c.part_at_rest_is_sound.ensures;
+  side = c.side_at_rest_is_sound.ensures;
   final = λ m streams net u rest. (rest_final m streams net u rest, rest_told m streams net u rest);
 })

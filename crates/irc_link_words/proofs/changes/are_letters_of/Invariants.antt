@@ -1,7 +1,7 @@
 use Rattle.std.proofs.Common.{◌≡◌, ◌≤◌, drop, length}
 use Rattle.std.specs.Str.{bytes_eq}
-use Rattle.irc_mode_words.specs.ModeWritten.{letters_text}
-use Rattle.irc_mode_words.specs.Loops.WrittenLetters.{letters_from}
+use Rattle.irc_modes.specs.ModeWritten.{letters_text}
+use Rattle.irc_modes.specs.Loops.WrittenLetters.{letters_from}
 use Rattle.irc_link_words.proofs.changes.are_letters_of.Given as goal
 
 abbrev pub invariant-loop-change : goal.invariant-loop-change

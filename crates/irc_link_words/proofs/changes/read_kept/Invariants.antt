@@ -1,6 +1,6 @@
 use Rattle.std.proofs.Common.{◌≡◌, ◌++◌, drop}
 use Rattle.std.specs.List.{filter_map}
-use Rattle.irc_mode_words.specs.ModeViews.{all_asked}
+use Rattle.irc_modes.specs.ModeViews.{all_asked}
 use Rattle.irc_link_words.specs.Words.{made}
 use Rattle.irc_link_words.proofs.changes.read_kept.Given as goal
 

@@ -1,5 +1,5 @@
 use Rattle.std.proofs.Common.{◌≡◌, ◌++◌, drop}
-use Rattle.irc_mode_words.specs.ModeViews.{all_asked}
+use Rattle.irc_modes.specs.ModeViews.{all_asked}
 use Rattle.irc_moderation.specs.ChannelMode.{denied}
 use Rattle.irc_moderation.specs.Loops.Denied.{denied_left}
 use Rattle.irc_moderation.proofs.channel_mode.deny.Given as goal

@@ -1,7 +1,7 @@
 use Rattle.std.proofs.Common.{◌++◌, drop}
-use Rattle.irc_mode_words.specs.ModeViews.{all_asked}
+use Rattle.irc_modes.specs.ModeViews.{all_asked}
 use Rattle.irc_moderation.specs.ChannelMode.{served}
-use Rattle.irc_judging.specs.Loops.KeptChanges.{Follows}
+use Rattle.irc_moderation.specs.Loops.KeptChanges.{Follows}
 use Rattle.irc_moderation.proofs.LettersServed.{IsServed}
 use Rattle.irc_moderation.proofs.channel_mode.serve_each.Given as goal
 

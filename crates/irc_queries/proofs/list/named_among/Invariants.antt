@@ -1,7 +1,7 @@
 use Rattle.std.proofs.Common.{◌≡◌, ◌≤◌, is_some, filter, length, take}
 use Rattle.irc_tables.specs.RowViews.{row_entry}
-use Rattle.irc_answers.specs.Names.{listed}
-use Rattle.irc_answers.specs.Loops.NameLines.{is_shown}
+use Rattle.irc_acts.specs.Names.{listed}
+use Rattle.irc_acts.specs.Loops.NameLines.{is_shown}
 use Rattle.irc_queries.proofs.list.named_among.Given as goal
 
 abbrev pub invariant-loop-member : goal.invariant-loop-member

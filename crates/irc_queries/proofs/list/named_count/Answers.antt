@@ -4,8 +4,8 @@ use Rattle.irc_names.specs.Fold.{key}
 use Rattle.irc_tables.specs.RowViews.{row_entry}
 use Rattle.irc_channels.specs.declared.flags.Flags.{Flags}
 use Rattle.irc_channels.specs.Channels.{has_member}
-use Rattle.irc_answers.specs.Names.{listed}
-use Rattle.irc_answers.specs.Loops.NameLines.{is_shown}
+use Rattle.irc_acts.specs.Names.{listed}
+use Rattle.irc_acts.specs.Loops.NameLines.{is_shown}
 use Rattle.irc_queries.proofs.NamedCount.{count_found}
 use Rattle.irc_queries.proofs.list.named_count.Goals as goal
 

@@ -5,8 +5,8 @@ use Rattle.irc_tables.specs.declared.table.Row.{Row}
 use Rattle.irc_channels.specs.declared.channel.Channel.{Channel}
 use Rattle.irc_numerics.specs.declared.replies.OnChannel.{OnChannel}
 use Rattle.irc_numerics.specs.Limits.{max_whois_channels}
-use Rattle.irc_answers.specs.Loops.FilledLines.{Came}
-use Rattle.irc_answers.specs.Lemmas.CameLines.{more_came, rows_more}
+use Rattle.irc_acts.specs.Loops.FilledLines.{Came}
+use Rattle.irc_acts.specs.Lemmas.CameLines.{more_came, rows_more}
 use Rattle.irc_queries.specs.Whois.{channels_line, place_in}
 use Rattle.irc_queries.proofs.whois.add_channels.Goals as goal
 

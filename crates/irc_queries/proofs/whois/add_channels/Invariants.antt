@@ -1,7 +1,7 @@
 use Rattle.std.proofs.Common.{map, take}
 use Rattle.std.specs.List.{filter_map}
 use Rattle.irc_numerics.specs.Limits.{max_whois_channels}
-use Rattle.irc_answers.specs.Loops.FilledLines.{Came}
+use Rattle.irc_acts.specs.Loops.FilledLines.{Came}
 use Rattle.irc_queries.specs.Whois.{channels_line, place_in}
 use Rattle.irc_queries.proofs.whois.add_channels.Given as goal
 

@@ -1,7 +1,7 @@
 use Rattle.std.proofs.Common.{◌∷◌, [], ◌++◌, ◌∙◌, sym, ap, arith}
 use Rattle.std.proofs.lemmas.Bool.{eqb-true}
 use Rattle.irc_numerics.specs.Limits.{max_whois_channels}
-use Rattle.irc_answers.specs.Lemmas.CameLines.{one_came, one_came_later}
+use Rattle.irc_acts.specs.Lemmas.CameLines.{one_came, one_came_later}
 use Rattle.irc_queries.specs.Whois.{channels_line}
 use Rattle.irc_queries.proofs.whois.add_place.Goals as goal
 use Rattle.irc_queries.proofs.whois.add_place.Goals.{then-is_full+in_ok-put, else-is_full}

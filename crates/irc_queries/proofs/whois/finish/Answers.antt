@@ -3,7 +3,7 @@ use Rattle.std.proofs.lemmas.Bool.{eqb-true}
 use Rattle.irc_tables.specs.Lemmas.RowsAsTable.{ok_also}
 use Rattle.irc_numerics.specs.Limits.{max_whois_channels}
 use Rattle.irc_numerics.specs.declared.replies.OnChannel.{OnChannel}
-use Rattle.irc_answers.specs.Lemmas.CameLines.{nothing_held, last_held}
+use Rattle.irc_acts.specs.Lemmas.CameLines.{nothing_held, last_held}
 use Rattle.irc_queries.specs.Whois.{channels_line}
 use Rattle.irc_queries.proofs.whois.finish.Goals as goal
 

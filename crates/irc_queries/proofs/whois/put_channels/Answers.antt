@@ -5,8 +5,8 @@ use Rattle.irc_tables.specs.declared.table.Row.{Row}
 use Rattle.irc_tables.specs.Lemmas.RowsAsTable.{ok_also}
 use Rattle.irc_channels.specs.declared.channel.Channel.{Channel}
 use Rattle.irc_numerics.specs.Limits.{max_whois_channels}
-use Rattle.irc_answers.specs.Loops.FilledLines.{lines_of}
-use Rattle.irc_answers.specs.Lemmas.CameLines.{all_came}
+use Rattle.irc_acts.specs.Loops.FilledLines.{lines_of}
+use Rattle.irc_acts.specs.Lemmas.CameLines.{all_came}
 use Rattle.irc_queries.specs.Whois.{channels_line, place_in}
 use Rattle.irc_queries.proofs.whois.put_channels.Goals as goal
 

@@ -1,6 +1,6 @@
 use Rattle.std.proofs.Common.{ap, arith}
 use Rattle.irc_room.specs.Loops.HomeCount.{come, home_count}
-use Rattle.irc_shown.specs.Room.{Room}
+use Rattle.irc_effects.specs.Room.{Room}
 use Rattle.irc_room.proofs.CountedUsers.{home_fits}
 use Rattle.irc_room.proofs.home_count.with_newcomer.Goals as goal
 

@@ -1,6 +1,5 @@
 use Rattle.std.proofs.Common.{◌≡◌, ◌++◌, drop, map}
 use Rattle.irc_batch.specs.Batches.{to_others}
-use Rattle.irc_batch.specs.Growing.{Grew}
 use Rattle.irc_stage.proofs.audience.send_to_all_others.Given as goal
 
 -- what was put out so far, with the lines to those behind, is all
@@ -11,5 +10,4 @@ invariant-loop-row l = record {
       ≡ l.initial.out.outs ++ to_others l.initial.out.held l.one
       (map (λ row. row.now.value) l.rows);
   held : l.out.held ≡ l.initial.out.held;
-  grew : Grew l.initial.out.outs l.out.outs;
 }

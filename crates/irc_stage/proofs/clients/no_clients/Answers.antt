@@ -1,7 +1,7 @@
 use Rattle.std.proofs.Common.{sym, ap, subst}
 use Rattle.std.specs.Ordering.{nat_cmp}
 use Rattle.std.specs.FinMap.{empty, from_entries}
-use Rattle.irc_stage.specs.Loops.Stage.{IsIndex}
+use Rattle.irc_stage.specs.Loops.Parts.{IsIndex}
 use Rattle.irc_stage.proofs.Index.{nobody_indexed}
 use Rattle.irc_stage.proofs.clients.no_clients.Goals as goal
 

@@ -3,7 +3,7 @@ use Rattle.std.specs.FinMap.{insert}
 use Rattle.irc_names.specs.Fold.{key}
 use Rattle.irc_names.specs.Tables.{alter}
 use Rattle.irc_stage.specs.declared.clients.Client.TheVariants.{Registered}
-use Rattle.irc_stage.specs.Loops.Stage.{clients_of, numbered}
+use Rattle.irc_stage.specs.Loops.Parts.{clients_of, numbered}
 use Rattle.irc_stage.proofs.Index.{as_moved, not_moved, nobody_renamed, one_renamed, rename_indexed}
 use Rattle.irc_stage.specs.Lemmas.Outcomes.{on_ok}
 use Rattle.irc_stage.proofs.clients.rename.Goals as goal

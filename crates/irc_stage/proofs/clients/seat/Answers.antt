@@ -1,4 +1,4 @@
-use Rattle.irc_stage.specs.Loops.Stage.{clients_of, numbered}
+use Rattle.irc_stage.specs.Loops.Parts.{clients_of, numbered}
 use Rattle.irc_stage.proofs.Index.{seated_indexed}
 use Rattle.irc_stage.specs.Lemmas.Outcomes.{on_ok}
 use Rattle.irc_stage.proofs.clients.seat.Goals as goal

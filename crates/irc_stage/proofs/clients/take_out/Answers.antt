@@ -1,5 +1,5 @@
 use Rattle.std.proofs.Common.{sym, ◌∙◌, ap}
-use Rattle.irc_stage.specs.Loops.Stage.{clients_of, departed, numbered}
+use Rattle.irc_stage.specs.Loops.Parts.{clients_of, departed, numbered}
 use Rattle.irc_stage.specs.Lemmas.Numbers.{get-numbered, taken-numbered}
 use Rattle.irc_stage.proofs.Index.{left_indexed}
 use Rattle.irc_stage.proofs.clients.take_out.Goals as goal

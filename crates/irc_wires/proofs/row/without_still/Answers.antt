@@ -1,5 +1,5 @@
 use Rattle.std.proofs.Common.{◌∙◌, sym}
-use Rattle.irc_links.specs.Loops.Numbered.{numbered}
+use Rattle.irc_stage.specs.Loops.Numbered.{numbered}
 use Rattle.irc_wires.specs.Wires.{wire_in}
 use Rattle.irc_wires.proofs.LeanRows.{put_again, put_still}
 use Rattle.irc_wires.proofs.Rows.{taken_out}

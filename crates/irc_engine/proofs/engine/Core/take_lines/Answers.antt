@@ -1,6 +1,6 @@
 use Rattle.std.proofs.Common.{refl, ◌∙◌, ap, arith, Some, Option, ℕ, Vec, Global}
 use Rattle.std.specs.List.{slice_range}
-use Rattle.irc_engine.specs.declared.kind.Kind.{Kind}
+use Rattle.irc_engine.specs.declared.kind.ConnectionKind.{ConnectionKind}
 use Rattle.irc_engine.specs.Loops.Tables.{with_line}
 use Rattle.irc_engine.proofs.RunLaws.{ran_unfed, ran_step, ran_rest, ran_framed, ran_refused}
 use Rattle.irc_engine.proofs.RunLaws.{frames_within, used_within}
@@ -59,7 +59,7 @@ returns-in_default-clause-ran g c =
     c.loop-used.invariant.ran
     (ran_refused _ _ _ _ c.loop-used.self.connections
     (record c.loop-used.self.connections { table = c.take.new.self }) _ _ _ _
-    (ap (λ (taken : Option (ℕ × Kind)). with_line taken c.take.new.line) c.in_default.is)
+    (ap (λ (taken : Option (ℕ × ConnectionKind)). with_line taken c.take.new.line) c.in_default.is)
     c.take.ensures.at refl refl)
 
 pub returns-in_default-clause-marks : goal.returns-in_default-clause-marks

@@ -4,7 +4,7 @@ use Rattle.std.specs.Map.{lookup}
 use Rattle.std.specs.Ordering.{nat_cmp}
 use Rattle.std.proofs.lemmas.Map.Keys.{le_from_not_gt}
 use Rattle.irc_engine.specs.Loops.Connections.{lost_at}
-use Rattle.irc_engine.specs.declared.kind.Kind.{Kind}
+use Rattle.irc_engine.specs.declared.kind.ConnectionKind.{ConnectionKind}
 use Rattle.irc_engine.specs.Loops.Moments.{moment_of}
 use Rattle.irc_engine.specs.Running.{RanOn, TellsLosses, none_so_far, tells_lowest}
 use Rattle.irc_engine.proofs.TableLaws.{set_at}
@@ -52,18 +52,19 @@ loop-conn-preserved g c =
 
 pub returns-clause-ran : goal.returns-clause-ran
 returns-clause-ran g c =
-    subst (λ (es : List (ℕ × Kind)). RanOn g.W.Wire.is_after (moment_of c.args.self.now)
+    subst (λ (es : List (ℕ × ConnectionKind)). RanOn g.W.Wire.is_after (moment_of c.args.self.now)
     (record (moment_of c.loop-conn.self) { lost = λ q. lookup (is_at (nat_cmp q)) es }))
     (sym c.in_default.ensures.unchanged) c.loop-conn.invariant.ran
 
 pub returns-clause-in_order : goal.returns-clause-in_order
 returns-clause-in_order g c =
-    subst (λ (es : List (ℕ × Kind)). TellsLosses g.W.Wire.is_after (moment_of c.args.self.now)
+    subst (λ (es : List (ℕ × ConnectionKind)). TellsLosses g.W.Wire.is_after
+    (moment_of c.args.self.now)
     (record (moment_of c.loop-conn.self) { lost = λ q. lookup (is_at (nat_cmp q)) es }))
     (sym c.in_default.ensures.unchanged) c.loop-conn.invariant.in_order
 
 pub returns-clause-at_one : goal.returns-clause-at_one
 returns-clause-at_one g c =
-    subst (λ (es : List (ℕ × Kind)). IsAtOne c.loop-conn.self.server
+    subst (λ (es : List (ℕ × ConnectionKind)). IsAtOne c.loop-conn.self.server
     (connection_of c.loop-conn.self.connections.table) (λ q. lookup (is_at (nat_cmp q)) es))
     (sym c.in_default.ensures.unchanged) c.loop-conn.invariant.at_one

@@ -1,4 +1,4 @@
-use Rattle.std.proofs.Common.{◌≡◌, ap, refl, sym, ◌∙◌, subst, arith}
+use Rattle.std.proofs.Common.{refl, sym, ◌∙◌, subst, arith}
 use Rattle.irc_engine.specs.Turning.{HasFailed, Turned, Turns, no_turn, one_more, all_taken}
 use Rattle.irc_engine.specs.Loops.Engines.{engine_view}
 use Rattle.irc_engine.proofs.TurnLaws.{stops_by}

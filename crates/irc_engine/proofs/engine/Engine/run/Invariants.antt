@@ -1,5 +1,3 @@
-use Rattle.std.proofs.Common.{◌≡◌}
-use Rattle.irc_engine.specs.Loops.Engines.{engine_view}
 use Rattle.irc_engine.specs.Loops.Turns.{HasTaken}
 use Rattle.irc_engine.proofs.engine.Engine.run.Given as goal
 

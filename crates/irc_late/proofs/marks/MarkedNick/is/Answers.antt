@@ -1,4 +1,3 @@
-use Rattle.std.proofs.Common.{◌∙◌, sym}
 use Rattle.irc_late.proofs.Marked.{other_marks}
 use Rattle.irc_late.proofs.marks.MarkedNick.is.Goals as goal
 

@@ -1,5 +1,5 @@
 use Rattle.std.proofs.Common.{◌∙◌}
-use Rattle.irc_rules.specs.Lemmas.CleanNames.{clean_name, clean_whole}
+use Rattle.irc_names.specs.Lemmas.CleanNames.{clean_name, clean_whole}
 use Rattle.irc_names.proofs.user_name.UserName.clean.Goals as goal
 
 pub invariant_of-result : goal.invariant_of-result

@@ -1,5 +1,5 @@
 use Rattle.std.proofs.Common.{◌≡◌, map, take}
-use Rattle.irc_rules.specs.UserTexts.{clean_user_byte}
+use Rattle.irc_names.specs.UserTexts.{clean_user_byte}
 use Rattle.irc_names.proofs.user_name.UserName.clean.Given as goal
 
 abbrev pub invariant-loop-byte : goal.invariant-loop-byte

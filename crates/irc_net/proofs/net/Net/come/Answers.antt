@@ -17,14 +17,14 @@ returns-in_err-came g c = coming_wants c.args.self.now _ c.args.ends c.args.coun
 pub invariant_of-self-2 : goal.invariant_of-self-2
 invariant_of-self-2 g c = λ _.
     kept_by c.networks_stay_sound.ensures c.self.inside.network c.come.new.self c.args.ends
-    c.args.count c.new-desk.result.lines.items
-    c.come.new.desk.lines.items (c.self.invariant (ap (λ (n : NetView). n.failed) c.self.view_is
-    ∙ c.requires.stands)) c.new-desk.ensures
+    c.args.count c.new-output.result.lines.items
+    c.come.new.output.lines.items (c.self.invariant (ap (λ (n : NetView). n.failed) c.self.view_is
+    ∙ c.requires.stands)) c.new-output.ensures
     c.in_ok-came.ensures.come
 
 pub returns : goal.returns
 returns g c =
     came_to c.args.self.now c.self.inside.network c.come.new.self c.args.ends c.args.count
-    c.in_ok-came.came.bytes c.come.new.desk.lines.items
-    c.new-desk.result.lines.items (ap (λ (n : NetView). n.network) c.self.view_is)
-    c.new-desk.ensures c.in_ok-came.ensures.bytes c.in_ok-came.ensures.come
+    c.in_ok-came.came.bytes c.come.new.output.lines.items
+    c.new-output.result.lines.items (ap (λ (n : NetView). n.network) c.self.view_is)
+    c.new-output.ensures c.in_ok-came.ensures.bytes c.in_ok-came.ensures.come

@@ -1,6 +1,6 @@
 use Rattle.std.proofs.Common.{◌∙◌, ap, sym}
 use Rattle.irc_net.specs.Calls.{NetView, wire_between}
-use Rattle.irc_network.specs.Loops.Courses.{ends_now}
+use Rattle.irc_network.specs.Loops.Progress.{ends_now}
 use Rattle.irc_wires.specs.Wires.{through_line_feed}
 use Rattle.irc_net.proofs.Calling.{delivery_fails, line_wants, none_came, some_came}
 use Rattle.irc_net.proofs.net.Net.deliver.Goals as goal

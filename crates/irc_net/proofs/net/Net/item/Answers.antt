@@ -3,7 +3,7 @@ use Rattle.irc_net.specs.declared.answer.Answer.{Answer}
 use Rattle.irc_net.specs.Calls.{IsGiven, NetView, given_it, given_refused, given_to_failed}
 use Rattle.irc_net.specs.Calls.{standing}
 use Rattle.irc_net.specs.Faults.{item_fault}
-use Rattle.irc_network.specs.ByteNetwork.{ByteCourse}
+use Rattle.irc_network.specs.ByteNetwork.{ByteProgress}
 use Rattle.irc_network.specs.Views.{item_of}
 use Rattle.irc_net.proofs.Calling.{given_wants}
 use Rattle.irc_net.proofs.StaysOneRoom.{kept_item, refuses}
@@ -54,7 +54,7 @@ give-requires-clause-tidy g c = (c.self.invariant c.if-self.false).whole.tidy
 pub invariant_of-self-2 : goal.invariant_of-self-2
 invariant_of-self-2 g c = λ _.
     kept_item c.networks_stay_sound.ensures c.self.inside.network c.give.new.self
-    (item_of c.args.item) c.give.new.desk.lines.items
+    (item_of c.args.item) c.give.new.output.lines.items
     (c.self.invariant c.if-self.false)
     (sym c.in_default.ensures) c.keeps_limits.ensures c.in_ok-give.ensures
 
@@ -70,11 +70,11 @@ returns-clause-given g c =
     let item = item_of c.args.item in
     let new = standing c.give.new.self in
     let answer : Answer =
-    record { client = c.number_given-client.result; lines = c.give.new.desk.lines } in
+    record { client = c.number_given-client.result; lines = c.give.new.output.lines } in
     subst (λ (old : NetView). IsGiven old item (Ok answer) new) c.self.view_is
     (given_it c.if-self.false (record {
       none = sym c.in_default.ensures;
-      after = ap (λ (last : ByteCourse). standing last.net) c.in_ok-give.ensures;
+      after = ap (λ (last : ByteProgress). standing last.net) c.in_ok-give.ensures;
       client = c.number_given-client.ensures;
-      receipts = ap (λ (last : ByteCourse). last.receipts) c.in_ok-give.ensures;
+      receipts = ap (λ (last : ByteProgress). last.receipts) c.in_ok-give.ensures;
     }))

@@ -32,7 +32,7 @@ invariant_of-result g c =
     λ _. subst IsKeptSound
     (sym (c.in_ok-new.ensures
     ∙ ap no_wires (network_made ordered c.deref-2.result.now c.in_ok-forest.forest
-    c.in_ok-sites.sites.items c.deref-2.ensures.value c.in_ok-forest.ensures
-    c.in_ok-sites.ensures)))
+    c.in_ok-nodes.nodes.items c.deref-2.ensures.value c.in_ok-forest.ensures
+    c.in_ok-nodes.ensures)))
     (c.networks_stay_sound.ensures.new (made_of ordered)
     (made_is_new c.args.configs.items ordered none c.in_order-ordered.ensures.ones))

@@ -1,5 +1,5 @@
 use Rattle.std.proofs.Common.{◌∙◌, Ok, ap, sym, subst, refl}
-use Rattle.irc_network.specs.Loops.Coming.{byte_course}
+use Rattle.irc_network.specs.Loops.Coming.{byte_progress}
 use Rattle.irc_net.specs.Calls.{IsSettled, NetView, settles_it, settling_by_failed, standing}
 use Rattle.irc_net.specs.Loops.Settling.{SettlesAt}
 use Rattle.irc_network.specs.Views.{receipts_of}
@@ -18,12 +18,12 @@ returns-in_err-count-clause-settled g c =
 pub invariant_of-self-2 : goal.invariant_of-self-2
 invariant_of-self-2 g c =
     let net = c.self.inside.network in
-    let lines = c.take_all.new.desk.lines.items in
+    let lines = c.take_all.new.output.lines.items in
     λ _. c.networks_stay_sound.ensures.settled net c.take_all.new.network c.in_ok-count.count
     (receipts_of lines) (c.self.invariant c.if-self.false)
     (settles_by net c.take_all.new.network lines c.in_ok-count.count
-    (subst (λ ls. SettlesAt c.in_ok-count.count (byte_course net ls)
-    (byte_course c.take_all.new.network lines)) c.new-desk.ensures c.in_ok-count.ensures))
+    (subst (λ ls. SettlesAt c.in_ok-count.count (byte_progress net ls)
+    (byte_progress c.take_all.new.network lines)) c.new-output.ensures c.in_ok-count.ensures))
 
 pub returns-clause-rest : goal.returns-clause-rest
 returns-clause-rest g c = c.in_ok-count.ensures.rest
@@ -31,10 +31,10 @@ returns-clause-rest g c = c.in_ok-count.ensures.rest
 pub returns-clause-settled : goal.returns-clause-settled
 returns-clause-settled g c =
     let net = c.self.inside.network in
-    let lines = c.take_all.new.desk.lines.items in
+    let lines = c.take_all.new.output.lines.items in
     subst (λ (old : NetView). IsSettled old (Ok (c.in_ok-count.count, receipts_of lines))
     (standing c.take_all.new.network)) c.self.view_is
     (settles_it c.if-self.false
     (settles_by net c.take_all.new.network lines c.in_ok-count.count
-    (subst (λ ls. SettlesAt c.in_ok-count.count (byte_course net ls)
-    (byte_course c.take_all.new.network lines)) c.new-desk.ensures c.in_ok-count.ensures)))
+    (subst (λ ls. SettlesAt c.in_ok-count.count (byte_progress net ls)
+    (byte_progress c.take_all.new.network lines)) c.new-output.ensures c.in_ok-count.ensures)))

@@ -27,13 +27,13 @@ use denote.Triple.Spec.{Meets, triple_of}
 use denote.Triple.Table.{entered}
 use denote.Triple.Walked.{says, stay_none_ref, Stays, walk_of, Walks, ends_at, walked}
 use denote.Triple.Walked.{Goes-none_ref, walk_Meets}
-use Rattle.irc_network.specs.Loops.News.{noted}
+use Rattle.irc_network.specs.Loops.HistoryEntry.{noted}
 use Rattle.irc_network.specs.contracts.forgotten.Forgotten.with.Key.{name as key}
 use Rattle.irc_network.specs.contracts.forgotten.Forgotten.with as f
 use Rattle.irc_network.proofs.forgotten.Forgotten.with.Statement as stated
 use Rattle.irc_network.proofs.forgotten.Forgotten.with.Code as code
 use Rattle.irc_network.specs.contracts.forgotten.Forgotten as forgotten
-use Rattle.irc_network.specs.contracts.forgotten.News as news
+use Rattle.irc_network.specs.contracts.forgotten.HistoryEntry as news
 
 abbrev stayed : Stays (f.ended).signature.params (f.ended).kept
 stayed = (

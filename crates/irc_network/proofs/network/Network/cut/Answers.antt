@@ -1,8 +1,8 @@
 use Rattle.std.proofs.Common.{◌≡◌, ◌∙◌, ap, subst, sym}
 use Rattle.irc_server.specs.Served.{link_down}
-use Rattle.irc_network.specs.ByteNetwork.{ByteCourse}
+use Rattle.irc_network.specs.ByteNetwork.{ByteProgress}
 use Rattle.irc_network.specs.Lemmas.Outcomes.{on_ok}
-use Rattle.irc_network.specs.Loops.Courses.{asked_out, byte_course, ends_now}
+use Rattle.irc_network.specs.Loops.Progress.{asked_out, byte_progress, ends_now}
 use Rattle.irc_network.specs.Whole.{IsTidy}
 use Rattle.irc_network.proofs.ItemsDone.{closed, closed_so, closed_tidily, none_parted}
 use Rattle.irc_network.proofs.ItemsDone.{servers_were_parted}
@@ -11,7 +11,7 @@ use Rattle.irc_network.proofs.network.Network.cut.Goals as goal
 
 pub returns-in_default : goal.returns-in_default
 returns-in_default g c =
-    ap (byte_course c.args.self.now) c.requires.begins
+    ap (byte_progress c.args.self.now) c.requires.begins
     ∙ none_parted c.args.near.now c.args.far.now c.args.self.now c.requires.tidy
     (sym c.in_default.ensures.ends)
 
@@ -21,7 +21,7 @@ ask-requires g c =
     let ends = c.in-Some.ends in
     let past = g.H.History.past i.history in
     record {
-      tidy = closed_tidily c.args.near.now c.args.far.now ends i.forest c.cut.new.self i.sites.items
+      tidy = closed_tidily c.args.near.now c.args.far.now ends i.forest c.cut.new.self i.nodes.items
           i.wires i.homes.items past i.taken c.args.self.now c.close_way.new.self
           c.close_way-2.new.self
           c.self.view_is c.cut.ensures c.in-Some.ensures.named c.close_way.ensures
@@ -34,10 +34,10 @@ ask-requires-2 g c =
     let ends = c.in-Some.ends in
     let past = g.H.History.past i.history in
     record {
-      tidy = subst (λ (course : ByteCourse). IsTidy course.net) (sym c.in_ok-ask.ensures)
+      tidy = subst (λ (progress : ByteProgress). IsTidy progress.net) (sym c.in_ok-ask.ensures)
           (asked_tidy ends.near (link_down c.link.result)
-          (byte_course c.close_way-2.new.self c.args.desk.now.lines.items)
-          (closed_tidily c.args.near.now c.args.far.now ends i.forest c.cut.new.self i.sites.items
+          (byte_progress c.close_way-2.new.self c.args.output.now.lines.items)
+          (closed_tidily c.args.near.now c.args.far.now ends i.forest c.cut.new.self i.nodes.items
           i.wires i.homes.items past i.taken c.args.self.now c.close_way.new.self
           c.close_way-2.new.self
           c.self.view_is c.cut.ensures c.in-Some.ensures.named c.close_way.ensures
@@ -51,15 +51,15 @@ returns g c =
     let past = g.H.History.past i.history in
     let before : c.close_way-2.new.self ≡ closed c.args.near.now c.args.far.now (ends_now ends)
     c.args.self.now =
-    closed_so c.args.near.now c.args.far.now ends i.forest c.cut.new.self i.sites.items
+    closed_so c.args.near.now c.args.far.now ends i.forest c.cut.new.self i.nodes.items
     i.wires i.homes.items past i.taken c.args.self.now c.close_way.new.self c.close_way-2.new.self
     c.self.view_is c.cut.ensures c.in-Some.ensures.named c.close_way.ensures c.close_way-2.ensures
     in
-    let middle = byte_course c.ask.new.self c.ask.new.desk.lines.items in
+    let middle = byte_progress c.ask.new.self c.ask.new.output.lines.items in
     on_ok c.ask-2.result c.ask-2.ensures (λ last.
     servers_were_parted c.same_wires.ensures c.args.near.now c.args.far.now (ends_now ends)
-    c.args.self.now middle (byte_course c.ask-2.new.self c.ask-2.new.desk.lines.items)
+    c.args.self.now middle (byte_progress c.ask-2.new.self c.ask-2.new.output.lines.items)
     c.requires.tidy (sym c.in-Some.ensures.ends)
     (c.in_ok-ask.ensures ∙ (λ j. asked_out ends.near (link_down (c.link.ensures j))
-    (byte_course (before j) (c.requires.begins j))))
+    (byte_progress (before j) (c.requires.begins j))))
     (last ∙ ap (λ link. asked_out ends.far (link_down link) middle) c.link-2.ensures))

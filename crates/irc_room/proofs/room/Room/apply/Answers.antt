@@ -1,7 +1,18 @@
-use Rattle.irc_room.proofs.Refusals.{idle_stays}
+use Rattle.std.proofs.Common.{◌∙◌, refl, sym}
+use Rattle.irc_room.specs.ToldLaws.{idle_tells_nothing}
+use Rattle.irc_room.proofs.Refusals.{idle_kept, not_so}
 use Rattle.irc_room.proofs.room.Room.apply.Goals as goal
 
-pub returns-in-Ok-clause-idle : goal.returns-in-Ok-clause-idle
-returns-in-Ok-clause-idle c =
-    idle_stays c.args.self.now c.args.effect.now _ _ _ c.change_shown.ensures.applied
-    c.change_shown.ensures.idle
+pub returns-in-Ok-false-clause-applied : goal.returns-in-Ok-false-clause-applied
+returns-in-Ok-false-clause-applied c =
+    let told = c.in-Ok-false.ensures in
+    let idle = not_so _ (sym told.1 ∙ c.in-Ok-false.field-0-test) in
+    (told.0, idle_kept c.args.self.now c.args.effect.now idle, told.2)
+
+pub returns-in-Ok-false-clause-idle : goal.returns-in-Ok-false-clause-idle
+returns-in-Ok-false-clause-idle c = λ idle none.
+    let now = c.args.self.now in (
+      refl,
+      refl,
+      c.in-Ok-false.ensures.2 ∙ idle_tells_nothing now.own now.room c.args.effect.now idle,
+    )

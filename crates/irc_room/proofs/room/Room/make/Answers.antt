@@ -1,7 +1,7 @@
 use Rattle.std.proofs.Common.{◌∙◌, ap, sym, subst}
-use Rattle.irc_shown.specs.Applying.{Kept}
-use Rattle.irc_shown.specs.Effects.{brings_free, IsPossible}
-use Rattle.irc_shown.specs.Room.{Room}
+use Rattle.irc_effects.specs.Applying.{Kept}
+use Rattle.irc_effects.specs.Effects.{brings_free, IsPossible}
+use Rattle.irc_effects.specs.Room.{Room}
 use Rattle.irc_room.specs.KeptCodes.{kept_of}
 use Rattle.irc_room.specs.Loops.HomeCount.{home_count}
 use Rattle.irc_room.proofs.CountedUsers.{still_counted}

@@ -1,6 +1,6 @@
 use Rattle.std.proofs.Common.{◌∙◌, ap}
-use Rattle.irc_shown.specs.Applying.{Kept}
-use Rattle.irc_shown.specs.Readers.{names_of}
+use Rattle.irc_effects.specs.Applying.{Kept}
+use Rattle.irc_effects.specs.Readers.{names_of}
 use Rattle.irc_room.specs.declared.room.Room.TheInside.{Inside}
 use Rattle.irc_room.proofs.NamesRead.{folds_read}
 use Rattle.irc_room.proofs.room.Room.names_of.Goals as goal

@@ -1,5 +1,5 @@
 use Rattle.std.proofs.Common.{ap}
-use Rattle.irc_shown.specs.Room.{Room}
+use Rattle.irc_effects.specs.Room.{Room}
 use Rattle.irc_room.proofs.CountedUsers.{none_home}
 use Rattle.irc_room.proofs.room.Room.new.Goals as goal
 

@@ -1,32 +1,41 @@
-use Rattle.std.proofs.Common.{Some, None, ap, subst, ◌∙◌, sym, if◌then◌else◌}
-use Rattle.irc_batch.specs.Batches.{Batch}
-use Rattle.irc_server.specs.Happening.{IsHandled}
-use Rattle.irc_stage.specs.Loops.Stage.{view_of}
-use Rattle.irc_server.proofs.WhatEventsDo.{acted, failed_stays, ran_out_by, stands_by, stays_by}
+use Rattle.std.proofs.Common.{◌∙◌, ap, refl, sym}
+use Rattle.irc_stage.specs.View.{View}
+use Rattle.irc_server.specs.Served.{fault_of}
+use Rattle.irc_server.proofs.WhatEventsDo.{failed_stays, ran_out, refused, taken}
 use Rattle.irc_server.proofs.server.Server.handle.Goals as goal
 
-pub returns-then-self : goal.returns-then-self
-returns-then-self c =
-    failed_stays c.args.self.now c.args.event.now c.args.out.now.outs
-    (sym c.self.view_is
-    ∙ ap (λ b. if b then None else Some (view_of c.self.inside.stage)) c.if-self.true)
+pub returns-in_default : goal.returns-in_default
+returns-in_default c = failed_stays c.args.self.now c.take.new.self c.args.event.now
+    c.args.out.now.outs (sym c.self.view_is ∙ sym c.take.ensures.value ∙ c.in_default.is)
+    c.take.ensures.after
 
-pub returns-then-is_want_of_memory : goal.returns-then-is_want_of_memory
-returns-then-is_want_of_memory c =
-    subst (λ l. IsHandled c.args.self.now c.args.event.now c.args.out.now.outs c.act-result.result
-    None l) (sym (ap (λ (b : Batch). b.outs) c.truncate.ensures))
-    (ran_out_by c.args.self.now (view_of c.self.inside.stage) (view_of c.act-result.new.stage)
-    c.args.event.now c.args.out.now.outs c.act-result.new.out.outs c.len-before.result
-    c.act-result.result
-    (sym c.self.view_is
-    ∙ ap (λ b. if b then None else Some (view_of c.self.inside.stage)) c.if-self.false)
-    (sym c.is_want_of_memory.ensures ∙ c.if-is_want_of_memory.true) c.act-result.ensures.acted
-    c.act-result.ensures.grew c.len-before.ensures)
+pub returns-in-Some-refusal : goal.returns-in-Some-refusal
+returns-in-Some-refusal c = refused c.args.self.now _ c.in-Some.stage c.args.event.now
+    c.args.out.now.outs c.in-Some-refusal.fault
+    (sym c.self.view_is ∙ sym c.take.ensures.value ∙ c.in-Some.is)
+    (ap (λ (view : View). fault_of view c.args.event.now) (sym c.view.ensures)
+    ∙ sym c.refusal.ensures ∙ c.in-Some-refusal.is) refl
 
-pub returns-else-is_want_of_memory : goal.returns-else-is_want_of_memory
-returns-else-is_want_of_memory c =
-    acted c.args.self.now (view_of c.self.inside.stage) (view_of c.act-result.new.stage)
-    c.args.event.now c.args.out.now.outs c.act-result.new.out.outs c.act-result.result
-    (sym c.self.view_is
-    ∙ ap (λ b. if b then None else Some (view_of c.self.inside.stage)) c.if-self.false)
-    (sym c.is_want_of_memory.ensures ∙ c.if-is_want_of_memory.false) c.act-result.ensures.acted
+pub returns-in_err-act : goal.returns-in_err-act
+returns-in_err-act c = ran_out c.args.self.now c.take.new.self c.in-Some.stage c.args.event.now
+    c.args.out.now.outs c.args.out.now.outs c.from_residual.result
+    (sym c.self.view_is ∙ sym c.take.ensures.value ∙ c.in-Some.is)
+    (ap (λ (view : View). fault_of view c.args.event.now) (sym c.view.ensures)
+    ∙ sym c.refusal.ensures ∙ c.in_default-refusal.is)
+    c.from_residual.ensures.1 c.take.ensures.after refl
+
+pub returns-in_err-end : goal.returns-in_err-end
+returns-in_err-end c = ran_out c.args.self.now c.take.new.self c.in-Some.stage c.args.event.now
+    c.args.out.now.outs c.end.new.out.outs c.from_residual-in_err-end.result
+    (sym c.self.view_is ∙ sym c.take.ensures.value ∙ c.in-Some.is)
+    (ap (λ (view : View). fault_of view c.args.event.now) (sym c.view.ensures)
+    ∙ sym c.refusal.ensures ∙ c.in_default-refusal.is)
+    c.from_residual-in_err-end.ensures.1 c.take.ensures.after c.in_err-end.ensures.refused
+
+pub returns : goal.returns
+returns c = taken c.args.self.now _ c.in-Some.stage c.in_ok-end.field-0 c.args.event.now
+    c.in_ok-act.field-0 c.args.out.now.outs c.end.new.out.outs
+    (sym c.self.view_is ∙ sym c.take.ensures.value ∙ c.in-Some.is)
+    (ap (λ (view : View). fault_of view c.args.event.now) (sym c.view.ensures)
+    ∙ sym c.refusal.ensures ∙ c.in_default-refusal.is)
+    c.in_ok-act.ensures c.in_ok-end.ensures.stage refl c.in_ok-end.ensures.appended

@@ -26,4 +26,4 @@ returns-in_ok-follow-in-Join-clause-shown c =
     (subst (λ e. AreSo lists (after room e) (index_after e by_nick)) c.in-Join.is
     c.in_ok-follow-in-Join.ensures)
     ∙ ap (hearers room by_nick) (sym c.in-Join.is)))
-    c.tell.ensures.ok
+    c.tell.ensures

@@ -9,8 +9,8 @@ use Rattle.irc_stage.proofs.Hearing.{beside_all, beside_one, one_row}
 use Rattle.irc_stage.proofs.MergedLists.{values_now}
 use Rattle.irc_stage.proofs.listeners.Listeners.tell_beside.Goals as goal
 
-pub returns-in-len1-clause-ok : goal.returns-in-len1-clause-ok
-returns-in-len1-clause-ok c = λ by_nick so.
+pub returns-in-len1 : goal.returns-in-len1
+returns-in-len1 c = λ by_nick so.
     ok_also c.tell.result
     (λ is. is
     ∙ ap (λ conns. told_to c.args.line.now.items (others_of c.args.one conns) c.args.out.now)
@@ -20,10 +20,10 @@ returns-in-len1-clause-ok c = λ by_nick so.
     (sym (c.names_of-names.ensures ∙ ap (names_of c.args.room.now.room) c.as_bytes.ensures.value)
     ∙ ap (map (λ row. key row.name.items)) (one_row c.names_of-names.result.now c.name-item.result
     c.in-len1.len_at_least c.in-len1.len_below c.name-item.is))))
-    c.tell.ensures.ok
+    c.tell.ensures
 
-pub returns-clause-ok : goal.returns-clause-ok
-returns-clause-ok c = λ by_nick so.
+pub returns : goal.returns
+returns c = λ by_nick so.
     ok_also c.tell_all_others.result
     (λ is. is
     ∙ ap (λ conns. told_to c.args.line.now.items (others_of c.args.one conns) c.args.out.now)
@@ -34,4 +34,4 @@ returns-clause-ok c = λ by_nick so.
     (c.names_of-names.ensures ∙ ap (names_of c.args.room.now.room) c.as_bytes.ensures.value)
     ∙ beside_all c.args.room.now.room c.own.ensures.well_formed by_nick c.args.self.now.lists so
     c.args.nick.now))
-    c.tell_all_others.ensures.ok
+    c.tell_all_others.ensures

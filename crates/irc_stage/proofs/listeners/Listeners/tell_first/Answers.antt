@@ -7,45 +7,45 @@ use Rattle.irc_stage.proofs.Hearing.{doer_there, one_heard, other_there, quit_he
 use Rattle.irc_stage.proofs.Hearing.{unseen}
 use Rattle.irc_stage.proofs.listeners.Listeners.tell_first.Goals as goal
 
-pub returns-in-Rename-clause-ok : goal.returns-in-Rename-clause-ok
-returns-in-Rename-clause-ok c =
+pub returns-in-Rename : goal.returns-in-Rename
+returns-in-Rename c =
     ok_also c.tell_renamed.result
     (λ is. is ∙ ap (λ e. told_to c.args.line.now.items (hearers c.args.room.now.room
     c.args.clients.now.by_nick e) c.args.out.now) (sym c.in-Rename.is))
-    (c.tell_renamed.ensures.ok c.in-Rename.new)
+    (c.tell_renamed.ensures c.in-Rename.new)
 
-pub returns-in-Quit-clause-ok : goal.returns-in-Quit-clause-ok
-returns-in-Quit-clause-ok c =
+pub returns-in-Quit : goal.returns-in-Quit
+returns-in-Quit c =
     ok_also c.tell_beside.result
     (λ is. quit_heard c.args.room.now.room _ c.args.clients.now.by_nick c.requires.indexed
     c.in-Quit.nick c.in-Quit.text c.args.line.now.items c.args.out.now c.tell_beside.new.out
     c.number_of.result c.number_of.ensures is
     ∙ ap (λ e. told_to c.args.line.now.items (hearers c.args.room.now.room
     c.args.clients.now.by_nick e) c.args.out.now) (sym c.in-Quit.is))
-    (c.tell_beside.ensures.ok c.args.clients.now.by_nick c.requires.so)
+    (c.tell_beside.ensures c.args.clients.now.by_nick c.requires.so)
 
-pub returns-in-Part-clause-ok : goal.returns-in-Part-clause-ok
-returns-in-Part-clause-ok c =
+pub returns-in-Part : goal.returns-in-Part
+returns-in-Part c =
     ok_also c.tell.result
     (told_in c.args.room.now.room c.own.ensures.well_formed c.args.clients.now.by_nick
     c.args.self.now.lists c.requires.so c.as_bytes.result.now c.in-Part.channel
     c.as_bytes.ensures.value c.args.effect.now (ap (hearers c.args.room.now.room
     c.args.clients.now.by_nick)
     (sym c.in-Part.is)) c.args.line.now.items c.args.out.now c.tell.new.out)
-    c.tell.ensures.ok
+    c.tell.ensures
 
-pub returns-in-Kick-clause-ok : goal.returns-in-Kick-clause-ok
-returns-in-Kick-clause-ok c =
+pub returns-in-Kick : goal.returns-in-Kick
+returns-in-Kick c =
     ok_also c.tell-in-Kick.result
     (told_in c.args.room.now.room c.own.ensures.well_formed c.args.clients.now.by_nick
     c.args.self.now.lists c.requires.so c.as_bytes-in-Kick.result.now c.in-Kick.channel
     c.as_bytes-in-Kick.ensures.value c.args.effect.now (ap (hearers c.args.room.now.room
     c.args.clients.now.by_nick)
     (sym c.in-Kick.is)) c.args.line.now.items c.args.out.now c.tell-in-Kick.new.out)
-    c.tell-in-Kick.ensures.ok
+    c.tell-in-Kick.ensures
 
-pub returns-in-ChangeModes-clause-ok : goal.returns-in-ChangeModes-clause-ok
-returns-in-ChangeModes-clause-ok c =
+pub returns-in-ChangeModes : goal.returns-in-ChangeModes
+returns-in-ChangeModes c =
     ok_also c.tell-in-ChangeModes.result
     (told_in c.args.room.now.room c.own.ensures.well_formed c.args.clients.now.by_nick
     c.args.self.now.lists c.requires.so c.as_bytes-in-ChangeModes.result.now
@@ -53,10 +53,10 @@ returns-in-ChangeModes-clause-ok c =
     c.as_bytes-in-ChangeModes.ensures.value c.args.effect.now
     (ap (hearers c.args.room.now.room c.args.clients.now.by_nick) (sym c.in-ChangeModes.is))
     c.args.line.now.items c.args.out.now c.tell-in-ChangeModes.new.out)
-    c.tell-in-ChangeModes.ensures.ok
+    c.tell-in-ChangeModes.ensures
 
-pub returns-in-SetTopic-clause-ok : goal.returns-in-SetTopic-clause-ok
-returns-in-SetTopic-clause-ok c =
+pub returns-in-SetTopic : goal.returns-in-SetTopic
+returns-in-SetTopic c =
     ok_also c.tell-in-SetTopic.result
     (told_in c.args.room.now.room c.own.ensures.well_formed c.args.clients.now.by_nick
     c.args.self.now.lists c.requires.so c.as_bytes-in-SetTopic.result.now
@@ -64,10 +64,10 @@ returns-in-SetTopic-clause-ok c =
     c.as_bytes-in-SetTopic.ensures.value c.args.effect.now
     (ap (hearers c.args.room.now.room c.args.clients.now.by_nick) (sym c.in-SetTopic.is))
     c.args.line.now.items c.args.out.now c.tell-in-SetTopic.new.out)
-    c.tell-in-SetTopic.ensures.ok
+    c.tell-in-SetTopic.ensures
 
-pub returns-in-Invite-clause-ok : goal.returns-in-Invite-clause-ok
-returns-in-Invite-clause-ok c =
+pub returns-in-Invite : goal.returns-in-Invite
+returns-in-Invite c =
     ok_also c.tell_one.result
     (λ is. is
     ∙ ap (λ conns. told_to c.args.line.now.items conns c.args.out.now)
@@ -76,10 +76,10 @@ returns-in-Invite-clause-ok c =
     (other_there _ _ (sym (ap (λ e. list_all (has_user c.args.room.now.room)
     (needs_users e)) c.in-Invite.is) ∙ c.requires.possible.users_there))
     ∙ ap (hearers c.args.room.now.room c.args.clients.now.by_nick) (sym c.in-Invite.is)))
-    c.tell_one.ensures.ok
+    c.tell_one.ensures
 
-pub returns-in-UserMode-clause-ok : goal.returns-in-UserMode-clause-ok
-returns-in-UserMode-clause-ok c =
+pub returns-in-UserMode : goal.returns-in-UserMode
+returns-in-UserMode c =
     ok_also c.tell_one-in-UserMode.result
     (λ is. is
     ∙ ap (λ conns. told_to c.args.line.now.items conns c.args.out.now)
@@ -88,9 +88,9 @@ returns-in-UserMode-clause-ok c =
     (doer_there _ (sym (ap (λ e. list_all (has_user c.args.room.now.room)
     (needs_users e)) c.in-UserMode.is) ∙ c.requires.possible.users_there))
     ∙ ap (hearers c.args.room.now.room c.args.clients.now.by_nick) (sym c.in-UserMode.is)))
-    c.tell_one-in-UserMode.ensures.ok
+    c.tell_one-in-UserMode.ensures
 
-pub returns-in_default-clause-ok : goal.returns-in_default-clause-ok
-returns-in_default-clause-ok c =
+pub returns-in_default : goal.returns-in_default
+returns-in_default c =
     unseen c.args.room.now.room c.args.clients.now.by_nick c.args.effect.now
     (search rules) c.args.line.now.items c.args.out.now

@@ -1,19 +1,17 @@
-use Rattle.std.proofs.Common.{◌∙◌, sym, subst, rules}
-use Rattle.irc_room.specs.Applying.{Kept}
-use Rattle.irc_stage.specs.Loops.Listening.{AreSo}
-use Rattle.irc_stage.specs.Loops.Stage.{numbered}
-use Rattle.irc_stage.proofs.LinkEnds.{none_met}
-use Rattle.irc_stage.proofs.Conns.{nobody_heard}
+use Rattle.std.proofs.Common.{ap}
+use Rattle.irc_batch.specs.Batches.{Batch}
+use Rattle.irc_stage.specs.View.{View}
+use Rattle.irc_stage.specs.Loops.Parts.{machine_at}
+use Rattle.irc_stage.proofs.NewServer.{is_matched}
 use Rattle.irc_stage.proofs.stage.Stage.new.Goals as goal
 
-pub returns-clause-ready : goal.returns-clause-ready
-returns-clause-ready c = record {
-  own_is = search rules;
-  sound = search rules;
-  indexed = c.no_clients.ensures.indexed;
-  heard = subst (λ (kept : Kept). AreSo c.new-2.result.lists kept.room c.no_clients.result.by_nick)
-      (sym c.new-room.ensures)
-      (nobody_heard c.new-2.result.lists c.no_clients.result.by_nick c.new-2.ensures);
-  branches = λ channel is. cc (sym c.new-3.ensures ∙ is);
-  met = none_met (numbered c.new.result) c.args.routes c.requires.alone;
+pub invariant_of-result : goal.invariant_of-result
+invariant_of-result c = record {
+  serving = record {
+    ready = c.new.ensures.ready;
+    matched = is_matched (machine_at c.new.result)
+        (ap (λ (v : View). v.clients) c.new.ensures.made)
+        (ap (λ (v : View). v.room) c.new.ensures.made);
+  };
+  silent = ap (λ (batch : Batch). batch.outs) c.new-2.ensures;
 }

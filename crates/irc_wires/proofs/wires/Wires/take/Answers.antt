@@ -1,6 +1,6 @@
 use Rattle.std.proofs.Common.{◌≡◌, ◌∙◌, ◌++◌, ℕ, IfOk, OnOk, ap, length, min, subst, sym}
 use Rattle.irc_line.specs.Framed.{bytes_of}
-use Rattle.irc_wires.specs.Wires.{Wire, Wires, advanced, lines_by, wire_at, with_wire}
+use Rattle.irc_wires.specs.Wires.{LinkWire, Wires, advanced, lines_by, wire_at, with_wire}
 use Rattle.irc_wires.proofs.Places.{changed_in, found_at, none_at, wire_by, wire_nowhere}
 use Rattle.irc_wires.proofs.Rows.{no_lines, on_ok}
 use Rattle.irc_wires.proofs.wires.Wires.take.Goals as goal
@@ -16,7 +16,7 @@ returns-in_default-clause-lines c =
 
 pub returns-clause-taken : goal.returns-clause-taken
 returns-clause-taken c =
-    subst (λ (w : Wire). IfOk c.take-taken.result
+    subst (λ (w : LinkWire). IfOk c.take-taken.result
     (λ taken. taken ≡ min c.args.count (length w.bytes)))
     (wire_by c.self.inside.rows.items c.args.from c.args.to c.index.result c.link.result
     c.in-Some.row.now c.index.ensures c.link.ensures
@@ -27,7 +27,7 @@ returns-clause-taken c =
 
 pub returns-clause-lines : goal.returns-clause-lines
 returns-clause-lines c =
-    subst (λ (w : Wire). OnOk c.take-taken.result (bytes_of c.take-taken.new.lines.items
+    subst (λ (w : LinkWire). OnOk c.take-taken.result (bytes_of c.take-taken.new.lines.items
     ≡ bytes_of c.args.lines.now.items ++ lines_by c.args.count w))
     (wire_by c.self.inside.rows.items c.args.from c.args.to c.index.result c.link.result
     c.in-Some.row.now c.index.ensures c.link.ensures

@@ -1,2 +1,0 @@
--- Words of this crate's code alone. No rule stands here.
-pub mod AsTheyAre

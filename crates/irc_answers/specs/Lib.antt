@@ -1,4 +1,0 @@
-pub mod Names
-pub mod Laws
-pub mod Loops
-pub mod Lemmas

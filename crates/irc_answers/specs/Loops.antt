@@ -1,3 +1,0 @@
--- What the code's own loops are at: no rule stands here.
-pub mod FilledLines
-pub mod NameLines

@@ -1,5 +1,0 @@
-//! Commands that only answer.
-#![tactic(auto)]
-
-mod name_lines;
-pub mod names;

@@ -1,0 +1,69 @@
+//! Lines of a client by example.
+ghost use Rattle.irc_commands.specs.Lines.{
+  EarlyJoin,
+  FifthTarget,
+  ForeignPrefix,
+  MemberIsHeard,
+  OutsiderIsKeptOut,
+  QuitWithText,
+  SilentNotice,
+  TakenByFold,
+  TakenMeanwhile,
+  UnknownTarget,
+  UnknownWord,
+};
+
+/// A target that is not there is named as it was given.
+pub fn unknown_target_is_answered()
+    ensures { UnknownTarget }
+{}
+
+/// Four targets are served, and a fifth is too many.
+pub fn fifth_target_is_too_many()
+    ensures { FifthTarget }
+{}
+
+/// A NOTICE to nobody is not answered.
+pub fn notice_is_never_answered()
+    ensures { SilentNotice }
+{}
+
+/// `QUIT :bye` is seen by others first; then the client is sent its ERROR line and closed.
+pub fn quit_ends_with_an_error_line()
+    ensures { QuitWithText }
+{}
+
+/// A command that is not in the table is named as it was given.
+pub fn unknown_command_is_answered()
+    ensures { UnknownWord }
+{}
+
+/// A line with the prefix of another is ignored.
+pub fn foreign_prefix_is_ignored()
+    ensures { ForeignPrefix }
+{}
+
+/// Other commands have to wait for registration.
+pub fn join_waits_for_registration()
+    ensures { EarlyJoin }
+{}
+
+/// A nickname is taken in any case of letters.
+pub fn nickname_is_taken_under_the_fold()
+    ensures { TakenByFold }
+{}
+
+/// A nickname that somebody registered with meanwhile is lost as the registration completes.
+pub fn nickname_is_looked_up_twice()
+    ensures { TakenMeanwhile }
+{}
+
+/// What a member says to its channel is said to the channel as its maker spelled it.
+pub fn member_is_heard()
+    ensures { MemberIsHeard }
+{}
+
+/// An outsider says nothing to a channel with mode n.
+pub fn outsider_is_kept_out()
+    ensures { OutsiderIsKeptOut }
+{}

@@ -1,5 +1,0 @@
-pub mod DeedsDone
-pub mod EffectsDone
-pub mod LinesServed
-pub mod NeverBack
-pub mod SplitTexts

@@ -1,4 +1,0 @@
--- Words of this crate's code alone. No rule stands here.
-pub mod Hearing
-pub mod Telling
-pub mod Serving

@@ -1,2 +1,0 @@
-pub mod OwnName
-pub mod WholeLines

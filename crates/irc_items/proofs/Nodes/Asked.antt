@@ -1,0 +1,220 @@
+-- What becomes of a network when one of its servers is asked for something that happens.
+use Rattle.std.proofs.Common.{◌≡◌, ◌≢◌, ℕ, zero, suc, Bool, true, false, Option, Some, None, List}
+use Rattle.std.proofs.Common.{[], ◌++◌, length, refl, sym, ap, subst, ◌∙◌, arith, unwrap_or}
+use Rattle.std.proofs.Common.{if◌then◌else◌}
+use Rattle.std.specs.FinMap.{get}
+use Rattle.std.specs.List.{slice_get, AllByRecursion}
+use Rattle.std.specs.Option.{option_and_then, option_map, option_map_or}
+use Rattle.irc_names.specs.Names.{IsServer}
+use Rattle.irc_routes.specs.Info.{IsInfo}
+use Rattle.irc_relay.specs.Distances.{IsAmong}
+use Rattle.irc_relay.specs.Links.{Link, Name}
+use Rattle.irc_server.specs.Owed.{lines_to}
+use Rattle.irc_server.specs.Served.{IsSetAlike, Occurrence, ServedKeepsItsSetting, served}
+use Rattle.irc_stage.specs.View.{View}
+use Rattle.irc_world.specs.Stepping.{Item}
+use Rattle.irc_world.specs.World.{home_in}
+use Rattle.irc_follow.specs.Says.{lines_on}
+use Rattle.irc_follow.specs.Tree.{index_in}
+use Rattle.irc_network.specs.Network.{Progress, Network, Served, Node, all_sent_out, node_asked}
+use Rattle.irc_network.specs.Network.{asked_at, serves_occurrence, received_by, reply, with_reply}
+use Rattle.irc_network.specs.Network.{with_node}
+use Rattle.irc_items.specs.Relayed.{way_at}
+use Rattle.irc_items.specs.SetUp.{setting_now, settings_of, view_at, HasPassword, IsConfigured}
+use Rattle.irc_items.specs.SetUp.{IsSetUp}
+use Rattle.irc_items.proofs.Common.AtRest.{beyond, nothing_received}
+use Rattle.irc_items.proofs.Nodes.SentOut.{all_sent, IsSentOut}
+use Rattle.irc_items.specs.Lemmas.SetUpFacts.{there}
+use Rattle.irc_items.proofs.Nodes.NodeChanged.{changed_twice, set_up_after, node_set, node_there}
+use Rattle.irc_items.proofs.Nodes.NodeChanged.{IsAlikeNode, IsSetUpAfter, IsNodeChanged}
+
+-- t answered: what it put out waits behind the others on its ways, and is received behind all else
+pub record IsAskedAt (t : Name) (answer : Served) (old new : Progress) : Type 0 where
+  pub names : new.net.names ≡ old.net.names
+  pub links : new.net.links ≡ old.net.links
+  pub homes : new.net.homes ≡ old.net.homes
+  pub items : new.net.items ≡ old.net.items
+  pub taken : new.net.taken ≡ old.net.taken
+  pub inboxes : length new.net.received ≡ length old.net.received
+  pub settings : settings_of new.net ≡ settings_of old.net
+  pub set_up : IsSetUp new.net
+  pub view : view_at new.net t ≡ answer.view
+  pub other_views : (u : Name) → u ≢ t → view_at new.net u ≡ view_at old.net u
+  pub way : (place : ℕ) → way_at new.net t place ≡ option_map
+      (λ lines. lines ++ lines_on place answer.out) (way_at old.net t place)
+  pub other_ways : (u : Name) (place : ℕ) → u ≢ t → way_at new.net u place ≡ way_at old.net u place
+  pub received : (client : ℕ) (home : Name) → home_in old.net.homes client ≡ Some home
+      → received_by new.net client ≡ received_by old.net client ++ lines_to client answer.out
+  pub nobody : (client : ℕ) → home_in old.net.homes client ≡ None → received_by new.net client ≡ []
+
+-- what a server answers keeps what it is configured to be
+pub reply_alike : ServedKeepsItsSetting → (view : View) (occurrence : Occurrence)
+    → IsSetAlike view (reply view occurrence).view
+reply_alike kept view occurrence = by (serves_occurrence view occurrence) refl
+  where
+    by : (b : Bool) → serves_occurrence view occurrence ≡ b
+        → IsSetAlike view (reply view occurrence).view
+    by true e = subst (λ (r : Served). IsSetAlike view r.view)
+        (sym (ap (λ b. if b then record {
+          view = (served view occurrence).view;
+          out = (served view occurrence).out;
+        }
+        else record { view = view; out = [] }) e)) (kept view occurrence)
+    by false e = subst (λ (r : Served). IsSetAlike view r.view)
+        (sym (ap (λ b. if b then record {
+          view = (served view occurrence).view;
+          out = (served view occurrence).out;
+        }
+        else record { view = view; out = [] }) e)) (record {
+          peers =
+              refl;
+          name = refl;
+          info = refl;
+          created = refl;
+        })
+
+pub setting_alike : (old new : View) → IsSetAlike old new → setting_now new ≡ setting_now old
+setting_alike old new alike i = record {
+  name = alike.name i;
+  info = alike.info i;
+  created = alike.created i;
+  peers = alike.peers i;
+}
+
+module _ (kept : ServedKeepsItsSetting) (old : Progress) (set_up : IsSetUp old.net) (t : Name)
+    (among : IsAmong old.net.names t) (occurrence : Occurrence) where
+  abbrev place : ℕ
+  place = index_in old.net.names t
+
+  abbrev view : View
+  view = view_at old.net t
+
+  abbrev answer : Served
+  answer = reply view occurrence
+
+  abbrev node : Node
+  node = (there old.net set_up t among).node
+
+  abbrev replied : Node
+  replied = record node { server = Some answer.view }
+
+  abbrev mid : Progress
+  mid = record old { net = with_node place replied old.net }
+
+  alike_node : IsAlikeNode node replied
+  alike_node = record {
+    named = ap Some (reply_alike kept view occurrence).name ∙ sym
+        (ap (option_map (λ (v : View). v.routes.name)) (there old.net set_up t among).is_view);
+    setting = ap Some (setting_alike view answer.view (reply_alike kept view occurrence))
+        ∙ sym (ap (option_map setting_now) (there old.net set_up t among).is_view);
+  }
+
+  first_changed : IsNodeChanged place replied old.net mid.net
+  first_changed = node_set place node replied old.net mid.net
+      (there old.net set_up t among).is_node alike_node refl
+
+  sent : IsSentOut place answer.out replied mid (all_sent_out place answer.out mid)
+  sent = all_sent place answer.out replied mid first_changed.is_after
+
+  asked_is : node_asked place occurrence old ≡ all_sent_out place answer.out mid
+  unfolding node_asked
+  asked_is =
+      ap (λ o. option_map_or (asked_at place occurrence old) o old)
+      (there old.net set_up t among).is_node
+      ∙ ap (λ o. option_map_or (λ (v : View). with_reply place old node (reply v occurrence)) o old)
+      (there old.net set_up t among).is_view
+
+  changed : IsNodeChanged place sent.after old.net (all_sent_out place answer.out mid).net
+  changed = changed_twice place replied sent.after old.net mid.net
+      (all_sent_out place answer.out mid).net first_changed sent.changed
+
+  configured : IsConfigured answer.view
+  configured =
+      let was = set_up.configured t among in
+      let same = reply_alike kept view occurrence in record {
+        name = subst IsServer (sym same.name) was.name;
+        info = subst IsInfo (sym same.info) was.info;
+        created = let e = ap (λ (c : List ℕ). length c) same.created in let few = was.created in
+            omega arith;
+        passwords = subst (AllByRecursion HasPassword) (sym same.peers) was.passwords;
+      }
+
+  then_set_up : IsSetUpAfter t answer.view sent.after old.net
+      (all_sent_out place answer.out mid).net
+  then_set_up = set_up_after old.net (all_sent_out place answer.out mid).net set_up t among
+      sent.after answer.view changed sent.server configured
+
+  received_so : (inboxes : length old.net.received ≡ length old.net.homes)
+      (client : ℕ) (home : Name) → home_in old.net.homes client ≡ Some home
+      → received_by (all_sent_out place answer.out mid).net client ≡ received_by old.net client
+      ++ lines_to client answer.out
+  received_so inboxes zero home is = cc is
+  received_so inboxes (suc earlier) home is = ap (λ o. unwrap_or o []) (sent.received earlier)
+      ∙ by (slice_get old.net.received earlier) refl
+    where
+      by : (o : Option (List (List ℕ))) → slice_get old.net.received earlier ≡ o
+          → unwrap_or (option_map (λ lines. lines ++ lines_to (suc earlier) answer.out)
+          (slice_get old.net.received earlier)) []
+          ≡ unwrap_or (slice_get old.net.received earlier) [] ++ lines_to (suc earlier) answer.out
+      by (Some lines) e = ap
+          (λ o. unwrap_or (option_map (λ lines. lines ++ lines_to (suc earlier) answer.out) o) []) e
+          ∙ sym (ap (λ o. unwrap_or o [] ++ lines_to (suc earlier) answer.out) e)
+      by None e =
+          absurd (let no = sym (beyond old.net.received old.net.homes earlier (sym inboxes) e)
+          ∙ is in cc no)
+
+  pub asked_so : length old.net.received ≡ length old.net.homes
+      → IsAskedAt t answer old (all_sent_out place answer.out mid)
+  asked_so inboxes = record {
+    names = changed.names;
+    links = changed.links;
+    homes = changed.homes;
+    items = changed.items;
+    taken = sent.taken;
+    inboxes = sent.inboxes;
+    settings = changed.settings;
+    set_up = then_set_up.set_up;
+    view = then_set_up.view;
+    other_views = then_set_up.other_views;
+    way = λ to. ap (option_and_then (λ (s : Node). get s.queues to)) then_set_up.node ∙ sent.ways to
+        ∙ sym (ap (λ o. option_map (λ lines. lines ++ lines_on to answer.out)
+        (option_and_then (λ (s : Node). get s.queues to) o))
+        (node_there old.net set_up t among));
+    other_ways = λ u to two. ap (option_and_then (λ (s : Node). get s.queues to))
+        (then_set_up.other_nodes u two);
+    received = received_so inboxes;
+    nobody = λ client none. nothing_received (all_sent_out place answer.out mid).net client
+        (sent.inboxes ∙ inboxes ∙ ap (λ (homes : List Name). length homes) (sym changed.homes))
+        (ap (λ homes. home_in homes client) changed.homes ∙ none);
+  }
+
+pub asked_there : ServedKeepsItsSetting → (old : Progress) → IsSetUp old.net
+    → length old.net.received ≡ length old.net.homes → (t : Name) → IsAmong old.net.names t
+    → (occurrence : Occurrence) → IsAskedAt t (reply (view_at old.net t) occurrence) old
+    (node_asked (index_in old.net.names t) occurrence old)
+asked_there kept old set_up inboxes t among occurrence =
+    subst (IsAskedAt t (reply (view_at old.net t) occurrence) old)
+    (sym (asked_is kept old set_up t among occurrence))
+    (asked_so kept old set_up t among occurrence inboxes)
+
+-- servers are set up whatever else becomes of the network
+pub set_up_besides : (net : Network) (links : List Link) (homes : List Name)
+    (received : List (List (List ℕ))) (items : List Item) (taken : ℕ) → IsSetUp net → IsSetUp
+    (record net { links = links; homes = homes; received = received; items = items; taken = taken })
+set_up_besides net links homes received items taken set_up =
+    record {
+      named = set_up.named;
+      once = set_up.once;
+      few = set_up.few;
+      configured = set_up.configured;
+    }
+
+-- what is not refused is served
+pub reply_taken : (view : View) (occurrence : Occurrence)
+    → serves_occurrence view occurrence ≡ true → reply view occurrence
+    ≡ record { view = (served view occurrence).view; out = (served view occurrence).out }
+reply_taken view occurrence taken =
+    ap (λ b. if b then record {
+      view = (served view occurrence).view;
+      out = (served view occurrence).out;
+    } else record { view = view; out = [] }) taken

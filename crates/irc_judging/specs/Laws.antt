@@ -1,5 +1,0 @@
--- What holds of the steps of these commands: laws, with their proofs. No rule stands here.
-pub mod LimitsWritten
-pub mod MasksByFold
-pub mod BansFound
-pub mod JudgedWalk

@@ -1,3 +1,0 @@
-pub mod Judging
-pub mod Laws
-pub mod Loops

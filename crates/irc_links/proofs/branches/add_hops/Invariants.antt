@@ -1,7 +1,0 @@
-use Rattle.std.proofs.Common.{◌≡◌, ◌++◌, take}
-use Rattle.irc_links.specs.Loops.Branching.{hops_of}
-use Rattle.irc_links.proofs.branches.add_hops.Given as goal
-
-abbrev pub invariant-loop-nick : goal.invariant-loop-nick
-invariant-loop-nick l =
-    l.links.items ≡ l.fn.links.items ++ hops_of l.room.room l.routes (take l.nick-index l.nicks)

@@ -1,6 +1,0 @@
-use Rattle.std.proofs.Common.{◌≡◌, ◌++◌, take}
-use Rattle.irc_links.specs.Ways.{but}
-use Rattle.irc_links.proofs.ways.add_others.Given as goal
-
-abbrev pub invariant-loop-link : goal.invariant-loop-link
-invariant-loop-link l = l.links.items ≡ l.fn.links.items ++ but l.arrival (take l.link-index l.more)

@@ -1,4 +1,0 @@
-pub mod Ends
-pub mod Ways
-pub mod Loops
-pub mod Lemmas

@@ -1,2 +1,0 @@
-pub mod ModeSteps
-pub mod Reworded

@@ -1,5 +1,0 @@
-use Rattle.irc_mode_words.specs.Lemmas.FewRead.{left_is_readable}
-use Rattle.irc_mode_words.proofs.laws.left_is_readable.Goals as goal
-
-pub returns : goal.returns
-returns c = left_is_readable

@@ -1,5 +1,0 @@
-use Rattle.irc_mode_words.specs.Lemmas.FewRead.{read_changes_are_few}
-use Rattle.irc_mode_words.proofs.laws.read_changes_are_few.Goals as goal
-
-pub returns : goal.returns
-returns c = read_changes_are_few

@@ -1,5 +1,0 @@
-use Rattle.irc_mode_words.proofs.Reworded.{reworded_is_written}
-use Rattle.irc_mode_words.proofs.laws.reworded_is_written.Goals as goal
-
-pub returns : goal.returns
-returns c = reworded_is_written

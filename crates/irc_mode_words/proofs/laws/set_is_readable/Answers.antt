@@ -1,5 +1,0 @@
-use Rattle.irc_mode_words.specs.Lemmas.SetReadable.{set_is_readable}
-use Rattle.irc_mode_words.proofs.laws.set_is_readable.Goals as goal
-
-pub returns : goal.returns
-returns c = set_is_readable

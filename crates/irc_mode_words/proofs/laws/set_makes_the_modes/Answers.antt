@@ -1,5 +1,0 @@
-use Rattle.irc_mode_words.specs.Lemmas.SetAgain.{set_makes_the_modes}
-use Rattle.irc_mode_words.proofs.laws.set_makes_the_modes.Goals as goal
-
-pub returns : goal.returns
-returns c = set_makes_the_modes

@@ -1,5 +1,0 @@
-use Rattle.irc_mode_words.specs.Lemmas.WrittenRead.{written_is_read}
-use Rattle.irc_mode_words.proofs.laws.written_is_read.Goals as goal
-
-pub returns : goal.returns
-returns c = written_is_read

@@ -1,2 +1,0 @@
-pub mod ModeLimits
-pub mod WrittenLetters

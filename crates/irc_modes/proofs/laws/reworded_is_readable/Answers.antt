@@ -1,0 +1,5 @@
+use Rattle.irc_modes.proofs.Reworded.{reworded_is_readable}
+use Rattle.irc_modes.proofs.laws.reworded_is_readable.Goals as goal
+
+pub returns : goal.returns
+returns c = reworded_is_readable

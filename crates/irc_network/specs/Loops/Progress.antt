@@ -1,0 +1,167 @@
+-- A network as its code has it while something is done to it.
+use Rattle.std.specs.Prelude.{◌≡◌, ◌<◌, ℕ, zero, suc, Option, Some, None, List, [], ◌∷◌}
+use Rattle.std.specs.Prelude.{length, if◌then◌else◌, Vec}
+use Rattle.std.specs.List.{slice_get}
+use Rattle.std.specs.declared.alloc.Global.{Global}
+use Rattle.irc_batch.specs.Batches.{Sent, line_to, end_of, line_on, end_of_link}
+use Rattle.irc_line.specs.Reading.{read_of}
+use Rattle.irc_server.specs.Happening.{occurrence_of}
+use Rattle.irc_server.specs.Served.{Occurrence, link_says}
+use Rattle.irc_server.specs.declared.event.Event.{Event}
+use Rattle.irc_relay.specs.Links.{Name}
+use Rattle.irc_wires.specs.Wires.{Wires, without_wire, written_at}
+use Rattle.irc_world.specs.Stepping.{Item}
+use Rattle.irc_forest.specs.Forests.{name_at}
+use Rattle.irc_network.specs.declared.receipt.Receipt.{Receipt as KeptReceipt}
+use Rattle.irc_forest.specs.declared.places.EndPlaces.{EndPlaces}
+use Rattle.irc_network.specs.declared.call_output.CallOutput.{CallOutput}
+use Rattle.irc_network.specs.ByteNetwork.{ByteProgress, ByteNetwork, progress_without_wires}
+use Rattle.irc_network.specs.ByteNetwork.{progress_written, wires_after}
+use Rattle.irc_network.specs.Calls.{byte_progress_at}
+use Rattle.irc_network.specs.Network.{Progress, LinkPlaces, Network, all_sent_out, done_by}
+use Rattle.irc_network.specs.Network.{has_received, home_place, line_body, line_counted, sent_out}
+use Rattle.irc_network.specs.Network.{node_asked, node_asked_if, node_changed_at, with_way}
+use Rattle.irc_network.specs.Network.{without_way}
+use Rattle.irc_network.specs.Views.{receipts_of}
+use Rattle.irc_network.specs.Whole.{has_way}
+
+abbrev pub byte_progress : ByteNetwork → List KeptReceipt → ByteProgress
+byte_progress net lines = record { net = net; receipts = receipts_of lines }
+
+abbrev pub progress : Network → List KeptReceipt → Progress
+progress net lines = record { net = net; receipts = receipts_of lines }
+
+-- ---- places
+
+abbrev pub ends_now : EndPlaces → LinkPlaces
+ends_now kept = record { near = kept.near; far = kept.far }
+
+pub record AreWithin (net : Network) (ends : EndPlaces) : Type 0 where
+  pub near_within : ends.near < length net.names
+  pub far_within : ends.far < length net.names
+
+pub record AreNamed (net : Network) (ends : EndPlaces) (near far : Name) : Type 0 where
+  pub near_named : name_at net.names ends.near ≡ near
+  pub far_named : name_at net.names ends.far ≡ far
+
+-- how many clients have connected before one; nobody has the number 0
+abbrev pub IsEarlier : ℕ → Option ℕ → Type 0
+IsEarlier client None = client ≡ 0
+IsEarlier client (Some earlier) = client ≡ suc earlier
+
+abbrev pub inbox_of : Network → ℕ → Option (List (List ℕ))
+inbox_of net zero = None
+inbox_of net (suc earlier) = slice_get net.received earlier
+
+-- ---- what goes its way
+
+-- nothing, where nothing is put out at a place
+abbrev pub sent_at : ℕ → Option Sent → Progress → Progress
+sent_at place None progress = progress
+sent_at place (Some sent) progress = sent_out place sent progress
+
+-- what a server puts out is written while it is put out: a line on a link where a way goes
+abbrev pub line_sent : ℕ → ℕ → List ℕ → ByteNetwork → ByteNetwork
+line_sent from to text net =
+    if has_way net.network from to
+    then record net { wires = written_at from to (line_body text) net.wires } else net
+
+-- with these wires, whatever was done beside them
+abbrev pub with_wires : Wires → Progress → ByteProgress
+with_wires wires progress =
+    record { net = record { network = progress.net; wires = wires }; receipts = progress.receipts }
+
+abbrev pub byte_sent : ℕ → Sent → ByteProgress → ByteProgress
+byte_sent place (line_to client text) progress =
+    with_wires progress.net.wires (has_received client text (progress_without_wires progress))
+byte_sent place (end_of client) progress = progress
+byte_sent place (line_on to text) progress =
+    record progress { net = line_sent place to text progress.net }
+byte_sent place (end_of_link to reason) progress = progress
+
+abbrev pub byte_sent_at : ℕ → Option Sent → ByteProgress → ByteProgress
+byte_sent_at place None progress = progress
+byte_sent_at place (Some sent) progress = byte_sent place sent progress
+
+-- ---- what servers are asked for
+
+-- what a server that is asked puts out is written at once
+abbrev pub asked_out : ℕ → Occurrence → ByteProgress → ByteProgress
+asked_out place occurrence progress =
+    progress_written
+    (node_asked place occurrence (progress_without_wires progress)) progress.net.wires
+
+abbrev pub byte_counted : ByteNetwork → ByteNetwork
+byte_counted net = record net { network = line_counted net.network }
+
+-- a server is asked for a line that has come from another, and the line is counted
+abbrev pub heard_out : ℕ → ℕ → ByteProgress → List ℕ → ByteProgress
+heard_out from to progress line =
+    asked_out to (link_says from (read_of line))
+    (record progress { net = byte_counted progress.net })
+
+abbrev pub all_heard_out : ℕ → ℕ → ByteProgress → List (List ℕ) → ByteProgress
+all_heard_out from to progress [] = progress
+all_heard_out from to progress (line ∷ lines) =
+    all_heard_out from to (heard_out from to progress line) lines
+
+-- ---- ways
+
+abbrev pub way_opened : ℕ → ℕ → ByteNetwork → ByteNetwork
+way_opened from to net =
+    record net { network = node_changed_at from (with_way to) net.network }
+
+abbrev pub way_closed : ℕ → ℕ → ByteNetwork → ByteNetwork
+way_closed from to net = record {
+  network = node_changed_at from (without_way to) net.network;
+  wires = without_wire from to net.wires;
+}
+
+-- ---- what a network and the output of a call were, and what they became
+
+-- a server was asked for an event, one that may be there, and the one that a client has connected
+-- to
+abbrev pub IsAskedOut : ℕ → Event → ByteNetwork → CallOutput → ByteNetwork → CallOutput → Type 0
+IsAskedOut place event old before new after =
+    byte_progress_at new after ≡ asked_out place (occurrence_of event) (byte_progress_at old before)
+
+abbrev pub IsAskedIf : Option ℕ → Event → ByteNetwork → CallOutput → ByteNetwork → CallOutput
+    → Type 0
+IsAskedIf place event old before new after =
+    byte_progress_at new after ≡ progress_written (node_asked_if place (occurrence_of event)
+    (progress_without_wires (byte_progress_at old before))) old.wires
+
+abbrev pub IsHomeAsked : ℕ → Event → ByteNetwork → CallOutput → ByteNetwork → CallOutput → Type 0
+IsHomeAsked client event old before new after =
+    IsAskedIf (home_place old.network client) event old before new after
+
+-- all that was put out in the output went its way
+abbrev pub AreSentOut : ℕ → ByteNetwork → CallOutput → ByteNetwork → CallOutput → Type 0
+AreSentOut place old before new after =
+    byte_progress_at new after ≡ progress_written (all_sent_out place before.out.outs
+    (progress_without_wires (byte_progress_at old before))) old.wires
+
+-- what was put out at one place there went its way
+abbrev pub IsSentAt : ℕ → ℕ → ByteNetwork → CallOutput → ByteNetwork → CallOutput → Type 0
+IsSentAt place at old before new after =
+    byte_progress_at new after ≡ byte_sent_at place (slice_get before.out.outs at)
+    (byte_progress_at old before)
+
+-- a client received a line, which is among the lines of the call
+abbrev pub IsReceived : ℕ → List ℕ → ByteNetwork → Vec KeptReceipt Global → ByteNetwork
+    → Vec KeptReceipt Global → Type 0
+IsReceived client text old before new after =
+    byte_progress new after.items ≡ with_wires old.wires
+    (has_received client text (progress old.network before.items))
+
+-- an item was done, and nothing was in the output before
+abbrev pub IsDone : Item → ByteNetwork → ByteNetwork → CallOutput → Type 0
+IsDone item old new after =
+    byte_progress_at new after ≡ progress_written (done_by item old.network)
+    (wires_after old.network item old.wires)
+
+-- a server was asked for a line that has come from another, and the line was counted
+abbrev pub IsLineHeard : ℕ → ℕ → List ℕ → ByteNetwork → CallOutput → ByteNetwork → CallOutput
+    → Type 0
+IsLineHeard from to bytes old before new after =
+    byte_progress_at new after ≡ heard_out from to (byte_progress_at old before) bytes

@@ -1,2 +1,0 @@
-pub mod NamedCommands
-pub mod RegisterRows

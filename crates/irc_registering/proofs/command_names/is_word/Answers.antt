@@ -1,5 +1,0 @@
-use Rattle.std.proofs.Common.{rules}
-use Rattle.irc_registering.proofs.command_names.is_word.Goals as goal
-
-pub returns : goal.returns
-returns c = search rules

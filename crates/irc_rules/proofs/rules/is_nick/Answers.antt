@@ -1,7 +1,0 @@
-use Rattle.std.proofs.Common.{rules}
-use Rattle.irc_rules.specs.Names.{is_nick}
-use Rattle.irc_rules.proofs.rules.is_nick.Goals as goal
-
-pub returns-then-are_nick_bytes : goal.returns-then-are_nick_bytes
-unfolding is_nick
-returns-then-are_nick_bytes c = search rules

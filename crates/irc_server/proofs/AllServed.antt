@@ -1,0 +1,84 @@
+-- What holds of all that a server has put out, whatever it serves, by which links it has closed.
+use Rattle.std.proofs.Common.{ℕ, Bool, true, false, is_none, Option, Some, None, Result, List, []}
+use Rattle.std.proofs.Common.{◌∷◌, if◌then◌else◌}
+use Rattle.std.specs.FinMap.{get}
+use Rattle.irc_line.specs.declared.reading.LineFault.{LineFault}
+use Rattle.irc_line.specs.Messages.{Parsed}
+use Rattle.irc_batch.specs.Batches.{Sent, end_of_link}
+use Rattle.irc_batch.specs.declared.close_reason.CloseReason.{CloseReason}
+use Rattle.irc_batch.specs.declared.close_reason.CloseReason.TheVariants as reason
+use Rattle.irc_burst.specs.DeedsMeant.{a_server}
+use Rattle.irc_stage.specs.View.{End, View, password_for, with_end}
+use Rattle.irc_stage.specs.EffectTold.{Served, in_silence, with_sent}
+use Rattle.irc_stage.specs.Linked.{with_far}
+use Rattle.irc_server.specs.Heard.{Heard, ignored, closes, password, meets, tells, heard}
+use Rattle.irc_server.specs.LinkServed.{after_heard, line_served, link_opened, on_link}
+use Rattle.irc_server.specs.LinkServed.{opening_parts, owes}
+use Rattle.irc_server.specs.Served.{Occurrence, of_client, link_up, link_says, link_down, served}
+use Rattle.irc_server.specs.Closings.{closing_by_line, closing_heard, closing_opened}
+use Rattle.irc_server.specs.Closings.{closings_due}
+use Rattle.irc_server.proofs.PutOut.{IsKeptBehind, all_told_stays, happening_stays, lost_stays}
+use Rattle.irc_server.proofs.PutOut.{on_link_stays, told_by_stays}
+
+abbrev pub Closings : Type 0
+Closings = List (ℕ × CloseReason)
+
+-- It holds where nothing is put out, where one link is closed, and still behind what closes none.
+pub record IsKeptWhenServed (test : Sent → Bool)
+    (Holds : Closings → List Sent → Type 0) : Type 0 where
+  pub nothing : Holds [] []
+  pub one_closed : (link : ℕ) (why : CloseReason)
+      → Holds ((link, why) ∷ []) (end_of_link link why ∷ [])
+  pub behind : (closed : Closings) → IsKeptBehind test (Holds closed)
+
+module _ (test : Sent → Bool) (Holds : Closings → List Sent → Type 0)
+    (keeps : IsKeptWhenServed test Holds) where
+  abbrev HoldsAt : Closings → Served → Type 0
+  HoldsAt closed s = Holds closed s.out
+
+  opened_so : (view : View) (link : ℕ) (starts : Option (List ℕ))
+      → HoldsAt (closing_opened view link starts) (link_opened view link starts)
+  opened_so view link None = keeps.nothing
+  opened_so view link (Some name) = by (is_none (password_for view name))
+    where
+      by : (b : Bool)
+          → HoldsAt (if b then (link, reason.UnknownPeer) ∷ [] else [])
+          (if b then with_sent (end_of_link link reason.UnknownPeer ∷ []) (in_silence view)
+          else with_sent (on_link link (opening_parts view name))
+          (in_silence (with_end link (Some name) view)))
+      by true = keeps.one_closed link reason.UnknownPeer
+      by false =
+          on_link_stays test (Holds []) (keeps.behind []) link (opening_parts view name)
+          (in_silence (with_end link (Some name) view)) keeps.nothing
+
+  heard_so : (view : View) (link : ℕ) (what : Heard)
+      → HoldsAt (closing_heard link what) (after_heard view link what)
+  heard_so view link ignored = keeps.nothing
+  heard_so view link (closes why) =
+      let closed = (link, why) ∷ [] in
+      lost_stays test (Holds closed) (keeps.behind closed) link
+      (with_sent (end_of_link link why ∷ []) (in_silence view)) (keeps.one_closed link why)
+  heard_so view link (password word) = keeps.nothing
+  heard_so view link (meets name info) =
+      let greeted = in_silence (with_far link name view) in
+      told_by_stays test (Holds []) (keeps.behind []) link (a_server view.routes.name name 1 1 info)
+      (with_sent (on_link link (owes view link name)) greeted)
+      (on_link_stays test (Holds []) (keeps.behind []) link (owes view link name) greeted
+      keeps.nothing)
+  heard_so view link (tells told) =
+      all_told_stays test (Holds []) (keeps.behind []) link told (in_silence view) keeps.nothing
+
+  line_so : (view : View) (link : ℕ) (read : Result Parsed LineFault) (end : Option End)
+      → HoldsAt (closing_by_line view link read end) (line_served view link read end)
+  line_so view link read None = keeps.nothing
+  line_so view link read (Some end) = heard_so view link (heard view link end read)
+
+  pub served_so : (view : View) (occurrence : Occurrence)
+      → HoldsAt (closings_due view occurrence) (served view occurrence)
+  unfolding served
+  served_so view (of_client happening) =
+      happening_stays test (Holds []) (keeps.behind []) keeps.nothing view happening
+  served_so view (link_up link starts) = opened_so view link starts
+  served_so view (link_says link read) = line_so view link read (get view.ends link)
+  served_so view (link_down link) =
+      lost_stays test (Holds []) (keeps.behind []) link (in_silence view) keeps.nothing

@@ -1,0 +1,60 @@
+-- Whatever is served, each line that is put out on a link ends in CR LF.
+use Rattle.std.proofs.Common.{◌≡◌, ℕ, ◌-◌, Bool, true, List, ◌++◌, length, take, bytes_eq, refl}
+use Rattle.std.proofs.Common.{sym, ◌∙◌, ap}
+use Rattle.std.proofs.lemmas.List.{take-append-drop}
+use Rattle.std.proofs.lemmas.List.Prefix.{end_rest}
+use Rattle.std.proofs.lemmas.Slice.Eq.{bytes_eq-Decides}
+use Rattle.std.specs.List.{list_all}
+use Rattle.irc_line.specs.Bytes.{crlf}
+use Rattle.irc_line.specs.Messages.{Written, line_text, text}
+use Rattle.irc_batch.specs.Batches.{Sent, end_of, end_of_link, line_on, line_to}
+use Rattle.irc_server.specs.Served.{served}
+use Rattle.irc_server.specs.LineEnds.{EndsInLineEnd, ServedLinesEnd}
+use Rattle.irc_server.proofs.AllOf.{all-append, all-told}
+use Rattle.irc_server.proofs.AllServed.{Closings, IsKeptWhenServed, served_so}
+
+-- ---- one thing that is put out
+
+-- whether it ends so, as a test
+abbrev is_ended : Sent → Bool
+is_ended (line_on link line) = bytes_eq line (take (length line - 2) line ++ crlf)
+is_ended other = true
+
+ends : (sent : Sent) → is_ended sent ≡ true → EndsInLineEnd sent
+ends (line_to conn line) is = tt
+ends (end_of conn) is = tt
+ends (line_on link line) is = (bytes_eq-Decides line (take (length line - 2) line ++ crlf)).0 is
+ends (end_of_link link why) is = tt
+
+-- a body, and CR LF behind it
+body_ends : (body line : List ℕ) → line ≡ body ++ crlf → line ≡ take (length line - 2) line ++ crlf
+body_ends body line is =
+    let front = length line - 2 in sym (take-append-drop front line)
+    ∙ ap (λ end. take front line ++ end) (end_rest line crlf body is)
+
+text_ended : (link : ℕ) (parts : Written) → is_ended (line_on link (text parts)) ≡ true
+text_ended link parts =
+    (bytes_eq-Decides (text parts) (take (length (text parts) - 2) (text parts) ++ crlf)).1
+    (body_ends (line_text parts) (text parts) refl)
+
+-- ---- all that has been put out, whichever links are closed
+
+abbrev AllEnded : Closings → List Sent → Type 0
+AllEnded closed out = list_all is_ended out ≡ true
+
+stay_ended : IsKeptWhenServed is_ended AllEnded
+stay_ended = record {
+  nothing = refl;
+  one_closed = λ link why. refl;
+  behind = λ closed. record {
+    on_link = text_ended;
+    to_client = λ conn line. refl;
+    closing = λ conn. refl;
+    behind = λ out sent all ended. all-append is_ended out sent ended all;
+  };
+}
+
+pub lines_end : ServedLinesEnd
+lines_end view occurrence =
+    all-told is_ended EndsInLineEnd ends (served view occurrence).out
+    (served_so is_ended AllEnded stay_ended view occurrence)

@@ -1,0 +1,146 @@
+-- What the code does of what happens by a link is what it does to the server.
+use Rattle.std.proofs.Common.{◌≡◌, ℕ, Bool, true, false, cond, is_none, is_some, Option, Some, None}
+use Rattle.std.proofs.Common.{Result, Ok, Err, List, [], ◌∷◌, ◌++◌, refl, sym, ◌∙◌, ap, subst}
+use Rattle.std.proofs.Common.{append-nil, append_assoc, map, not, unwrap_or}
+use Rattle.std.proofs.Common.{if◌then◌else◌}
+use Rattle.std.proofs.lemmas.List.{map-append}
+use Rattle.std.proofs.lemmas.Simd.{map-map}
+use Rattle.std.specs.Borrow.{Bor}
+use Rattle.std.specs.Cmp.{nat_cmp_total}
+use Rattle.std.specs.FinMap.{get, insert, get-insert}
+use Rattle.std.specs.Option.{option_copied, option_map_or}
+use Rattle.irc_line.specs.declared.reading.LineFault.{LineFault}
+use Rattle.irc_line.specs.declared.reading.LineFault.TheVariants as fault
+use Rattle.irc_line.specs.Messages.{Parsed, text}
+use Rattle.irc_batch.specs.Batches.{line_on}
+use Rattle.irc_batch.specs.declared.close_reason.CloseReason.{CloseReason}
+use Rattle.irc_link_words.specs.declared.openings.Opening.{Opening}
+use Rattle.irc_link_words.specs.declared.openings.Opening.TheVariants as opening
+use Rattle.irc_link_words.specs.GreetingLines.{greeting, pass_parts}
+use Rattle.irc_burst.specs.DeedsMeant.{Told, a_server, deeds_meant}
+use Rattle.irc_burst.specs.HandshakeMeant.{handshake_meant}
+use Rattle.irc_burst_lines.specs.BurstLines.{burst_parts}
+use Rattle.irc_stage.specs.Ends.{is_met}
+use Rattle.irc_stage.specs.Ways.{IsMetEnd}
+use Rattle.irc_stage.specs.View.{End, View, password_for}
+use Rattle.irc_stage.specs.EffectTold.{Served, with_sent}
+use Rattle.irc_stage.specs.Linked.{with_far}
+use Rattle.irc_stage.specs.Lemmas.Numbers.{same_number-refl}
+use Rattle.irc_stage.specs.Loops.Handling.{told_on, where_it_is}
+use Rattle.irc_server.specs.DeedTold.{told_by}
+use Rattle.irc_server.specs.Heard.{heard, met_unless, of_met, opened}
+use Rattle.irc_server.specs.LinkServed.{on_link, opening_parts, owed_by, owes}
+use Rattle.irc_server.specs.Loops.Serving.{greeting_of, lines_told, met_in, IsHearable}
+
+-- what is heard at an end can be done there
+module _ (view : View) (link : ℕ) (end : End) where
+  by_met : (result : Result (List Told) CloseReason) → is_met end ≡ true
+      → IsHearable (Some end) (of_met result)
+  by_met (Ok told) met = met
+  by_met (Err why) met = tt
+
+  by_named : (refused : Option CloseReason) (name info : List ℕ)
+      → IsHearable (Some end) (met_unless refused name info)
+  by_named None name info = refl
+  by_named (Some why) name info = tt
+
+  by_opened : (result : Result Opening CloseReason)
+      → IsHearable (Some end) (opened view end result)
+  by_opened (Err why) = tt
+  by_opened (Ok (opening.Password word)) = tt
+  by_opened (Ok (opening.Greeting name info)) = by_named _ name info
+
+  by_message : (message : Parsed) (b : Bool) → is_met end ≡ b
+      → IsHearable (Some end)
+      (if b then of_met (deeds_meant view.room view.routes link message)
+      else opened view end
+      (handshake_meant (is_some end.password) view.room view.routes link message))
+  by_message message true met = by_met (deeds_meant view.room view.routes link message) met
+  by_message message false met =
+      by_opened (handshake_meant (is_some end.password) view.room view.routes link message)
+
+  pub hearable : (read : Result Parsed LineFault)
+      → IsHearable (Some end) (heard view link end read)
+  unfolding heard
+  hearable (Ok message) = by_message message (is_met end) refl
+  hearable (Err fault.Empty) = tt
+  hearable (Err why) = tt
+
+-- a link whose other end has named itself counts
+pub met_now : (view : View) (link : ℕ) (name : List ℕ) → is_some (get view.ends link) ≡ true
+    → IsMetEnd (get (with_far link name view).ends link)
+met_now view link name = by (get view.ends link)
+  where
+    by : (o : Option End) → is_some o ≡ true
+        → IsMetEnd (get (option_map_or (λ (end : End). record view {
+          ends = insert view.ends link
+              (record end { far = Some name });
+        }) o view).ends link)
+    by None there = cc there
+    by (Some end) there =
+        let named = record end { far = Some name } in
+        subst IsMetEnd
+        (sym (get-insert nat_cmp_total view.ends link named link
+        ∙ ap (λ b. cond b (Some named) (get view.ends link)) (same_number-refl link))) refl
+
+-- the two lines with which an end begins
+pub begun : (link : ℕ) (name pass greeted : List ℕ) (s one new : Served)
+    → pass ≡ text (pass_parts (unwrap_or (password_for s.view name) []))
+    → greeted ≡ text (greeting s.view.routes) → one ≡ told_on link pass s
+    → new ≡ told_on link greeted one
+    → new ≡ with_sent (on_link link (opening_parts s.view name)) s
+begun link name pass greeted s one new pass_is greeting_is first put =
+    let password = text (pass_parts (unwrap_or (password_for s.view name) [])) in
+    let server = text (greeting s.view.routes) in
+    put ∙ ap (told_on link greeted) (first ∙ ap (λ line. told_on link line s) pass_is)
+    ∙ ap (λ line. told_on link line (told_on link password s)) greeting_is
+    ∙ ap (λ out. record s { out = out })
+    (append_assoc s.out (line_on link password ∷ []) (line_on link server ∷ []))
+
+-- an end that calls nobody is called
+pub is_called : {X : Type 0} (found : Option (Bor X)) (starts : Option X) (called : Bool)
+    → option_copied found ≡ starts → is_some found ≡ not called → called ≡ is_none starts
+is_called None starts true is called_is = ap is_none is
+is_called None starts false is called_is = absurd (cc called_is)
+is_called (Some found) starts true is called_is = absurd (cc called_is)
+is_called (Some found) starts false is called_is = ap is_none is
+
+-- what an end says first, where it was called, and then what its side holds, is what it owes
+pub answered : (link : ℕ) (name : List ℕ) (end : End) (called : Bool) (lines : List (List ℕ))
+    (s greeted new : Served) → get s.view.ends link ≡ Some end → called ≡ is_none end.starts
+    → greeted ≡ with_sent (on_link link (greeting_of s.view called name)) s
+    → lines ≡ map text (burst_parts s.view.room s.view.routes link)
+    → new ≡ lines_told link lines greeted
+    → new ≡ with_sent (on_link link (owes s.view link name)) s
+answered link name end called lines s greeted new there called_is hello written put =
+    let burst = burst_parts s.view.room s.view.routes link in
+    let first = greeting_of s.view (is_none end.starts) name in
+    put ∙ ap (λ ls. lines_told link ls greeted) written
+    ∙ ap (λ sent. with_sent sent greeted) (map-map (line_on link) text burst)
+    ∙ ap (with_sent (on_link link burst))
+    (hello ∙ ap (λ b. with_sent (on_link link (greeting_of s.view b name)) s) called_is)
+    ∙ ap (λ out. record s { out = out })
+    (append_assoc s.out (on_link link first) (on_link link burst)
+    ∙ ap (λ sent. s.out ++ sent)
+    (sym (map-append (λ parts. line_on link (text parts)) first burst)))
+    ∙ ap (λ (o : Option End). with_sent
+    (on_link link (option_map_or (owed_by s.view link name) o [])) s) (sym there)
+
+-- where no link is open nothing is owed
+pub nothing_owed : (link : ℕ) (name : List ℕ) (s : Served) → get s.view.ends link ≡ None
+    → s ≡ with_sent (on_link link (owes s.view link name)) s
+nothing_owed link name s none =
+    ap (λ out. record s { out = out }) (sym (append-nil s.out))
+    ∙ ap (λ (o : Option End). with_sent
+    (on_link link (option_map_or (owed_by s.view link name) o [])) s) (sym none)
+
+-- the server at the other end is answered, and told of
+pub met_served : (link : ℕ) (name own info : List ℕ) (s answered far new : Served)
+    → answered ≡ with_sent (on_link link (owes s.view link name)) s
+    → far ≡ where_it_is (with_far link name answered.view) answered
+    → own ≡ s.view.routes.name
+    → new ≡ told_by link (a_server own name 1 1 info) far → new ≡ met_in link name info s
+met_served link name own info s answered far new owed named own_is told =
+    told ∙ ap (λ own. told_by link (a_server own name 1 1 info) far) own_is
+    ∙ ap (told_by link (a_server s.view.routes.name name 1 1 info))
+    (named ∙ ap (λ (t : Served). where_it_is (with_far link name t.view) t) owed)

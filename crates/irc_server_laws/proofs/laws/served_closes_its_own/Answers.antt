@@ -1,5 +1,0 @@
-use Rattle.irc_server_laws.proofs.OwnClosings.{closes_its_own}
-use Rattle.irc_server_laws.proofs.laws.served_closes_its_own.Goals as goal
-
-pub returns : goal.returns
-returns c = closes_its_own

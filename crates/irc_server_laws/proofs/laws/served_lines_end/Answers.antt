@@ -1,5 +1,0 @@
-use Rattle.irc_server_laws.proofs.LinesEnd.{lines_end}
-use Rattle.irc_server_laws.proofs.laws.served_lines_end.Goals as goal
-
-pub returns : goal.returns
-returns c = lines_end

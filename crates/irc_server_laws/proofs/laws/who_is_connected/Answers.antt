@@ -1,5 +1,0 @@
-use Rattle.irc_server_laws.proofs.Connected.{who_is_connected}
-use Rattle.irc_server_laws.proofs.laws.who_is_connected.Goals as goal
-
-pub returns : goal.returns
-returns c = who_is_connected

@@ -1,4 +1,0 @@
-pub mod Own
-pub mod LineEnds
-pub mod Closings
-pub mod Connected

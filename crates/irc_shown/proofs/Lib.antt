@@ -1,4 +1,0 @@
-pub mod AudienceLaw
-pub mod ModeLine
-pub mod RowValues
-pub mod WhoSees

@@ -1,5 +1,0 @@
-use Rattle.std.proofs.Common.{rules}
-use Rattle.irc_shown.proofs.effect_lines.user_line.Goals as goal
-
-pub returns-in-Rename : goal.returns-in-Rename
-returns-in-Rename c = search rules

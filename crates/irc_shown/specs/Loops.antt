@@ -1,3 +1,0 @@
-pub mod LineViews
-pub mod Telling
-pub mod Viewing
