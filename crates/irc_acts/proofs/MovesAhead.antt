@@ -23,8 +23,7 @@ use Rattle.irc_modes.specs.Modes.{is_nil}
 use Rattle.arrayvec.specs.ArrayVec.{ArrayVec}
 use Rattle.irc_numerics.specs.declared.replies.Reply.{Reply}
 use Rattle.irc_room.specs.effect.Effect.{Effect}
-use Rattle.irc_room.specs.effect.Effect.TheVariants.{AddUser, Rename, Quit, Join, Part, Kick}
-use Rattle.irc_room.specs.effect.Effect.TheVariants.{ChangeModes, SetTopic, Say, Invite, UserMode}
+use Rattle.irc_room.specs.effect.Effect.TheVariants.{Join, Part, Kick}
 use Rattle.irc_room.specs.Room.{Room, IsWellFormed}
 use Rattle.irc_room.specs.Effects.{is_member}
 use Rattle.irc_room.specs.Readers.{flags_at}
@@ -223,14 +222,7 @@ by_move P joins parts kicks room (Join nick channel op) move = joins room nick c
 by_move P joins parts kicks room (Part nick channel text) move = parts room nick channel text move
 by_move P joins parts kicks room (Kick by channel nick text) move =
     kicks room by channel nick text move
-by_move P joins parts kicks room (AddUser user) move = absurd move
-by_move P joins parts kicks room (Rename nick new) move = absurd move
-by_move P joins parts kicks room (Quit nick text) move = absurd move
-by_move P joins parts kicks room (ChangeModes by channel changes) move = absurd move
-by_move P joins parts kicks room (SetTopic by channel text) move = absurd move
-by_move P joins parts kicks room (Say by notice to text) move = absurd move
-by_move P joins parts kicks room (Invite by nick channel) move = absurd move
-by_move P joins parts kicks room (UserMode nick invisible) move = absurd move
+by_move P joins parts kicks room other move = absurd move
 
 -- who is a member of the channel of a name is one of the channel of the same name
 by_same : (room : Room) (who name channel : List ℕ) (is : Bool) → is_member room who name ≡ is
@@ -484,15 +476,7 @@ keeps_named channel name room (Part who left_channel text) there is =
     leave_named channel name room who left_channel there is
 keeps_named channel name room (Kick by left_channel who text) there is =
     leave_named channel name room who left_channel there is
-keeps_named channel name room (AddUser user) there is = absurd there
-keeps_named channel name room (Rename who new) there is = absurd there
-keeps_named channel name room (Quit who text) there is = absurd there
-keeps_named channel name room (Join who joined_channel op) there is = absurd there
-keeps_named channel name room (ChangeModes by changed changes) there is = absurd there
-keeps_named channel name room (SetTopic by changed text) there is = absurd there
-keeps_named channel name room (Say by notice to text) there is = absurd there
-keeps_named channel name room (Invite by who invited) there is = absurd there
-keeps_named channel name room (UserMode who invisible) there is = absurd there
+keeps_named channel name room other there is = absurd there
 
 first_named : (channel : List ℕ) (room : Room) → IsWellFormed room
     → IsNamed channel (name_of (row room.channels (key channel))) room

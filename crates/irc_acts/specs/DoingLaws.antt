@@ -13,7 +13,7 @@ use Rattle.irc_acts.specs.declared.act.Act.{Act}
 use Rattle.irc_acts.specs.Acts.{effects_among}
 use Rattle.irc_acts.specs.Doing.{DoesSomething, AreDoing}
 use Rattle.irc_acts.specs.Own.{IsOwn, to_user, to_channel, makes, enters, parts, sets_topic, kicks}
-use Rattle.irc_acts.specs.Own.{invites, changes_modes, sets_user_mode, AreOwn}
+use Rattle.irc_acts.specs.Own.{invites, changes_modes, changes_itself, AreOwn}
 use Rattle.irc_acts.specs.OwnLaws.{own_in_turn}
 
 -- whether a user is a member of a channel that was found, by the name that is stored
@@ -50,7 +50,7 @@ own_does me room effect well (kicks name nick text channel other is member known
     ∙ member)
 own_does me room effect well (invites nick name other is named) = refl
 own_does me room effect well (changes_modes name changes channel is) = refl
-own_does me room effect well (sets_user_mode invisible) = refl
+own_does me room effect well (changes_itself change keeps) = refl
 
 pub own_are_doing : (me : User) (room : Room) (acts : List Act) → IsWellFormed room
     → has_user room me.nick ≡ true → AreOwn me room acts → AreDoing room acts

@@ -12,8 +12,7 @@ use Rattle.irc_channels.specs.declared.channel.Channel.{Channel}
 use Rattle.irc_channels.specs.Channels.{has_member, joined, left, new_channel}
 use Rattle.irc_modes.specs.Modes.{is_nil}
 use Rattle.irc_room.specs.effect.Effect.{Effect}
-use Rattle.irc_room.specs.effect.Effect.TheVariants.{AddUser, Rename, Quit, Join, Part, Kick}
-use Rattle.irc_room.specs.effect.Effect.TheVariants.{ChangeModes, SetTopic, Say, Invite, UserMode}
+use Rattle.irc_room.specs.effect.Effect.TheVariants.{Join, Part, Kick}
 use Rattle.irc_room.specs.Room.{Room, IsWellFormed}
 use Rattle.irc_room.specs.Effects.{is_member}
 use Rattle.irc_room.specs.After.{after, alter_channel}
@@ -81,17 +80,8 @@ joins_in nick op channel = by_member (has_member nick channel) refl
 -- ---- members that leave
 
 leave_is_move : (room : Room) (effect : Effect) → IsLeave room effect → IsMove room effect
-leave_is_move room (Part nick channel text) there = there
-leave_is_move room (Kick by channel nick text) there = there
-leave_is_move room (AddUser user) there = there
-leave_is_move room (Rename nick new) there = there
-leave_is_move room (Quit nick text) there = there
 leave_is_move room (Join nick channel op) there = absurd there
-leave_is_move room (ChangeModes by channel changes) there = there
-leave_is_move room (SetTopic by channel text) there = there
-leave_is_move room (Say by notice to text) there = there
-leave_is_move room (Invite by nick channel) there = there
-leave_is_move room (UserMode nick invisible) there = there
+leave_is_move room other there = there
 
 pub leaves_are_moves : (room : Room) (acts : List Act) → AreLeaves room acts → AreMoves room acts
 leaves_are_moves room acts = each-so IsLeave IsMove leave_is_move room (effects_among acts)
@@ -102,14 +92,7 @@ unfolding after
 move_keeps_users room (Join nick channel op) moves = refl
 move_keeps_users room (Part nick channel text) moves = refl
 move_keeps_users room (Kick by channel nick text) moves = refl
-move_keeps_users room (AddUser user) moves = absurd moves
-move_keeps_users room (Rename nick new) moves = absurd moves
-move_keeps_users room (Quit nick text) moves = absurd moves
-move_keeps_users room (ChangeModes by channel changes) moves = absurd moves
-move_keeps_users room (SetTopic by channel text) moves = absurd moves
-move_keeps_users room (Say by notice to text) moves = absurd moves
-move_keeps_users room (Invite by nick channel) moves = absurd moves
-move_keeps_users room (UserMode nick invisible) moves = absurd moves
+move_keeps_users room other moves = absurd moves
 
 pub moves_keep_users : (room : Room) (acts : List Act) → AreMoves room acts
     → (ahead room acts).users ≡ room.users
@@ -125,14 +108,7 @@ own_join_is_move nick room (Join who channel op) joins =
     ap (λ n. is_member room n channel) joins.0 ∙ joins.1
 own_join_is_move nick room (Part who channel text) joins = absurd joins
 own_join_is_move nick room (Kick by channel who text) joins = absurd joins
-own_join_is_move nick room (AddUser user) joins = joins
-own_join_is_move nick room (Rename who new) joins = joins
-own_join_is_move nick room (Quit who text) joins = joins
-own_join_is_move nick room (ChangeModes by channel changes) joins = joins
-own_join_is_move nick room (SetTopic by channel text) joins = joins
-own_join_is_move nick room (Say by notice to text) joins = joins
-own_join_is_move nick room (Invite by who channel) joins = joins
-own_join_is_move nick room (UserMode who invisible) joins = joins
+own_join_is_move nick room other joins = joins
 
 pub own_joins_are_moves : (nick : List ℕ) (room : Room) (acts : List Act)
     → AreOwnJoins nick room acts → AreMoves room acts
@@ -180,16 +156,7 @@ join_as_it_was nick name room (Join who channel op) joins outside =
         ≡ row room.channels (key name)
     by_name true none = never (sym joins_it ∙ none)
     by_name false none = refl
-join_as_it_was nick name room (Part who channel text) joins outside = absurd joins
-join_as_it_was nick name room (Kick by channel who text) joins outside = absurd joins
-join_as_it_was nick name room (AddUser user) joins outside = absurd joins
-join_as_it_was nick name room (Rename who new) joins outside = absurd joins
-join_as_it_was nick name room (Quit who text) joins outside = absurd joins
-join_as_it_was nick name room (ChangeModes by channel changes) joins outside = absurd joins
-join_as_it_was nick name room (SetTopic by channel text) joins outside = absurd joins
-join_as_it_was nick name room (Say by notice to text) joins outside = absurd joins
-join_as_it_was nick name room (Invite by who channel) joins outside = absurd joins
-join_as_it_was nick name room (UserMode who invisible) joins outside = absurd joins
+join_as_it_was nick name room other joins outside = absurd joins
 
 all_as_it_was : (nick name : List ℕ) (room : Room) (effects : List Effect)
     → EachInTurn (IsOwnJoin nick) room effects
@@ -259,12 +226,4 @@ leaves_keep_names name room acts well leaves =
         → RowIsNamed name (after now effect)
     by_effect now (Part who channel text) is named = leave_keeps_name name now who channel named
     by_effect now (Kick by channel who text) is named = leave_keeps_name name now who channel named
-    by_effect now (AddUser user) is named = absurd is
-    by_effect now (Rename nick new) is named = absurd is
-    by_effect now (Quit nick text) is named = absurd is
-    by_effect now (Join nick channel op) is named = absurd is
-    by_effect now (ChangeModes by channel changes) is named = absurd is
-    by_effect now (SetTopic by channel text) is named = absurd is
-    by_effect now (Say by notice to text) is named = absurd is
-    by_effect now (Invite by nick channel) is named = absurd is
-    by_effect now (UserMode nick invisible) is named = absurd is
+    by_effect now other is named = absurd is

@@ -5,6 +5,7 @@ use Rattle.irc_names.specs.Fold.{key}
 use Rattle.irc_names.specs.Names.{is_channel}
 use Rattle.irc_names.specs.Tables.{row}
 use Rattle.irc_users.specs.declared.user.User.{User}
+use Rattle.irc_users.specs.declared.user_change.UserChange.{UserChange}
 use Rattle.irc_channels.specs.declared.channel.Channel.{Channel}
 use Rattle.irc_channels.specs.Channels.{has_member}
 use Rattle.irc_modes.specs.declared.modes.ModeChange.{ModeChange}
@@ -12,9 +13,10 @@ use Rattle.irc_room.specs.effect.By.TheVariants as by
 use Rattle.irc_room.specs.effect.Target.TheVariants as target
 use Rattle.irc_room.specs.effect.Effect.{Effect}
 use Rattle.irc_room.specs.effect.Effect.TheVariants.{Join, Part, Kick, ChangeModes, SetTopic, Say}
-use Rattle.irc_room.specs.effect.Effect.TheVariants.{Invite, UserMode}
+use Rattle.irc_room.specs.effect.Effect.TheVariants.{Invite, ChangeUser}
 use Rattle.irc_room.specs.Room.{Room}
 use Rattle.irc_room.specs.InTurn.{EachInTurn}
+use Rattle.irc_room.specs.Limits.{IsChangeWithin}
 use Rattle.irc_acts.specs.declared.act.Act.{Act}
 use Rattle.irc_acts.specs.Acts.{bytes_kept, effects_among}
 
@@ -57,7 +59,8 @@ pub data IsOwn (me : User) (room : Room) : Effect → Type 0 where
   changes_modes : (name : List ℕ) (changes : List ModeChange) (channel : Channel)
       → row room.channels (key name) ≡ Some channel
       → IsOwn me room (ChangeModes (by.User me.nick) channel.name changes)
-  sets_user_mode : (invisible : Bool) → IsOwn me room (UserMode me.nick invisible)
+  changes_itself : (change : UserChange) → IsChangeWithin change
+      → IsOwn me room (ChangeUser me.nick change)
 
 -- each effect of these steps is its own in the room that those before it have left
 abbrev pub AreOwn : User → Room → List Act → Type 0

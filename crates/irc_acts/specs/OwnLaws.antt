@@ -6,7 +6,7 @@ use Rattle.std.specs.List.{AllByRecursion, list_all}
 use Rattle.irc_names.specs.Fold.{key}
 use Rattle.irc_names.specs.Tables.{row}
 use Rattle.irc_users.specs.declared.user.User.{User}
-use Rattle.irc_users.specs.UserTable.{with_invisible}
+use Rattle.irc_users.specs.UserTable.{with_change}
 use Rattle.irc_channels.specs.declared.channel.Channel.{Channel}
 use Rattle.irc_room.specs.effect.Effect.{Effect}
 use Rattle.irc_room.specs.Room.{Room, IsWellFormed}
@@ -20,7 +20,7 @@ use Rattle.irc_acts.specs.declared.act.Act.TheVariants.{Answer, Raw, Do}
 use Rattle.irc_acts.specs.Acts.{effects_among}
 use Rattle.irc_acts.specs.Possible.{ArePossible}
 use Rattle.irc_acts.specs.Own.{IsOwn, to_user, to_channel, makes, enters, parts, sets_topic, kicks}
-use Rattle.irc_acts.specs.Own.{invites, changes_modes, sets_user_mode, AreOwn}
+use Rattle.irc_acts.specs.Own.{invites, changes_modes, changes_itself, AreOwn}
 
 -- an answer, a line, or a text: it leaves the room as it is
 pub record LeavesRoom (me : User) (room : Room) (effect : Effect) : Type 0 where
@@ -108,7 +108,7 @@ own_possible me room effect well there (changes_modes name changes channel is) =
   channel_there = channel_there room well (key name) channel is;
   nick_free = refl;
 }
-own_possible me room effect well there (sets_user_mode invisible) =
+own_possible me room effect well there (changes_itself change keeps) =
     record { users_there = one_there room me.nick there; channel_there = refl; nick_free = refl }
 
 -- who is a user stays one, and nobody else becomes one
@@ -124,8 +124,8 @@ own_stays me room effect (sets_topic name text channel is) fold = refl
 own_stays me room effect (kicks name nick text channel other is member known) fold = refl
 own_stays me room effect (invites nick name other is named) fold = refl
 own_stays me room effect (changes_modes name changes channel is) fold = refl
-own_stays me room effect (sets_user_mode invisible) fold =
-    same_rows (key me.nick) (with_invisible invisible) room.users fold
+own_stays me room effect (changes_itself change keeps) fold =
+    same_rows (key me.nick) (with_change change) room.users fold
 
 -- What own effects are in any well-formed room in which the user is there, each of some is in its
 -- turn.

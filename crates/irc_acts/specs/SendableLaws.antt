@@ -8,7 +8,8 @@ use Rattle.irc_names.specs.Names.{is_channel}
 use Rattle.irc_names.specs.Tables.{Table, row, alter}
 use Rattle.irc_names.specs.TableLaws.{same_fold, one_fold, row-alter}
 use Rattle.irc_users.specs.declared.user.User.{User}
-use Rattle.irc_users.specs.UserTable.{with_invisible}
+use Rattle.irc_users.specs.declared.user_change.UserChange.{UserChange}
+use Rattle.irc_users.specs.UserTable.{with_change}
 use Rattle.irc_channels.specs.declared.channel.Channel.{Channel}
 use Rattle.irc_room.specs.effect.Effect.{Effect}
 use Rattle.irc_room.specs.Room.{Room, IsWellFormed}
@@ -21,7 +22,7 @@ use Rattle.irc_acts.specs.declared.act.Act.{Act}
 use Rattle.irc_acts.specs.Acts.{effects_among}
 use Rattle.irc_acts.specs.Own.{IsChannelName, of_found, by_rule, IsOwn, to_user, to_channel, makes}
 use Rattle.irc_acts.specs.Own.{enters, parts, sets_topic, kicks, invites, changes_modes}
-use Rattle.irc_acts.specs.Own.{sets_user_mode, AreOwn}
+use Rattle.irc_acts.specs.Own.{changes_itself, AreOwn}
 use Rattle.irc_acts.specs.OwnLaws.{own_possible}
 use Rattle.irc_acts.specs.Sendable.{AreSendable, CarriesSendable, CarrySendable}
 
@@ -117,27 +118,28 @@ own_sendable me room effect well mine (changes_modes name changes channel is) ca
   changes_readable = carries.changes_readable;
   words_sent = carries.words_sent;
 }
-own_sendable me room effect well mine (sets_user_mode invisible) carries = mine
+own_sendable me room effect well mine (changes_itself change keeps) carries =
+    record { nick_stored = mine; keeps = keeps }
 
 -- nicknames stay as they are stored
 
-nick_still : (invisible : Bool) (found : Option User)
-    → nick_in (option_map (with_invisible invisible) found) ≡ nick_in found
-nick_still invisible None = refl
-nick_still invisible (Some user) = refl
+nick_still : (change : UserChange) (found : Option User)
+    → nick_in (option_map (with_change change) found) ≡ nick_in found
+nick_still change None = refl
+nick_still change (Some user) = refl
 
-nicks_still : (invisible : Bool) (users : Table User) (fold q : List ℕ)
-    → nick_in (row (alter fold (option_map (with_invisible invisible)) users) q)
+nicks_still : (change : UserChange) (users : Table User) (fold q : List ℕ)
+    → nick_in (row (alter fold (option_map (with_change change)) users) q)
     ≡ nick_in (row users q)
-nicks_still invisible users fold q =
-    ap nick_in (row-alter fold (option_map (with_invisible invisible)) users q)
+nicks_still change users fold q =
+    ap nick_in (row-alter fold (option_map (with_change change)) users q)
     ∙ by (same_fold q fold) refl
   where
     by : (b : Bool) → same_fold q fold ≡ b
-        → nick_in (cond b (option_map (with_invisible invisible) (row users fold)) (row users q))
+        → nick_in (cond b (option_map (with_change change) (row users fold)) (row users q))
         ≡ nick_in (row users q)
     by true one =
-        nick_still invisible (row users fold)
+        nick_still change (row users fold)
         ∙ ap (λ k. nick_in (row users k)) (sym (one_fold q fold one))
     by false two = refl
 
@@ -154,8 +156,8 @@ own_keeps_stored me room effect (kicks name by text channel other is member know
     stored
 own_keeps_stored me room effect (invites by name other is named) nick stored = stored
 own_keeps_stored me room effect (changes_modes name changes channel is) nick stored = stored
-own_keeps_stored me room effect (sets_user_mode invisible) nick stored =
-    nicks_still invisible room.users (key me.nick) (key nick) ∙ stored
+own_keeps_stored me room effect (changes_itself change keeps) nick stored =
+    nicks_still change room.users (key me.nick) (key nick) ∙ stored
 
 each_sendable : (me : User) (room : Room) (effects : List Effect) → IsWellFormed room
     → IsStoredNick room me.nick → EachInTurn (IsOwn me) room effects

@@ -14,8 +14,8 @@ use Rattle.irc_modes.specs.declared.modes.Privacy.{Privacy}
 use Rattle.irc_modes.specs.declared.modes.Privacy.TheVariants as privacy
 use Rattle.irc_channels.specs.declared.channel.Channel.{Channel}
 use Rattle.irc_channels.specs.Channels.{has_member}
-use Rattle.irc_numerics.specs.declared.replies.Mark.{Mark}
-use Rattle.irc_numerics.specs.declared.replies.Mark.TheVariants as mark
+use Rattle.irc_numerics.specs.declared.replies.MemberMark.{MemberMark}
+use Rattle.irc_numerics.specs.declared.replies.MemberMark.TheVariants as mark
 use Rattle.irc_numerics.specs.declared.replies.Visibility.{Visibility}
 use Rattle.irc_numerics.specs.declared.replies.Visibility.TheVariants as visibility
 use Rattle.irc_room.specs.Room.{Room}
@@ -35,7 +35,7 @@ is_operator None = false
 is_operator (Some flags) = flags.op
 
 -- what a member is shown as: an operator, else a member with voice, else a member
-abbrev pub mark_of : Flags → Mark
+abbrev pub mark_of : Flags → MemberMark
 mark_of flags =
     if flags.op then mark.Operator else (if flags.voice then mark.Voiced else mark.Plain)
 

@@ -1,7 +1,5 @@
 //! What all commands stand on: steps, the room ahead, comma lists, how a user stands to a channel,
-//! and words of a client.
-//!
-//! Commands that only answer.
+//! and words of a client; and NAMES, whose lists JOIN sends to who joins.
 #![tactic(auto)]
 
 mod act;

@@ -11,7 +11,7 @@ use arrayvec::ArrayVec;
 use irc_channels::{Channel, Flags, Stored};
 use irc_modes::Privacy;
 use irc_names::{MAX_HOST, MAX_NICK, MAX_USER_NAME, Nick};
-use irc_numerics::{Mark, Visibility};
+use irc_numerics::{MemberMark, Visibility};
 use irc_tables::Row;
 use irc_users::User;
 
@@ -22,15 +22,15 @@ const MARKS: usize = 2;
 const MAX_FULL_NAME: usize = MAX_NICK + MAX_USER_NAME + MAX_HOST + MARKS;
 
 /// What a member is shown as: an operator, else a member with voice, else a member.
-pub fn mark_of(flags: Flags) -> Mark
+pub fn mark_of(flags: Flags) -> MemberMark
     ensures { result ≡ mark_of flags }
 {
     if flags.op {
-        Mark::Operator
+        MemberMark::Operator
     } else if flags.voice {
-        Mark::Voiced
+        MemberMark::Voiced
     } else {
-        Mark::Plain
+        MemberMark::Plain
     }
 }
 

@@ -8,8 +8,8 @@ use Rattle.std.proofs.lemmas.List.Elements.{All-head, All-tail}
 use Rattle.std.specs.List.{All, slice_range}
 use Rattle.irc_batch.specs.Batches.{line_on, line_to}
 use Rattle.irc_batch.specs.Loops.Marks.{bytes_at, sent_by, IsMark, IsSpan}
-use Rattle.irc_batch.specs.declared.batch.Mark.{Mark}
-use Rattle.irc_batch.specs.declared.batch.Mark.TheVariants.{Line, Close, LinkLine, LinkClose}
+use Rattle.irc_batch.specs.declared.batch.OutMark.{OutMark}
+use Rattle.irc_batch.specs.declared.batch.OutMark.TheVariants.{Line, Close, LinkLine, LinkClose}
 use Rattle.irc_batch.specs.declared.batch.Span.{Span}
 
 pub span_kept : (bytes more : List ℕ) (span : Span) → IsSpan (length bytes) span
@@ -21,7 +21,7 @@ span_kept bytes more span within =
     ap (take (span.end - span.start)) (drop-append-le span.start bytes more inside)
     ∙ take-append-le (span.end - span.start) (drop span.start bytes) more long
 
-mark_kept : (bytes more : List ℕ) (mark : Mark) → IsMark (length bytes) mark
+mark_kept : (bytes more : List ℕ) (mark : OutMark) → IsMark (length bytes) mark
     → sent_by (bytes ++ more) mark ≡ sent_by bytes mark
 mark_kept bytes more (Line conn span) within = ap (line_to conn) (span_kept bytes more span within)
 mark_kept bytes more (Close conn) within = refl
@@ -29,7 +29,7 @@ mark_kept bytes more (LinkLine link span) within =
     ap (line_on link) (span_kept bytes more span within)
 mark_kept bytes more (LinkClose link reason) within = refl
 
-pub marks_kept : (bytes more : List ℕ) (marks : List Mark) → All (IsMark (length bytes)) marks
+pub marks_kept : (bytes more : List ℕ) (marks : List OutMark) → All (IsMark (length bytes)) marks
     → map (sent_by (bytes ++ more)) marks ≡ map (sent_by bytes) marks
 marks_kept bytes more [] within = refl
 marks_kept bytes more (mark ∷ marks) within =

@@ -37,7 +37,7 @@ struct Span {
 
 /// What stands for one thing that is put out.
 #[derive(Clone, Copy)]
-enum Mark {
+enum OutMark {
     Line(u64, Span),
     Close(u64),
     LinkLine(u64, Span),
@@ -52,7 +52,7 @@ pub struct Batch {
     bytes: Vec<u8, Global>,
     /// The line that is at hand.
     held: Span,
-    marks: Vec<Mark, Global>,
+    marks: Vec<OutMark, Global>,
 }
 
 /// In a clause it is what is put out, and the line that is at hand.
@@ -82,7 +82,7 @@ fn bytes_at(bytes: &[u8], span: Span) -> &[u8]
 }
 
 /// Notes one thing more that is put out.
-fn note(marks: &mut Vec<Mark, Global>, mark: Mark) -> Result<(), AllocError>
+fn note(marks: &mut Vec<OutMark, Global>, mark: OutMark) -> Result<(), AllocError>
     ensures ok { OnOk result (marks.new.items ≡ marks.old.items ++ mark ∷ []) }
     ensures refused { OnErr result (marks.new.items ≡ marks.old.items) }
 {
@@ -118,13 +118,13 @@ impl Batch {
     {
         match self.marks.get(place) {
             None => None,
-            Some(Mark::Line(conn, span)) => Some(Out::Line(*conn, bytes_at(&self.bytes, *span))),
-            Some(Mark::Close(conn)) => Some(Out::Close(*conn)),
-            Some(Mark::LinkLine(link, span)) => Some(Out::LinkLine(
+            Some(OutMark::Line(conn, span)) => Some(Out::Line(*conn, bytes_at(&self.bytes, *span))),
+            Some(OutMark::Close(conn)) => Some(Out::Close(*conn)),
+            Some(OutMark::LinkLine(link, span)) => Some(Out::LinkLine(
                 *link,
                 bytes_at(&self.bytes, *span),
             )),
-            Some(Mark::LinkClose(link, reason)) => Some(Out::LinkClose(*link, *reason)),
+            Some(OutMark::LinkClose(link, reason)) => Some(Out::LinkClose(*link, *reason)),
         }
     }
 
@@ -152,7 +152,7 @@ impl Batch {
         ensures ok { OnOk result (self.new ≡ put_out (line_to conn self.old.held) self.old) }
         ensures refused { OnErr result (self.new ≡ self.old) }
     {
-        note(&mut self.marks, Mark::Line(conn, self.held))
+        note(&mut self.marks, OutMark::Line(conn, self.held))
     }
 
     /// Puts out the line at hand on a link.
@@ -163,7 +163,7 @@ impl Batch {
         ensures ok { OnOk result (self.new ≡ put_out (line_on link self.old.held) self.old) }
         ensures refused { OnErr result (self.new ≡ self.old) }
     {
-        note(&mut self.marks, Mark::LinkLine(link, self.held))
+        note(&mut self.marks, OutMark::LinkLine(link, self.held))
     }
 
     /// Puts out the line at hand to each of these connections in turn, but for one.
@@ -227,7 +227,7 @@ impl Batch {
         ensures ok { OnOk result (self.new ≡ put_out (end_of conn) self.old) }
         ensures refused { OnErr result (self.new ≡ self.old) }
     {
-        note(&mut self.marks, Mark::Close(conn))
+        note(&mut self.marks, OutMark::Close(conn))
     }
 
     /// Puts out the end of a link.
@@ -238,7 +238,7 @@ impl Batch {
         ensures ok { OnOk result (self.new ≡ put_out (end_of_link link reason) self.old) }
         ensures refused { OnErr result (self.new ≡ self.old) }
     {
-        note(&mut self.marks, Mark::LinkClose(link, reason))
+        note(&mut self.marks, OutMark::LinkClose(link, reason))
     }
 
     /// Takes out all but the first of the things that are put out, so many at most. The line at

@@ -47,29 +47,10 @@ module _ (own : List ℕ) (room : Room) where
   collided_so : (server : Option (List ℕ)) (e : Effect)
       → collide own room (a_deed (kept_prefix server e)) ≡ map a_deed (collided own room server e)
   collided_so None (effect.AddUser user) = refl
-  collided_so None (effect.Rename nick new) = refl
-  collided_so None (effect.Quit nick text) = refl
-  collided_so None (effect.Join nick channel op) = refl
-  collided_so None (effect.Part nick channel text) = refl
-  collided_so None (effect.Kick by channel nick text) = refl
-  collided_so None (effect.ChangeModes by channel changes) = refl
-  collided_so None (effect.SetTopic by channel topic) = refl
-  collided_so None (effect.Say by notice to text) = refl
-  collided_so None (effect.Invite by nick channel) = refl
-  collided_so None (effect.UserMode nick invisible) = refl
-  collided_so (Some server) (effect.AddUser user) = refl
-  collided_so (Some server) (effect.Rename nick new) = refl
-  collided_so (Some server) (effect.Quit nick text) = refl
-  collided_so (Some server) (effect.Join nick channel op) = refl
-  collided_so (Some server) (effect.Part nick channel text) = refl
-  collided_so (Some server) (effect.Kick by channel nick text) = refl
+  collided_so None other = refl
   collided_so (Some server) (effect.ChangeModes by.Home channel changes) = refl
-  collided_so (Some server) (effect.ChangeModes (by.User nick) channel changes) = refl
   collided_so (Some server) (effect.SetTopic by.Home channel topic) = refl
-  collided_so (Some server) (effect.SetTopic (by.User nick) channel topic) = refl
-  collided_so (Some server) (effect.Say by notice to text) = refl
-  collided_so (Some server) (effect.Invite by nick channel) = refl
-  collided_so (Some server) (effect.UserMode nick invisible) = refl
+  collided_so (Some server) other = refl
 
   all_collided_so : (prefix : Option (List ℕ)) (effects : List Effect)
       → flat_map (collide own room) (map (told_of prefix) effects)
@@ -172,14 +153,7 @@ mode_word : (word : List ℕ) (command : EffectCommand)
 mode_word word command.Mode is takes =
     ap (λ letters. bytes_eq letters (map to_ascii_lowercase (codes "MODE")))
     (letters_of_command word (OfEffects command.Mode) is)
-mode_word word command.Nick is takes = cc takes
-mode_word word command.Quit is takes = cc takes
-mode_word word command.Join is takes = cc takes
-mode_word word command.Part is takes = cc takes
-mode_word word command.Kick is takes = cc takes
-mode_word word command.Topic is takes = cc takes
-mode_word word (command.Say notice) is takes = cc takes
-mode_word word command.Invite is takes = cc takes
+mode_word word other is takes = cc takes
 
 pub may_want : (message : Parsed) (command : EffectCommand) (meant : Result (List Told) CloseReason)
     → command_of message.command ≡ Some (OfEffects command) → MayWantOf command meant

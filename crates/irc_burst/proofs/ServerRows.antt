@@ -22,23 +22,13 @@ row_of_letters letters =
 row_of_server : (command : ServerCommand)
     → row_of_letters (map to_ascii_lowercase (server_name command)) ≡ Some (burst_row command)
 row_of_server command.Server = refl
-row_of_server command.Squit = refl
-row_of_server command.Kill = refl
-row_of_server command.Njoin = refl
-row_of_server command.Pass = refl
+row_of_server other = refl
 
 row_of_effect : (command : EffectCommand)
     → row_of_letters (map to_ascii_lowercase (effect_name command)) ≡ None
-row_of_effect effect.Nick = refl
-row_of_effect effect.Quit = refl
-row_of_effect effect.Join = refl
-row_of_effect effect.Part = refl
-row_of_effect effect.Kick = refl
-row_of_effect effect.Mode = refl
-row_of_effect effect.Topic = refl
 row_of_effect (effect.Say true) = refl
 row_of_effect (effect.Say false) = refl
-row_of_effect effect.Invite = refl
+row_of_effect other = refl
 
 pub server_row : (word : List ℕ) (command : ServerCommand)
     → command_of word ≡ Some (OfServers command) → burst_row_of word ≡ Some (burst_row command)

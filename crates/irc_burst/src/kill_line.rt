@@ -9,8 +9,8 @@ use irc_link_reader::{Arrival, Deed, Killing, expect_from};
 use irc_link_words::{Params, read_nick, read_server};
 use irc_names::ServerName;
 
-/// Reads a KILL from `server`: the holder of the nickname who is killed, or the first reason against
-/// the line. It tells nothing where nobody has the nickname.
+/// Reads a KILL from `server`: the holder of the nickname who is killed, or the first reason
+/// against the line. It tells nothing where nobody has the nickname.
 pub(crate) fn kill_line(
     at: Arrival<'_>,
     server: &[u8],

@@ -85,25 +85,7 @@ module _ (room other : Room) (place : Place) (same : room.users ≡ other.users)
       room place pending params which ≡ pending_row_of other place pending params which
   row_same pending params (Some command.Nick) = nick_same pending params
   row_same pending params (Some command.User) = user_same pending params
-  row_same pending params (Some command.Pass) = refl
-  row_same pending params (Some command.Pong) = refl
-  row_same pending params (Some command.Ping) = refl
-  row_same pending params (Some command.Quit) = refl
-  row_same pending params (Some command.Motd) = refl
-  row_same pending params (Some command.Privmsg) = refl
-  row_same pending params (Some command.Notice) = refl
-  row_same pending params (Some command.Join) = refl
-  row_same pending params (Some command.Part) = refl
-  row_same pending params (Some command.Topic) = refl
-  row_same pending params (Some command.Names) = refl
-  row_same pending params (Some command.Kick) = refl
-  row_same pending params (Some command.Invite) = refl
-  row_same pending params (Some command.Mode) = refl
-  row_same pending params (Some command.Ison) = refl
-  row_same pending params (Some command.Lusers) = refl
-  row_same pending params (Some command.List) = refl
-  row_same pending params (Some command.Whois) = refl
-  row_same pending params (Some command.Who) = refl
+  row_same pending params (Some which) = refl
   row_same pending params None = refl
 
 pub registering_by_users : RegisteringByUsers

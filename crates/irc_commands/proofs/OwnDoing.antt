@@ -12,7 +12,7 @@ use Rattle.irc_room.specs.InTurn.{EachInTurn}
 use Rattle.irc_acts.specs.Acts.{effects_among}
 use Rattle.irc_acts.specs.Moves.{own_channels}
 use Rattle.irc_acts.specs.Own.{IsOwn, to_user, to_channel, makes, enters, parts, sets_topic, kicks}
-use Rattle.irc_acts.specs.Own.{invites, changes_modes, sets_user_mode}
+use Rattle.irc_acts.specs.Own.{invites, changes_modes, changes_itself}
 use Rattle.irc_membership.specs.Join.{leaves}
 use Rattle.irc_commands.specs.Doers.{IsDoneBy, DecidedByItself}
 use Rattle.irc_commands.proofs.TableCases.{decided_so}
@@ -28,7 +28,7 @@ own_is_done me room effect (sets_topic name text channel is) = refl
 own_is_done me room effect (kicks name nick text channel other is member known) = refl
 own_is_done me room effect (invites nick name other is named) = refl
 own_is_done me room effect (changes_modes name changes channel is) = refl
-own_is_done me room effect (sets_user_mode invisible) = refl
+own_is_done me room effect (changes_itself change keeps) = refl
 
 all_done : (me : User) (room : Room) (effects : List Effect) → EachInTurn (IsOwn me) room effects
     → AllByRecursion (IsDoneBy me) effects

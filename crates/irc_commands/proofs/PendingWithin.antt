@@ -172,21 +172,7 @@ module _ (room : Room) (place : Place) (server : IsServer place.name) where
       by_user pending within params carried plain
   by_row pending within params carried plain (Some command.Ping) = pinged pending within params
   by_row pending within params carried plain (Some command.Quit) = (within, tt)
-  by_row pending within params carried plain (Some command.Motd) = (within, tt)
-  by_row pending within params carried plain (Some command.Privmsg) = (within, tt)
-  by_row pending within params carried plain (Some command.Notice) = (within, tt)
-  by_row pending within params carried plain (Some command.Join) = (within, tt)
-  by_row pending within params carried plain (Some command.Part) = (within, tt)
-  by_row pending within params carried plain (Some command.Topic) = (within, tt)
-  by_row pending within params carried plain (Some command.Names) = (within, tt)
-  by_row pending within params carried plain (Some command.Kick) = (within, tt)
-  by_row pending within params carried plain (Some command.Invite) = (within, tt)
-  by_row pending within params carried plain (Some command.Mode) = (within, tt)
-  by_row pending within params carried plain (Some command.Ison) = (within, tt)
-  by_row pending within params carried plain (Some command.Lusers) = (within, tt)
-  by_row pending within params carried plain (Some command.List) = (within, tt)
-  by_row pending within params carried plain (Some command.Whois) = (within, tt)
-  by_row pending within params carried plain (Some command.Who) = (within, tt)
+  by_row pending within params carried plain (Some other) = (within, tt)
   by_row pending within params carried plain None = (within, tt)
 
 pub registering_is_sendable : RegisteringIsSendable

@@ -331,21 +331,7 @@ pending_by_row room place pending Q so params (Some command.User) =
 pending_by_row room place pending Q so params (Some command.Ping) =
     pending_pinged room place pending Q so params
 pending_by_row room place pending Q so params (Some command.Quit) = so.closed _ _
-pending_by_row room place pending Q so params (Some command.Motd) = so.answered _ _
-pending_by_row room place pending Q so params (Some command.Privmsg) = so.answered _ _
-pending_by_row room place pending Q so params (Some command.Notice) = so.answered _ _
-pending_by_row room place pending Q so params (Some command.Join) = so.answered _ _
-pending_by_row room place pending Q so params (Some command.Part) = so.answered _ _
-pending_by_row room place pending Q so params (Some command.Topic) = so.answered _ _
-pending_by_row room place pending Q so params (Some command.Names) = so.answered _ _
-pending_by_row room place pending Q so params (Some command.Kick) = so.answered _ _
-pending_by_row room place pending Q so params (Some command.Invite) = so.answered _ _
-pending_by_row room place pending Q so params (Some command.Mode) = so.answered _ _
-pending_by_row room place pending Q so params (Some command.Ison) = so.answered _ _
-pending_by_row room place pending Q so params (Some command.Lusers) = so.answered _ _
-pending_by_row room place pending Q so params (Some command.List) = so.answered _ _
-pending_by_row room place pending Q so params (Some command.Whois) = so.answered _ _
-pending_by_row room place pending Q so params (Some command.Who) = so.answered _ _
+pending_by_row room place pending Q so params (Some other) = so.answered _ _
 pending_by_row room place pending Q so params None = so.answered _ _
 
 pub registering_so : (room : Room) (place : Place) (pending : Pending)

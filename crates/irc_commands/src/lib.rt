@@ -1,10 +1,8 @@
-//! What a client's line does: the command table, registration, and the commands of users on the
-//! server.
+//! What a client's line does: before it is registered (PASS, NICK, USER, PING, PONG, QUIT) and
+//! after that, by the command table; commands of users on the server, and laws of all commands.
 //!
-//! What a line of a connection does before it is registered: PASS, NICK, USER, PING, PONG, QUIT.
-//!
-//! Worked examples: what lines of a client do in small rooms. There is no code here: each example
-//! is a function that does nothing, and its contract is the example, which the check proves.
+//! In `lines` are worked examples, what lines of a client do in small rooms: functions that do
+//! nothing, whose contract is the example, which the check proves.
 #![tactic(auto)]
 
 pub mod closing;

@@ -15,14 +15,14 @@ use Rattle.irc_batch.specs.declared.close_reason.CloseReason.TheVariants as reas
 use Rattle.irc_batch.specs.Batches.{end_of_link}
 use Rattle.irc_server.specs.LinkServed.{on_link, opening_parts}
 use Rattle.irc_relay.specs.Links.{Name}
-use Rattle.irc_server.specs.Served.{Occurrence, in_silence, link_up, served}
+use Rattle.irc_server.specs.Served.{ReadEvent, in_silence, link_up, served}
 use Rattle.irc_stage.specs.EffectTold.{with_sent}
 use Rattle.irc_stage.specs.View.{View, password_for, with_end}
 use Rattle.irc_network.specs.Node.{Served, line_body, reply}
 use Rattle.irc_world.specs.Stepping.{Item}
 use Rattle.irc_network.specs.Network.{begun, node_asked}
 use Rattle.irc_wires.specs.Wires.{Wires, lines_by, new_wire, wire_at}
-use Rattle.irc_network.specs.ByteNetwork.{ByteNetwork, byte_begun, bytes_come, completed_in}
+use Rattle.irc_network.specs.ByteNetwork.{ByteNetwork, bytes_come, completed_in}
 use Rattle.irc_network.specs.ByteNetwork.{queues_written, wires_come}
 use Rattle.irc_network.specs.Whole.{IsTidy, has_way}
 use Rattle.irc_network.specs.Lemmas.NewFramer.{new_is_real}
@@ -95,23 +95,23 @@ module _ (side : ℕ → Bool) (place : ℕ) (next : Served) (along : Wires) (ol
 
 -- ---- a server of the near side is asked, where all is still
 
-abbrev written_out : ℕ → Occurrence → ByteNetwork → ByteNetwork
-written_out place occurrence base =
-    queues_written (node_asked place occurrence (begun base.network)).net base.wires
+abbrev written_out : ℕ → ReadEvent → ByteNetwork → ByteNetwork
+written_out place read_event base =
+    queues_written (node_asked place read_event (begun base.network)).net base.wires
 
-module _ (item : Item) (n : ℕ) (occurrence : Occurrence) (base : ByteNetwork) (view : View)
+module _ (item : Item) (n : ℕ) (read_event : ReadEvent) (base : ByteNetwork) (view : View)
     (tidy : IsTidy base) (all : AllStill base)
     (at : server_at base.network n ≡ Some (Some view))
   where
-    goes : GoesOn n (reply view occurrence) base.wires base (written_out n occurrence base)
-    goes = asked_goes_on n occurrence view base tidy at
+    goes : GoesOn n (reply view read_event) base.wires base (written_out n read_event base)
+    goes = asked_goes_on n read_event view base tidy at
 
     pub aside_first : (side : ℕ → Bool) → ((x y : ℕ) → has_way base.network x y ≡ true
-        → side x ≡ side y) → side n ≡ true → IsAside side (one_asked item n occurrence base)
+        → side x ≡ side y) → side n ≡ true → IsAside side (one_asked item n read_event base)
     aside_first side stays near =
         let it =
-        aside_then side n (reply view occurrence) base.wires base
-        (written_out n occurrence base) goes stays (λ x y there. all x y)
+        aside_then side n (reply view read_event) base.wires base
+        (written_out n read_event base) goes stays (λ x y there. all x y)
         (λ x y none. all x y) (λ there y. cc (sym near ∙ there)) in record {
           stays = it.stays;
           still = it.still;
@@ -120,22 +120,22 @@ module _ (item : Item) (n : ℕ) (occurrence : Occurrence) (base : ByteNetwork) 
 
     -- all is still then, but for the one way on which it puts something out
     module _ (f : ℕ)
-        (on_one : (y : ℕ) → nat_eq y f ≡ false → bodies y (reply view occurrence).out ≡ []) where
+        (on_one : (y : ℕ) → nat_eq y f ≡ false → bodies y (reply view read_event).out ≡ []) where
       still_on : (y : ℕ) → nat_eq y f ≡ false → (b : Bool) → has_way base.network n y ≡ b
-          → wire_at (one_asked item n occurrence base).wires n y ≡ new_wire
+          → wire_at (one_asked item n read_event base).wires n y ≡ new_wire
       still_on y two true way =
           goes.wires_here y way ∙ ap (λ ls. wire_behind (with_ends ls) (wire_at base.wires n y))
           (on_one y two) ∙ ap (wire_behind []) (all n y)
       still_on y two false none = goes.no_way y none ∙ all n y
 
       pub still_but_one : (x y : ℕ) → (x ≡ n → nat_eq y f ≡ false)
-          → wire_at (one_asked item n occurrence base).wires x y ≡ new_wire
+          → wire_at (one_asked item n read_event base).wires x y ≡ new_wire
       still_but_one x y other = by (nat_eq x n) refl
         where
           by : (b : Bool) → nat_eq x n ≡ b
-              → wire_at (one_asked item n occurrence base).wires x y ≡ new_wire
+              → wire_at (one_asked item n read_event base).wires x y ≡ new_wire
           by true one =
-              ap (λ v. wire_at (one_asked item n occurrence base).wires v y) (eqb-true x n one)
+              ap (λ v. wire_at (one_asked item n read_event base).wires v y) (eqb-true x n one)
               ∙ still_on y (other (eqb-true x n one)) (has_way base.network n y) refl
           by false two = goes.wires_there x y two ∙ all x y
 
@@ -158,11 +158,11 @@ no_lines count = ap (completed nothing_begun) (take-nil count) ∙ none_complete
 
 pub aside_still : (side : ℕ → Bool) (from to count : ℕ) (net : ByteNetwork) (view : View)
     → IsAside side net → IsTidy net → server_at net.network to ≡ Some (Some view)
-    → IsAside side (bytes_come from to count (byte_begun net)).net
+    → IsAside side (bytes_come from to count (begun net)).net
 aside_still side from to count net view aside tidy at =
     aside_then side to (all_replies from view (completed_in net from to count))
     (wires_come net from to count) net
-    (bytes_come from to count (byte_begun net)).net
+    (bytes_come from to count (begun net)).net
     (bytes_go_on from to count net view tidy at) aside.stays
     (λ x y there. still_along x y (aside.still x y there))
     (λ x y none. still_along x y (aside.no_way x y none))
@@ -201,9 +201,9 @@ module _ (view : View) (f y : ℕ) (two : nat_eq y f ≡ false) where
   abbrev replied : Bool → Option Name → Served
   replied b called =
       if b then record {
-        view = (served view (link_up f called)).view;
+        state = (served view (link_up f called)).state;
         out = (served view (link_up f called)).out;
-      } else record { view = view; out = [] }
+      } else record { state = view; out = [] }
 
   -- what a server puts out as a link is opened goes on no other
   pub link_alone : (called : Option Name) → bodies y (reply view (link_up f called)).out ≡ []

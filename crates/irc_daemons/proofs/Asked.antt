@@ -24,15 +24,16 @@ use Rattle.irc_server.specs.declared.event.Event.{Event}
 use Rattle.irc_server.specs.declared.event.Event.TheVariants.{Connect, Line, Gone, LinkUp, LinkLine}
 use Rattle.irc_server.specs.declared.event.Event.TheVariants.{LinkDown}
 use Rattle.irc_server.specs.declared.event.ServerFault.{ServerFault}
-use Rattle.irc_server.specs.Happening.{IsHandled, occurrence_of, refuses_it, takes_it, wants_memory}
+use Rattle.irc_server.specs.ReadEvents.{IsHandled, read_event_of, refuses_it, takes_it}
+use Rattle.irc_server.specs.ReadEvents.{wants_memory}
 use Rattle.irc_stage.specs.declared.clients.Client.{Client}
-use Rattle.irc_server.specs.Served.{Occurrence, fault_of, link_there, no_link, not_there, of_client}
+use Rattle.irc_server.specs.Served.{ReadEvent, fault_of, link_there, no_link, not_there, of_client}
 use Rattle.irc_server.specs.Served.{served, there as not_new}
 use Rattle.irc_server.specs.LineEnds.{ServedLinesEnd}
 use Rattle.irc_server.specs.Own.{ServedGoesToItsOwn}
 use Rattle.irc_stage.specs.Handle.{goes, says}
 use Rattle.irc_stage.specs.View.{End, View}
-use Rattle.irc_network.specs.Node.{Served, reply, serves_occurrence}
+use Rattle.irc_network.specs.Node.{Served, reply, serves_read_event}
 use Rattle.irc_network.specs.Network.{Network, Node, begun, given, home_place, item_kept}
 use Rattle.irc_network.specs.Network.{server_place, node_asked, node_asked_if, node_at, node_view}
 use Rattle.irc_network.specs.Refusing.{client_fault, fault_at_rest, has_client}
@@ -157,8 +158,8 @@ not_refused net place client view home at there = by (home_in net.homes client) 
 pub record Took (own : View) (event : Event) (server : Option View)
     (first : List Sent) : Type 0 where
   pub none : fault_of own event ≡ None
-  pub server_is : server ≡ Some (reply own (occurrence_of event)).view
-  pub first_is : first ≡ (reply own (occurrence_of event)).out
+  pub server_is : server ≡ Some (reply own (read_event_of event)).state
+  pub first_is : first ≡ (reply own (read_event_of event)).out
 
 some_client : (o : Option Client) → not_there o ≡ None → is_some o ≡ true
 some_client None is = cc is
@@ -177,7 +178,7 @@ no_end None is = refl
 no_end (Some end) is = cc is
 
 pub serves : (view : View) (event : Event) → fault_of view event ≡ None
-    → serves_occurrence view (occurrence_of event) ≡ true
+    → serves_read_event view (read_event_of event) ≡ true
 serves view (Connect conn host) none = no_client (get view.clients conn) none
 serves view (Line conn text) none = some_client (get view.clients conn) none
 serves view (Gone conn) none = some_client (get view.clients conn) none
@@ -189,19 +190,19 @@ module _ (own : View) (event : Event) where
   abbrev replied : Bool → Served
   replied b =
       if b then record {
-        view = (served own (occurrence_of event)).view;
-        out = (served own (occurrence_of event)).out;
+        state = (served own (read_event_of event)).state;
+        out = (served own (read_event_of event)).out;
       }
-      else record { view = own; out = [] }
+      else record { state = own; out = [] }
 
   took_by : (result : Result (Unit {0}) ServerFault) (server : Option View) (first : List Sent)
       → IsHandled (Some own) event [] result server first → result ≡ Ok tt
       → Took own event server first
   took_by result server first (takes_it none does) ok =
-      let by_it : reply own (occurrence_of event) ≡ replied true =
+      let by_it : reply own (read_event_of event) ≡ replied true =
       ap replied (serves own event none) in record {
         none = none;
-        server_is = ap Some (does.view_is ∙ ap (λ (r : Served). r.view) (sym by_it));
+        server_is = ap Some (does.view_is ∙ ap (λ (r : Served). r.state) (sym by_it));
         first_is = does.out_is ∙ ap (λ (r : Served). r.out) (sym by_it);
       }
   took_by result server first (refuses_it some) ok = cc ok
@@ -234,7 +235,7 @@ pub record ServesClients (numbers : Numbers) (own last : View) (events : List Ev
   pub still : (client q : ℕ) → numbers.client client ≡ Some q → is_some (get last.clients q) ≡ true
       → WasThere own q events outs
 
-left_is : (q : ℕ) (event : Event) → is_left q event ≡ client_goes q (occurrence_of event)
+left_is : (q : ℕ) (event : Event) → is_left q event ≡ client_goes q (read_event_of event)
 left_is q (Connect conn host) = refl
 left_is q (Line conn text) = refl
 left_is q (Gone conn) = refl
@@ -355,7 +356,7 @@ pub at_then : (place : ℕ) (numbers : Numbers) (own last : View) (outs : List S
     (net after : ByteNetwork) → IsAt place numbers own net → Went place numbers last outs net after
     → IsAt place numbers last after
 at_then place numbers own last outs net after is went = record {
-  other = went.view;
+  other = went.state;
   alike = went.alike;
   server = went.server;
   tidy = went.tidy;
@@ -377,24 +378,24 @@ module _ (lines_end : ServedLinesEnd) (own_law : ServedGoesToItsOwn) (stay : Cli
   where
     -- ---- one of them is served, and its item is given
 
-    module _ (own : View) (event : Event) (occurrence : Occurrence) (conn : ℕ)
-        (is_it : occurrence_of event ≡ renumbered conn occurrence)
-        (happens : happens_at numbers occurrence ≡ Some conn)
-        (connects_none : (q : ℕ) → client_comes q (occurrence_of event) ≡ false)
-        (no_link_comes : (q : ℕ) → link_comes q (occurrence_of event) ≡ false) (net : ByteNetwork)
+    module _ (own : View) (event : Event) (read_event : ReadEvent) (conn : ℕ)
+        (is_it : read_event_of event ≡ renumbered conn read_event)
+        (happens : happens_at numbers read_event ≡ Some conn)
+        (connects_none : (q : ℕ) → client_comes q (read_event_of event) ≡ false)
+        (no_link_comes : (q : ℕ) → link_comes q (read_event_of event) ≡ false) (net : ByteNetwork)
         (at : IsAt place numbers own net)
       where
         abbrev mine : Served
-        mine = reply own (occurrence_of event)
+        mine = reply own (read_event_of event)
 
-        pub one_serves : ServesClients numbers own mine.view (event ∷ []) mine.out
+        pub one_serves : ServesClients numbers own mine.state (event ∷ []) mine.out
         one_serves = record {
           silent = λ client q seat none.
-              nothing_answered own_law own (occurrence_of event) at.alike.ends_count q
+              nothing_answered own_law own (read_event_of event) at.alike.ends_count q
               (no_link_comes q) none
               (no_client_end numbers own at.other apart at.alike client q seat);
           still = λ client q seat there.
-              let known = still_there own_law own (occurrence_of event) at.alike.ends_count stay q
+              let known = still_there own_law own (read_event_of event) at.alike.ends_count stay q
               (no_link_comes q)
               (no_client_end numbers own at.other apart at.alike client q seat) there in record {
                 was = was_before q known.was;
@@ -408,24 +409,24 @@ module _ (lines_end : ServedLinesEnd) (own_law : ServedGoesToItsOwn) (stay : Cli
             none_or false c none is = cc (sym none ∙ is)
 
             was_before : (q : ℕ)
-                → (is_some (get own.clients q) || client_comes q (occurrence_of event)) ≡ true
+                → (is_some (get own.clients q) || client_comes q (read_event_of event)) ≡ true
                 → is_some (get own.clients q) ≡ true
             was_before q is = none_or (is_some (get own.clients q))
-                (client_comes q (occurrence_of event)) (connects_none q) is
+                (client_comes q (read_event_of event)) (connects_none q) is
 
-        pub one_went : (item : Item) → Went place numbers mine.view mine.out net (queues_written
-            (item_kept item (node_asked place occurrence (begun net.network))).net net.wires)
+        pub one_went : (item : Item) → Went place numbers mine.state mine.out net (queues_written
+            (item_kept item (node_asked place read_event (begun net.network))).net net.wires)
         one_went item =
             subst
-            (λ (o : Occurrence). Went place numbers (reply own o).view (reply own o).out net
+            (λ (o : ReadEvent). Went place numbers (reply own o).state (reply own o).out net
             (queues_written
-            (item_kept item (node_asked place occurrence (begun net.network))).net net.wires))
+            (item_kept item (node_asked place read_event (begun net.network))).net net.wires))
             (sym is_it)
-            (item_went lines_end own_law alike_law place numbers apart own at.other occurrence conn
+            (item_went lines_end own_law alike_law place numbers apart own at.other read_event conn
             happens at.alike net at.tidy at.server at.ways item)
 
         -- where it puts nothing on a link nothing is on its way again
-        pub still_again : (after : ByteNetwork) → Went place numbers mine.view mine.out net after
+        pub still_again : (after : ByteNetwork) → Went place numbers mine.state mine.out net after
             → AllStill net → ((y q : ℕ) → numbers.link y ≡ Some q → is_closed_by q mine.out ≡ false)
             → list_any is_on_link mine.out ≡ false → AllStill after
         still_again after went still opened none x y = by (nat_eq x place) refl
@@ -435,7 +436,7 @@ module _ (lines_end : ServedLinesEnd) (own_law : ServedGoesToItsOwn) (stay : Cli
             by_link (Some q) link =
                 went.wires_here y q link (opened y q link)
                 ∙ ap (λ bs. wire_behind bs (wire_at net.wires place y))
-                (nothing_linked own_law own (occurrence_of event) at.alike.ends_count q
+                (nothing_linked own_law own (read_event_of event) at.alike.ends_count q
                 (no_link_client numbers own at.other apart at.alike y q link) none)
                 ∙ ap (wire_behind []) (still place y)
 
@@ -449,22 +450,22 @@ module _ (lines_end : ServedLinesEnd) (own_law : ServedGoesToItsOwn) (stay : Cli
             (item : Item) (items : List Item) (later rest : Bool) → first ≡ mine.out
             → AllStill net → fault_at_rest net.network item ≡ None
             → IsItemWithin item → (item_given item net).net ≡ queues_written
-            (item_kept item (node_asked place occurrence (begun net.network))).net net.wires
+            (item_kept item (node_asked place read_event (begun net.network))).net net.wires
             → ((y q : ℕ) → numbers.link y ≡ Some q → is_closed_by q (first ++ more) ≡ false)
             → (rest ≡ true → list_any is_on_link first ≡ false) → ((after : ByteNetwork)
-            → IsAt place numbers mine.view after → (rest ≡ true → AllStill after)
+            → IsAt place numbers mine.state after → (rest ≡ true → AllStill after)
             → ((y q : ℕ) → numbers.link y ≡ Some q → is_closed_by q more ≡ false)
-            → Goes place numbers mine.view last events more items later after)
+            → Goes place numbers mine.state last events more items later after)
             → Goes place numbers own last (event ∷ events) (first ++ more) (item ∷ items) later net
         one_more last events first more item items later rest first_is still not_faulty within
             given_is opened spaced others =
             let given_net : ByteNetwork = (item_given item net).net in
-            let went : Went place numbers mine.view mine.out net given_net =
-            subst (Went place numbers mine.view mine.out net) (sym given_is) (one_went item) in
-            let went_first : Went place numbers mine.view first net given_net =
-            subst (λ os. Went place numbers mine.view os net given_net) (sym first_is) went in
-            let serves_first : ServesClients numbers own mine.view (event ∷ []) first =
-            subst (ServesClients numbers own mine.view (event ∷ [])) (sym first_is) one_serves in
+            let went : Went place numbers mine.state mine.out net given_net =
+            subst (Went place numbers mine.state mine.out net) (sym given_is) (one_went item) in
+            let went_first : Went place numbers mine.state first net given_net =
+            subst (λ os. Went place numbers mine.state os net given_net) (sym first_is) went in
+            let serves_first : ServesClients numbers own mine.state (event ∷ []) first =
+            subst (ServesClients numbers own mine.state (event ∷ [])) (sym first_is) one_serves in
             let opened_first : (y q : ℕ) → numbers.link y ≡ Some q → is_closed_by q first ≡ false =
             λ y q link. (or_parts (is_closed_by q first) (is_closed_by q more)
             (sym (is_closed_by-append q first more) ∙ opened y q link)).0 in
@@ -475,15 +476,15 @@ module _ (lines_end : ServedLinesEnd) (own_law : ServedGoesToItsOwn) (stay : Cli
             λ is. still_again given_net went still
             (λ y q link. ap (is_closed_by q) (sym first_is) ∙ opened_first y q link)
             (ap (list_any is_on_link) (sym first_is) ∙ spaced is) in
-            let goes = others given_net (at_then place numbers own mine.view mine.out net given_net
+            let goes = others given_net (at_then place numbers own mine.state mine.out net given_net
             at went) still_then opened_more in record {
               after = goes.after;
               went =
-                  went_both place numbers mine.view last first more net given_net goes.after
+                  went_both place numbers mine.state last first more net given_net goes.after
                   went_first goes.went
-                  (quiet_then numbers own mine.view last
+                  (quiet_then numbers own mine.state last
                   (event ∷ []) events first more serves_first goes.clients);
-              clients = serves_both numbers own mine.view last
+              clients = serves_both numbers own mine.state last
                   (event ∷ []) events first more serves_first goes.clients;
               leads =
                   leads_both net given_net goes.after (item ∷ []) items
@@ -539,25 +540,25 @@ module _ (lines_end : ServedLinesEnd) (own_law : ServedGoesToItsOwn) (stay : Cli
         in_outs items it_goes = subst (λ os. Goes place numbers own last
             (event ∷ events) os items later net) (sym asked.outs_are) it_goes
 
-        item_goes : (occurrence : Occurrence) (conn : ℕ) (item : Item) (more : List Item)
-            → occurrence_of event ≡ renumbered conn occurrence → happens_at numbers occurrence
-            ≡ Some conn → ((q : ℕ) → client_comes q (occurrence_of event) ≡ false)
-            → ((q : ℕ) → link_comes q (occurrence_of event) ≡ false)
-            → asked.between.server ≡ Some (reply own (occurrence_of event)).view
-            → asked.first ≡ (reply own (occurrence_of event)).out
+        item_goes : (read_event : ReadEvent) (conn : ℕ) (item : Item) (more : List Item)
+            → read_event_of event ≡ renumbered conn read_event → happens_at numbers read_event
+            ≡ Some conn → ((q : ℕ) → client_comes q (read_event_of event) ≡ false)
+            → ((q : ℕ) → link_comes q (read_event_of event) ≡ false)
+            → asked.between.server ≡ Some (reply own (read_event_of event)).state
+            → asked.first ≡ (reply own (read_event_of event)).out
             → AllStill net → fault_at_rest net.network item ≡ None
             → IsItemWithin item → (item_given item net).net ≡ queues_written
-            (item_kept item (node_asked place occurrence (begun net.network))).net net.wires
+            (item_kept item (node_asked place read_event (begun net.network))).net net.wires
             → AreItems names daemons place events more → Others
             → Goes place numbers own last (event ∷ events) outs (item ∷ more) later net
-        item_goes occurrence conn item more is_it happens connects_none no_link_comes server_is
+        item_goes read_event conn item more is_it happens connects_none no_link_comes server_is
             first_is still not_faulty within given_is items others =
             in_outs (item ∷ more)
-            (one_more own event occurrence conn is_it happens connects_none no_link_comes net at
+            (one_more own event read_event conn is_it happens connects_none no_link_comes net at
             last events asked.first asked.more item more later rest
             first_is still not_faulty within given_is opened_both spaced.0
-            (λ after at_after still_after opened_after. others (reply own (occurrence_of
-            event)).view more after server_is items at_after still_after opened_after))
+            (λ after at_after still_after opened_after. others (reply own (read_event_of
+            event)).state more after server_is items at_after still_after opened_after))
 
         -- a client that is served is there
         there_too : (client conn : ℕ) → numbers.client client ≡ Some conn
@@ -567,8 +568,8 @@ module _ (lines_end : ServedLinesEnd) (own_law : ServedGoesToItsOwn) (stay : Cli
 
         is_served_item : (item : Item) (more : List Item)
             → IsItem names daemons place event item → fault_of own event ≡ None
-            → asked.between.server ≡ Some (reply own (occurrence_of event)).view
-            → asked.first ≡ (reply own (occurrence_of event)).out
+            → asked.between.server ≡ Some (reply own (read_event_of event)).state
+            → asked.first ≡ (reply own (read_event_of event)).out
             → AllStill net → AreItems names daemons place events more → Others
             → Goes place numbers own last (event ∷ events) outs (item ∷ more) later net
         is_served_item item more (is_connect conn name host named host_is event_is item_is) none
@@ -583,9 +584,9 @@ module _ (lines_end : ServedLinesEnd) (own_law : ServedGoesToItsOwn) (stay : Cli
             subst (λ (i : Item). Goes place numbers own last (event ∷ events) outs
             (i ∷ more) later net) (sym item_is)
             (item_goes (of_client (says client (read_of text.items))) conn
-            (line client text.items) more (ap occurrence_of event_is) happens
-            (λ q. ap (λ e. client_comes q (occurrence_of e)) event_is)
-            (λ q. ap (λ e. link_comes q (occurrence_of e)) event_is) server_is first_is still
+            (line client text.items) more (ap read_event_of event_is) happens
+            (λ q. ap (λ e. client_comes q (read_event_of e)) event_is)
+            (λ q. ap (λ e. link_comes q (read_event_of e)) event_is) server_is first_is still
             (not_refused net.network place client at.other home at.server
             (there_too client conn happens there))
             (subst IsTextCarried event_is carried)
@@ -599,9 +600,9 @@ module _ (lines_end : ServedLinesEnd) (own_law : ServedGoesToItsOwn) (stay : Cli
             subst (λ (i : Item). Goes place numbers own last (event ∷ events) outs
             (i ∷ more) later net) (sym item_is)
             (item_goes (of_client (goes client)) conn (gone client) more
-            (ap occurrence_of event_is) happens
-            (λ q. ap (λ e. client_comes q (occurrence_of e)) event_is)
-            (λ q. ap (λ e. link_comes q (occurrence_of e)) event_is) server_is first_is still
+            (ap read_event_of event_is) happens
+            (λ q. ap (λ e. client_comes q (read_event_of e)) event_is)
+            (λ q. ap (λ e. link_comes q (read_event_of e)) event_is) server_is first_is still
             (not_refused net.network place client at.other home at.server
             (there_too client conn happens there)) tt (given_gone net place client home)
             items others)
@@ -617,8 +618,8 @@ module _ (lines_end : ServedLinesEnd) (own_law : ServedGoesToItsOwn) (stay : Cli
 
         served_first : (items : List Item)
             → FirstIs names daemons place event events items → fault_of own event ≡ None
-            → asked.between.server ≡ Some (reply own (occurrence_of event)).view
-            → asked.first ≡ (reply own (occurrence_of event)).out
+            → asked.between.server ≡ Some (reply own (read_event_of event)).state
+            → asked.first ≡ (reply own (read_event_of event)).out
             → ((later || has_item (event ∷ events)) ≡ true → AllStill net) → Others
             → Goes place numbers own last (event ∷ events) outs items later net
         served_first items (is_link_text is_link more_are) none server_is first_is still others =

@@ -21,12 +21,12 @@ use Rattle.irc_server.specs.declared.event.Event.{Event}
 use Rattle.irc_names.specs.Names.{IsHost}
 use Rattle.irc_world.specs.Stepping.{Item, connect}
 use Rattle.irc_server.specs.declared.event.Event.TheVariants.{Connect, LinkUp}
-use Rattle.irc_server.specs.Served.{Occurrence, of_client}
+use Rattle.irc_server.specs.Served.{ReadEvent, of_client}
 use Rattle.irc_server.specs.LineEnds.{ServedLinesEnd}
 use Rattle.irc_server.specs.Own.{ServedGoesToItsOwn}
 use Rattle.irc_stage.specs.declared.clients.Client.{Client}
 use Rattle.irc_stage.specs.Handle.{connects}
-use Rattle.irc_network.specs.Node.{Served, reply, serves_occurrence}
+use Rattle.irc_network.specs.Node.{Served, reply, serves_read_event}
 use Rattle.irc_stage.specs.View.{View}
 use Rattle.irc_world.specs.World.{home_in}
 use Rattle.irc_network.specs.Network.{Network, Node, begun, home_place, item_kept, server_place}
@@ -44,7 +44,7 @@ use Rattle.irc_engine.specs.Hearing.{Hears, begun_at, lines_by, nothing_of}
 use Rattle.irc_engine.specs.Lemmas.CarryingLaws.{fate_on, is_closed_by-append}
 use Rattle.irc_engine.specs.Lemmas.HearingLaws.{hears_on}
 use Rattle.irc_engine.specs.Running.{AllTold, AreAsked, IsInOrder, Moment, Ran, asked_at}
-use Rattle.irc_engine.specs.Turning.{EngineView}
+use Rattle.irc_engine.specs.EngineView.{EngineView}
 use Rattle.irc_daemons.specs.Alike.{AreServersAlike, AreServersAlikeIf, AreApart, Numbers}
 use Rattle.irc_daemons.specs.Alike.{ServedAlike}
 use Rattle.irc_daemons.specs.AsBytes.{AreFramersReal, IsAsBytes, IsServerIf, numbers_at}
@@ -557,7 +557,7 @@ module _ {W : Type 0} (is_after : W → List Call → Type 0) (pieces : PiecesCo
           -- ---- servers
 
           node_server : (o : Option Node) → option_map (λ (s : Node). s.server) o
-              ≡ Some (Some went.view) → IsServerIf numbers (Some step.after) o
+              ≡ Some (Some went.state) → IsServerIf numbers (Some step.after) o
           node_server None is = cc is
           node_server (Some node) is = record {
             in_order = (step.turn.does.in_order order_start).1;
@@ -565,7 +565,7 @@ module _ {W : Type 0} (is_after : W → List Call → Type 0) (pieces : PiecesCo
             servers =
                 subst (λ o. AreServersAlikeIf numbers o node.server) (sym is_last)
                 (subst (λ o. AreServersAlikeIf numbers (Some last) o)
-                (sym (inside node.server (Some went.view) is)) went.alike);
+                (sym (inside node.server (Some went.state) is)) went.alike);
           }
 
           other_server : (o : Option (EngineView W)) (was now : Option Node)
@@ -917,7 +917,7 @@ module _ {W : Type 0} (is_after : W → List Call → Type 0) (pieces : PiecesCo
             by : (o : Option View) → mid_moment.server ≡ o → HasView mid_moment.server
             by None is = cc (sym last.is ∙ none_stays second.events (asked_at mid_moment)
                 (asked_at end) second.outs is second.are_asked)
-            by (Some view) is = record { view = view; is = is }
+            by (Some view) is = record { state = view; is = is }
 
         own : HasView begin.server
         own = by begin.server refl
@@ -928,28 +928,28 @@ module _ {W : Type 0} (is_after : W → List Call → Type 0) (pieces : PiecesCo
                 (sym mid_view.is
                 ∙ none_stays (part.given ++ first.events) (asked_at begin)
                 (asked_at mid_moment) first.outs is first.are_asked)
-            by (Some view) is = record { view = view; is = is }
+            by (Some view) is = record { state = view; is = is }
 
-        own_start : start.server ≡ Some own.view
+        own_start : start.server ≡ Some own.state
         own_start = by part.begins
           where
-            by : BeginsWith start begin part.given newcomer → start.server ≡ Some own.view
+            by : BeginsWith start begin part.given newcomer → start.server ≡ Some own.state
             by (nobody_comes as_it_was given none) = ap (λ (m : Moment W). m.server) (sym as_it_was)
                 ∙ own.is
             by (client_comes room conn host made given is) = sym made.server ∙ own.is
             by (link_comes room conn called made given is) = sym made.server ∙ own.is
 
-        views : HaveViews (numbers_at old place) start.server server_here.node.server own.view
-        views = have_views (numbers_at old place) start.server server_here.node.server own.view
+        views : HaveViews (numbers_at old place) start.server server_here.node.server own.state
+        views = have_views (numbers_at old place) start.server server_here.node.server own.state
             own_start server_here.of.servers
 
         server_at_place : server_at net.network place ≡ Some (Some views.theirs)
         server_at_place = ap (option_map (λ (s : Node). s.server)) server_here.at ∙ ap Some views.is
 
         -- who is a client of it is an open connection at the start
-        own_clients : (q : ℕ) → is_some (get own.view.clients q) ≡ true
+        own_clients : (q : ℕ) → is_some (get own.state.clients q) ≡ true
             → open_kind_at (start.connections q) ≡ Some kinds.Client
-        own_clients q there = clients_open place engine step.at own.view q own_start there
+        own_clients q there = clients_open place engine step.at own.state q own_start there
 
         still_begun : (q : ℕ) → open_kind_at (start.connections q) ≡ Some kinds.Client
             → begin.connections q ≡ start.connections q
@@ -1005,11 +1005,11 @@ module _ {W : Type 0} (is_after : W → List Call → Type 0) (pieces : PiecesCo
 
         module _ (joined_now : AreJoined new) (base : ByteNetwork) (base_own : View)
             (first_after : ByteNetwork)
-            (first_went : Went place numbers_now mid_view.view first.outs base first_after)
-            (first_serves : ServesClients numbers_now base_own mid_view.view
+            (first_went : Went place numbers_now mid_view.state first.outs base first_after)
+            (first_serves : ServesClients numbers_now base_own mid_view.state
             (part.given ++ first.events) first.outs)
             (first_still : later ≡ true → AllStill first_after)
-            (at_mid : IsAt place numbers_now mid_view.view first_after)
+            (at_mid : IsAt place numbers_now mid_view.state first_after)
             (leads : LeadsTo net parts.front first_after)
             (own_open : (q : ℕ) → is_some (get base_own.clients q) ≡ true
             → open_kind_at (begin.connections q) ≡ Some kinds.Client)
@@ -1039,29 +1039,30 @@ module _ {W : Type 0} (is_after : W → List Call → Type 0) (pieces : PiecesCo
                 (sym (is_closed_by-append q first.outs second.outs)
                 ∙ links_stay joined_now ends_begin y q (link_was y q is))).1
 
-            second_goes : Goes place numbers_now mid_view.view last.view second.events second.outs
+            second_goes : Goes place numbers_now mid_view.state last.state second.events second.outs
                 parts.back false first_after
             second_goes =
                 all_go lines_end own_law stay alike_law names new place numbers_now numbers_apart
                 (λ client q seat. seat) false second.events parts.back
-                (asked_at mid_moment) (asked_at end) second.outs mid_view.view last.view first_after
+                (asked_at mid_moment)
+                (asked_at end) second.outs mid_view.state last.state first_after
                 second.are_asked mid_view.is last.is parts.second_are
                 apart.spaced.1 (none_connects mid_moment told_mid second.events second.are_news)
                 second_texts (λ y q is. second_none q) opened at_mid
                 first_still
 
-            all_went : Went place numbers_now last.view outs base second_goes.after
+            all_went : Went place numbers_now last.state outs base second_goes.after
             all_went =
-                went_both place numbers_now mid_view.view last.view first.outs second.outs base
+                went_both place numbers_now mid_view.state last.state first.outs second.outs base
                 first_after second_goes.after first_went second_goes.went
-                (quiet_then numbers_now base_own mid_view.view last.view
+                (quiet_then numbers_now base_own mid_view.state last.state
                 (part.given ++ first.events) second.events first.outs second.outs first_serves
                 second_goes.clients)
 
-            all_serves : ServesClients numbers_now base_own last.view
+            all_serves : ServesClients numbers_now base_own last.state
                 ((part.given ++ first.events) ++ second.events) outs
             all_serves =
-                serves_both numbers_now base_own mid_view.view last.view
+                serves_both numbers_now base_own mid_view.state last.state
                 (part.given ++ first.events) second.events first.outs second.outs first_serves
                 second_goes.clients
 
@@ -1079,7 +1080,8 @@ module _ {W : Type 0} (is_after : W → List Call → Type 0) (pieces : PiecesCo
                   (leads_both net first_after second_goes.after parts.front parts.back leads
                   second_goes.leads);
               is_as =
-                  assembled joined_now ends_begin base second_goes.after base_own last.view all_went
+                  assembled joined_now ends_begin base second_goes.after base_own last.state
+                  all_went
                   last.is all_serves own_open
                   (λ x two. subst (IsServerIf (numbers_at old x) (slice_get old.engines x))
                   (sym (nodes_at x)) (same.as_bytes.servers x))
@@ -1128,10 +1130,10 @@ module _ {W : Type 0} (is_after : W → List Call → Type 0) (pieces : PiecesCo
                 λ x client q seat. same.are_seated.seat x client q (sym (seat_is x client) ∙ seat);
           }
 
-          at_start : IsAt place numbers_now own.view net
+          at_start : IsAt place numbers_now own.state net
           at_start = record {
             other = views.theirs;
-            alike = subst (λ n. AreServersAlike n own.view views.theirs) numbers_still views.alike;
+            alike = subst (λ n. AreServersAlike n own.state views.theirs) numbers_still views.alike;
             server = server_at_place;
             tidy = same.as_bytes.tidy;
             ways = ways_here;
@@ -1145,7 +1147,7 @@ module _ {W : Type 0} (is_after : W → List Call → Type 0) (pieces : PiecesCo
               (sym (is_closed_by-append q first.outs second.outs)
               ∙ links_stay joined_still ends_begin y q (sym (ends_are place y) ∙ is))).0
 
-          goes_first : Goes place numbers_now own.view mid_view.view
+          goes_first : Goes place numbers_now own.state mid_view.state
               (part.given ++ first.events) first.outs parts.front later net
           goes_first =
               all_go lines_end own_law stay alike_law names new place numbers_now
@@ -1155,7 +1157,7 @@ module _ {W : Type 0} (is_after : W → List Call → Type 0) (pieces : PiecesCo
                 kinds = joined_still.no_client place;
               })
               (λ client q seat. seat) later (part.given ++ first.events) parts.front
-              (asked_at begin) (asked_at mid_moment) first.outs own.view mid_view.view
+              (asked_at begin) (asked_at mid_moment) first.outs own.state mid_view.state
               net first.are_asked own.is mid_view.is parts.first_are
               (part.is_spaced later apart.spaced.0)
               (subst (λ g. NoneConnects (g ++ first.events)) (sym given_none)
@@ -1166,9 +1168,9 @@ module _ {W : Type 0} (is_after : W → List Call → Type 0) (pieces : PiecesCo
 
           nobody_followed : HasFollowed names items net new
           nobody_followed =
-              then_followed joined_still net own.view goes_first.after goes_first.went
+              then_followed joined_still net own.state goes_first.after goes_first.went
               goes_first.clients goes_first.still
-              (at_then place numbers_now own.view mid_view.view first.outs net goes_first.after
+              (at_then place numbers_now own.state mid_view.state first.outs net goes_first.after
               at_start goes_first.went) goes_first.leads
               (λ q there. ap open_kind_at (still_begun q (own_clients q there))
               ∙ own_clients q there) refl refl (λ x client two. seat_is x client)
@@ -1242,11 +1244,11 @@ module _ {W : Type 0} (is_after : W → List Call → Type 0) (pieces : PiecesCo
                 seats_then links
                 (λ y is. not_both (start.connections conn) made.free (link_start y conn is).is_open)
 
-            own_free : is_some (get own.view.clients conn) ≡ false
-            own_free = by (is_some (get own.view.clients conn)) refl
+            own_free : is_some (get own.state.clients conn) ≡ false
+            own_free = by (is_some (get own.state.clients conn)) refl
               where
-                by : (b : Bool) → is_some (get own.view.clients conn) ≡ b
-                    → is_some (get own.view.clients conn) ≡ false
+                by : (b : Bool) → is_some (get own.state.clients conn) ≡ b
+                    → is_some (get own.state.clients conn) ≡ false
                 by true there =
                     absurd (not_both (start.connections conn) made.free (open_of kinds.Client
                     (start.connections conn) (own_clients conn there)).is_open)
@@ -1277,15 +1279,16 @@ module _ {W : Type 0} (is_after : W → List Call → Type 0) (pieces : PiecesCo
             }
 
             -- what the server does
-            abbrev occurrence : Occurrence
-            occurrence = of_client (connects (suc old.came) host)
+            abbrev read_event : ReadEvent
+            read_event = of_client (connects (suc old.came) host)
 
             abbrev mine : Served
-            mine = reply own.view (of_client (connects conn host))
+            mine = reply own.state (of_client (connects conn host))
 
-            served_first_is : Took own.view (Connect conn host) f.asked.between.server f.asked.first
+            served_first_is : Took own.state
+                (Connect conn host) f.asked.between.server f.asked.first
             served_first_is =
-                took own.view (Connect conn host) begin.server f.asked.between.server f.asked.first
+                took own.state (Connect conn host) begin.server f.asked.between.server f.asked.first
                 own.is f.asked.is_handled
 
             -- its item
@@ -1342,10 +1345,10 @@ module _ {W : Type 0} (is_after : W → List Call → Type 0) (pieces : PiecesCo
               lean = same.as_bytes.tidy.lean;
             }
 
-            alike_new : AreServersAlike numbers_now own.view views.theirs
+            alike_new : AreServersAlike numbers_now own.state views.theirs
             alike_new =
-                subst (λ n. AreServersAlike n own.view views.theirs) numbers_new
-                (alike_then old place conn own.view views.theirs views.alike own_free
+                subst (λ n. AreServersAlike n own.state views.theirs) numbers_new
+                (alike_then old place conn own.state views.theirs views.alike own_free
                 (next_seat place))
 
             home_of_new : home_in base.network.homes (suc old.came) ≡ Some name
@@ -1392,17 +1395,17 @@ module _ {W : Type 0} (is_after : W → List Call → Type 0) (pieces : PiecesCo
             given_net = (item_given item net).net
 
             given_so : given_net ≡ queues_written
-                (item_kept item (node_asked place occurrence (begun base.network))).net base.wires
+                (item_kept item (node_asked place read_event (begun base.network))).net base.wires
             given_so = given_connect net place (suc old.came) name host at_name
                 (next_is net.network.homes old.came came_is)
 
-            went_first : Went place numbers_now mine.view [] base given_net
+            went_first : Went place numbers_now mine.state [] base given_net
             went_first =
-                subst (λ os. Went place numbers_now mine.view os base given_net)
-                (nothing_said own.view conn host)
-                (subst (Went place numbers_now mine.view mine.out base) (sym given_so)
-                (item_went lines_end own_law alike_law place numbers_now apart_new own.view
-                views.theirs occurrence conn happens_new alike_new
+                subst (λ os. Went place numbers_now mine.state os base given_net)
+                (nothing_said own.state conn host)
+                (subst (Went place numbers_now mine.state mine.out base) (sym given_so)
+                (item_went lines_end own_law alike_law place numbers_now apart_new own.state
+                views.theirs read_event conn happens_new alike_new
                 base tidy_base server_at_place
                 (ways_here) item))
 
@@ -1420,7 +1423,7 @@ module _ {W : Type 0} (is_after : W → List Call → Type 0) (pieces : PiecesCo
                     ∙ by_link (numbers_now.link y) refl
                 by false two = went_first.wires_there x y two ∙ still x y
 
-            at_base : IsAt place numbers_now own.view base
+            at_base : IsAt place numbers_now own.state base
             at_base = record {
               other = views.theirs;
               alike = alike_new;
@@ -1430,9 +1433,9 @@ module _ {W : Type 0} (is_after : W → List Call → Type 0) (pieces : PiecesCo
               homes = homes_here;
             }
 
-            at_given : IsAt place numbers_now mine.view given_net
+            at_given : IsAt place numbers_now mine.state given_net
             at_given =
-                at_then place numbers_now own.view mine.view [] base given_net at_base went_first
+                at_then place numbers_now own.state mine.state [] base given_net at_base went_first
 
             net_still : AllStill net
             net_still =
@@ -1456,12 +1459,13 @@ module _ {W : Type 0} (is_after : W → List Call → Type 0) (pieces : PiecesCo
                 (or_parts (is_closed_by q f.asked.first) (is_closed_by q f.asked.more)
                 (sym (is_closed_by-append q f.asked.first f.asked.more) ∙ first_closed y q is)).1
 
-            goes_rest : Goes place numbers_now mine.view mid_view.view first.events f.asked.more
+            goes_rest : Goes place numbers_now mine.state mid_view.state first.events f.asked.more
                 connect_item.more later given_net
             goes_rest =
                 all_go lines_end own_law stay alike_law names new place numbers_now apart_new
                 (λ client q seat. seat) later first.events connect_item.more
-                f.asked.between (asked_at mid_moment) f.asked.more mine.view mid_view.view given_net
+                f.asked.between
+                (asked_at mid_moment) f.asked.more mine.state mid_view.state given_net
                 f.asked.rest_is served_first_is.server_is mid_view.is
                 connect_item.more_are f.spaced.1
                 (none_connects begin told_begin first.events first.are_news) first_texts
@@ -1470,22 +1474,23 @@ module _ {W : Type 0} (is_after : W → List Call → Type 0) (pieces : PiecesCo
 
             outs_are : first.outs ≡ f.asked.more
             outs_are = f.asked.outs_are ∙ ap (λ os. os ++ f.asked.more)
-                (served_first_is.first_is ∙ nothing_said own.view conn host)
+                (served_first_is.first_is ∙ nothing_said own.state conn host)
 
-            went_new : Went place numbers_now mid_view.view first.outs base goes_rest.after
+            went_new : Went place numbers_now mid_view.state first.outs base goes_rest.after
             went_new =
-                subst (λ os. Went place numbers_now mid_view.view os base goes_rest.after)
+                subst (λ os. Went place numbers_now mid_view.state os base goes_rest.after)
                 (sym outs_are)
-                (went_both place numbers_now mine.view mid_view.view [] f.asked.more base given_net
+                (went_both place numbers_now mine.state mid_view.state [] f.asked.more base
+                given_net
                 goes_rest.after went_first goes_rest.went
                 (λ client q seat closed. cc closed))
 
-            serves_new : ServesClients numbers_now mine.view mid_view.view
+            serves_new : ServesClients numbers_now mine.state mid_view.state
                 (part.given ++ first.events) first.outs
             serves_new =
-                subst (λ g. ServesClients numbers_now mine.view mid_view.view
+                subst (λ g. ServesClients numbers_now mine.state mid_view.state
                 (g ++ first.events) first.outs) (sym given_is)
-                (subst (ServesClients numbers_now mine.view mid_view.view
+                (subst (ServesClients numbers_now mine.state mid_view.state
                 (Connect conn host ∷ first.events)) (sym outs_are) (record {
                   silent = goes_rest.clients.silent;
                   still = λ client q seat there.
@@ -1518,18 +1523,18 @@ module _ {W : Type 0} (is_after : W → List Call → Type 0) (pieces : PiecesCo
             free_then None none = refl
             free_then (Some client) none = cc none
 
-            own_serves : serves_occurrence own.view (of_client (connects conn host)) ≡ true
-            own_serves = free_then (get own.view.clients conn) own_free
+            own_serves : serves_read_event own.state (of_client (connects conn host)) ≡ true
+            own_serves = free_then (get own.state.clients conn) own_free
 
-            own_open_new : (q : ℕ) → is_some (get mine.view.clients q) ≡ true
+            own_open_new : (q : ℕ) → is_some (get mine.state.clients q) ≡ true
                 → open_kind_at (begin.connections q) ≡ Some kinds.Client
             own_open_new q there = by (nat_eq conn q) refl
               where
-                known : (is_some (get own.view.clients q) || nat_eq conn q) ≡ true
+                known : (is_some (get own.state.clients q) || nat_eq conn q) ≡ true
                 known =
-                    (stay own.view (of_client (connects conn host)) q own_serves
+                    (stay own.state (of_client (connects conn host)) q own_serves
                     (ap (λ (v : View). is_some (get v.clients q))
-                    (sym (view_of_served own.view conn host own_serves)) ∙ there)).was
+                    (sym (view_of_served own.state conn host own_serves)) ∙ there)).was
 
                 none_or : (b c : Bool) → c ≡ false → (b || c) ≡ true → b ≡ true
                 none_or true c none is = refl
@@ -1539,7 +1544,7 @@ module _ {W : Type 0} (is_after : W → List Call → Type 0) (pieces : PiecesCo
                     → open_kind_at (begin.connections q) ≡ Some kinds.Client
                 by true is = ap open_kind_at (begun_new q is)
                 by false is = ap open_kind_at (begun_old q is) ∙ own_clients q
-                    (none_or (is_some (get own.view.clients q)) (nat_eq conn q) is known)
+                    (none_or (is_some (get own.state.clients q)) (nat_eq conn q) is known)
 
             -- what it has received is nothing
             none_received : bytes_received net.network (suc old.came) ≡ []
@@ -1581,9 +1586,9 @@ module _ {W : Type 0} (is_after : W → List Call → Type 0) (pieces : PiecesCo
 
             client_followed : HasFollowed names items net new
             client_followed =
-                then_followed joined_new base mine.view goes_rest.after went_new serves_new
+                then_followed joined_new base mine.state goes_rest.after went_new serves_new
                 goes_rest.still
-                (at_then place numbers_now mine.view mid_view.view f.asked.more given_net
+                (at_then place numbers_now mine.state mid_view.state f.asked.more given_net
                 goes_rest.after at_given goes_rest.went) leads_new own_open_new refl refl
                 (λ x client two. seat_at x client ∙ seat_elsewhere old place conn x client two)
                 (λ client q seat there. seat_new client q (seat_then old place conn place client q

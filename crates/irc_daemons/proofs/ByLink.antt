@@ -21,10 +21,10 @@ use Rattle.irc_server.specs.LineEnds.{ServedLinesEnd}
 use Rattle.irc_server.specs.Own.{ServedGoesToItsOwn}
 use Rattle.irc_stage.specs.View.{View}
 use Rattle.irc_world.specs.Stepping.{Item}
-use Rattle.irc_network.specs.Network.{Progress, Node, begun, node_at}
+use Rattle.irc_network.specs.Network.{Network, Progress, Node, begun, node_at}
 use Rattle.irc_wires.specs.Wires.{LinkWire, Wires, advanced, lines_by, wire_at}
 use Rattle.irc_wires.specs.Lemmas.PutWires.{IsSetAt, it, nowhere, other_from, other_to, wire_set}
-use Rattle.irc_network.specs.ByteNetwork.{ByteNetwork, all_heard, byte_begun, bytes_come}
+use Rattle.irc_network.specs.ByteNetwork.{ByteNetwork, all_heard, bytes_come}
 use Rattle.irc_network.specs.ByteNetwork.{completed_in, queues_written, wires_come}
 use Rattle.irc_network.specs.Loops.Writing.{IsWritten}
 use Rattle.irc_network.specs.Whole.{IsTidy, has_way}
@@ -40,7 +40,7 @@ use Rattle.irc_engine.specs.Hearing.{lines_by as lines_told, nothing_of}
 use Rattle.irc_engine.specs.Lemmas.HearingLaws.{hears_on}
 use Rattle.irc_engine.specs.Running.{AllTold, IsInOrder, IsNews, Moment, Ran, a_line, an_end}
 use Rattle.irc_engine.specs.Running.{asked_at}
-use Rattle.irc_engine.specs.Turning.{EngineView}
+use Rattle.irc_engine.specs.EngineView.{EngineView}
 use Rattle.irc_daemons.specs.Alike.{AreApart, Numbers, ServedAlike}
 use Rattle.irc_daemons.specs.AsBytes.{IsServerIf, numbers_at}
 use Rattle.irc_daemons.specs.AsNetwork.{AreReceived, AreSeated, HasFollowed, IsAsNetwork, has_come}
@@ -142,9 +142,9 @@ pub record BytesCame {W : Type 0} (names : List Name) (from to : ℕ) (net : Byt
   pub rest : List ℕ
   pub bytes_are : (wire_at net.wires from to).bytes ≡ front ++ rest
   pub way : has_way net.network from to ≡ true
-  pub view : View
-  pub at : server_at net.network to ≡ Some (Some view)
-  pub is_as : IsAsNetwork names new (bytes_come from to (length front) (byte_begun net)).net
+  pub state : View
+  pub at : server_at net.network to ≡ Some (Some state)
+  pub is_as : IsAsNetwork names new (bytes_come from to (length front) (begun net)).net
 
 -- ---- the turn
 
@@ -302,7 +302,7 @@ module _ {W : Type 0} (is_after : W → List Call → Type 0) (pieces : PiecesCo
         by : (o : Option View) → mid.server ≡ o → HasView mid.server
         by None is = cc (sym last.is ∙ none_stays second.events (asked_at mid)
             (asked_at end) second.outs is second.are_asked)
-        by (Some view) is = record { view = view; is = is }
+        by (Some view) is = record { state = view; is = is }
 
     begin_view : HasView part.begin.server
     begin_view = by part.begin.server refl
@@ -310,11 +310,11 @@ module _ {W : Type 0} (is_after : W → List Call → Type 0) (pieces : PiecesCo
         by : (o : Option View) → part.begin.server ≡ o → HasView part.begin.server
         by None is = cc (sym mid_view.is ∙ none_stays events (asked_at part.begin)
             (asked_at mid) first.outs is first.are_asked)
-        by (Some view) is = record { view = view; is = is }
+        by (Some view) is = record { state = view; is = is }
 
-    views : HaveViews numbers start.server server_here.node.server begin_view.view
+    views : HaveViews numbers start.server server_here.node.server begin_view.state
     views =
-        have_views numbers start.server server_here.node.server begin_view.view
+        have_views numbers start.server server_here.node.server begin_view.state
         (ap (λ (m : Moment W). m.server) (sym reading.begin_is)
         ∙ begin_view.is) server_here.of.servers
 
@@ -323,26 +323,27 @@ module _ {W : Type 0} (is_after : W → List Call → Type 0) (pieces : PiecesCo
 
     -- ---- what they hear
 
-    abbrev came_first : Progress
+    abbrev came_first : Progress Network
     came_first = all_heard from to (begun net.network) (lines_told conn events)
 
-    hears_first : Listens to numbers begin_view.view mid_view.view events first.outs net.network
+    hears_first : Listens to numbers begin_view.state mid_view.state events first.outs net.network
         came_first.net
     hears_first =
         listening lines_end own_law stay alike_law numbers apart from to conn reads.is_end events
         (asked_at part.begin) (asked_at mid) first.outs
-        begin_view.view mid_view.view views.theirs (begun net.network) first.are_asked begin_view.is
+        begin_view.state mid_view.state views.theirs
+        (begun net.network) first.are_asked begin_view.is
         mid_view.is served_none.0 told_first views.alike at
 
-    hears_second : Listens to numbers mid_view.view last.view second.events second.outs
+    hears_second : Listens to numbers mid_view.state last.state second.events second.outs
         came_first.net came_first.net
     hears_second =
-        subst (λ lines. Listens to numbers mid_view.view last.view second.events second.outs
+        subst (λ lines. Listens to numbers mid_view.state last.state second.events second.outs
         came_first.net (all_heard from to came_first lines).net)
         (none_hear conn)
         (listening lines_end own_law stay alike_law numbers apart from to conn reads.is_end
         second.events (asked_at mid) (asked_at end) second.outs
-        mid_view.view last.view hears_first.view came_first second.are_asked mid_view.is last.is
+        mid_view.state last.state hears_first.state came_first second.are_asked mid_view.is last.is
         served_none.1 told_second hears_first.alike
         hears_first.server)
 
@@ -353,9 +354,10 @@ module _ {W : Type 0} (is_after : W → List Call → Type 0) (pieces : PiecesCo
     all_outs = first.outs ++ second.outs
 
     hears_all :
-        Listens to numbers begin_view.view last.view all_events all_outs net.network came_first.net
+        Listens to numbers begin_view.state last.state all_events all_outs net.network
+        came_first.net
     hears_all =
-        listens_both to numbers begin_view.view mid_view.view last.view events second.events
+        listens_both to numbers begin_view.state mid_view.state last.state events second.events
         first.outs second.outs net.network came_first.net came_first.net
         hears_first hears_second
 
@@ -613,7 +615,7 @@ module _ {W : Type 0} (is_after : W → List Call → Type 0) (pieces : PiecesCo
     completed_is = ap (lines_by count) old_wire_is
         ∙ ap (completed begun_there) (take_front bytes behind) ∙ sym lines_are
 
-    net_is : (bytes_come from to count (byte_begun net)).net
+    net_is : (bytes_come from to count (begun net)).net
         ≡ queues_written came_first.net wires_now
     unfolding bytes_come
     net_is = ap
@@ -626,9 +628,9 @@ module _ {W : Type 0} (is_after : W → List Call → Type 0) (pieces : PiecesCo
         (rows_after_lines net from to count
         (lines_told conn events) [] came_first wires_now same.as_bytes.tidy.rows refl refl)
 
-    went : Went to numbers last.view all_outs off (queues_written came_first.net wires_now)
+    went : Went to numbers last.state all_outs off (queues_written came_first.net wires_now)
     went =
-        listened to numbers begin_view.view last.view all_events all_outs off came_first.net
+        listened to numbers begin_view.state last.state all_events all_outs off came_first.net
         off_tidy
         ways_here hears_all is_so
 
@@ -669,11 +671,11 @@ module _ {W : Type 0} (is_after : W → List Call → Type 0) (pieces : PiecesCo
         (open_of kinds.Link (start.connections q) (ap (λ o. open_kind_at (connection_in o q))
         (sym step.at) ∙ same.are_joined.are_open to y q is))
 
-    own_open : (q : ℕ) → is_some (get begin_view.view.clients q) ≡ true
+    own_open : (q : ℕ) → is_some (get begin_view.state.clients q) ≡ true
         → open_kind_at (part.begin.connections q) ≡ Some kinds.Client
     own_open q there =
         ap (λ (m : Moment W). open_kind_at (m.connections q)) reading.begin_is
-        ∙ same.clients_open to engine step.at begin_view.view q
+        ∙ same.clients_open to engine step.at begin_view.state q
         (ap (λ (m : Moment W). m.server) (sym reading.begin_is) ∙ begin_view.is) there
 
     seated_now : AreSeated names new off
@@ -705,9 +707,9 @@ module _ {W : Type 0} (is_after : W → List Call → Type 0) (pieces : PiecesCo
           assembled is_after pieces names to old new step same.are_joined.not_itself
           same.clients_open server_here.of.in_order server_here.of.framers joined_now
           ends_begin off after
-          begin_view.view last.view
-          (subst (λ n. Went to n last.view all_outs off after) numbers_are went) last.is
-          (subst (λ n. ServesClients n begin_view.view last.view all_events all_outs) numbers_are
+          begin_view.state last.state
+          (subst (λ n. Went to n last.state all_outs off after) numbers_are went) last.is
+          (subst (λ n. ServesClients n begin_view.state last.state all_events all_outs) numbers_are
           hears_all.clients) own_open (λ x two. same.as_bytes.servers x)
           same.as_bytes.ways outgoing elsewhere incoming once
           (λ x client two. seat_is x client) seats_here seated_now received_off
@@ -720,7 +722,7 @@ module _ {W : Type 0} (is_after : W → List Call → Type 0) (pieces : PiecesCo
         bytes_are = ap (λ (w : LinkWire). w.bytes) old_wire_is;
         way = same.as_bytes.ways from to ∙ same.are_joined.both_ways from to ∙ told_of_links from
             ∙ ap is_some reads.is_end;
-        view = views.theirs;
+        state = views.theirs;
         at = at;
         is_as = subst (IsAsNetwork names new) (sym net_is) as_network;
       }
@@ -728,7 +730,7 @@ module _ {W : Type 0} (is_after : W → List Call → Type 0) (pieces : PiecesCo
 link_followed : {W : Type 0} (names : List Name) (from to : ℕ) (net : ByteNetwork) (new : Daemons W)
     → BytesCame names from to net new → HasFollowed names [] net new
 link_followed names from to net new came = record {
-  last = (bytes_come from to (length came.front) (byte_begun net)).net;
+  last = (bytes_come from to (length came.front) (begun net)).net;
   leads = has_come [] from to (length came.front) net no_more came.way;
   is_as = came.is_as;
 }

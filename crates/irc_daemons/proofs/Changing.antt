@@ -37,7 +37,7 @@ use Rattle.irc_daemons.specs.Items.{IsQuiet}
 use Rattle.irc_daemons.specs.Runs.{MayBe}
 use Rattle.irc_daemons.specs.Tellings.{IsOfItem, Owing, TellsEnd, LinkTidings, end_before, end_by}
 use Rattle.irc_daemons.specs.Tellings.{end_set, has_called, has_lost, is_lost, is_up, is_way_by}
-use Rattle.irc_daemons.specs.Tellings.{occurrence_by, was_called, way_set}
+use Rattle.irc_daemons.specs.Tellings.{read_event_by, was_called, way_set}
 use Rattle.irc_daemons.proofs.Aside.{aside_first, link_alone, nothing_comes, still_but_one}
 use Rattle.irc_daemons.proofs.Asked.{AllStill}
 use Rattle.irc_daemons.proofs.Given.{bytes_of_nodes, come_of_nodes}
@@ -196,12 +196,12 @@ module _ {W : Type 0} (is_after : W → List Call → Type 0) (pieces : PiecesCo
             → has_way base.network x y ≡ way_set old place other (is_way_by mine) x y)
             (wires : (x y : ℕ) → wire_at base.wires x y ≡ wire_at net.wires x y)
             (tidy : IsTidy base)
-            (lacks : LacksOne other (occurrence_by theirs place)
-            (one_asked item place (occurrence_by mine other) base) full)
+            (lacks : LacksOne other (read_event_by theirs place)
+            (one_asked item place (read_event_by mine other) base) full)
             (full_is : (item_given item net).net ≡ full) (taken : item_fault net item ≡ None)
             (within : IsItemWithin item)
             (still_then : IsStillFor (record { place = other; other = place; tidings = theirs })
-            (one_asked item place (occurrence_by mine other) base))
+            (one_asked item place (read_event_by mine other) base))
           where
             ways_new : (x y : ℕ) → new.ways x y ≡ way_set old place other (is_way_by mine) x y
             ways_new x y = ap (λ (f : ℕ → ℕ → Bool). f x y) telling.step.same_ways
@@ -243,7 +243,7 @@ module _ {W : Type 0} (is_after : W → List Call → Type 0) (pieces : PiecesCo
             pub half_told : IsHalf settings names (items ++ item ∷ [])
                 (record { place = other; other = place; tidings = theirs }) new
             half_told = record {
-              less = one_asked item place (occurrence_by mine other) base;
+              less = one_asked item place (read_event_by mine other) base;
               more = (item_given item net).net;
               going = goes_on stays set_up settings items net (item ∷ [])
                   (item_given item net).net whole.going (is_given [] item net no_more taken within);
@@ -254,10 +254,10 @@ module _ {W : Type 0} (is_after : W → List Call → Type 0) (pieces : PiecesCo
                   (λ y. told_set place y (λ back. cc (sym two ∙ eq-eqb place other back)))
                   (λ lost y. still y place) (λ lost. still place other) item;
               placed = λ x name is.
-                  ap (λ ns. place_in ns name) ((asked_keeps place (occurrence_by mine other)
+                  ap (λ ns. place_in ns name) ((asked_keeps place (read_event_by mine other)
                   (begun base.network)).names ∙ same_names) ∙ placed x name is;
-              lacks = subst (LacksOne other (occurrence_by theirs place)
-                  (one_asked item place (occurrence_by mine other) base)) (sym full_is) lacks;
+              lacks = subst (LacksOne other (read_event_by theirs place)
+                  (one_asked item place (read_event_by mine other) base)) (sym full_is) lacks;
               apart = apart;
               way = ways_new other place ∙ way_there ∙ sym both;
               untold =
@@ -305,12 +305,12 @@ module _ {W : Type 0} (is_after : W → List Call → Type 0) (pieces : PiecesCo
                   let one = serving place near at in
                   let another = serving other far there in
                   let base = linked_net near far place other net in
-                  let is = is_linked near far place other net whole.same.as_bytes.tidy one.view
-                  another.view one.at another.at in
+                  let is = is_linked near far place other net whole.same.as_bytes.tidy one.state
+                  another.state one.at another.at in
                   let on = link_up other (Some far) in
                   let off = link_up place None in
                   let halves = half_lacks own_law
-                  (link near far) place other on off base is.tidy one.view another.view ok.apart
+                  (link near far) place other on off base is.tidy one.state another.state ok.apart
                   (is.servers place ∙ one.at) (is.servers other ∙ another.at)
                   (own_then net.network base.network is.servers own_here)
                   (ends_then net.network base.network is.servers ends_here) in
@@ -321,9 +321,9 @@ module _ {W : Type 0} (is_after : W → List Call → Type 0) (pieces : PiecesCo
                   (given_link net near far place other (placed place near at)
                   (placed other far there)) ok.taken tt
                   (all_is_still None refl (λ x y not_it.
-                  still_but_one (link near far) place on base one.view is.tidy
+                  still_but_one (link near far) place on base one.state is.tidy
                   (λ x y. is.wires x y ∙ still x y) (is.servers place ∙ one.at) other
-                  (λ y two. link_alone one.view other y two (Some far)) x y not_it))
+                  (λ y two. link_alone one.state other y two (Some far)) x y not_it))
 
           -- the server that was called is told first
           module _ (near far : Name) (at : slice_get names place ≡ Some far)
@@ -340,12 +340,12 @@ module _ {W : Type 0} (is_after : W → List Call → Type 0) (pieces : PiecesCo
                   let one = serving other near there in
                   let another = serving place far at in
                   let base = linked_net near far other place net in
-                  let is = is_linked near far other place net whole.same.as_bytes.tidy one.view
-                  another.view one.at another.at in
+                  let is = is_linked near far other place net whole.same.as_bytes.tidy one.state
+                  another.state one.at another.at in
                   let on = link_up place (Some far) in
                   let off = link_up other None in
                   let halves = half_lacks own_law
-                  (link near far) other place on off base is.tidy one.view another.view ok.apart
+                  (link near far) other place on off base is.tidy one.state another.state ok.apart
                   (is.servers other ∙ one.at) (is.servers place ∙ another.at)
                   (own_then net.network base.network is.servers own_here)
                   (ends_then net.network base.network is.servers ends_here) in
@@ -360,9 +360,9 @@ module _ {W : Type 0} (is_after : W → List Call → Type 0) (pieces : PiecesCo
                   (given_link net near far other place (placed other near there)
                   (placed place far at)) ok.taken tt
                   (all_is_still (Some far) refl (λ x y not_it.
-                  still_but_one (link near far) place off base another.view is.tidy
+                  still_but_one (link near far) place off base another.state is.tidy
                   (λ x y. is.wires x y ∙ still x y) (is.servers place ∙ another.at) other
-                  (λ y two. link_alone another.view other y two None) x y not_it))
+                  (λ y two. link_alone another.state other y two None) x y not_it))
 
           -- one loses the link
           module _ (near far : Name) (at : slice_get names place ≡ Some near)
@@ -397,7 +397,7 @@ module _ {W : Type 0} (is_after : W → List Call → Type 0) (pieces : PiecesCo
                   let on = link_down other in
                   let off = link_down place in
                   let halves = half_lacks own_law
-                  (cut near far) place other on off base is.tidy one.view another.view not_same
+                  (cut near far) place other on off base is.tidy one.state another.state not_same
                   (is.servers place ∙ one.at) (is.servers other ∙ another.at)
                   (own_then net.network base.network is.servers own_here)
                   (ends_then net.network base.network is.servers ends_here) in
@@ -410,7 +410,7 @@ module _ {W : Type 0} (is_after : W → List Call → Type 0) (pieces : PiecesCo
                   (may_cut rest_law net whole.going.kept rest near far place other
                   (at_net place near at) (at_net other far there) linked) tt
                   (side_is_still sides.side refl sides.far_side
-                  (aside_first (cut near far) place on base one.view is.tidy (λ x y. is.wires x y
+                  (aside_first (cut near far) place on base one.state is.tidy (λ x y. is.wires x y
                   ∙ still x y) (is.servers place ∙ one.at) sides.side sides.stays
                   sides.near_side))
 
@@ -519,10 +519,10 @@ module _ {W : Type 0} (is_after : W → List Call → Type 0) (pieces : PiecesCo
         nothing = cut [] []
 
         abbrev asked_then : ByteNetwork
-        asked_then = one_asked nothing of_place (occurrence_by owing.tidings of_other) half.less
+        asked_then = one_asked nothing of_place (read_event_by owing.tidings of_other) half.less
 
         abbrev asked_alone : ByteNetwork
-        asked_alone = queues_written (node_asked of_place (occurrence_by owing.tidings of_other)
+        asked_alone = queues_written (node_asked of_place (read_event_by owing.tidings of_other)
             (begun half.less.network)).net half.less.wires
 
         same_asked : IsAsNetwork names new asked_then
@@ -559,7 +559,7 @@ module _ {W : Type 0} (is_after : W → List Call → Type 0) (pieces : PiecesCo
           same =
               as_network_of names new asked_alone half.more
               (lacks_nothing of_place
-              (occurrence_by owing.tidings of_other) half.less half.more half.lacks)
+              (read_event_by owing.tidings of_other) half.less half.more half.lacks)
               (as_network_of names new asked_then asked_alone alone_same same_asked);
           told = λ x y.
               ap (λ (f : ℕ → ℕ → Bool). f x y) telling.step.same_ways ∙ ways_set x y

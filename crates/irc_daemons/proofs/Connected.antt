@@ -9,7 +9,7 @@ use Rattle.irc_stage.specs.View.{View}
 use Rattle.irc_server.specs.declared.event.Event.{Event}
 use Rattle.irc_server.specs.declared.event.Event.TheVariants.{Connect}
 use Rattle.irc_server.specs.Served.{of_client, served}
-use Rattle.irc_network.specs.Node.{Served, reply, serves_occurrence}
+use Rattle.irc_network.specs.Node.{Served, reply, serves_read_event}
 use Rattle.irc_world.specs.Refused.{no_such_server}
 use Rattle.irc_world.specs.Stepping.{connect}
 use Rattle.irc_world.specs.World.{home_in}
@@ -103,21 +103,21 @@ module _ (view : View) (conn : ℕ) (host : List ℕ) where
   abbrev said : Bool → Served
   said b =
       if b then record {
-        view = (served view (of_client (connects conn host))).view;
+        state = (served view (of_client (connects conn host))).state;
         out = (served view (of_client (connects conn host))).out;
       }
-      else record { view = view; out = [] }
+      else record { state = view; out = [] }
 
   said_by : (b : Bool) → (said b).out ≡ []
   said_by true = silent_connect view conn host
   said_by false = refl
 
-  pub view_of_served : serves_occurrence view (of_client (connects conn host)) ≡ true → (reply view
-      (of_client (connects conn host))).view ≡ (served view (of_client (connects conn host))).view
-  view_of_served serves = ap (λ b. (said b).view) serves
+  pub view_of_served : serves_read_event view (of_client (connects conn host)) ≡ true → (reply view
+      (of_client (connects conn host))).state ≡ (served view (of_client (connects conn host))).state
+  view_of_served serves = ap (λ b. (said b).state) serves
 
   pub nothing_said : (reply view (of_client (connects conn host))).out ≡ []
-  nothing_said = said_by (serves_occurrence view (of_client (connects conn host)))
+  nothing_said = said_by (serves_read_event view (of_client (connects conn host)))
 
 -- the host of one that connects
 abbrev pub host_of : Event → List ℕ

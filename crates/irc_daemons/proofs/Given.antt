@@ -10,7 +10,7 @@ use Rattle.std.specs.Option.{option_and_then, option_map_or}
 use Rattle.irc_batch.specs.Batches.{Sent}
 use Rattle.irc_world.specs.Stepping.{Item}
 use Rattle.irc_stage.specs.View.{View}
-use Rattle.irc_server.specs.Served.{Occurrence}
+use Rattle.irc_server.specs.Served.{ReadEvent}
 use Rattle.irc_server.specs.LineEnds.{ServedLinesEnd}
 use Rattle.irc_server.specs.Own.{ServedGoesToItsOwn}
 use Rattle.irc_network.specs.Network.{Progress, Network, Served, Node, begun, item_kept, reply}
@@ -68,9 +68,9 @@ wire_behind bytes wire = record { begun = wire.begun; bytes = wire.bytes ++ byte
 
 pub record Went (place : ℕ) (numbers : Numbers) (last : View) (outs : List Sent)
     (old new : ByteNetwork) : Type 0 where
-  pub view : View
-  pub alike : AreServersAlike numbers last view
-  pub server : server_at new.network place ≡ Some (Some view)
+  pub state : View
+  pub alike : AreServersAlike numbers last state
+  pub server : server_at new.network place ≡ Some (Some state)
   pub others : (x : ℕ) → nat_eq x place ≡ false → server_at new.network x ≡ server_at old.network x
   pub ways : (x y : ℕ) → has_way new.network x y ≡ has_way old.network x y
   pub wires_there : (x y : ℕ) → nat_eq x place ≡ false
@@ -93,7 +93,7 @@ pub went_nowhere : (place : ℕ) (numbers : Numbers) (own other : View) (net : B
     → AreServersAlike numbers own other → server_at net.network place ≡ Some (Some other)
     → IsTidy net → Went place numbers own [] net net
 went_nowhere place numbers own other net alike at tidy = record {
-  view = other;
+  state = other;
   alike = alike;
   server = at;
   others = λ x two. refl;
@@ -127,7 +127,7 @@ pub went_both : (place : ℕ) (numbers : Numbers) (between last : View) (a b : L
     → Went place numbers last b mid new → ((client q : ℕ) → numbers.client client ≡ Some q
     → is_closed_by q a ≡ true → answers q b ≡ []) → Went place numbers last (a ++ b) old new
 went_both place numbers between last a b old mid new one two quiet = record {
-  view = two.view;
+  state = two.state;
   alike = two.alike;
   server = two.server;
   others = λ x other. two.others x other ∙ one.others x other;
@@ -170,21 +170,21 @@ pub record AreThen (place : ℕ) (before : Numbers) (own other : View) (old : By
 
 module _ (lines_end : ServedLinesEnd) (own_law : ServedGoesToItsOwn) (alike_law : ServedAlike)
     (place : ℕ) (before : Numbers) (apart : AreApart before)
-    (own other : View) (occurrence : Occurrence) (conn : ℕ) (happens : happens_at before occurrence
+    (own other : View) (read_event : ReadEvent) (conn : ℕ) (happens : happens_at before read_event
     ≡ Some conn) (alike : AreServersAlike before own other)
     (old : ByteNetwork) (tidy : IsTidy old) (at : server_at old.network place ≡ Some (Some other))
     (numbers : Numbers)
-    (then_are : AreThen place before (reply own (renumbered conn occurrence)).view
-    (reply other occurrence).view old numbers) (item : Item)
+    (then_are : AreThen place before (reply own (renumbered conn read_event)).state
+    (reply other read_event).state old numbers) (item : Item)
   where
     abbrev mine : Served
-    mine = reply own (renumbered conn occurrence)
+    mine = reply own (renumbered conn read_event)
 
     abbrev theirs : Served
-    theirs = reply other occurrence
+    theirs = reply other read_event
 
-    abbrev asked : Progress
-    asked = node_asked place occurrence (begun old.network)
+    abbrev asked : Progress Network
+    asked = node_asked place read_event (begun old.network)
 
     abbrev kept : Network
     kept = (item_kept item asked).net
@@ -192,18 +192,18 @@ module _ (lines_end : ServedLinesEnd) (own_law : ServedGoesToItsOwn) (alike_law 
     abbrev now : ByteNetwork
     now = queues_written kept old.wires
 
-    said : ServeAlike before own (renumbered conn occurrence) other occurrence
-    said = alike_law before own other occurrence conn apart alike happens
+    said : ServeAlike before own (renumbered conn read_event) other read_event
+    said = alike_law before own other read_event conn apart alike happens
 
-    here : Replies place theirs.view (λ y. bodies y theirs.out) old.network asked.net
-    here = asked_replies place occurrence other (begun old.network) at
+    here : Replies place theirs.state (λ y. bodies y theirs.out) old.network asked.net
+    here = asked_replies place read_event other (begun old.network) at
 
     gets : Gets (λ q. client_bytes q theirs.out) old.network asked.net
-    gets = asked_gets place occurrence other (begun old.network) at
+    gets = asked_gets place read_event other (begun old.network) at
 
     is_so : IsWritten kept old.wires now
     is_so = is_written kept old.wires tidy.lean
-        (tidy.rows ∙ sym (asked_stays place occurrence (begun old.network)))
+        (tidy.rows ∙ sym (asked_stays place read_event (begun old.network)))
 
     waits_there : (x y : ℕ) → nat_eq x place ≡ false → waiting_at kept x y ≡ []
     waits_there x y two = ap (λ o. option_map_or (λ (node : Node). waiting node y) o [])
@@ -228,7 +228,7 @@ module _ (lines_end : ServedLinesEnd) (own_law : ServedGoesToItsOwn) (alike_law 
         ∙ ap (λ ls. all_written ls (wire_at old.wires place y)) (waits_here y q link)
         ∙ written_all (bodies y theirs.out) (wire_at old.wires place y)
         ∙ ap (λ bs. wire_behind bs (wire_at old.wires place y))
-        (bodies_are y theirs.out (reply_ends lines_end other occurrence)
+        (bodies_are y theirs.out (reply_ends lines_end other read_event)
         ∙ sym (said.say.on_links y q (then_are.links y q link) opened))
 
     come_now : (client : ℕ) → has_come now.network client ≡ has_come old.network client
@@ -241,7 +241,7 @@ module _ (lines_end : ServedLinesEnd) (own_law : ServedGoesToItsOwn) (alike_law 
 
     keeps_now : KeepsHomes old.network now.network
     keeps_now =
-        let keeps = asked_keeps place occurrence (begun old.network) in record {
+        let keeps = asked_keeps place read_event (begun old.network) in record {
           names = keeps.names;
           homes = keeps.homes;
           inboxes = keeps.inboxes;
@@ -253,9 +253,9 @@ module _ (lines_end : ServedLinesEnd) (own_law : ServedGoesToItsOwn) (alike_law 
         ap is_some (alike.alike.clients client
         ∙ ap (option_and_then (get own.clients)) (sym (then_are.clients client) ∙ none))
 
-    pub asked_went : Went place numbers mine.view mine.out old now
+    pub asked_went : Went place numbers mine.state mine.out old now
     asked_went = record {
-      view = theirs.view;
+      state = theirs.state;
       alike = then_are.alike said.views;
       server = emptied_server kept place ∙ here.server;
       others = λ x two. emptied_server kept x
@@ -277,7 +277,7 @@ module _ (lines_end : ServedLinesEnd) (own_law : ServedGoesToItsOwn) (alike_law 
       gets_nothing = λ client none has.
           bytes_now client has
           ∙ ap (λ bs. bytes_received old.network client ++ bs)
-          (nobody_gets own_law other occurrence (other_ends before own other alike) client
+          (nobody_gets own_law other read_event (other_ends before own other alike) client
           (no_client client none))
           ∙ append-nil (bytes_received old.network client);
     }
@@ -286,13 +286,13 @@ module _ (lines_end : ServedLinesEnd) (own_law : ServedGoesToItsOwn) (alike_law 
 
 module _ (lines_end : ServedLinesEnd) (own_law : ServedGoesToItsOwn) (alike_law : ServedAlike)
     (place : ℕ) (numbers : Numbers) (apart : AreApart numbers)
-    (own other : View) (occurrence : Occurrence) (conn : ℕ) (happens : happens_at numbers occurrence
+    (own other : View) (read_event : ReadEvent) (conn : ℕ) (happens : happens_at numbers read_event
     ≡ Some conn) (alike : AreServersAlike numbers own other)
     (old : ByteNetwork) (tidy : IsTidy old) (at : server_at old.network place ≡ Some (Some other))
     (ways_are : (y : ℕ) → has_way old.network place y ≡ is_some (numbers.link y)) (item : Item)
   where
-    same_then : AreThen place numbers (reply own (renumbered conn occurrence)).view
-        (reply other occurrence).view old numbers
+    same_then : AreThen place numbers (reply own (renumbered conn read_event)).state
+        (reply other read_event).state old numbers
     same_then = record {
       links = λ y q link. link;
       clients = λ client. refl;
@@ -300,10 +300,10 @@ module _ (lines_end : ServedLinesEnd) (own_law : ServedGoesToItsOwn) (alike_law 
       ways = ways_are;
     }
 
-    pub item_went : Went place numbers (reply own (renumbered conn occurrence)).view
-        (reply own (renumbered conn occurrence)).out old
+    pub item_went : Went place numbers (reply own (renumbered conn read_event)).state
+        (reply own (renumbered conn read_event)).out old
         (queues_written
-        (item_kept item (node_asked place occurrence (begun old.network))).net old.wires)
+        (item_kept item (node_asked place read_event (begun old.network))).net old.wires)
     item_went =
-        asked_went lines_end own_law alike_law place numbers apart own other occurrence conn happens
+        asked_went lines_end own_law alike_law place numbers apart own other read_event conn happens
         alike old tidy at numbers same_then item

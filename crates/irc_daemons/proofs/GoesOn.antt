@@ -10,7 +10,7 @@ use Rattle.std.specs.FinMap.{get}
 use Rattle.std.specs.Option.{option_and_then, option_map_or}
 use Rattle.irc_line.specs.Lines.{begun_behind, nothing_begun}
 use Rattle.irc_line.specs.Reading.{read_of}
-use Rattle.irc_server.specs.Served.{Occurrence, link_says}
+use Rattle.irc_server.specs.Served.{ReadEvent, link_says}
 use Rattle.irc_network.specs.Node.{Served, reply}
 use Rattle.irc_stage.specs.View.{View}
 use Rattle.irc_network.specs.Network.{Progress, Network, Node, begun, heard, line_counted}
@@ -18,7 +18,7 @@ use Rattle.irc_network.specs.Network.{node_asked}
 use Rattle.irc_network.specs.Network.{waiting}
 use Rattle.irc_wires.specs.Wires.{AreLean, LinkWire, Wires, advanced, new_wire, wire_at}
 use Rattle.irc_wires.specs.Lemmas.PutWires.{IsSetAt, it, nowhere, other_from, other_to, wire_set}
-use Rattle.irc_network.specs.ByteNetwork.{ByteNetwork, all_heard, all_written, byte_begun}
+use Rattle.irc_network.specs.ByteNetwork.{ByteNetwork, all_heard, all_written}
 use Rattle.irc_network.specs.ByteNetwork.{bytes_come, completed_in, queues_written, waiting_at}
 use Rattle.irc_network.specs.ByteNetwork.{wires_come}
 use Rattle.irc_network.specs.Loops.Writing.{IsWritten}
@@ -42,12 +42,12 @@ use Rattle.irc_daemons.proofs.Written.{bodies, body_on, with_ends, written_all}
 
 -- the server at a place is as this reply has it, and what it put out waits, or has come to clients
 pub record HasReplied (place : ℕ) (next : Served) (old new : Network) : Type 0 where
-  pub replies : Replies place next.view (λ y. bodies y next.out) old new
+  pub replies : Replies place next.state (λ y. bodies y next.out) old new
   pub gets : Gets (λ q. client_bytes q next.out) old new
   pub keeps : KeepsHomes old new
 
 nothing_replied : (place : ℕ) (view : View) (net : Network) → server_at net place ≡ Some (Some view)
-    → HasReplied place (record { view = view; out = [] }) net net
+    → HasReplied place (record { state = view; out = [] }) net net
 nothing_replied place view net at = record {
   replies = record {
     server = at;
@@ -86,16 +86,16 @@ both_replied place first rest old mid new one two = record {
   keeps = keeps_both old mid new one.keeps two.keeps;
 }
 
-asked_replied : (place : ℕ) (occurrence : Occurrence) (view : View) (progress : Progress)
+asked_replied : (place : ℕ) (read_event : ReadEvent) (view : View) (progress : Progress Network)
     → server_at progress.net place ≡ Some (Some view) → HasReplied place
-    (reply view occurrence) progress.net (node_asked place occurrence progress).net
-asked_replied place occurrence view progress at = record {
-  replies = asked_replies place occurrence view progress at;
-  gets = asked_gets place occurrence view progress at;
-  keeps = asked_keeps place occurrence progress;
+    (reply view read_event) progress.net (node_asked place read_event progress).net
+asked_replied place read_event view progress at = record {
+  replies = asked_replies place read_event view progress at;
+  gets = asked_gets place read_event view progress at;
+  keeps = asked_keeps place read_event progress;
 }
 
-line_replied : (from to : ℕ) (line : List ℕ) (view : View) (progress : Progress)
+line_replied : (from to : ℕ) (line : List ℕ) (view : View) (progress : Progress Network)
     → server_at progress.net to ≡ Some (Some view) → HasReplied to
     (reply view (link_says from (read_of line))) progress.net (heard from to progress line).net
 line_replied from to line view progress at =
@@ -106,24 +106,24 @@ line_replied from to line view progress at =
       keeps = record { names = keeps.names; homes = keeps.homes; inboxes = keeps.inboxes };
     }
 
-lines_replied : (from to : ℕ) (lines : List (List ℕ)) (view : View) (progress : Progress)
+lines_replied : (from to : ℕ) (lines : List (List ℕ)) (view : View) (progress : Progress Network)
     → server_at progress.net to ≡ Some (Some view) → HasReplied to
     (all_replies from view lines) progress.net (all_heard from to progress lines).net
 lines_replied from to [] view progress at = nothing_replied to view progress.net at
 lines_replied from to (line ∷ lines) view progress at =
     let first : Served = reply view (link_says from (read_of line)) in
     let one = line_replied from to line view progress at in
-    both_replied to first (all_replies from first.view lines) progress.net
+    both_replied to first (all_replies from first.state lines) progress.net
     (heard from to progress line).net
     (all_heard from to (heard from to progress line) lines).net one
-    (lines_replied from to lines first.view (heard from to progress line) one.replies.server)
+    (lines_replied from to lines first.state (heard from to progress line) one.replies.server)
 
 -- ---- once it is written
 
 -- The server at a place is as this reply has it, and what it put out is on these wires, or has come
 -- to clients; all else is as it was.
 pub record GoesOn (place : ℕ) (next : Served) (along : Wires) (old new : ByteNetwork) : Type 0 where
-  pub server : server_at new.network place ≡ Some (Some next.view)
+  pub server : server_at new.network place ≡ Some (Some next.state)
   pub others : (x : ℕ) → nat_eq x place ≡ false → server_at new.network x ≡ server_at old.network x
   pub ways : (x y : ℕ) → has_way new.network x y ≡ has_way old.network x y
   pub wires_there : (x y : ℕ) → nat_eq x place ≡ false → wire_at new.wires x y ≡ wire_at along x y
@@ -191,15 +191,15 @@ module _ (place : ℕ) (next : Served) (along : Wires) (old : ByteNetwork) (mid 
 
 -- ---- a server is asked
 
-pub asked_goes_on : (place : ℕ) (occurrence : Occurrence) (view : View) (net : ByteNetwork)
+pub asked_goes_on : (place : ℕ) (read_event : ReadEvent) (view : View) (net : ByteNetwork)
     → IsTidy net → server_at net.network place ≡ Some (Some view)
-    → GoesOn place (reply view occurrence) net.wires net
-    (queues_written (node_asked place occurrence (begun net.network)).net net.wires)
-asked_goes_on place occurrence view net tidy at =
-    goes_on place (reply view occurrence) net.wires net
-    (node_asked place occurrence (begun net.network)).net tidy tidy.lean
-    (tidy.rows ∙ sym (asked_stays place occurrence (begun net.network)))
-    (asked_replied place occurrence view (begun net.network) at)
+    → GoesOn place (reply view read_event) net.wires net
+    (queues_written (node_asked place read_event (begun net.network)).net net.wires)
+asked_goes_on place read_event view net tidy at =
+    goes_on place (reply view read_event) net.wires net
+    (node_asked place read_event (begun net.network)).net tidy tidy.lean
+    (tidy.rows ∙ sym (asked_stays place read_event (begun net.network)))
+    (asked_replied place read_event view (begun net.network) at)
 
 -- ---- bytes come
 
@@ -242,7 +242,7 @@ module _ (from to count : ℕ) (net : ByteNetwork) where
           is ∙ ap (λ b. come_if count b (wire_at net.wires x y))
           (sym (none_and (nat_eq x from)) ∙ ap (λ b. nat_eq x from && b) (sym two))
 
-  come_is : (bytes_come from to count (byte_begun net)).net
+  come_is : (bytes_come from to count (begun net)).net
       ≡ queues_written (all_heard from to (begun net.network) (completed_in net from to count)).net
       (wires_come net from to count)
   unfolding bytes_come
@@ -250,10 +250,10 @@ module _ (from to count : ℕ) (net : ByteNetwork) where
 
   pub bytes_go_on : (view : View) → IsTidy net → server_at net.network to ≡ Some (Some view)
       → GoesOn to (all_replies from view (completed_in net from to count))
-      (wires_come net from to count) net (bytes_come from to count (byte_begun net)).net
+      (wires_come net from to count) net (bytes_come from to count (begun net)).net
   bytes_go_on view tidy at =
       let lines : List (List ℕ) = completed_in net from to count in
-      let last : Progress = all_heard from to (begun net.network) lines in
+      let last : Progress Network = all_heard from to (begun net.network) lines in
       subst (GoesOn to (all_replies from view lines) (wires_come net from to count) net)
       (sym come_is)
       (goes_on to (all_replies from view lines) (wires_come net from to count) net last.net tidy

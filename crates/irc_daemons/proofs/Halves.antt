@@ -7,7 +7,7 @@ use Rattle.std.proofs.lemmas.Bool.{eq-eqb, eqb-true}
 use Rattle.std.specs.FinMap.{get}
 use Rattle.std.specs.Option.{option_and_then, option_map_or}
 use Rattle.irc_stage.specs.View.{View}
-use Rattle.irc_server.specs.Served.{Occurrence}
+use Rattle.irc_server.specs.Served.{ReadEvent}
 use Rattle.irc_server.specs.Own.{ServedGoesToItsOwn}
 use Rattle.irc_network.specs.Node.{reply}
 use Rattle.irc_world.specs.Stepping.{Item}
@@ -47,7 +47,7 @@ record IsOut (net : Network) (wires : Wires) (out : ByteNetwork) : Type 0 where
   pub received : out.network.received ≡ net.received
   pub tidy : IsTidy out
 
-is_out : (item : Item) (progress : Progress) (wires : Wires)
+is_out : (item : Item) (progress : Progress Network) (wires : Wires)
     → AreLean wires → length wires ≡ length progress.net.nodes
     → IsOut progress.net wires (queues_written (item_kept item progress).net wires)
 is_out item progress wires lean long =
@@ -82,23 +82,23 @@ both_written (line ∷ one) other wire = both_written one other (written line wi
 -- ---- a server is asked
 
 -- the server at a place has replied, and what it put out went its way
-record IsAsked (place : ℕ) (occurrence : Occurrence) (view : View)
+record IsAsked (place : ℕ) (read_event : ReadEvent) (view : View)
     (old new : Network) : Type 0 where
   pub here : server_at old place ≡ Some (Some view)
-  pub here_then : server_at new place ≡ Some (Some (reply view occurrence).view)
+  pub here_then : server_at new place ≡ Some (Some (reply view read_event).state)
   pub others : (x : ℕ) → nat_eq x place ≡ false → server_at new x ≡ server_at old x
   pub ways : (x y : ℕ) → has_way new x y ≡ has_way old x y
   pub waits_there : (x y : ℕ) → nat_eq x place ≡ false → waiting_at new x y ≡ waiting_at old x y
   pub waits_here : (y : ℕ) → has_way old place y ≡ true
-      → waiting_at new place y ≡ waiting_at old place y ++ bodies y (reply view occurrence).out
+      → waiting_at new place y ≡ waiting_at old place y ++ bodies y (reply view read_event).out
   pub keeps : KeepsHomes old new
-  pub gets : Gets (λ client. client_bytes client (reply view occurrence).out) old new
+  pub gets : Gets (λ client. client_bytes client (reply view read_event).out) old new
 
-is_asked : (place : ℕ) (occurrence : Occurrence) (view : View) (progress : Progress)
+is_asked : (place : ℕ) (read_event : ReadEvent) (view : View) (progress : Progress Network)
     → server_at progress.net place ≡ Some (Some view)
-    → IsAsked place occurrence view progress.net (node_asked place occurrence progress).net
-is_asked place occurrence view progress at =
-    let replies = asked_replies place occurrence view progress at in record {
+    → IsAsked place read_event view progress.net (node_asked place read_event progress).net
+is_asked place read_event view progress at =
+    let replies = asked_replies place read_event view progress at in record {
       here = at;
       here_then = replies.server;
       others = λ x two. ap (option_map (λ (s : Node). s.server)) (replies.others x two);
@@ -106,26 +106,26 @@ is_asked place occurrence view progress at =
       waits_there = λ x y two. ap (λ o. option_map_or (λ (node : Node). waiting node y) o [])
           (replies.others x two);
       waits_here = replies.waits;
-      keeps = asked_keeps place occurrence progress;
-      gets = asked_gets place occurrence view progress at;
+      keeps = asked_keeps place read_event progress;
+      gets = asked_gets place read_event view progress at;
     }
   where
     way_at : (x y : ℕ) (b : Bool) → nat_eq x place ≡ b
-        → has_way (node_asked place occurrence progress).net x y ≡ has_way progress.net x y
+        → has_way (node_asked place read_event progress).net x y ≡ has_way progress.net x y
     way_at x y true one =
-        ap (λ v. has_way (node_asked place occurrence progress).net v y) (eqb-true x place one)
-        ∙ (asked_replies place occurrence view progress at).ways y
+        ap (λ v. has_way (node_asked place read_event progress).net v y) (eqb-true x place one)
+        ∙ (asked_replies place read_event view progress at).ways y
         ∙ ap (λ v. has_way progress.net v y) (sym (eqb-true x place one))
     way_at x y false two =
         ap (λ o. is_some (option_and_then (λ (node : Node). get node.queues y) o))
-        ((asked_replies place occurrence view progress at).others x two)
+        ((asked_replies place read_event view progress at).others x two)
 
 -- and once all is written, just that is more
-lacks_one : (place : ℕ) (occurrence : Occurrence) (view : View) (old new : Network) (wires : Wires)
-    (less more : ByteNetwork) → IsAsked place occurrence view old new → IsOut old wires less
-    → IsOut new wires more → LacksOne place occurrence less more
-lacks_one place occurrence view old new wires less more asked first second = record {
-  view = view;
+lacks_one : (place : ℕ) (read_event : ReadEvent) (view : View) (old new : Network) (wires : Wires)
+    (less more : ByteNetwork) → IsAsked place read_event view old new → IsOut old wires less
+    → IsOut new wires more → LacksOne place read_event less more
+lacks_one place read_event view old new wires less more asked first second = record {
+  state = view;
   here = first.servers place ∙ asked.here;
   here_then = second.servers place ∙ asked.here_then;
   others = λ x two. second.servers x ∙ asked.others x two ∙ sym (first.servers x);
@@ -137,9 +137,9 @@ lacks_one place occurrence view old new wires less more asked first second = rec
       second.wires_are place y
       ∙ ap (λ ls. all_written ls (wire_at wires place y))
       (asked.waits_here y (sym (first.ways place y) ∙ way))
-      ∙ both_written (waiting_at old place y) (bodies y (reply view occurrence).out)
+      ∙ both_written (waiting_at old place y) (bodies y (reply view read_event).out)
       (wire_at wires place y)
-      ∙ ap (wire_behind (with_ends (bodies y (reply view occurrence).out)))
+      ∙ ap (wire_behind (with_ends (bodies y (reply view read_event).out)))
       (sym (first.wires_are place y));
   no_way = λ y none.
       let none_before : has_way old place y ≡ false = sym (first.ways place y) ∙ none in
@@ -158,7 +158,7 @@ lacks_one place occurrence view old new wires less more asked first second = rec
   received = λ client has.
       bytes_of_nodes new more.network second.received client
       ∙ asked.gets.more client (sym (come_of_nodes old less.network first.received client) ∙ has)
-      ∙ ap (λ bs. bs ++ client_bytes client (reply view occurrence).out)
+      ∙ ap (λ bs. bs ++ client_bytes client (reply view read_event).out)
       (sym (bytes_of_nodes old less.network first.received client));
   tidy_less = first.tidy;
   tidy_more = second.tidy;
@@ -166,7 +166,7 @@ lacks_one place occurrence view old new wires less more asked first second = rec
 
 -- ---- the other one is asked first
 
-module _ (n f : ℕ) (on off : Occurrence) (vn vf : View) (start mid last turn : Network)
+module _ (n f : ℕ) (on off : ReadEvent) (vn vf : View) (start mid last turn : Network)
     (two : nat_eq n f ≡ false) (first : IsAsked n on vn start mid)
     (second : IsAsked f off vf mid last) (other : IsAsked f off vf start turn)
     (either : (client : ℕ) → client_bytes client (reply vf off).out
@@ -242,7 +242,7 @@ module _ (n f : ℕ) (on off : Occurrence) (vn vf : View) (start mid last turn :
 
 -- The network in which both were asked, beside those in which one of them was, and these beside
 -- the one in which neither was.
-pub record AreHalves (n f : ℕ) (on off : Occurrence)
+pub record AreHalves (n f : ℕ) (on off : ReadEvent)
     (base half_near half_far full : ByteNetwork) : Type 0 where
   pub near_last : LacksOne n on half_far full
   pub far_last : LacksOne f off half_near full
@@ -250,26 +250,26 @@ pub record AreHalves (n f : ℕ) (on off : Occurrence)
   pub far_alone : LacksOne f off base half_far
 
 -- only the one of n was asked, only that of f, or both
-abbrev pub one_asked : Item → ℕ → Occurrence → ByteNetwork → ByteNetwork
-one_asked item place occurrence base = queues_written
-    (item_kept item (node_asked place occurrence (begun base.network))).net base.wires
+abbrev pub one_asked : Item → ℕ → ReadEvent → ByteNetwork → ByteNetwork
+one_asked item place read_event base = queues_written
+    (item_kept item (node_asked place read_event (begun base.network))).net base.wires
 
-abbrev pub both_asked : Item → ℕ → ℕ → Occurrence → Occurrence → ByteNetwork → ByteNetwork
+abbrev pub both_asked : Item → ℕ → ℕ → ReadEvent → ReadEvent → ByteNetwork → ByteNetwork
 both_asked item n f on off base = queues_written
     (item_kept item (node_asked f off (node_asked n on (begun base.network)))).net base.wires
 
-module _ (own_law : ServedGoesToItsOwn) (item : Item) (n f : ℕ) (on off : Occurrence)
+module _ (own_law : ServedGoesToItsOwn) (item : Item) (n f : ℕ) (on off : ReadEvent)
     (base : ByteNetwork) (tidy : IsTidy base) (vn vf : View)
     (two : nat_eq n f ≡ false) (near_there : server_at base.network n ≡ Some (Some vn))
     (far_there : server_at base.network f ≡ Some (Some vf))
   where
-    abbrev near_progress : Progress
+    abbrev near_progress : Progress Network
     near_progress = node_asked n on (begun base.network)
 
-    abbrev far_progress : Progress
+    abbrev far_progress : Progress Network
     far_progress = node_asked f off (begun base.network)
 
-    abbrev last_progress : Progress
+    abbrev last_progress : Progress Network
     last_progress = node_asked f off near_progress
 
     near_asked : IsAsked n on vn base.network near_progress.net

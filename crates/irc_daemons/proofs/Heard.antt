@@ -6,19 +6,19 @@ use Rattle.std.specs.List.{AllByRecursion}
 use Rattle.irc_batch.specs.Batches.{Sent}
 use Rattle.irc_server.specs.declared.event.Event.{Event}
 use Rattle.irc_server.specs.declared.event.ServerFault.{ServerFault}
-use Rattle.irc_server.specs.Happening.{IsHandled, has_failed}
-use Rattle.irc_server.specs.Served.{Occurrence, served}
+use Rattle.irc_server.specs.ReadEvents.{IsHandled, has_failed}
+use Rattle.irc_server.specs.Served.{ReadEvent, served}
 use Rattle.irc_server.specs.LineEnds.{EndsInLineEnd, ServedLinesEnd}
 use Rattle.irc_stage.specs.View.{View}
-use Rattle.irc_network.specs.Node.{Served, reply, serves_occurrence}
+use Rattle.irc_network.specs.Node.{Served, reply, serves_read_event}
 use Rattle.irc_engine.specs.Carrying.{answers, bytes_owed, is_closed_by}
 use Rattle.irc_engine.specs.Running.{AreAsked, ServerAsked}
 use Rattle.irc_engine.specs.Lemmas.CarryingLaws.{owed-append}
 
-abbrev replied : Bool → View → Occurrence → Served
-replied b view occurrence =
-    if b then record { view = (served view occurrence).view; out = (served view occurrence).out }
-    else record { view = view; out = [] }
+abbrev replied : Bool → View → ReadEvent → Served
+replied b view read_event =
+    if b then record { state = (served view read_event).state; out = (served view read_event).out }
+    else record { state = view; out = [] }
 
 -- ---- a server for which memory ran out
 
@@ -38,12 +38,12 @@ none_stays (event ∷ events) old new outs none asked =
 
 -- ---- what a server of a network puts out
 
-pub reply_ends : ServedLinesEnd → (view : View) (occurrence : Occurrence)
-    → AllByRecursion EndsInLineEnd (reply view occurrence).out
-reply_ends law view occurrence = by (serves_occurrence view occurrence)
+pub reply_ends : ServedLinesEnd → (view : View) (read_event : ReadEvent)
+    → AllByRecursion EndsInLineEnd (reply view read_event).out
+reply_ends law view read_event = by (serves_read_event view read_event)
   where
-    by : (b : Bool) → AllByRecursion EndsInLineEnd (replied b view occurrence).out
-    by true = law view occurrence
+    by : (b : Bool) → AllByRecursion EndsInLineEnd (replied b view read_event).out
+    by true = law view read_event
     by false = tt
 
 -- ---- lines one after another

@@ -4,7 +4,7 @@ use Rattle.std.proofs.Common.{refl, ◌∙◌}
 use Rattle.std.specs.List.{slice_get}
 use Rattle.std.specs.Option.{option_map_or}
 use Rattle.irc_batch.specs.Batches.{Sent, end_of, end_of_link, line_on, line_to}
-use Rattle.irc_server.specs.Served.{Occurrence}
+use Rattle.irc_server.specs.Served.{ReadEvent}
 use Rattle.irc_stage.specs.View.{View}
 use Rattle.irc_network.specs.Network.{Progress, Network, Node, all_sent_out, asked_at, has_received}
 use Rattle.irc_network.specs.Network.{has_received_at, line_queued, reply, sent_out, node_asked}
@@ -28,7 +28,7 @@ keeps_both old mid new first second = record {
   inboxes = second.inboxes ∙ first.inboxes;
 }
 
-keeps_received : (client : ℕ) (text : List ℕ) (progress : Progress)
+keeps_received : (client : ℕ) (text : List ℕ) (progress : Progress Network)
     → KeepsHomes progress.net (has_received client text progress).net
 keeps_received zero text progress = keeps_same progress.net
 keeps_received (suc earlier) text progress = by (slice_get progress.net.received earlier)
@@ -51,14 +51,14 @@ keeps_queued place to text net = by (node_at net place)
     by None = keeps_same net
     by (Some node) = record { names = refl; homes = refl; inboxes = refl }
 
-keeps_one : (place : ℕ) (sent : Sent) (progress : Progress)
+keeps_one : (place : ℕ) (sent : Sent) (progress : Progress Network)
     → KeepsHomes progress.net (sent_out place sent progress).net
 keeps_one place (line_to client text) progress = keeps_received client text progress
 keeps_one place (end_of client) progress = keeps_same progress.net
 keeps_one place (line_on link text) progress = keeps_queued place link text progress.net
 keeps_one place (end_of_link link reason) progress = keeps_same progress.net
 
-keeps_all : (place : ℕ) (outs : List Sent) (progress : Progress)
+keeps_all : (place : ℕ) (outs : List Sent) (progress : Progress Network)
     → KeepsHomes progress.net (all_sent_out place outs progress).net
 keeps_all place [] progress = keeps_same progress.net
 keeps_all place (sent ∷ outs) progress =
@@ -66,28 +66,28 @@ keeps_all place (sent ∷ outs) progress =
     (all_sent_out place outs (sent_out place sent progress)).net (keeps_one place sent progress)
     (keeps_all place outs (sent_out place sent progress))
 
-pub asked_keeps : (place : ℕ) (occurrence : Occurrence) (progress : Progress)
-    → KeepsHomes progress.net (node_asked place occurrence progress).net
+pub asked_keeps : (place : ℕ) (read_event : ReadEvent) (progress : Progress Network)
+    → KeepsHomes progress.net (node_asked place read_event progress).net
 unfolding node_asked
-asked_keeps place occurrence progress = by (node_at progress.net place)
+asked_keeps place read_event progress = by (node_at progress.net place)
   where
     at_node : (node : Node) (view : View)
-        → KeepsHomes progress.net (with_reply place progress node (reply view occurrence)).net
+        → KeepsHomes progress.net (with_reply place progress node (reply view read_event)).net
     at_node node view =
-        let between : Progress = record progress {
+        let between : Progress Network = record progress {
           net = with_node place
-              (record node { server = Some (reply view occurrence).view }) progress.net;
+              (record node { server = Some (reply view read_event).state }) progress.net;
         } in
-        keeps_both progress.net between.net (all_sent_out place (reply view occurrence).out
+        keeps_both progress.net between.net (all_sent_out place (reply view read_event).out
         between).net (record { names = refl; homes = refl; inboxes = refl })
-        (keeps_all place (reply view occurrence).out between)
+        (keeps_all place (reply view read_event).out between)
 
     by_view : (node : Node) (o : Option View) → KeepsHomes progress.net (option_map_or
-        (λ (v : View). with_reply place progress node (reply v occurrence)) o progress).net
+        (λ (v : View). with_reply place progress node (reply v read_event)) o progress).net
     by_view node None = keeps_same progress.net
     by_view node (Some view) = at_node node view
 
     by : (o : Option Node) → KeepsHomes progress.net
-        (option_map_or (asked_at place occurrence progress) o progress).net
+        (option_map_or (asked_at place read_event progress) o progress).net
     by None = keeps_same progress.net
     by (Some node) = by_view node node.server

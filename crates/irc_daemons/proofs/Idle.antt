@@ -178,7 +178,7 @@ module _ {W : Type 0} (is_after : W → List Call → Type 0) (pieces : PiecesCo
     asked_second = subst
         (λ es. AreAsked (asked_at mid) es ran_on.outs (asked_at end)) second_is ran_on.are_asked
 
-    mid_server : mid.server ≡ Some last.view
+    mid_server : mid.server ≡ Some last.state
     mid_server = ap (λ (a : ServerAsked). a.server) (sym asked_second.1) ∙ last.is
 
     asked_first : AreAsked (asked_at begun_now) ran.events ran.outs (asked_at mid)
@@ -191,14 +191,14 @@ module _ {W : Type 0} (is_after : W → List Call → Type 0) (pieces : PiecesCo
         by : (o : Option View) → begun_now.server ≡ o → HasView begun_now.server
         by None is = cc (sym mid_server
             ∙ none_stays ran.events (asked_at begun_now) (asked_at mid) ran.outs is asked_first)
-        by (Some view) is = record { view = view; is = is }
+        by (Some view) is = record { state = view; is = is }
 
-    own_start : started.server ≡ Some own.view
+    own_start : started.server ≡ Some own.state
     own_start = ap (λ (m : Moment W). m.server) (sym nobody_new.as_it_was) ∙ own.is
 
-    views : HaveViews (numbers_at old place) started.server here.node.server own.view
+    views : HaveViews (numbers_at old place) started.server here.node.server own.state
     views = have_views
-        (numbers_at old place) started.server here.node.server own.view own_start here.of.servers
+        (numbers_at old place) started.server here.node.server own.state own_start here.of.servers
 
     first_none : (y q : ℕ) → old.ends place y ≡ Some q → lines_by q ran.events ≡ []
     first_none y q is =
@@ -225,10 +225,10 @@ module _ {W : Type 0} (is_after : W → List Call → Type 0) (pieces : PiecesCo
         by (is_line link text more is) =
             let asked = subst
             (λ es. AreAsked (asked_at begun_now) es ran.outs (asked_at mid)) is asked_first in
-            let it = took own.view (LinkLine link text) begun_now.server asked.between.server
+            let it = took own.state (LinkLine link text) begun_now.server asked.between.server
             asked.first own.is asked.is_handled in
             let among =
-            views.alike.alike.no_other_end link (some_end (get own.view.ends link) it.none) in
+            views.alike.alike.no_other_end link (some_end (get own.state.ends link) it.none) in
             absurd (known link text more asked (ap (lines_by link) (sym is)
             ∙ first_none among.number link among.is))
 
@@ -239,8 +239,8 @@ module _ {W : Type 0} (is_after : W → List Call → Type 0) (pieces : PiecesCo
     outs_none : ran.outs ++ ran_on.outs ≡ []
     outs_none = ap (λ os. os ++ ran_on.outs) asked_none.0 ∙ asked_second.0
 
-    last_is : own.view ≡ last.view
-    last_is = inside own.view last.view
+    last_is : own.state ≡ last.state
+    last_is = inside own.state last.state
         (sym own.is ∙ ap (λ (a : ServerAsked). a.server) (sym asked_none.1) ∙ mid_server)
 
     events_none : (given ++ ran.events) ++ ran_on.events ≡ []
@@ -286,22 +286,23 @@ module _ {W : Type 0} (is_after : W → List Call → Type 0) (pieces : PiecesCo
         (open_of kinds.Link (started.connections q) (ap (λ o. open_kind_at (connection_in o q))
         (sym step.at) ∙ same.are_joined.are_open place y q is))
 
-    went : Went place (numbers_at new place) last.view (ran.outs ++ ran_on.outs) net net
+    went : Went place (numbers_at new place) last.state (ran.outs ++ ran_on.outs) net net
     went =
-        subst (λ n. Went place n last.view (ran.outs ++ ran_on.outs) net net) numbers_are
-        (subst (λ os. Went place (numbers_at old place) last.view os net net) (sym outs_none)
+        subst (λ n. Went place n last.state (ran.outs ++ ran_on.outs) net net) numbers_are
+        (subst (λ os. Went place (numbers_at old place) last.state os net net) (sym outs_none)
         (subst (λ v. Went place (numbers_at old place) v [] net net) last_is
-        (went_nowhere place (numbers_at old place) own.view views.theirs net views.alike
+        (went_nowhere place (numbers_at old place) own.state views.theirs net views.alike
         (ap (option_map (λ (s : Node). s.server)) here.at ∙ ap Some views.is) same.as_bytes.tidy)))
 
-    serves : ServesClients (numbers_at new place) own.view last.view
+    serves : ServesClients (numbers_at new place) own.state last.state
         ((given ++ ran.events) ++ ran_on.events) (ran.outs ++ ran_on.outs)
     serves =
-        subst (λ es. ServesClients (numbers_at new place) own.view last.view es
+        subst (λ es. ServesClients (numbers_at new place) own.state last.state es
         (ran.outs ++ ran_on.outs)) (sym events_none)
-        (subst (λ os. ServesClients (numbers_at new place) own.view last.view [] os) (sym outs_none)
-        (subst (λ v. ServesClients (numbers_at new place) own.view v [] []) last_is
-        (serves_none (numbers_at new place) own.view)))
+        (subst (λ os. ServesClients (numbers_at new place) own.state last.state [] os)
+        (sym outs_none)
+        (subst (λ v. ServesClients (numbers_at new place) own.state v [] []) last_is
+        (serves_none (numbers_at new place) own.state)))
 
     seated_now : AreSeated names new net
     seated_now = record {
@@ -315,11 +316,11 @@ module _ {W : Type 0} (is_after : W → List Call → Type 0) (pieces : PiecesCo
     pub idle_followed : IsAsNetwork names new net
     idle_followed =
         assembled is_after pieces names place old new step not_itself same.clients_open
-        here.of.in_order here.of.framers joined_now ends_begin net net own.view
-        last.view went last.is serves
+        here.of.in_order here.of.framers joined_now ends_begin net net own.state
+        last.state went last.is serves
         (λ q there.
         ap (λ (m : Moment W). open_kind_at (m.connections q)) nobody_new.as_it_was
-        ∙ same.clients_open place step.engine step.at own.view q own_start there)
+        ∙ same.clients_open place step.engine step.at own.state q own_start there)
         (λ x apart. same.as_bytes.servers x) same.as_bytes.ways (λ y. same.as_bytes.wires place y)
         (λ x y apart there. same.as_bytes.wires x y)
         (λ x apart.

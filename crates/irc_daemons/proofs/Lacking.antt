@@ -19,14 +19,14 @@ use Rattle.irc_forest.specs.Forests.{place_in}
 use Rattle.irc_line.specs.Lines.{begun_behind, completed}
 use Rattle.irc_relay.specs.Links.{Name}
 use Rattle.irc_relay.specs.Relay.{IsFront}
-use Rattle.irc_server.specs.Served.{Occurrence}
+use Rattle.irc_server.specs.Served.{ReadEvent}
 use Rattle.irc_server.specs.Own.{ServedGoesToItsOwn, ServedKeepsEnds}
 use Rattle.irc_network.specs.Node.{Served, reply}
 use Rattle.irc_stage.specs.View.{View}
 use Rattle.irc_world.specs.World.{home_in}
-use Rattle.irc_network.specs.Network.{Network, begun, home_place, server_place, node_asked}
+use Rattle.irc_network.specs.Network.{Network, begun, home_place, node_asked, server_place}
 use Rattle.irc_wires.specs.Wires.{LinkWire, Wires, advanced, lines_by, wire_at}
-use Rattle.irc_network.specs.ByteNetwork.{ByteNetwork, byte_begun, bytes_come, completed_in}
+use Rattle.irc_network.specs.ByteNetwork.{ByteNetwork, bytes_come, completed_in}
 use Rattle.irc_network.specs.ByteNetwork.{queues_written, wires_come}
 use Rattle.irc_network.specs.Whole.{has_way}
 use Rattle.irc_daemons.specs.Alike.{client_bytes}
@@ -84,12 +84,12 @@ both_are x from y to is = by (nat_eq x from) refl is
     by true one two = (eqb-true x from one, eqb-true y to two)
     by false one two = cc two
 
-module _ (place : ℕ) (occurrence : Occurrence) (less more : ByteNetwork)
-    (lacks : LacksOne place occurrence less more) (from to count : ℕ)
+module _ (place : ℕ) (read_event : ReadEvent) (less more : ByteNetwork)
+    (lacks : LacksOne place read_event less more) (from to count : ℕ)
     (enough : count ≤ length (wire_at less.wires from to).bytes)
   where
     abbrev asked : Served
-    asked = reply lacks.view occurrence
+    asked = reply lacks.state read_event
 
     same_lines : completed_in more from to count ≡ completed_in less from to count
     same_lines = by (nat_eq from place) refl (has_way less.network place to) refl
@@ -141,19 +141,19 @@ module _ (place : ℕ) (occurrence : Occurrence) (less more : ByteNetwork)
 
 -- ---- another server does something in both
 
-module _ (place to : ℕ) (occurrence : Occurrence) (less more : ByteNetwork)
-    (lacks : LacksOne place occurrence less more)
+module _ (place to : ℕ) (read_event : ReadEvent) (less more : ByteNetwork)
+    (lacks : LacksOne place read_event less more)
     (away : nat_eq to place ≡ false) (next : Served) (one other : Wires)
-    (behind : AreBehind less.network place (reply lacks.view occurrence).out one other)
+    (behind : AreBehind less.network place (reply lacks.state read_event).out one other)
     (less_then more_then : ByteNetwork)
     (goes_less : GoesOn to next one less less_then)
     (goes_more : GoesOn to next other more more_then)
-    (turns : (client : ℕ) → client_bytes client (reply lacks.view occurrence).out
+    (turns : (client : ℕ) → client_bytes client (reply lacks.state read_event).out
     ++ client_bytes client next.out
-    ≡ client_bytes client next.out ++ client_bytes client (reply lacks.view occurrence).out)
+    ≡ client_bytes client next.out ++ client_bytes client (reply lacks.state read_event).out)
   where
     abbrev out : List Sent
-    out = (reply lacks.view occurrence).out
+    out = (reply lacks.state read_event).out
 
     apart : nat_eq place to ≡ false
     apart = turned place to ∙ away
@@ -198,9 +198,9 @@ module _ (place to : ℕ) (occurrence : Occurrence) (less more : ByteNetwork)
         (client_bytes client out))
         ∙ ap (λ bs. bs ++ client_bytes client out) (sym (goes_less.gets.more client has))
 
-    lacks_then : LacksOne place occurrence less_then more_then
+    lacks_then : LacksOne place read_event less_then more_then
     lacks_then = record {
-      view = lacks.view;
+      state = lacks.state;
       here = goes_less.others place apart ∙ lacks.here;
       here_then = goes_more.others place apart ∙ lacks.here_then;
       others = λ x two. servers_then x two (nat_eq x to) refl;
@@ -225,8 +225,8 @@ module _ (place to : ℕ) (occurrence : Occurrence) (less more : ByteNetwork)
 -- ---- bytes come to another server
 
 module _ (own_law : ServedGoesToItsOwn) (stay : ClientsStay) (keeps : ServedKeepsEnds) where
-  module _ (place from to count : ℕ) (occurrence : Occurrence) (less more : ByteNetwork)
-      (lacks : LacksOne place occurrence less more)
+  module _ (place from to count : ℕ) (read_event : ReadEvent) (less more : ByteNetwork)
+      (lacks : LacksOne place read_event less more)
       (away : nat_eq to place ≡ false) (own : AreOwn less.network) (ends : AreAllEnds less.network)
       (other : View)
       (at : server_at less.network to ≡ Some (Some other))
@@ -240,61 +240,61 @@ module _ (own_law : ServedGoesToItsOwn) (stay : ClientsStay) (keeps : ServedKeep
 
       -- who is a client there is none here
       not_here : (client : ℕ) → is_some (get other.clients client) ≡ true → (b : Bool)
-          → is_some (get lacks.view.clients client) ≡ b → b ≡ false
+          → is_some (get lacks.state.clients client) ≡ b → b ≡ false
       not_here client there true is =
           cc (sym (eq-eqb to place
-          (sym (own place to client lacks.view other lacks.here at is there))) ∙ away)
+          (sym (own place to client lacks.state other lacks.here at is there))) ∙ away)
       not_here client there false is = refl
 
       turns : (client : ℕ) (b : Bool) → is_some (get other.clients client) ≡ b
-          → client_bytes client (reply lacks.view occurrence).out ++ client_bytes client next.out
-          ≡ client_bytes client next.out ++ client_bytes client (reply lacks.view occurrence).out
+          → client_bytes client (reply lacks.state read_event).out ++ client_bytes client next.out
+          ≡ client_bytes client next.out ++ client_bytes client (reply lacks.state read_event).out
       turns client true there =
           let none =
-          nobody_gets own_law lacks.view occurrence (ends place lacks.view lacks.here) client
-          (not_here client there (is_some (get lacks.view.clients client)) refl) in
+          nobody_gets own_law lacks.state read_event (ends place lacks.state lacks.here) client
+          (not_here client there (is_some (get lacks.state.clients client)) refl) in
           ap (λ bs. bs ++ client_bytes client next.out) none
           ∙ sym (append-nil (client_bytes client next.out))
           ∙ ap (λ bs. client_bytes client next.out ++ bs) (sym none)
       turns client false not_there =
           let none =
           all_to_own own_law stay keeps from other lines client (ends to other at) not_there in
-          ap (λ bs. client_bytes client (reply lacks.view occurrence).out ++ bs) none
-          ∙ append-nil (client_bytes client (reply lacks.view occurrence).out)
-          ∙ ap (λ bs. bs ++ client_bytes client (reply lacks.view occurrence).out) (sym none)
+          ap (λ bs. client_bytes client (reply lacks.state read_event).out ++ bs) none
+          ∙ append-nil (client_bytes client (reply lacks.state read_event).out)
+          ∙ ap (λ bs. bs ++ client_bytes client (reply lacks.state read_event).out) (sym none)
 
       goes_more : GoesOn to next (wires_come more from to count) more
-          (bytes_come from to count (byte_begun more)).net
+          (bytes_come from to count (begun more)).net
       goes_more =
           subst
           (λ ls. GoesOn to (all_replies from other ls) (wires_come more from to count) more
-          (bytes_come from to count (byte_begun more)).net)
-          (same_lines place occurrence less more lacks from to count enough)
+          (bytes_come from to count (begun more)).net)
+          (same_lines place read_event less more lacks from to count enough)
           (bytes_go_on from to count more other lacks.tidy_more (lacks.others to away ∙ at))
 
-      pub lacks_still : LacksOne place occurrence (bytes_come from to count (byte_begun less)).net
-          (bytes_come from to count (byte_begun more)).net
+      pub lacks_still : LacksOne place read_event (bytes_come from to count (begun less)).net
+          (bytes_come from to count (begun more)).net
       lacks_still =
-          lacks_then place to occurrence less more lacks away next (wires_come less from to count)
+          lacks_then place to read_event less more lacks away next (wires_come less from to count)
           (wires_come more from to count)
-          (still_behind place occurrence less more lacks from to count enough)
-          (bytes_come from to count (byte_begun less)).net
-          (bytes_come from to count (byte_begun more)).net
+          (still_behind place read_event less more lacks from to count enough)
+          (bytes_come from to count (begun less)).net
+          (bytes_come from to count (begun more)).net
           (bytes_go_on from to count less other lacks.tidy_less at) goes_more
           (λ client. turns client (is_some (get other.clients client)) refl)
 
 -- ---- the server is asked in both
 
-module _ (place : ℕ) (occurrence : Occurrence) (less more : ByteNetwork)
-    (lacks : LacksOne place occurrence less more) where
+module _ (place : ℕ) (read_event : ReadEvent) (less more : ByteNetwork)
+    (lacks : LacksOne place read_event less more) where
   abbrev asked_too : ByteNetwork
-  asked_too = queues_written (node_asked place occurrence (begun less.network)).net less.wires
+  asked_too = queues_written (node_asked place read_event (begun less.network)).net less.wires
 
-  goes : GoesOn place (reply lacks.view occurrence) less.wires less asked_too
-  goes = asked_goes_on place occurrence lacks.view less lacks.tidy_less lacks.here
+  goes : GoesOn place (reply lacks.state read_event) less.wires less asked_too
+  goes = asked_goes_on place read_event lacks.state less lacks.tidy_less lacks.here
 
   pub lacks_nothing : IsSameAs
-      (queues_written (node_asked place occurrence (begun less.network)).net less.wires) more
+      (queues_written (node_asked place read_event (begun less.network)).net less.wires) more
   lacks_nothing = record {
     servers = λ x. same_server x (nat_eq x place) refl;
     ways = λ x y. lacks.ways x y ∙ sym (goes.ways x y);
@@ -343,7 +343,7 @@ module _ (place : ℕ) (occurrence : Occurrence) (less more : ByteNetwork)
       by : (b : Bool) → has_come less.network client ≡ b
           → IsFront (bytes_received less.network client) (bytes_received more.network client)
       by true has =
-          (client_bytes client (reply lacks.view occurrence).out, sym (lacks.received client has))
+          (client_bytes client (reply lacks.state read_event).out, sym (lacks.received client has))
       by false none = (
         [],
         append-nil (bytes_received less.network client) ∙ none_received less.network client none

@@ -4,7 +4,7 @@ use Rattle.std.specs.Prelude.{◌≡◌, ℕ, ◌++◌, true, false, is_some, So
 use Rattle.std.specs.FinMap.{get}
 use Rattle.irc_stage.specs.Ways.{AreEnds}
 use Rattle.irc_stage.specs.View.{View}
-use Rattle.irc_server.specs.Served.{Occurrence}
+use Rattle.irc_server.specs.Served.{ReadEvent}
 use Rattle.irc_network.specs.Node.{reply}
 use Rattle.irc_network.specs.Network.{Network}
 use Rattle.irc_wires.specs.Wires.{wire_at}
@@ -18,17 +18,17 @@ use Rattle.irc_daemons.proofs.Written.{bodies, with_ends}
 
 -- The two are the same but that in the second the server at a place has been asked for something
 -- more.
-pub record LacksOne (place : ℕ) (occurrence : Occurrence) (less more : ByteNetwork) : Type 0 where
-  pub view : View
-  pub here : server_at less.network place ≡ Some (Some view)
-  pub here_then : server_at more.network place ≡ Some (Some (reply view occurrence).view)
+pub record LacksOne (place : ℕ) (read_event : ReadEvent) (less more : ByteNetwork) : Type 0 where
+  pub state : View
+  pub here : server_at less.network place ≡ Some (Some state)
+  pub here_then : server_at more.network place ≡ Some (Some (reply state read_event).state)
   pub others : (x : ℕ) → nat_eq x place ≡ false
       → server_at more.network x ≡ server_at less.network x
   pub ways : (x y : ℕ) → has_way more.network x y ≡ has_way less.network x y
   pub wires_there : (x y : ℕ) → nat_eq x place ≡ false
       → wire_at more.wires x y ≡ wire_at less.wires x y
   pub wires_here : (y : ℕ) → has_way less.network place y ≡ true → wire_at more.wires place y
-      ≡ wire_behind (with_ends (bodies y (reply view occurrence).out)) (wire_at less.wires place y)
+      ≡ wire_behind (with_ends (bodies y (reply state read_event).out)) (wire_at less.wires place y)
   pub no_way : (y : ℕ) → has_way less.network place y ≡ false
       → wire_at more.wires place y ≡ wire_at less.wires place y
   pub names : more.network.names ≡ less.network.names
@@ -37,7 +37,7 @@ pub record LacksOne (place : ℕ) (occurrence : Occurrence) (less more : ByteNet
   pub inboxes : length more.network.received ≡ length less.network.received
   pub received : (client : ℕ) → has_come less.network client ≡ true
       → bytes_received more.network client ≡ bytes_received less.network client
-      ++ client_bytes client (reply view occurrence).out
+      ++ client_bytes client (reply state read_event).out
   pub tidy_less : IsTidy less
   pub tidy_more : IsTidy more
 

@@ -12,8 +12,8 @@ use Rattle.irc_line.specs.Reading.{read_of}
 use Rattle.irc_batch.specs.Batches.{Sent}
 use Rattle.irc_server.specs.declared.event.Event.{Event}
 use Rattle.irc_server.specs.declared.event.Event.TheVariants.{LinkLine}
-use Rattle.irc_server.specs.Happening.{occurrence_of}
-use Rattle.irc_server.specs.Served.{Occurrence, link_says}
+use Rattle.irc_server.specs.ReadEvents.{read_event_of}
+use Rattle.irc_server.specs.Served.{ReadEvent, link_says}
 use Rattle.irc_server.specs.Connected.{client_comes}
 use Rattle.irc_server.specs.LineEnds.{ServedLinesEnd}
 use Rattle.irc_server.specs.Own.{ServedGoesToItsOwn}
@@ -53,9 +53,9 @@ use Rattle.irc_daemons.proofs.Written.{bodies, bodies_are, ends_both, with_ends,
 
 pub record Listens (to : ℕ) (numbers : Numbers) (own last : View) (events : List Event)
     (outs : List Sent) (old new : Network) : Type 0 where
-  pub view : View
-  pub alike : AreServersAlike numbers last view
-  pub server : server_at new to ≡ Some (Some view)
+  pub state : View
+  pub alike : AreServersAlike numbers last state
+  pub server : server_at new to ≡ Some (Some state)
   pub lines : ℕ → Lines
   pub ways : (y : ℕ) → has_way new to y ≡ has_way old to y
   pub waits : (y : ℕ) → has_way old to y ≡ true
@@ -75,7 +75,7 @@ listens_none : (to : ℕ) (numbers : Numbers) (own other : View) (net : Network)
     → AreServersAlike numbers own other → server_at net to ≡ Some (Some other)
     → Listens to numbers own own [] [] net net
 listens_none to numbers own other net alike at = record {
-  view = other;
+  state = other;
   alike = alike;
   server = at;
   lines = λ y. [];
@@ -95,7 +95,7 @@ pub listens_both : (to : ℕ) (numbers : Numbers) (own between last : View) (eve
     → Listens to numbers between last more b mid new
     → Listens to numbers own last (events ++ more) (a ++ b) old new
 listens_both to numbers own between last events more a b old mid new one two = record {
-  view = two.view;
+  state = two.state;
   alike = two.alike;
   server = two.server;
   lines = λ y. one.lines y ++ two.lines y;
@@ -141,12 +141,12 @@ module _ (lines_end : ServedLinesEnd) (own_law : ServedGoesToItsOwn) (stay : Cli
     (from to conn : ℕ) (is_link : numbers.link from ≡ Some conn)
   where
     module _ (line : ArrayVec ℕ) (own other : View)
-        (progress : Progress) (alike : AreServersAlike numbers own other)
+        (progress : Progress Network) (alike : AreServersAlike numbers own other)
         (at : server_at progress.net to ≡ Some (Some other)) where
-      abbrev it : Occurrence
+      abbrev it : ReadEvent
       it = link_says conn (read_of line.items)
 
-      abbrev there : Occurrence
+      abbrev there : ReadEvent
       there = link_says from (read_of line.items)
 
       abbrev mine : Served
@@ -158,7 +158,7 @@ module _ (lines_end : ServedLinesEnd) (own_law : ServedGoesToItsOwn) (stay : Cli
       said : ServeAlike numbers own it other there
       said = alike_law numbers own other there conn apart alike is_link
 
-      here : Replies to theirs.view (λ y. bodies y theirs.out) progress.net
+      here : Replies to theirs.state (λ y. bodies y theirs.out) progress.net
           (heard from to progress line.items).net
       here = heard_replies from to line.items other progress at
 
@@ -171,7 +171,7 @@ module _ (lines_end : ServedLinesEnd) (own_law : ServedGoesToItsOwn) (stay : Cli
       no_client client none =
           ap is_some (alike.alike.clients client ∙ ap (option_and_then (get own.clients)) none)
 
-      serves_it : ServesClients numbers own mine.view (LinkLine conn line ∷ []) mine.out
+      serves_it : ServesClients numbers own mine.state (LinkLine conn line ∷ []) mine.out
       serves_it = record {
         silent = λ client q seat none.
             nothing_answered own_law own it alike.ends_count q refl none
@@ -194,10 +194,11 @@ module _ (lines_end : ServedLinesEnd) (own_law : ServedGoesToItsOwn) (stay : Cli
             inboxes = keeps.inboxes;
           }
 
-      listens_one : Listens to numbers own mine.view (LinkLine conn line ∷ []) mine.out progress.net
+      listens_one : Listens to numbers own mine.state
+          (LinkLine conn line ∷ []) mine.out progress.net
           (heard from to progress line.items).net
       listens_one = record {
-        view = theirs.view;
+        state = theirs.state;
         alike = said.views;
         server = here.server;
         lines = λ y. bodies y theirs.out;
@@ -224,7 +225,7 @@ module _ (lines_end : ServedLinesEnd) (own_law : ServedGoesToItsOwn) (stay : Cli
 
     abbrev pub Listening : List Event → Type 0
     Listening events = (old new : ServerAsked) (outs : List Sent) (own last other : View)
-        (progress : Progress) (asked : AreAsked old events outs new)
+        (progress : Progress Network) (asked : AreAsked old events outs new)
         → old.server ≡ Some own → new.server ≡ Some last → has_item events ≡ false
         → AllByRecursion (IsToldOf conn) events
         → AreServersAlike numbers own other → server_at progress.net to ≡ Some (Some other)
@@ -241,7 +242,7 @@ module _ (lines_end : ServedLinesEnd) (own_law : ServedGoesToItsOwn) (stay : Cli
 
     module _ (event : Event) (events : List Event) (later : Listening events)
         (old new : ServerAsked)
-        (outs : List Sent) (own last other : View) (progress : Progress)
+        (outs : List Sent) (own last other : View) (progress : Progress Network)
         (asked : AreAsked old (event ∷ events) outs new) (was : old.server ≡ Some own)
         (is : new.server ≡ Some last)
         (no_item : has_item (event ∷ events) ≡ false)
@@ -250,7 +251,7 @@ module _ (lines_end : ServedLinesEnd) (own_law : ServedGoesToItsOwn) (stay : Cli
         (at : server_at progress.net to ≡ Some (Some other))
       where
         -- what the others make of a network
-        abbrev heard_then : Progress → Network
+        abbrev heard_then : Progress Network → Network
         heard_then c = (all_heard from to c (lines_by conn events)).net
 
         no_item_then : has_item events ≡ false
@@ -270,12 +271,12 @@ module _ (lines_end : ServedLinesEnd) (own_law : ServedGoesToItsOwn) (stay : Cli
             let took_it =
             took own event old.server asked.between.server asked.first was asked.is_handled in
             let server_is =
-            took_it.server_is ∙ ap (λ e. Some (reply own (occurrence_of e)).view) event_is in
+            took_it.server_is ∙ ap (λ e. Some (reply own (read_event_of e)).state) event_is in
             let first_is =
-            took_it.first_is ∙ ap (λ e. (reply own (occurrence_of e)).out) event_is in
+            took_it.first_is ∙ ap (λ e. (reply own (read_event_of e)).out) event_is in
             let one = listens_one line own other progress alike at in
             let mine : Served = reply own (link_says conn (read_of line.items)) in
-            let two = later asked.between new asked.more mine.view last one.view
+            let two = later asked.between new asked.more mine.state last one.state
             (heard from to progress line.items) asked.rest_is server_is is no_item_then told.1
             one.alike one.server in
             subst (λ e. Listens to numbers own last (e ∷ events) (asked.first
@@ -285,7 +286,7 @@ module _ (lines_end : ServedLinesEnd) (own_law : ServedGoesToItsOwn) (stay : Cli
             (λ os. Listens to numbers own last (LinkLine conn line ∷ events)
             (os ++ asked.more) progress.net (heard_then (heard from to progress line.items)))
             (sym first_is)
-            (listens_both to numbers own mine.view last (LinkLine conn line ∷ []) events mine.out
+            (listens_both to numbers own mine.state last (LinkLine conn line ∷ []) events mine.out
             asked.more progress.net (heard from to progress line.items).net
             (heard_then (heard from to progress line.items)) one two))
 
@@ -348,7 +349,7 @@ module _ (to : ℕ) (numbers : Numbers) (own last : View) (events : List Event) 
 
     pub listened : Went to numbers last outs mid now
     listened = record {
-      view = listens.view;
+      state = listens.state;
       alike = listens.alike;
       server = emptied_server heard_net to ∙ listens.server;
       others = λ x two. emptied_server heard_net x

@@ -23,7 +23,7 @@ use Rattle.irc_net.specs.Laws.{EveryRunIsKept}
 use Rattle.irc_net.specs.Making.{made_of, new_node, setting_given}
 use Rattle.irc_net.specs.Running.{HasRun, made}
 use Rattle.irc_engine.specs.Hearing.{begun_at}
-use Rattle.irc_engine.specs.Turning.{EngineView}
+use Rattle.irc_engine.specs.EngineView.{EngineView}
 use Rattle.irc_daemons.specs.Alike.{AreAlike, AreServersAlikeIf, AreRowsAlike, Numbers}
 use Rattle.irc_daemons.specs.AsBytes.{IsAsBytes, IsServerIf, IsServerOf, numbers_at}
 use Rattle.irc_relay.specs.Relay.{IsFront}

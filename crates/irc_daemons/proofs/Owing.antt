@@ -14,9 +14,9 @@ use Rattle.irc_server.specs.Own.{ServedGoesToItsOwn, ServedKeepsEnds}
 use Rattle.irc_server.specs.declared.event.Event.{Event}
 use Rattle.irc_world.specs.Stepping.{Item}
 use Rattle.irc_world.specs.World.{Setting}
-use Rattle.irc_network.specs.Network.{node_at}
+use Rattle.irc_network.specs.Network.{begun, node_at}
 use Rattle.irc_wires.specs.Wires.{LinkWire, new_wire, wire_at}
-use Rattle.irc_network.specs.ByteNetwork.{ByteNetwork, byte_begun, bytes_come}
+use Rattle.irc_network.specs.ByteNetwork.{ByteNetwork, bytes_come}
 use Rattle.irc_net.specs.Laws.{SettingsStay, StaysKept}
 use Rattle.irc_daemons.specs.Alike.{ServedAlike}
 use Rattle.irc_daemons.specs.AsBytes.{IsServerIf, numbers_at}
@@ -27,7 +27,7 @@ use Rattle.irc_daemons.specs.Doings.{taken_at}
 use Rattle.irc_daemons.specs.EachStep.{ArePlaced, ReadsLink}
 use Rattle.irc_daemons.specs.Items.{AreItems, has_item, is_one, is_passed, no_item}
 use Rattle.irc_daemons.specs.Steps.{Steps}
-use Rattle.irc_daemons.specs.Tellings.{Owing, is_lost, is_up, is_way_by, occurrence_by}
+use Rattle.irc_daemons.specs.Tellings.{Owing, is_lost, is_up, is_way_by, read_event_by}
 use Rattle.irc_daemons.proofs.Assembly.{mid_moment, start, taken_is}
 use Rattle.irc_daemons.proofs.ByLink.{BytesCame, bytes_came}
 use Rattle.irc_daemons.proofs.EachStep.{reads_or_not}
@@ -62,7 +62,7 @@ pub record IsHalf {W : Type 0} (settings : List Setting) (names : List Name) (it
   pub going : IsGoing settings items more
   pub same : IsAsNetwork names daemons less
   pub placed : ArePlaced names less
-  pub lacks : LacksOne owing.place (occurrence_by owing.tidings owing.other) less more
+  pub lacks : LacksOne owing.place (read_event_by owing.tidings owing.other) less more
   pub apart : nat_eq owing.place owing.other ≡ false
   pub way : daemons.ways owing.place owing.other ≡ is_way_by owing.tidings
   pub untold : is_some (daemons.ends owing.place owing.other) ≡ not (is_way_by owing.tidings)
@@ -141,7 +141,7 @@ module _ {W : Type 0} (is_after : W → List Call → Type 0) (pieces : PiecesCo
     -- what is known of links stays
     half_with : (less more : ByteNetwork) → IsGoing settings items more
         → IsAsNetwork names new less → ArePlaced names less
-        → LacksOne owing.place (occurrence_by owing.tidings owing.other) less more
+        → LacksOne owing.place (read_event_by owing.tidings owing.other) less more
         → IsStillFor owing less → IsHalf settings names items owing new
     half_with less more going same placed lacks still = record {
       less = less;
@@ -176,18 +176,18 @@ module _ {W : Type 0} (is_after : W → List Call → Type 0) (pieces : PiecesCo
     -- bytes come to another server
     comes : (from : ℕ) → nat_eq place owing.place ≡ false
         → (came : BytesCame names from place half.less new)
-        → IsStillFor owing (bytes_come from place (length came.front) (byte_begun half.less)).net
+        → IsStillFor owing (bytes_come from place (length came.front) (begun half.less)).net
         → IsHalf settings names items owing new
     comes from away came still =
         let count : ℕ = length came.front in
-        let less : ByteNetwork = (bytes_come from place count (byte_begun half.less)).net in
-        let more : ByteNetwork = (bytes_come from place count (byte_begun half.more)).net in
+        let less : ByteNetwork = (bytes_come from place count (begun half.less)).net in
+        let more : ByteNetwork = (bytes_come from place count (begun half.more)).net in
         let enough = front_enough came.front came.rest
         (wire_at half.less.wires from place).bytes came.bytes_are in
         let lacks = lacks_still own_law stay keeps owing.place from place count
-        (occurrence_by owing.tidings owing.other) half.less half.more half.lacks away
+        (read_event_by owing.tidings owing.other) half.less half.more half.lacks away
         (are_own names old half.less half.same once)
-        (all_ends names old half.less half.same) came.view came.at enough in
+        (all_ends names old half.less half.same) came.state came.at enough in
         half_with less more
         (subst (λ xs. IsGoing settings xs more) (append-nil items)
         (goes_on stays set_up settings items half.more [] more half.going
@@ -225,7 +225,7 @@ module _ {W : Type 0} (is_after : W → List Call → Type 0) (pieces : PiecesCo
                 half.same once in
                 comes reads.from away came
                 (side_is_still side lost far (aside_still side reads.from place
-                (length came.front) half.less came.view aside half.lacks.tidy_less came.at))
+                (length came.front) half.less came.state aside half.lacks.tidy_less came.at))
             read (inr none) =
                 idle (not_taken is_after pieces names place old new half.less step half.same none)
 

@@ -11,7 +11,7 @@ use Rattle.irc_stage.specs.View.{View}
 use Rattle.irc_world.specs.World.{home_in}
 use Rattle.irc_network.specs.Network.{Node, node_at}
 use Rattle.irc_network.specs.ByteNetwork.{ByteNetwork}
-use Rattle.irc_engine.specs.Turning.{EngineView}
+use Rattle.irc_engine.specs.EngineView.{EngineView}
 use Rattle.irc_daemons.specs.Alike.{AreServersAlike, AreServersAlikeIf, Numbers}
 use Rattle.irc_daemons.specs.AsBytes.{IsServerIf, numbers_at}
 use Rattle.irc_daemons.specs.AsNetwork.{IsAsNetwork}

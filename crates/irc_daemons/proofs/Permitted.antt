@@ -42,8 +42,8 @@ placed_by net set_up x name is =
 
 -- a server that is there, whatever is on its way
 pub record IsServing (net : Network) (x : ℕ) : Type 0 where
-  pub view : View
-  pub at : server_at net x ≡ Some (Some view)
+  pub state : View
+  pub at : server_at net x ≡ Some (Some state)
 
 server_behind : (ahead : Ahead) (nodes : List Node) (x : ℕ)
     → option_map (λ (s : Node). s.server) (slice_get (nodes_behind ahead nodes) x)
@@ -59,7 +59,7 @@ serves_there net kept x name is =
     let here = there (net_in_lines net) kept.sound.set_up name among in
     let place = only_place net.network.names name x (kept.sound.set_up.once name among) is in
     record {
-      view = view_at (net_in_lines net) name;
+      state = view_at (net_in_lines net) name;
       at =
           sym (server_behind (lines_ahead net.wires) net.network.nodes x)
           ∙ ap (server_at (net_in_lines net)) (sym place)

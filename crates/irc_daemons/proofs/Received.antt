@@ -8,7 +8,7 @@ use Rattle.std.specs.List.{flat_map, slice_get, slice_set}
 use Rattle.std.specs.Option.{option_map_or}
 use Rattle.irc_batch.specs.Batches.{Sent, end_of, end_of_link, line_on, line_to}
 use Rattle.irc_line.specs.Reading.{read_of}
-use Rattle.irc_server.specs.Served.{Occurrence, link_says}
+use Rattle.irc_server.specs.Served.{ReadEvent, link_says}
 use Rattle.irc_stage.specs.View.{View}
 use Rattle.irc_network.specs.Network.{Progress, Network, Served, Node, all_sent_out, asked_at}
 use Rattle.irc_network.specs.Network.{has_received, has_received_at, heard, line_counted}
@@ -55,7 +55,7 @@ line_of_other : (one q : ℕ) (text : List ℕ) → nat_eq one q ≡ false
     → bytes_to q (line_to one text) ≡ []
 line_of_other one q text two = ap (λ b. if b then text else []) two
 
-gets_line : (client : ℕ) (text : List ℕ) (progress : Progress) → Gets
+gets_line : (client : ℕ) (text : List ℕ) (progress : Progress Network) → Gets
     (λ q. bytes_to q (line_to client text)) progress.net (has_received client text progress).net
 gets_line zero text progress = record {
   come = λ q. refl;
@@ -137,14 +137,14 @@ gets_queued place to text net = by (node_at net place)
     by None = gets_none net net refl
     by (Some node) = gets_none net (with_node place (line_queued to text node) net) refl
 
-gets_one : (place : ℕ) (sent : Sent) (progress : Progress)
+gets_one : (place : ℕ) (sent : Sent) (progress : Progress Network)
     → Gets (λ q. bytes_to q sent) progress.net (sent_out place sent progress).net
 gets_one place (line_to client text) progress = gets_line client text progress
 gets_one place (end_of client) progress = gets_none progress.net progress.net refl
 gets_one place (line_on link text) progress = gets_queued place link text progress.net
 gets_one place (end_of_link link reason) progress = gets_none progress.net progress.net refl
 
-gets_all : (place : ℕ) (outs : List Sent) (progress : Progress)
+gets_all : (place : ℕ) (outs : List Sent) (progress : Progress Network)
     → Gets (λ q. client_bytes q outs) progress.net (all_sent_out place outs progress).net
 gets_all place [] progress = gets_none progress.net progress.net refl
 gets_all place (sent ∷ outs) progress =
@@ -157,12 +157,13 @@ gets_all place (sent ∷ outs) progress =
           ∙ append_assoc (bytes_received progress.net q) (bytes_to q sent) (client_bytes q outs);
     }
 
-module _ (place : ℕ) (occurrence : Occurrence) (view : View) where
+module _ (place : ℕ) (read_event : ReadEvent) (view : View) where
   abbrev answer : Served
-  answer = reply view occurrence
+  answer = reply view read_event
 
-  pub asked_gets : (progress : Progress) → server_at progress.net place ≡ Some (Some view) → Gets
-      (λ q. client_bytes q answer.out) progress.net (node_asked place occurrence progress).net
+  pub asked_gets : (progress : Progress Network)
+      → server_at progress.net place ≡ Some (Some view) → Gets
+      (λ q. client_bytes q answer.out) progress.net (node_asked place read_event progress).net
   unfolding node_asked
   asked_gets progress is = by_node (node_at progress.net place) is
     where
@@ -171,7 +172,7 @@ module _ (place : ℕ) (occurrence : Occurrence) (view : View) where
       at_node node =
           let gets = gets_all place answer.out (record progress {
             net = with_node place
-                (record node { server = Some answer.view }) progress.net;
+                (record node { server = Some answer.state }) progress.net;
           }) in
           record {
             come = λ q. gets.come q ∙ unmoved q;
@@ -180,32 +181,32 @@ module _ (place : ℕ) (occurrence : Occurrence) (view : View) where
           }
         where
           unmoved : (q : ℕ) → has_come (with_node place
-              (record node { server = Some answer.view }) progress.net) q ≡ has_come progress.net q
+              (record node { server = Some answer.state }) progress.net) q ≡ has_come progress.net q
           unmoved zero = refl
           unmoved (suc d) = refl
 
           same_bytes : (q : ℕ) → bytes_received
-              (with_node place (record node { server = Some answer.view }) progress.net) q
+              (with_node place (record node { server = Some answer.state }) progress.net) q
               ≡ bytes_received progress.net q
           same_bytes zero = refl
           same_bytes (suc d) = refl
 
       by_view : (node : Node) (o : Option View) → o ≡ Some view
           → Gets (λ q. client_bytes q answer.out) progress.net (option_map_or
-          (λ (v : View). with_reply place progress node (reply v occurrence)) o progress).net
+          (λ (v : View). with_reply place progress node (reply v read_event)) o progress).net
       by_view node None none = cc none
       by_view node (Some v) one =
           subst (λ (w : View). Gets (λ q. client_bytes q answer.out) progress.net
-          (with_reply place progress node (reply w occurrence)).net)
+          (with_reply place progress node (reply w read_event)).net)
           (sym (ap (λ o. unwrap_or o v) one)) (at_node node)
 
       by_node : (o : Option Node) → option_map (λ (s : Node). s.server) o ≡ Some (Some view)
           → Gets (λ q. client_bytes q answer.out) progress.net
-          (option_map_or (asked_at place occurrence progress) o progress).net
+          (option_map_or (asked_at place read_event progress) o progress).net
       by_node None none = cc none
       by_node (Some node) some = by_view node node.server (ap (λ o. unwrap_or o None) some)
 
-pub heard_gets : (from to : ℕ) (line : List ℕ) (view : View) (progress : Progress)
+pub heard_gets : (from to : ℕ) (line : List ℕ) (view : View) (progress : Progress Network)
     → server_at progress.net to ≡ Some (Some view) → Gets (λ q. client_bytes q
     (reply view (link_says from (read_of line))).out) progress.net (heard from to progress line).net
 heard_gets from to line view progress is =

@@ -23,7 +23,7 @@ use Rattle.irc_daemons.specs.NewDaemons.{names_in, settings_in}
 use Rattle.irc_daemons.specs.OneRoom.{DaemonsAreOneRoom, SendAsOneRoom}
 use Rattle.irc_daemons.specs.Runs.{NoneMeanwhile, Runs, first_told, no_step, one_more, second_told}
 use Rattle.irc_daemons.specs.Steps.{Steps}
-use Rattle.irc_daemons.specs.Tellings.{Owing, occurrence_by}
+use Rattle.irc_daemons.specs.Tellings.{Owing, read_event_by}
 use Rattle.irc_daemons.proofs.Changing.{IsWhole, first_half, placed_of, then_whole}
 use Rattle.irc_daemons.proofs.EachStep.{any_step}
 use Rattle.irc_daemons.proofs.Going.{goes_on, owing_send, told_send}
@@ -123,7 +123,7 @@ module _ {W : Type 0} (is_after : W → List Call → Type 0) (each : EachStep i
     sends items (Some owing) now come =
         owing_send laws.owed settings items names now owing come.less come.more come.going come.same
         (front_of_more owing.place
-        (occurrence_by owing.tidings owing.other) come.less come.more come.lacks)
+        (read_event_by owing.tidings owing.other) come.less come.more come.lacks)
 
 module _ {W : Type 0} (is_after : W → List Call → Type 0) (each : EachStep is_after)
     (laws : Laws) where

@@ -10,7 +10,7 @@ use Rattle.irc_network.specs.Network.{Network, Node, node_at}
 use Rattle.irc_wires.specs.Wires.{wire_at}
 use Rattle.irc_network.specs.ByteNetwork.{ByteNetwork}
 use Rattle.irc_network.specs.Whole.{IsTidy, has_way}
-use Rattle.irc_engine.specs.Turning.{EngineView}
+use Rattle.irc_engine.specs.EngineView.{EngineView}
 use Rattle.irc_daemons.specs.Alike.{AreServersAlikeIf, Numbers}
 use Rattle.irc_daemons.specs.AsBytes.{IsAsBytes, IsServerIf, numbers_at}
 use Rattle.irc_daemons.specs.AsNetwork.{AreReceived, AreSeated, IsAsNetwork}

@@ -11,9 +11,9 @@ use Rattle.irc_batch.specs.Batches.{Sent, end_of, end_of_link, line_on, line_to}
 use Rattle.irc_stage.specs.Handle.{connects, goes, says}
 use Rattle.irc_stage.specs.Ways.{AreEnds}
 use Rattle.irc_stage.specs.View.{View}
-use Rattle.irc_server.specs.Served.{Occurrence, link_down, link_says, link_up, of_client, served}
+use Rattle.irc_server.specs.Served.{ReadEvent, link_down, link_says, link_up, of_client, served}
 use Rattle.irc_server.specs.Own.{ServedKeepsEnds}
-use Rattle.irc_network.specs.Node.{Served, reply, serves_occurrence}
+use Rattle.irc_network.specs.Node.{Served, reply, serves_read_event}
 use Rattle.irc_engine.specs.Carrying.{answers, is_closed_by}
 use Rattle.irc_numbers.specs.EndsLast.{NothingIsBehindAnEnd, ends_last}
 use Rattle.irc_numbers.specs.ServedAlike.{ArePutOutAlike, NumbersAreNothing, client_part, link_part}
@@ -189,10 +189,10 @@ say_alike numbers own other apart last put = record {
 
 -- ---- whatever happens
 
-abbrev answered : Bool → View → Occurrence → Served
-answered b view occurrence =
-    if b then record { view = (served view occurrence).view; out = (served view occurrence).out }
-    else record { view = view; out = [] }
+abbrev answered : Bool → View → ReadEvent → Served
+answered b view read_event =
+    if b then record { state = (served view read_event).state; out = (served view read_event).out }
+    else record { state = view; out = [] }
 
 module _ (nothing : NumbersAreNothing) (behind : NothingIsBehindAnEnd)
     (keeps : ServedKeepsEnds) where
@@ -207,8 +207,8 @@ module _ (nothing : NumbersAreNothing) (behind : NothingIsBehindAnEnd)
     end_same place at = alike.ends place ∙ ap (option_and_then (get own.ends)) at
 
     -- it is refused by both, or by neither
-    serves_same : (occurrence : Occurrence) → happens_at numbers occurrence ≡ Some conn
-        → serves_occurrence other occurrence ≡ serves_occurrence own (renumbered conn occurrence)
+    serves_same : (read_event : ReadEvent) → happens_at numbers read_event ≡ Some conn
+        → serves_read_event other read_event ≡ serves_read_event own (renumbered conn read_event)
     serves_same (of_client (connects client host)) at = ap is_none (client_same client at)
     serves_same (of_client (says client read)) at = ap is_some (client_same client at)
     serves_same (of_client (goes client)) at = ap is_some (client_same client at)
@@ -217,44 +217,44 @@ module _ (nothing : NumbersAreNothing) (behind : NothingIsBehindAnEnd)
     serves_same (link_down place) at = ap is_some (end_same place at)
 
     abbrev AreReplies : Served → Served → Type 0
-    AreReplies one two = AreAlike numbers one.view two.view × SayAlike numbers one.out two.out
+    AreReplies one two = AreAlike numbers one.state two.state × SayAlike numbers one.out two.out
 
-    both_reply : (occurrence : Occurrence) → happens_at numbers occurrence ≡ Some conn → (b : Bool)
-        → AreReplies (answered b own (renumbered conn occurrence)) (answered b other occurrence)
-    both_reply occurrence at true =
-        let done = nothing numbers own other occurrence conn apart alike at in (
+    both_reply : (read_event : ReadEvent) → happens_at numbers read_event ≡ Some conn → (b : Bool)
+        → AreReplies (answered b own (renumbered conn read_event)) (answered b other read_event)
+    both_reply read_event at true =
+        let done = nothing numbers own other read_event conn apart alike at in (
           done.views,
-          say_alike numbers (served own (renumbered conn occurrence)).out
-              (served other occurrence).out apart
-              (λ k. behind own (renumbered conn occurrence) k) done.outs,
+          say_alike numbers (served own (renumbered conn read_event)).out
+              (served other read_event).out apart
+              (λ k. behind own (renumbered conn read_event) k) done.outs,
         )
-    both_reply occurrence at false =
+    both_reply read_event at false =
         (alike, record { on_links = λ place k is stays. refl; to_clients = λ client k is. refl })
 
-    replies_alike : (occurrence : Occurrence) → happens_at numbers occurrence ≡ Some conn
-        → AreReplies (reply own (renumbered conn occurrence)) (reply other occurrence)
-    replies_alike occurrence at =
-        let mine = renumbered conn occurrence in
-        subst (λ b. AreReplies (reply own mine) (answered b other occurrence))
-        (sym (serves_same occurrence at))
-        (both_reply occurrence at (serves_occurrence own mine))
+    replies_alike : (read_event : ReadEvent) → happens_at numbers read_event ≡ Some conn
+        → AreReplies (reply own (renumbered conn read_event)) (reply other read_event)
+    replies_alike read_event at =
+        let mine = renumbered conn read_event in
+        subst (λ b. AreReplies (reply own mine) (answered b other read_event))
+        (sym (serves_same read_event at))
+        (both_reply read_event at (serves_read_event own mine))
 
   -- each server that it knows stays behind a link that counts
-  ends_stay : (own : View) (occurrence : Occurrence) → AreEnds own.ends own.routes
-      → AreEnds (reply own occurrence).view.ends (reply own occurrence).view.routes
-  ends_stay own occurrence ends = by (serves_occurrence own occurrence) refl
+  ends_stay : (own : View) (read_event : ReadEvent) → AreEnds own.ends own.routes
+      → AreEnds (reply own read_event).state.ends (reply own read_event).state.routes
+  ends_stay own read_event ends = by (serves_read_event own read_event) refl
     where
-      by : (b : Bool) → serves_occurrence own occurrence ≡ b
-          → AreEnds (answered b own occurrence).view.ends (answered b own occurrence).view.routes
-      by true serves = keeps own occurrence ends (is_new own occurrence serves)
+      by : (b : Bool) → serves_read_event own read_event ≡ b
+          → AreEnds (answered b own read_event).state.ends (answered b own read_event).state.routes
+      by true serves = keeps own read_event ends (is_new own read_event serves)
       by false serves = ends
 
   pub served_alike : ServedAlike
-  served_alike numbers own other occurrence conn apart alike at =
-      let two = replies_alike numbers own other conn apart alike.alike occurrence at in record {
+  served_alike numbers own other read_event conn apart alike at =
+      let two = replies_alike numbers own other conn apart alike.alike read_event at in record {
         views = record {
           alike = two.0;
-          ends_count = ends_stay own (renumbered conn occurrence) alike.ends_count;
+          ends_count = ends_stay own (renumbered conn read_event) alike.ends_count;
         };
         say = two.1;
       }

@@ -10,7 +10,7 @@ use Rattle.std.specs.Option.{option_and_then, option_map_or}
 use Rattle.std.specs.Ordering.{nat_cmp}
 use Rattle.irc_batch.specs.Batches.{Sent, end_of, end_of_link, line_on, line_to}
 use Rattle.irc_line.specs.Reading.{read_of}
-use Rattle.irc_server.specs.Served.{Occurrence, link_says}
+use Rattle.irc_server.specs.Served.{ReadEvent, link_says}
 use Rattle.irc_stage.specs.View.{View}
 use Rattle.irc_network.specs.Network.{Progress, Network, Served, Node, all_sent_out, asked_at}
 use Rattle.irc_network.specs.Network.{has_received, has_received_at, heard, line_body, line_counted}
@@ -108,7 +108,7 @@ puts_none place net = record {
   others = λ x two. refl;
 }
 
-puts_received : (place client : ℕ) (text : List ℕ) (progress : Progress)
+puts_received : (place client : ℕ) (text : List ℕ) (progress : Progress Network)
     → PutsOut place (λ y. []) progress.net (has_received client text progress).net
 puts_received place zero text progress = puts_none place progress.net
 puts_received place (suc earlier) text progress = by (slice_get progress.net.received earlier)
@@ -166,7 +166,7 @@ puts_queued place to text net = by (node_at net place) refl
         same_server x false two = ap (option_map (λ (s : Node). s.server))
             (set_elsewhere net.nodes place x (line_queued to text node) two)
 
-puts_one : (place : ℕ) (sent : Sent) (progress : Progress)
+puts_one : (place : ℕ) (sent : Sent) (progress : Progress Network)
     → PutsOut place (λ y. body_on y sent) progress.net (sent_out place sent progress).net
 puts_one place (line_to client text) progress = puts_received place client text progress
 puts_one place (end_of client) progress = puts_none place progress.net
@@ -186,7 +186,7 @@ puts_both place one other old mid new first second = record {
   others = λ x two. second.others x two ∙ first.others x two;
 }
 
-pub puts_all : (place : ℕ) (outs : List Sent) (progress : Progress)
+pub puts_all : (place : ℕ) (outs : List Sent) (progress : Progress Network)
     → PutsOut place (λ y. bodies y outs) progress.net (all_sent_out place outs progress).net
 puts_all place [] progress = puts_none place progress.net
 puts_all place (sent ∷ outs) progress =
@@ -204,16 +204,16 @@ pub record Replies (place : ℕ) (view : View) (lines : ℕ → Lines) (old new 
       → waiting_at new place y ≡ waiting_at old place y ++ lines y
   pub others : (x : ℕ) → nat_eq x place ≡ false → node_at new x ≡ node_at old x
 
-module _ (place : ℕ) (occurrence : Occurrence) (view : View) where
+module _ (place : ℕ) (read_event : ReadEvent) (view : View) where
   abbrev it : Served
-  it = reply view occurrence
+  it = reply view read_event
 
-  replies_at : (progress : Progress) (node : Node) → node_at progress.net place ≡ Some node
+  replies_at : (progress : Progress Network) (node : Node) → node_at progress.net place ≡ Some node
       → Replies
-      place it.view (λ y. bodies y it.out) progress.net (with_reply place progress node it).net
+      place it.state (λ y. bodies y it.out) progress.net (with_reply place progress node it).net
   replies_at progress node at =
-      let now : Node = record node { server = Some it.view } in
-      let between : Progress = record progress { net = with_node place now progress.net } in
+      let now : Node = record node { server = Some it.state } in
+      let between : Progress Network = record progress { net = with_node place now progress.net } in
       let here : node_at between.net place ≡ Some now =
       set_here progress.net.nodes place node now at in
       let puts = puts_all place it.out between in record {
@@ -230,32 +230,32 @@ module _ (place : ℕ) (occurrence : Occurrence) (view : View) where
         others = λ x two. puts.others x two ∙ set_elsewhere progress.net.nodes place x now two;
       }
 
-  pub asked_replies : (progress : Progress) → server_at progress.net place ≡ Some (Some view)
-      → Replies
-      place it.view (λ y. bodies y it.out) progress.net (node_asked place occurrence progress).net
+  pub asked_replies : (progress : Progress Network)
+      → server_at progress.net place ≡ Some (Some view) → Replies
+      place it.state (λ y. bodies y it.out) progress.net (node_asked place read_event progress).net
   unfolding node_asked
   asked_replies progress is = by_node (node_at progress.net place) refl is
     where
       by_view : (node : Node) → node_at progress.net place ≡ Some node → (o : Option View)
-          → o ≡ Some view → Replies place it.view (λ y. bodies y it.out) progress.net
+          → o ≡ Some view → Replies place it.state (λ y. bodies y it.out) progress.net
           (option_map_or
-          (λ (v : View). with_reply place progress node (reply v occurrence)) o progress).net
+          (λ (v : View). with_reply place progress node (reply v read_event)) o progress).net
       by_view node at None none = cc none
       by_view node at (Some v) one =
-          subst (λ (w : View). Replies place it.view (λ y. bodies y it.out) progress.net
-          (with_reply place progress node (reply w occurrence)).net)
+          subst (λ (w : View). Replies place it.state (λ y. bodies y it.out) progress.net
+          (with_reply place progress node (reply w read_event)).net)
           (sym (ap (λ o. unwrap_or o v) one)) (replies_at progress node at)
 
       by_node : (o : Option Node) → node_at progress.net place ≡ o
           → option_map (λ (s : Node). s.server) o ≡ Some (Some view)
-          → Replies place it.view (λ y. bodies y it.out) progress.net
-          (option_map_or (asked_at place occurrence progress) o progress).net
+          → Replies place it.state (λ y. bodies y it.out) progress.net
+          (option_map_or (asked_at place read_event progress) o progress).net
       by_node None at none = cc none
       by_node (Some node) at some = by_view node at node.server (ap (λ o. unwrap_or o None) some)
 
-pub heard_replies : (from to : ℕ) (line : List ℕ) (view : View) (progress : Progress)
+pub heard_replies : (from to : ℕ) (line : List ℕ) (view : View) (progress : Progress Network)
     → server_at progress.net to ≡ Some (Some view)
-    → Replies to (reply view (link_says from (read_of line))).view
+    → Replies to (reply view (link_says from (read_of line))).state
     (λ y. bodies y (reply view (link_says from (read_of line))).out) progress.net
     (heard from to progress line).net
 heard_replies from to line view progress is =

@@ -199,7 +199,8 @@ module _ (world_law : WorldIsSound) (taken_out : LinkTakenOut) (rest_law : RestA
 
         pub parted_is : IsRelinked n f false net (parted_net near far n f net)
         parted_is =
-            is_parted near far n f net kept.whole.tidy near_there.view far_there.view near_there.at
+            is_parted near far n f net kept.whole.tidy near_there.state far_there.state
+            near_there.at
             far_there.at (all_still net rest)
 
         pub parted_still : AllStill (parted_net near far n f net)

@@ -12,9 +12,9 @@ use Rattle.irc_routes.specs.declared.server_row.ServerRow.{ServerRow}
 use Rattle.irc_routes.specs.Known.{row_of}
 use Rattle.irc_stage.specs.View.{View}
 use Rattle.irc_stage.specs.Handle.{connects, goes, says}
-use Rattle.irc_server.specs.Served.{Occurrence, link_down, link_says, link_up, of_client, served}
+use Rattle.irc_server.specs.Served.{ReadEvent, link_down, link_says, link_up, of_client, served}
 use Rattle.irc_server.specs.Own.{ServedGoesToItsOwn, is_its_own, is_on_new}
-use Rattle.irc_network.specs.Node.{Served, reply, serves_occurrence}
+use Rattle.irc_network.specs.Node.{Served, reply, serves_read_event}
 use Rattle.irc_engine.specs.Carrying.{answers, is_closed_by}
 use Rattle.irc_daemons.specs.Alike.{AreServersAlike, AreRowsAlike, Numbers, client_bytes}
 use Rattle.irc_server.specs.Connected.{client_comes, client_goes, ends_client, link_comes}
@@ -47,31 +47,31 @@ other_ends numbers own other alike name link is =
 -- ---- nothing for others
 
 -- nothing for a client goes on a link that is being opened
-no_new_client : (occurrence : Occurrence) (conn : ℕ) (text : List ℕ)
-    → is_on_new occurrence (line_to conn text) ≡ false
+no_new_client : (read_event : ReadEvent) (conn : ℕ) (text : List ℕ)
+    → is_on_new read_event (line_to conn text) ≡ false
 no_new_client (link_up link starts) conn text = refl
-no_new_client (of_client happening) conn text = refl
+no_new_client (of_client client_event) conn text = refl
 no_new_client (link_says link read) conn text = refl
 no_new_client (link_down link) conn text = refl
 
-no_new_end : (occurrence : Occurrence) (conn : ℕ) → is_on_new occurrence (end_of conn) ≡ false
+no_new_end : (read_event : ReadEvent) (conn : ℕ) → is_on_new read_event (end_of conn) ≡ false
 no_new_end (link_up link starts) conn = refl
-no_new_end (of_client happening) conn = refl
+no_new_end (of_client client_event) conn = refl
 no_new_end (link_says link read) conn = refl
 no_new_end (link_down link) conn = refl
 
 -- the link that is being opened is one that comes
-new_line : (occurrence : Occurrence) (number : ℕ) (text : List ℕ)
-    → is_on_new occurrence (line_on number text) ≡ link_comes number occurrence
+new_line : (read_event : ReadEvent) (number : ℕ) (text : List ℕ)
+    → is_on_new read_event (line_on number text) ≡ link_comes number read_event
 new_line (link_up link starts) number text = turned number link
-new_line (of_client happening) number text = refl
+new_line (of_client client_event) number text = refl
 new_line (link_says link read) number text = refl
 new_line (link_down link) number text = refl
 
-new_end : (occurrence : Occurrence) (number : ℕ) (reason : CloseReason)
-    → is_on_new occurrence (end_of_link number reason) ≡ link_comes number occurrence
+new_end : (read_event : ReadEvent) (number : ℕ) (reason : CloseReason)
+    → is_on_new read_event (end_of_link number reason) ≡ link_comes number read_event
 new_end (link_up link starts) number reason = turned number link
-new_end (of_client happening) number reason = refl
+new_end (of_client client_event) number reason = refl
 new_end (link_says link read) number reason = refl
 new_end (link_down link) number reason = refl
 
@@ -80,8 +80,8 @@ none_or true c none is = refl
 none_or false c none is = cc (sym none ∙ is)
 
 -- a client that is there does not go by what is refused
-not_going : (view : View) (occurrence : Occurrence) (q : ℕ) → serves_occurrence view occurrence
-    ≡ false → is_some (get view.clients q) ≡ true → client_goes q occurrence ≡ false
+not_going : (view : View) (read_event : ReadEvent) (q : ℕ) → serves_read_event view read_event
+    ≡ false → is_some (get view.clients q) ≡ true → client_goes q read_event ≡ false
 not_going view (of_client (connects which host)) q refused there = refl
 not_going view (of_client (says which read)) q refused there = refl
 not_going view (of_client (goes which)) q refused there = by (nat_eq which q) refl
@@ -94,21 +94,21 @@ not_going view (link_up link starts) q refused there = refl
 not_going view (link_says link read) q refused there = refl
 not_going view (link_down link) q refused there = refl
 
-module _ (own_law : ServedGoesToItsOwn) (view : View) (occurrence : Occurrence)
+module _ (own_law : ServedGoesToItsOwn) (view : View) (read_event : ReadEvent)
     (ends : AreEnds view.ends view.routes) where
   abbrev IsOwn : List Sent → Type 0
-  IsOwn outs = list_all (λ sent. is_its_own view sent || is_on_new occurrence sent) outs ≡ true
+  IsOwn outs = list_all (λ sent. is_its_own view sent || is_on_new read_event sent) outs ≡ true
 
   abbrev first_own : (sent : Sent) (outs : List Sent) → IsOwn (sent ∷ outs)
-      → (is_its_own view sent || is_on_new occurrence sent) ≡ true
+      → (is_its_own view sent || is_on_new read_event sent) ≡ true
   first_own sent outs own =
-      (and_parts (is_its_own view sent || is_on_new occurrence sent)
-      (list_all (λ s. is_its_own view s || is_on_new occurrence s) outs) own).0
+      (and_parts (is_its_own view sent || is_on_new read_event sent)
+      (list_all (λ s. is_its_own view s || is_on_new read_event s) outs) own).0
 
   rest_own : (sent : Sent) (outs : List Sent) → IsOwn (sent ∷ outs) → IsOwn outs
   rest_own sent outs own =
-      (and_parts (is_its_own view sent || is_on_new occurrence sent)
-      (list_all (λ s. is_its_own view s || is_on_new occurrence s) outs) own).1
+      (and_parts (is_its_own view sent || is_on_new read_event sent)
+      (list_all (λ s. is_its_own view s || is_on_new read_event s) outs) own).1
 
   -- what is not there has no other number
   not_there : (one q : ℕ) (got : ℕ → Bool) → got q ≡ false → got one ≡ true → nat_eq one q ≡ false
@@ -128,27 +128,27 @@ module _ (own_law : ServedGoesToItsOwn) (view : View) (occurrence : Occurrence)
   client_there : (conn : ℕ) (text : List ℕ) (outs : List Sent) → IsOwn (line_to conn text ∷ outs)
       → has_client conn ≡ true
   client_there conn text outs own =
-      none_or (has_client conn) (is_on_new occurrence (line_to conn text))
-      (no_new_client occurrence conn text) (first_own (line_to conn text) outs own)
+      none_or (has_client conn) (is_on_new read_event (line_to conn text))
+      (no_new_client read_event conn text) (first_own (line_to conn text) outs own)
 
   client_ends : (conn : ℕ) (outs : List Sent) → IsOwn (end_of conn ∷ outs) → has_client conn ≡ true
   client_ends conn outs own =
-      none_or (has_client conn) (is_on_new occurrence (end_of conn)) (no_new_end occurrence conn)
+      none_or (has_client conn) (is_on_new read_event (end_of conn)) (no_new_end read_event conn)
       (first_own (end_of conn) outs own)
 
   -- what goes on a link goes on one that is there or comes
   abbrev has_link : ℕ → Bool
-  has_link q = has_end q || link_comes q occurrence
+  has_link q = has_end q || link_comes q read_event
 
   link_there : (link : ℕ) (text : List ℕ) (outs : List Sent) → IsOwn (line_on link text ∷ outs)
       → has_link link ≡ true
-  link_there link text outs own = ap (λ b. has_end link || b) (sym (new_line occurrence link text))
+  link_there link text outs own = ap (λ b. has_end link || b) (sym (new_line read_event link text))
       ∙ first_own (line_on link text) outs own
 
   link_ends : (link : ℕ) (reason : CloseReason) (outs : List Sent)
       → IsOwn (end_of_link link reason ∷ outs) → has_link link ≡ true
   link_ends link reason outs own =
-      ap (λ b. has_end link || b) (sym (new_end occurrence link reason))
+      ap (λ b. has_end link || b) (sym (new_end read_event link reason))
       ∙ first_own (end_of_link link reason) outs own
 
   none_for : (client : ℕ) (outs : List Sent) → has_client client ≡ false → IsOwn outs
@@ -231,76 +231,77 @@ module _ (own_law : ServedGoesToItsOwn) (view : View) (occurrence : Occurrence)
 
   abbrev replied : Bool → Served
   replied b =
-      if b then record { view = (served view occurrence).view; out = (served view occurrence).out }
-      else record { view = view; out = [] }
+      if b
+      then record { state = (served view read_event).state; out = (served view read_event).out }
+      else record { state = view; out = [] }
 
   pub nobody_gets : (client : ℕ) → is_some (get view.clients client) ≡ false
-      → client_bytes client (reply view occurrence).out ≡ []
-  nobody_gets client none = by (serves_occurrence view occurrence)
+      → client_bytes client (reply view read_event).out ≡ []
+  nobody_gets client none = by (serves_read_event view read_event)
     where
       by : (b : Bool) → client_bytes client (replied b).out ≡ []
-      by true = none_for client (served view occurrence).out none (own_law view occurrence ends)
+      by true = none_for client (served view read_event).out none (own_law view read_event ends)
       by false = refl
 
   no_link : (b c : Bool) → b ≡ false → c ≡ false → (b || c) ≡ false
   no_link true c one other = cc one
   no_link false c one other = other
 
-  pub nothing_answered : (q : ℕ) → link_comes q occurrence ≡ false → is_some (get view.clients q)
-      ≡ false → is_some (get view.ends q) ≡ false → answers q (reply view occurrence).out ≡ []
-  nothing_answered q not_new none no_end = by (serves_occurrence view occurrence)
+  pub nothing_answered : (q : ℕ) → link_comes q read_event ≡ false → is_some (get view.clients q)
+      ≡ false → is_some (get view.ends q) ≡ false → answers q (reply view read_event).out ≡ []
+  nothing_answered q not_new none no_end = by (serves_read_event view read_event)
     where
       by : (b : Bool) → answers q (replied b).out ≡ []
-      by true = none_answered q (served view occurrence).out none (no_link (has_end q)
-          (link_comes q occurrence) no_end not_new) (own_law view occurrence ends)
+      by true = none_answered q (served view read_event).out none (no_link (has_end q)
+          (link_comes q read_event) no_end not_new) (own_law view read_event ends)
       by false = refl
 
-  pub never_closed : (q : ℕ) → link_comes q occurrence ≡ false → is_some (get view.ends q) ≡ false
-      → list_any (ends_client q) (served view occurrence).out ≡ false
-      → is_closed_by q (reply view occurrence).out ≡ false
-  never_closed q not_new no_end none = by (serves_occurrence view occurrence)
+  pub never_closed : (q : ℕ) → link_comes q read_event ≡ false → is_some (get view.ends q) ≡ false
+      → list_any (ends_client q) (served view read_event).out ≡ false
+      → is_closed_by q (reply view read_event).out ≡ false
+  never_closed q not_new no_end none = by (serves_read_event view read_event)
     where
       by : (b : Bool) → is_closed_by q (replied b).out ≡ false
-      by true = none_closed q (served view occurrence).out (no_link (has_end q)
-          (link_comes q occurrence) no_end not_new) none (own_law view occurrence ends)
+      by true = none_closed q (served view read_event).out (no_link (has_end q)
+          (link_comes q read_event) no_end not_new) none (own_law view read_event ends)
       by false = refl
 
   pub nothing_linked : (q : ℕ) → is_some (get view.clients q) ≡ false → list_any is_on_link
-      (reply view occurrence).out ≡ false → answers q (reply view occurrence).out ≡ []
-  nothing_linked q none no_line = by (serves_occurrence view occurrence) no_line
+      (reply view read_event).out ≡ false → answers q (reply view read_event).out ≡ []
+  nothing_linked q none no_line = by (serves_read_event view read_event) no_line
     where
       by : (b : Bool) → list_any is_on_link (replied b).out ≡ false → answers q (replied b).out ≡ []
-      by true is = none_linked q (served view occurrence).out none is (own_law view occurrence ends)
+      by true is = none_linked q (served view read_event).out none is (own_law view read_event ends)
       by false is = refl
 
   -- ---- who is a client still
 
   -- a client was one before, or connects; it was not closed, and is not gone
   pub record StillThere (q : ℕ) : Type 0 where
-    pub was : (is_some (get view.clients q) || client_comes q occurrence) ≡ true
-    pub not_closed : is_closed_by q (reply view occurrence).out ≡ false
-    pub not_gone : client_goes q occurrence ≡ false
+    pub was : (is_some (get view.clients q) || client_comes q read_event) ≡ true
+    pub not_closed : is_closed_by q (reply view read_event).out ≡ false
+    pub not_gone : client_goes q read_event ≡ false
 
   pub still_there : ClientsStay → (q : ℕ)
-      → link_comes q occurrence ≡ false → is_some (get view.ends q) ≡ false
-      → is_some (get (reply view occurrence).view.clients q) ≡ true → StillThere q
-  still_there stay q not_new no_end there = by (serves_occurrence view occurrence) refl there
+      → link_comes q read_event ≡ false → is_some (get view.ends q) ≡ false
+      → is_some (get (reply view read_event).state.clients q) ≡ true → StillThere q
+  still_there stay q not_new no_end there = by (serves_read_event view read_event) refl there
     where
       either : (b c : Bool) → b ≡ true → (b || c) ≡ true
       either true c is = refl
       either false c is = cc is
 
-      by : (b : Bool) → serves_occurrence view occurrence ≡ b
-          → is_some (get (replied b).view.clients q) ≡ true → StillThere q
+      by : (b : Bool) → serves_read_event view read_event ≡ b
+          → is_some (get (replied b).state.clients q) ≡ true → StillThere q
       by true is has =
-          let known = stay view occurrence q is has in
+          let known = stay view read_event q is has in
           record {
             was = known.was;
             not_closed = never_closed q not_new no_end known.not_ended;
             not_gone = known.not_gone;
           }
       by false is has = record {
-        was = either (is_some (get view.clients q)) (client_comes q occurrence) has;
+        was = either (is_some (get view.clients q)) (client_comes q read_event) has;
         not_closed = ap (λ b. is_closed_by q (replied b).out) is;
-        not_gone = not_going view occurrence q is has;
+        not_gone = not_going view read_event q is has;
       }

@@ -22,7 +22,7 @@ use Rattle.irc_engine.specs.Carrying.{Fate, IsOfKind, KeepsKind, answers, bytes_
 use Rattle.irc_engine.specs.Carrying.{is_exchange, is_open_at, kind_at, kind_of_connection}
 use Rattle.irc_engine.specs.Carrying.{kind_of_loss, open_kind_at}
 use Rattle.irc_engine.specs.Hearing.{begun_at}
-use Rattle.irc_engine.specs.Turning.{EngineView}
+use Rattle.irc_engine.specs.EngineView.{EngineView}
 use Rattle.irc_engine.specs.Writing.{is_some_write}
 use Rattle.irc_daemons.specs.Alike.{AreServersAlike, AreServersAlikeIf, Numbers}
 use Rattle.irc_daemons.specs.AsBytes.{IsServerIf, IsServerOf}
@@ -149,12 +149,12 @@ has_server numbers engine None is = absurd is
 has_server numbers engine (Some node) is = record { node = node; at = refl; of = is }
 
 pub record HasView (server : Option View) : Type 0 where
-  pub view : View
-  pub is : server ≡ Some view
+  pub state : View
+  pub is : server ≡ Some state
 
 pub has_view : (server : Option View) → is_some server ≡ true → HasView server
 has_view None is = cc is
-has_view (Some view) is = record { view = view; is = refl }
+has_view (Some view) is = record { state = view; is = refl }
 
 -- a server that is there is alike to one that is there
 pub record HaveViews (numbers : Numbers) (own other : Option View) (view : View) : Type 0 where

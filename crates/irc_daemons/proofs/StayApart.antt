@@ -10,7 +10,8 @@ use Rattle.irc_server.specs.Own.{ServedKeepsEnds}
 use Rattle.irc_network.specs.Node.{Served}
 use Rattle.irc_stage.specs.View.{View}
 use Rattle.irc_wires.specs.Wires.{Wires}
-use Rattle.irc_network.specs.ByteNetwork.{ByteNetwork, byte_begun, bytes_come, completed_in}
+use Rattle.irc_network.specs.ByteNetwork.{ByteNetwork, bytes_come, completed_in}
+use Rattle.irc_network.specs.Network.{begun}
 use Rattle.irc_network.specs.ByteNetwork.{wires_come}
 use Rattle.irc_network.specs.Whole.{IsTidy}
 use Rattle.irc_daemons.specs.Clients.{ClientsStay}
@@ -37,14 +38,14 @@ module _ (place : ℕ) (next : Served) (along : Wires) (old new : ByteNetwork)
   where
     -- the server at this place is the one that replied
     is_next : (x : ℕ) (one : View) → server_at new.network x ≡ Some (Some one)
-        → nat_eq x place ≡ true → next.view ≡ one
+        → nat_eq x place ≡ true → next.state ≡ one
     is_next x one is same =
-        let found : Some next.view ≡ Some one =
-        inside (Some next.view) (Some one) (sym goes.server
+        let found : Some next.state ≡ Some one =
+        inside (Some next.state) (Some one) (sym goes.server
         ∙ ap (server_at new.network) (sym (eqb-true x place same)) ∙ is) in
-        inside next.view one found
+        inside next.state one found
 
-    pub ends_then : AreEnds next.view.ends next.view.routes → AreAllEnds old.network
+    pub ends_then : AreEnds next.state.ends next.state.routes → AreAllEnds old.network
         → AreAllEnds new.network
     ends_then ends all x one is = by (nat_eq x place) refl
       where
@@ -59,7 +60,7 @@ module _ (place : ℕ) (next : Served) (along : Wires) (old new : ByteNetwork)
       has : is_some (get server.clients client) ≡ true
 
     module _ (nobody : (client : ℕ) → is_some (get view.clients client) ≡ false
-        → is_some (get next.view.clients client) ≡ false) where
+        → is_some (get next.state.clients client) ≡ false) where
       was : (x client : ℕ) (one : View) → server_at new.network x ≡ Some (Some one)
           → is_some (get one.clients client) ≡ true → Was x client
       was x client one is has = by (nat_eq x place) refl
@@ -94,19 +95,19 @@ module _ (from to count : ℕ) (net : ByteNetwork) (tidy : IsTidy net) (view : V
     next = all_replies from view (completed_in net from to count)
 
     abbrev last : ByteNetwork
-    last = (bytes_come from to count (byte_begun net)).net
+    last = (bytes_come from to count (begun net)).net
 
     goes_on_so : GoesOn to next (wires_come net from to count) net last
     goes_on_so = bytes_go_on from to count net view tidy at
 
     pub ends_still : ServedKeepsEnds → AreAllEnds net.network
-        → AreAllEnds (bytes_come from to count (byte_begun net)).net.network
+        → AreAllEnds (bytes_come from to count (begun net)).net.network
     ends_still keeps ends =
         ends_then to next (wires_come net from to count) net last goes_on_so view at
         (all_keep_ends keeps from view (completed_in net from to count) (ends to view at)) ends
 
     pub own_still : ClientsStay → AreOwn net.network
-        → AreOwn (bytes_come from to count (byte_begun net)).net.network
+        → AreOwn (bytes_come from to count (begun net)).net.network
     own_still stay own =
         own_then to next (wires_come net from to count) net last goes_on_so view at
         (all_bring_nobody stay from view (completed_in net from to count)) own

@@ -14,14 +14,14 @@ use Rattle.irc_batch.specs.Batches.{Sent}
 use Rattle.irc_relay.specs.Links.{Name}
 use Rattle.irc_server.specs.declared.event.Event.{Event}
 use Rattle.irc_server.specs.declared.event.Event.TheVariants.{Connect, LinkDown, LinkUp}
-use Rattle.irc_server.specs.Happening.{occurrence_of}
-use Rattle.irc_server.specs.Served.{Occurrence, fault_of, link_down, link_there, served}
+use Rattle.irc_server.specs.ReadEvents.{read_event_of}
+use Rattle.irc_server.specs.Served.{ReadEvent, fault_of, link_down, link_there, served}
 use Rattle.irc_server.specs.Connected.{WhoIsConnected, client_comes, is_link_ended, link_comes}
 use Rattle.irc_server.specs.LineEnds.{ServedLinesEnd}
 use Rattle.irc_server.specs.Own.{ServedGoesToItsOwn}
 use Rattle.irc_stage.specs.Ways.{AreEnds}
 use Rattle.irc_stage.specs.View.{End, View}
-use Rattle.irc_network.specs.Node.{Served, reply, serves_occurrence}
+use Rattle.irc_network.specs.Node.{Served, reply, serves_read_event}
 use Rattle.irc_world.specs.Stepping.{Item}
 use Rattle.irc_world.specs.World.{home_in}
 use Rattle.irc_network.specs.Network.{Node, begun, item_kept, node_asked, node_at}
@@ -36,7 +36,7 @@ use Rattle.irc_engine.specs.Running.{AreAsked, ServerAsked, IsNews, Moment, a_li
 use Rattle.irc_engine.specs.Running.{asked_at}
 use Rattle.irc_daemons.specs.Alike.{AreApart, AreServersAlike, AreServersAlikeIf, Numbers}
 use Rattle.irc_daemons.specs.Alike.{ServedAlike, happens_at, renumbered}
-use Rattle.irc_engine.specs.Turning.{EngineView}
+use Rattle.irc_engine.specs.EngineView.{EngineView}
 use Rattle.irc_daemons.specs.AsBytes.{IsServerIf, numbers_at}
 use Rattle.irc_daemons.specs.AsNetwork.{AreReceived, AreSeated, IsAsNetwork}
 use Rattle.irc_daemons.specs.Clients.{ClientsStay}
@@ -46,7 +46,7 @@ use Rattle.irc_daemons.specs.Doings.{Doings, taken_at}
 use Rattle.irc_daemons.specs.Receiving.{bytes_received}
 use Rattle.irc_daemons.specs.Steps.{came_after, seats_after}
 use Rattle.irc_daemons.specs.Tellings.{TellsEnd, LinkTidings, end_before, end_by, end_set, event_of}
-use Rattle.irc_daemons.specs.Tellings.{is_lost, is_up, is_way_by, linked_by, occurrence_by}
+use Rattle.irc_daemons.specs.Tellings.{is_lost, is_up, is_way_by, linked_by, read_event_by}
 use Rattle.irc_daemons.proofs.Asked.{ServesClients, is_left, took}
 use Rattle.irc_daemons.proofs.Assembly.{IsEndBegun, assembled, begin, begins_same, begun_before}
 use Rattle.irc_daemons.proofs.Assembly.{did_all, first, incoming_stays, mid_moment, newcomer, outs}
@@ -93,8 +93,8 @@ asked_both (event ∷ events) more old mid new a b one two = record {
 pub record TookOne (own : View) (event : Event) (new : ServerAsked)
     (outs : List Sent) : Type 0 where
   pub none : fault_of own event ≡ None
-  pub server_is : new.server ≡ Some (reply own (occurrence_of event)).view
-  pub outs_are : outs ≡ (reply own (occurrence_of event)).out
+  pub server_is : new.server ≡ Some (reply own (read_event_of event)).state
+  pub outs_are : outs ≡ (reply own (read_event_of event)).out
 
 pub took_one : (own : View) (event : Event) (old new : ServerAsked) (sent : List Sent)
     → old.server ≡ Some own → AreAsked old (event ∷ []) sent new → TookOne own event new sent
@@ -271,20 +271,20 @@ module _ {W : Type 0} (is_after : W → List Call → Type 0) (pieces : PiecesCo
         by : (o : Option View) → begun_now.server ≡ o → HasView begun_now.server
         by None is = cc (sym last.is
             ∙ none_stays (event ∷ []) (asked_at begun_now) (asked_at end) all_outs is asked_one)
-        by (Some view) is = record { view = view; is = is }
+        by (Some view) is = record { state = view; is = is }
 
-    own_start : started.server ≡ Some own.view
+    own_start : started.server ≡ Some own.state
     own_start = by begins
       where
-        by : BeginsWith started begun_now given comes → started.server ≡ Some own.view
+        by : BeginsWith started begun_now given comes → started.server ≡ Some own.state
         by (nobody_comes as_it_was none is) = ap (λ (m : Moment W). m.server) (sym as_it_was)
             ∙ own.is
         by (newcomer_comes room which host made is it) = sym made.server ∙ own.is
         by (link_begins room which called made is it) = sym made.server ∙ own.is
 
-    views : HaveViews (numbers_at old place) started.server here.node.server own.view
+    views : HaveViews (numbers_at old place) started.server here.node.server own.state
     views = have_views
-        (numbers_at old place) started.server here.node.server own.view own_start here.of.servers
+        (numbers_at old place) started.server here.node.server own.state own_start here.of.servers
 
     abbrev theirs : View
     theirs = views.theirs
@@ -292,27 +292,27 @@ module _ {W : Type 0} (is_after : W → List Call → Type 0) (pieces : PiecesCo
     server_at_place : server_at old_net.network place ≡ Some (Some theirs)
     server_at_place = ap (option_map (λ (s : Node). s.server)) here.at ∙ ap Some views.is
 
-    it_took : TookOne own.view event (asked_at end) all_outs
-    it_took = took_one own.view event (asked_at begun_now) (asked_at end) all_outs own.is asked_one
+    it_took : TookOne own.state event (asked_at end) all_outs
+    it_took = took_one own.state event (asked_at begun_now) (asked_at end) all_outs own.is asked_one
 
-    abbrev occurrence : Occurrence
-    occurrence = occurrence_by tidings other
+    abbrev read_event : ReadEvent
+    read_event = read_event_by tidings other
 
     abbrev mine : Served
-    mine = reply own.view (occurrence_of event)
+    mine = reply own.state (read_event_of event)
 
     is_it : (t : LinkTidings)
-        → occurrence_of (event_of t conn) ≡ renumbered conn (occurrence_by t other)
+        → read_event_of (event_of t conn) ≡ renumbered conn (read_event_by t other)
     is_it (is_up called) = refl
     is_it is_lost = refl
 
-    last_is : last.view ≡ mine.view
-    last_is = inside last.view mine.view (sym last.is ∙ it_took.server_is)
+    last_is : last.state ≡ mine.state
+    last_is = inside last.state mine.state (sym last.is ∙ it_took.server_is)
 
-    own_clients : (q : ℕ) → is_some (get own.view.clients q) ≡ true
+    own_clients : (q : ℕ) → is_some (get own.state.clients q) ≡ true
         → open_kind_at (started.connections q) ≡ Some kinds.Client
     own_clients q there =
-        same.clients_open place telling.step.engine telling.step.at own.view q own_start there
+        same.clients_open place telling.step.engine telling.step.at own.state q own_start there
 
     some_of_open : (connection : Option Connection) → is_open_at connection ≡ true
         → is_some connection ≡ true
@@ -444,12 +444,12 @@ module _ {W : Type 0} (is_after : W → List Call → Type 0) (pieces : PiecesCo
 
     -- ---- numbers
 
-    fault_none : fault_of own.view event ≡ None
+    fault_none : fault_of own.state event ≡ None
     fault_none = it_took.none
 
-    no_end_up : (t : LinkTidings) → is_way_by t ≡ true → fault_of own.view (event_of t conn) ≡ None
-        → is_some (get own.view.ends conn) ≡ false
-    no_end_up (is_up called) up none = no_link (get own.view.ends conn) none
+    no_end_up : (t : LinkTidings) → is_way_by t ≡ true → fault_of own.state (event_of t conn) ≡ None
+        → is_some (get own.state.ends conn) ≡ false
+    no_end_up (is_up called) up none = no_link (get own.state.ends conn) none
     no_end_up is_lost up none = cc up
 
     free_conn : IsFresh → started.connections conn ≡ None
@@ -458,10 +458,10 @@ module _ {W : Type 0} (is_after : W → List Call → Type 0) (pieces : PiecesCo
     not_both : (o : Option Connection) → o ≡ None → is_open_at o ≡ true → ⊥
     not_both o none opened = cc (sym (ap is_open_at none) ∙ opened)
 
-    no_client_up : IsFresh → is_some (get own.view.clients conn) ≡ false
-    no_client_up it = by (is_some (get own.view.clients conn)) refl
+    no_client_up : IsFresh → is_some (get own.state.clients conn) ≡ false
+    no_client_up it = by (is_some (get own.state.clients conn)) refl
       where
-        by : (b : Bool) → is_some (get own.view.clients conn) ≡ b → b ≡ false
+        by : (b : Bool) → is_some (get own.state.clients conn) ≡ b → b ≡ false
         by true is = absurd (not_both (started.connections conn) it.made.free
             (open_of kinds.Client (started.connections conn) (own_clients conn is)).is_open)
         by false is = refl
@@ -495,7 +495,7 @@ module _ {W : Type 0} (is_after : W → List Call → Type 0) (pieces : PiecesCo
     numbers_old = numbers_at old place
 
     abbrev numbers_base : Numbers
-    numbers_base = numbers_by old place other conn own.view theirs tidings
+    numbers_base = numbers_by old place other conn own.state theirs tidings
 
     base_is_new : numbers_base ≡ numbers_at new place
     base_is_new =
@@ -505,17 +505,17 @@ module _ {W : Type 0} (is_after : W → List Call → Type 0) (pieces : PiecesCo
     -- where one is made
     record IsAskedBy (t : LinkTidings) (by : Numbers) : Type 0 where
       apart : AreApart by
-      alike : AreServersAlike by own.view theirs
-      happens : happens_at by (occurrence_by t other) ≡ Some conn
-      links : (y q : ℕ) → (numbers_by old place other conn own.view theirs t).link y ≡ Some q
+      alike : AreServersAlike by own.state theirs
+      happens : happens_at by (read_event_by t other) ≡ Some conn
+      links : (y q : ℕ) → (numbers_by old place other conn own.state theirs t).link y ≡ Some q
           → by.link y ≡ Some q
-      clients : (client : ℕ) → (numbers_by old place other conn own.view theirs t).client client
+      clients : (client : ℕ) → (numbers_by old place other conn own.state theirs t).client client
           ≡ by.client client
-      alike_then : AreServersAlike by (reply own.view (renumbered conn
-          (occurrence_by t other))).view (reply theirs (occurrence_by t other)).view
-          → AreServersAlike (numbers_by old place other conn own.view theirs t)
-          (reply own.view (renumbered conn (occurrence_by t other))).view
-          (reply theirs (occurrence_by t other)).view
+      alike_then : AreServersAlike by (reply own.state (renumbered conn
+          (read_event_by t other))).state (reply theirs (read_event_by t other)).state
+          → AreServersAlike (numbers_by old place other conn own.state theirs t)
+          (reply own.state (renumbered conn (read_event_by t other))).state
+          (reply theirs (read_event_by t other)).state
 
     record AskedBy (t : LinkTidings) : Type 0 where
       numbers : Numbers
@@ -537,8 +537,8 @@ module _ {W : Type 0} (is_after : W → List Call → Type 0) (pieces : PiecesCo
 
     -- whose link is lost has no end for it any more
     lost_end : WhoIsConnected → (view : View)
-        → is_some (get (reply view (link_down conn)).view.ends conn) ≡ false
-    lost_end law view = by (serves_occurrence view (link_down conn)) refl
+        → is_some (get (reply view (link_down conn)).state.ends conn) ≡ false
+    lost_end law view = by (serves_read_event view (link_down conn)) refl
       where
         gone : (was new closed : Bool) → ((was || new) && not (true || closed)) ≡ false
         gone true new closed = refl
@@ -548,12 +548,12 @@ module _ {W : Type 0} (is_after : W → List Call → Type 0) (pieces : PiecesCo
         replied : Bool → Served
         replied b =
             if b then record {
-              view = (served view (link_down conn)).view;
+              state = (served view (link_down conn)).state;
               out = (served view (link_down conn)).out;
-            } else record { view = view; out = [] }
+            } else record { state = view; out = [] }
 
-        by : (b : Bool) → serves_occurrence view (link_down conn) ≡ b
-            → is_some (get (replied b).view.ends conn) ≡ false
+        by : (b : Bool) → serves_read_event view (link_down conn) ≡ b
+            → is_some (get (replied b).state.ends conn) ≡ false
         by true is =
             (law view (link_down conn) tt).links conn
             ∙ ap (λ b. (is_some (get view.ends conn) || false) && not (b || is_link_ended conn
@@ -566,14 +566,14 @@ module _ {W : Type 0} (is_after : W → List Call → Type 0) (pieces : PiecesCo
     asked_by (is_up called) is =
         let was : old.ends place other ≡ None = telling.was ∙ ap (λ t. end_before t conn) is in
         let no_end = no_end_up (is_up called) refl
-        (ap (λ t. fault_of own.view (event_of t conn)) (sym is) ∙ fault_none) in
+        (ap (λ t. fault_of own.state (event_of t conn)) (sym is) ∙ fault_none) in
         let no_client = no_client_up (fresh called is) in
-        let up = alike_up old place other conn own.view theirs called was no_end no_client in
+        let up = alike_up old place other conn own.state theirs called was no_end no_client in
         record {
-          numbers = numbers_by old place other conn own.view theirs (is_up called);
+          numbers = numbers_by old place other conn own.state theirs (is_up called);
           is = record {
             apart = subst AreApart (sym base_is_new
-                ∙ ap (numbers_by old place other conn own.view theirs) is) apart_new;
+                ∙ ap (numbers_by old place other conn own.state theirs) is) apart_new;
             alike = up views.alike;
             happens = end_told old place other (Some conn);
             links = λ y q link. link;
@@ -592,9 +592,9 @@ module _ {W : Type 0} (is_after : W → List Call → Type 0) (pieces : PiecesCo
             links = λ y q link. lost_was y q link;
             clients = λ client. refl;
             alike_then = λ alike.
-                alike_lost old place other conn (reply own.view (link_down conn)).view
-                (reply theirs (link_down other)).view was
-                (lost_end connected own.view) alike;
+                alike_lost old place other conn (reply own.state (link_down conn)).state
+                (reply theirs (link_down other)).state was
+                (lost_end connected own.state) alike;
           };
         }
       where
@@ -625,7 +625,7 @@ module _ {W : Type 0} (is_after : W → List Call → Type 0) (pieces : PiecesCo
       where
         abbrev asked_net : ByteNetwork
         asked_net = queues_written
-            (item_kept item (node_asked place occurrence (begun mid_net.network))).net mid_net.wires
+            (item_kept item (node_asked place read_event (begun mid_net.network))).net mid_net.wires
 
         -- ---- wires
 
@@ -739,11 +739,11 @@ module _ {W : Type 0} (is_after : W → List Call → Type 0) (pieces : PiecesCo
         abbrev as_asked : IsAskedBy tidings it_is_asked.numbers
         as_asked = it_is_asked.is
 
-        mine_is : reply own.view (renumbered conn occurrence) ≡ mine
-        mine_is = ap (reply own.view) (sym (is_it tidings))
+        mine_is : reply own.state (renumbered conn read_event) ≡ mine
+        mine_is = ap (reply own.state) (sym (is_it tidings))
 
-        numbers_are : AreThen place it_is_asked.numbers (reply own.view
-            (renumbered conn occurrence)).view (reply theirs occurrence).view mid_net numbers_base
+        numbers_are : AreThen place it_is_asked.numbers (reply own.state
+            (renumbered conn read_event)).state (reply theirs read_event).state mid_net numbers_base
         numbers_are = record {
           links = as_asked.links;
           clients = as_asked.clients;
@@ -751,20 +751,21 @@ module _ {W : Type 0} (is_after : W → List Call → Type 0) (pieces : PiecesCo
           ways = λ y. ways_mid place y ∙ told_now y;
         }
 
-        went_base : Went place numbers_base (reply own.view (renumbered conn occurrence)).view
-            (reply own.view (renumbered conn occurrence)).out mid_net asked_net
+        went_base : Went place numbers_base (reply own.state (renumbered conn read_event)).state
+            (reply own.state (renumbered conn read_event)).out mid_net asked_net
         went_base =
-            asked_went lines_end own_law alike_law place it_is_asked.numbers as_asked.apart own.view
-            theirs occurrence conn as_asked.happens as_asked.alike mid_net
+            asked_went lines_end own_law alike_law place it_is_asked.numbers as_asked.apart
+            own.state
+            theirs read_event conn as_asked.happens as_asked.alike mid_net
             tidy_mid at_mid numbers_base numbers_are item
 
-        went : Went place (numbers_at new place) last.view all_outs mid_net asked_net
+        went : Went place (numbers_at new place) last.state all_outs mid_net asked_net
         went =
-            subst (λ n. Went place n last.view all_outs mid_net asked_net) base_is_new
-            (subst (λ os. Went place numbers_base last.view os mid_net asked_net)
+            subst (λ n. Went place n last.state all_outs mid_net asked_net) base_is_new
+            (subst (λ os. Went place numbers_base last.state os mid_net asked_net)
             (sym it_took.outs_are)
             (subst (λ v. Went place numbers_base v mine.out mid_net asked_net) (sym last_is)
-            (subst (λ (r : Served). Went place numbers_base r.view r.out mid_net asked_net) mine_is
+            (subst (λ (r : Served). Went place numbers_base r.state r.out mid_net asked_net) mine_is
             went_base)))
 
         -- ---- whom it serves
@@ -776,27 +777,27 @@ module _ {W : Type 0} (is_after : W → List Call → Type 0) (pieces : PiecesCo
             (ap (λ (f : ℕ → ℕ → Option ℕ). f place client) (sym seats_then) ∙ seat)
 
         not_new : (t : LinkTidings) → tidings ≡ t → (client q : ℕ) → new.seats place client ≡ Some q
-            → link_comes q (occurrence_of (event_of t conn)) ≡ false
+            → link_comes q (read_event_of (event_of t conn)) ≡ false
         not_new is_lost is client q seat = refl
         not_new (is_up called) is client q seat =
             turned conn q ∙ (seat_was client q seat).free refl (ap is_way_by is)
 
         no_end : (client q : ℕ) → new.seats place client ≡ Some q
-            → is_some (get own.view.ends q) ≡ false
-        no_end client q seat = by (is_some (get own.view.ends q)) refl
+            → is_some (get own.state.ends q) ≡ false
+        no_end client q seat = by (is_some (get own.state.ends q)) refl
           where
-            by : (b : Bool) → is_some (get own.view.ends q) ≡ b → b ≡ false
+            by : (b : Bool) → is_some (get own.state.ends q) ≡ b → b ≡ false
             by true is =
                 let among = views.alike.alike.no_other_end q is in
                 absurd (same.are_joined.no_client place among.number client q among.is
                 (seat_was client q seat).was)
             by false is = refl
 
-        abbrev ends_count : AreEnds own.view.ends own.view.routes
+        abbrev ends_count : AreEnds own.state.ends own.state.routes
         ends_count = views.alike.ends_count
 
         comes_none : (t : LinkTidings) (q : ℕ)
-            → client_comes q (occurrence_of (event_of t conn)) ≡ false
+            → client_comes q (read_event_of (event_of t conn)) ≡ false
         comes_none (is_up called) q = refl
         comes_none is_lost q = refl
 
@@ -808,33 +809,34 @@ module _ {W : Type 0} (is_after : W → List Call → Type 0) (pieces : PiecesCo
         none_or true c none is = refl
         none_or false c none is = cc (sym none ∙ is)
 
-        serves_mine : ServesClients (numbers_at new place) own.view mine.view (event ∷ []) mine.out
+        serves_mine : ServesClients (numbers_at new place) own.state mine.state
+            (event ∷ []) mine.out
         serves_mine = record {
           silent = λ client q seat none.
-              nothing_answered own_law own.view (occurrence_of event) ends_count q
+              nothing_answered own_law own.state (read_event_of event) ends_count q
               (not_new tidings refl client q seat) none (no_end client q seat);
           still = λ client q seat there.
-              let known = still_there own_law own.view (occurrence_of event) ends_count stay q
+              let known = still_there own_law own.state (read_event_of event) ends_count stay q
               (not_new tidings refl client q seat) (no_end client q seat) there
               in record {
-                was = none_or (is_some (get own.view.clients q))
-                    (client_comes q (occurrence_of event)) (comes_none tidings q) known.was;
+                was = none_or (is_some (get own.state.clients q))
+                    (client_comes q (read_event_of event)) (comes_none tidings q) known.was;
                 not_closed = known.not_closed;
                 not_gone = ap (λ b. b || false) (left_none tidings q);
               };
         }
 
-        serves_all : ServesClients (numbers_at new place) own.view last.view
+        serves_all : ServesClients (numbers_at new place) own.state last.state
             ((given ++ first_events) ++ second_events) all_outs
         serves_all =
-            subst (λ es. ServesClients (numbers_at new place) own.view last.view es all_outs)
+            subst (λ es. ServesClients (numbers_at new place) own.state last.state es all_outs)
             (sym events_are)
-            (subst (λ os. ServesClients (numbers_at new place) own.view last.view (event ∷ []) os)
+            (subst (λ os. ServesClients (numbers_at new place) own.state last.state (event ∷ []) os)
             (sym it_took.outs_are)
-            (subst (λ v. ServesClients (numbers_at new place) own.view v (event ∷ []) mine.out)
+            (subst (λ v. ServesClients (numbers_at new place) own.state v (event ∷ []) mine.out)
             (sym last_is) serves_mine))
 
-        own_open : (q : ℕ) → is_some (get own.view.clients q) ≡ true
+        own_open : (q : ℕ) → is_some (get own.state.clients q) ≡ true
             → open_kind_at (begun_now.connections q) ≡ Some kinds.Client
         own_open q there =
             let client = own_clients q there in
@@ -963,12 +965,12 @@ module _ {W : Type 0} (is_after : W → List Call → Type 0) (pieces : PiecesCo
             (same.as_bytes.servers x))
 
         pub told_followed : IsAsNetwork names new
-            (queues_written (item_kept item (node_asked place (occurrence_by tidings other)
+            (queues_written (item_kept item (node_asked place (read_event_by tidings other)
             (begun mid_net.network))).net mid_net.wires)
         told_followed =
             assembled is_after pieces names place base new telling.step not_itself same.clients_open
             here.of.in_order here.of.framers joined_now ends_begin mid_net
-            asked_net own.view last.view went last.is serves_all own_open servers_mid ways_mid
+            asked_net own.state last.state went last.is serves_all own_open servers_mid ways_mid
             (λ y. wires_mid place y)
             (λ x y apart there. wires_mid x y)
             (λ x apart.

@@ -11,7 +11,7 @@ use Rattle.irc_line.specs.Reading.{read_of}
 use Rattle.irc_batch.specs.Batches.{Sent, line_on, line_to}
 use Rattle.irc_stage.specs.Ways.{AreEnds}
 use Rattle.irc_stage.specs.View.{View}
-use Rattle.irc_server.specs.Served.{Occurrence, link_says}
+use Rattle.irc_server.specs.Served.{ReadEvent, link_says}
 use Rattle.irc_network.specs.Node.{reply}
 use Rattle.irc_engine.specs.Carrying.{answers, is_closed_by}
 pub use Rattle.irc_numbers.specs.Alike.{AreAlike, AreApart, AreRowsAlike, IsAmong, Numbers}
@@ -58,9 +58,9 @@ pub record SayAlike (numbers : Numbers) (own other : List Sent) : Type 0 where
 -- ---- numbers are nothing to a server
 
 -- of the two something is asked
-pub record ServeAlike (numbers : Numbers) (own : View) (own_is : Occurrence) (other : View)
-    (other_is : Occurrence) : Type 0 where
-  pub views : AreServersAlike numbers (reply own own_is).view (reply other other_is).view
+pub record ServeAlike (numbers : Numbers) (own : View) (own_is : ReadEvent) (other : View)
+    (other_is : ReadEvent) : Type 0 where
+  pub views : AreServersAlike numbers (reply own own_is).state (reply other other_is).state
   pub say : SayAlike numbers (reply own own_is).out (reply other other_is).out
 
 -- Upon this line of a link, servers that are alike do the same.
@@ -79,7 +79,7 @@ LinesAreServedAlike = (numbers : Numbers) (place conn : ℕ) (line : List ℕ) �
 -- Whatever happens to both, they do the same. Who connects, and a link that is made, have their
 -- numbers already.
 abbrev pub ServedAlike : Type 0
-ServedAlike = (numbers : Numbers) (own other : View) (occurrence : Occurrence) (conn : ℕ)
+ServedAlike = (numbers : Numbers) (own other : View) (read_event : ReadEvent) (conn : ℕ)
     → AreApart numbers → AreServersAlike numbers own other
-    → happens_at numbers occurrence ≡ Some conn
-    → ServeAlike numbers own (renumbered conn occurrence) other occurrence
+    → happens_at numbers read_event ≡ Some conn
+    → ServeAlike numbers own (renumbered conn read_event) other read_event

@@ -8,7 +8,7 @@ use Rattle.irc_network.specs.ByteNetwork.{ByteNetwork}
 use Rattle.irc_network.specs.Whole.{IsTidy, has_way}
 use Rattle.irc_engine.specs.Hearing.{begun_at}
 use Rattle.irc_engine.specs.Running.{IsInOrder, Moment}
-use Rattle.irc_engine.specs.Turning.{EngineView}
+use Rattle.irc_engine.specs.EngineView.{EngineView}
 use Rattle.irc_daemons.specs.Alike.{AreServersAlikeIf, Numbers}
 use Rattle.irc_daemons.specs.Daemons.{Daemons, wire_between}
 

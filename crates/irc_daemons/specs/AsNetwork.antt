@@ -9,13 +9,14 @@ use Rattle.irc_stage.specs.View.{View}
 use Rattle.irc_world.specs.Stepping.{Item}
 use Rattle.irc_world.specs.WithinLimits.{IsItemWithin}
 use Rattle.irc_world.specs.World.{home_in}
-use Rattle.irc_network.specs.ByteNetwork.{ByteNetwork, byte_begun, bytes_come, item_given}
+use Rattle.irc_network.specs.Network.{begun}
+use Rattle.irc_network.specs.ByteNetwork.{ByteNetwork, bytes_come, item_given}
 use Rattle.irc_network.specs.Whole.{has_way}
 use Rattle.irc_net.specs.Faults.{item_fault}
 use Rattle.irc_engine.specs.declared.kind.ConnectionKind.TheVariants as kinds
 use Rattle.irc_engine.specs.Carrying.{open_kind_at}
 use Rattle.irc_engine.specs.Running.{Moment}
-use Rattle.irc_engine.specs.Turning.{EngineView}
+use Rattle.irc_engine.specs.EngineView.{EngineView}
 use Rattle.irc_daemons.specs.AsBytes.{IsAsBytes}
 use Rattle.irc_daemons.specs.Daemons.{AreJoined, Daemons, connection_at}
 use Rattle.irc_daemons.specs.Receiving.{IsReceived, bytes_received}
@@ -30,7 +31,7 @@ pub data LeadsTo (old : ByteNetwork) : List Item → ByteNetwork → Type 0 wher
       → LeadsTo old (before ++ item ∷ []) (item_given item between).net
   has_come : (items : List Item) (from to count : ℕ) (between : ByteNetwork)
       → LeadsTo old items between → has_way between.network from to ≡ true
-      → LeadsTo old items (bytes_come from to count (byte_begun between)).net
+      → LeadsTo old items (bytes_come from to count (begun between)).net
 
 -- ---- clients
 

@@ -18,7 +18,7 @@ use Rattle.irc_engine.specs.declared.connection_table.Connection.{Connection}
 use Rattle.irc_engine.specs.declared.kind.ConnectionKind.TheVariants as kinds
 use Rattle.irc_engine.specs.Carrying.{open_kind_at}
 use Rattle.irc_engine.specs.Hearing.{begun_at}
-use Rattle.irc_engine.specs.Turning.{EngineView}
+use Rattle.irc_engine.specs.EngineView.{EngineView}
 
 -- The engines, in the order of their servers' names; the connection by which the server at one
 -- place has its link with the server at another, once it was told of it; whether two are linked,

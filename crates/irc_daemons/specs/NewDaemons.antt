@@ -9,7 +9,8 @@ use Rattle.irc_server.specs.Configuring.{made_view}
 use Rattle.irc_server.specs.declared.config.Config.{Config}
 use Rattle.irc_world.specs.World.{Setting}
 use Rattle.irc_net.specs.Making.{config_name, configs_fault, setting_given}
-use Rattle.irc_engine.specs.Turning.{EngineView, IsNew}
+use Rattle.irc_engine.specs.Turning.{IsNew}
+use Rattle.irc_engine.specs.EngineView.{EngineView}
 use Rattle.irc_daemons.specs.Daemons.{Daemons}
 
 -- an engine over any wire for a new server of this configuration

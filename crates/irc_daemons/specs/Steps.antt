@@ -10,7 +10,7 @@ use Rattle.std.specs.Prelude.{◌++◌, if◌then◌else◌}
 use Rattle.std.specs.List.{slice_get, slice_set}
 use Rattle.irc_outbox.specs.Calls.{Call}
 use Rattle.irc_engine.specs.Running.{Turn}
-use Rattle.irc_engine.specs.Turning.{EngineView}
+use Rattle.irc_engine.specs.EngineView.{EngineView}
 use Rattle.irc_daemons.specs.Daemons.{Daemons}
 use Rattle.irc_daemons.specs.Doings.{Doings, newcomer, taken_at, turn_did, written_at}
 

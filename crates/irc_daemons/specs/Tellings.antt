@@ -15,7 +15,7 @@ use Rattle.irc_outbox.specs.Calls.{Call}
 use Rattle.irc_relay.specs.Links.{Name}
 use Rattle.irc_server.specs.declared.event.Event.{Event}
 use Rattle.irc_server.specs.declared.event.Event.TheVariants.{LinkDown, LinkUp}
-use Rattle.irc_server.specs.Served.{Occurrence, link_down, link_up}
+use Rattle.irc_server.specs.Served.{ReadEvent, link_down, link_up}
 use Rattle.irc_world.specs.Stepping.{Item, cut, link}
 use Rattle.irc_daemons.specs.Daemons.{AreLinksOpen, Daemons}
 use Rattle.irc_daemons.specs.Steps.{Steps, unless_taken}
@@ -31,9 +31,9 @@ abbrev pub event_of : LinkTidings → ℕ → Event
 event_of (is_up called) conn = LinkUp conn called
 event_of is_lost conn = LinkDown conn
 
-abbrev pub occurrence_by : LinkTidings → ℕ → Occurrence
-occurrence_by (is_up called) other = link_up other called
-occurrence_by is_lost other = link_down other
+abbrev pub read_event_by : LinkTidings → ℕ → ReadEvent
+read_event_by (is_up called) other = link_up other called
+read_event_by is_lost other = link_down other
 
 -- ---- who is linked then
 

@@ -14,9 +14,8 @@ use Rattle.irc_channels.specs.declared.channel.Channel.{Channel}
 use Rattle.irc_channels.specs.Channels.{has_member, is_invited, new_channel, joined, left}
 use Rattle.irc_channels.specs.Channels.{without_user, while_members}
 use Rattle.irc_modes.specs.Modes.{is_nil}
-use Rattle.irc_effects.specs.declared.effect.Effect.TheVariants.{AddUser, Rename, Quit, Join, Part}
-use Rattle.irc_effects.specs.declared.effect.Effect.TheVariants.{Kick, ChangeModes, SetTopic, Say}
-use Rattle.irc_effects.specs.declared.effect.Effect.TheVariants.{Invite, UserMode}
+use Rattle.irc_effects.specs.declared.effect.Effect.TheVariants.{Quit, Join, Part}
+use Rattle.irc_effects.specs.declared.effect.Effect.TheVariants.{Kick}
 use Rattle.irc_effects.specs.After.{after}
 use Rattle.irc_effects.specs.Laws.{LastMemberEndsChannel, JoinMakesChannel, InvitationUsedUp}
 use Rattle.irc_effects.specs.Lemmas.Rows.{no_row, if_not}
@@ -88,19 +87,7 @@ last_member_ends_channel room nick name channel (Quit who reason) is alone leave
     ∙ ap (option_and_then (without_user (key who))) is
     ∙ ap (λ n. without_user n channel) leaves
     ∙ without_ends (key nick) channel alone
-last_member_ends_channel room nick name channel (AddUser user) is alone leaves = absurd leaves
-last_member_ends_channel room nick name channel (Rename who new) is alone leaves = absurd leaves
-last_member_ends_channel room nick name channel (Join who place op) is alone leaves = absurd leaves
-last_member_ends_channel room nick name channel (ChangeModes by place changes) is alone leaves =
-    absurd leaves
-last_member_ends_channel room nick name channel (SetTopic by place text) is alone leaves =
-    absurd leaves
-last_member_ends_channel room nick name channel (Say by notice target text) is alone leaves =
-    absurd leaves
-last_member_ends_channel room nick name channel (Invite by who place) is alone leaves =
-    absurd leaves
-last_member_ends_channel room nick name channel (UserMode who invisible) is alone leaves =
-    absurd leaves
+last_member_ends_channel room nick name channel other is alone leaves = absurd leaves
 
 -- a table with one row, made in two ways
 one_row : {X : Type 0} (fold : List ℕ) (x : X)

@@ -6,7 +6,8 @@ use Rattle.irc_names.specs.Fold.{key}
 use Rattle.irc_names.specs.Tables.{row}
 use Rattle.irc_line.specs.Messages.{Sender, Written, text}
 use Rattle.irc_users.specs.declared.user.User.{User}
-use Rattle.irc_effects.specs.declared.effect.Effect.TheVariants.{Say, UserMode}
+use Rattle.irc_users.specs.declared.user_change.UserChange.TheVariants.{Invisible}
+use Rattle.irc_effects.specs.declared.effect.Effect.TheVariants.{Say, ChangeUser}
 use Rattle.irc_effects.specs.declared.effect.Target.TheVariants as target
 use Rattle.irc_effects.specs.Seen.{seen, full_sender}
 use Rattle.irc_effects.specs.Laws.{OwnModeSeenAlone, PrivateTextSeenAlone}
@@ -22,7 +23,7 @@ sent parts doer user is =
 pub own_mode_seen_alone : OwnModeSeenAlone
 unfolding seen
 own_mode_seen_alone room nick invisible user well at =
-    sym (all_seen room (UserMode nick invisible)
+    sym (all_seen room (ChangeUser nick (Invisible invisible))
     (λ viewer. sent _ (row room.users (key nick)) user at) (values room.users))
     ∙ ap (map (λ (u : User). u.nick)) (sym (one_chosen room.users well.users_named nick)
     ∙ ap option_to_list at)

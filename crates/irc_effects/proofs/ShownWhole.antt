@@ -15,19 +15,21 @@ use Rattle.irc_names.specs.Limits.{max_nick, max_host, max_user_name}
 use Rattle.irc_names.specs.Tables.{row}
 use Rattle.irc_names.specs.Lemmas.RuleFacts.{nick-fits, channel-fits, host-fits}
 use Rattle.irc_users.specs.declared.user.User.{User}
+use Rattle.irc_users.specs.declared.user_change.UserChange.{UserChange}
+use Rattle.irc_users.specs.declared.user_change.UserChange.TheVariants.{Invisible}
 use Rattle.irc_channels.specs.declared.channel.Channel.{Channel}
 use Rattle.irc_effects.specs.declared.effect.By.TheVariants as by
 use Rattle.irc_effects.specs.declared.effect.Target.{Target}
 use Rattle.irc_effects.specs.declared.effect.Target.TheVariants as target
 use Rattle.irc_effects.specs.declared.effect.Effect.TheVariants.{AddUser, Rename, Quit, Join, Part}
 use Rattle.irc_effects.specs.declared.effect.Effect.TheVariants.{Kick, ChangeModes, SetTopic, Say}
-use Rattle.irc_effects.specs.declared.effect.Effect.TheVariants.{Invite, UserMode}
+use Rattle.irc_effects.specs.declared.effect.Effect.TheVariants.{Invite, ChangeUser}
 use Rattle.irc_effects.specs.Room.{Room}
 use Rattle.irc_effects.specs.Limits.{IsCarriedText, IsUserWithin, IsWithinLimits}
 use Rattle.irc_effects.specs.Sendable.{IsStoredNick, IsStoredChannel, IsNameFor, IsChannelOrNew}
 use Rattle.irc_effects.specs.Sendable.{IsSentTarget, IsSentText, target_word, said_parts}
 use Rattle.irc_effects.specs.Seen.{full_sender, from_nick, parts_of, stored_nick, stored_channel}
-use Rattle.irc_effects.specs.Seen.{target_name, changes_words, shown_parts}
+use Rattle.irc_effects.specs.Seen.{target_name, changes_words, change_parts, shown_parts}
 use Rattle.irc_effects.specs.Laws.{IsWhole, whole_text, SentFitsItsLine, SentIsShownWhole}
 use Rattle.irc_effects.specs.Laws.{NamedIsWholeToo}
 use Rattle.irc_effects.specs.Lemmas.Rows.{not_none, same_some}
@@ -169,6 +171,19 @@ text_whole room by notice to text sent = by_user (row room.users (key by)) sent.
           last = Some text;
         })) (sym (target_as_stored room to sent.target_stored)) fits
 
+-- ---- a change of a user's own
+
+change_whole : (room : Room) (nick : List ℕ) (change : UserChange) → IsWithinLimits room
+    → IsStoredNick room nick
+    → IfSome (change_parts (stored_nick room nick) change (from_nick room nick)) IsWhole
+change_whole room nick (Invisible invisible) within stored =
+    from_nick_whole room nick (codes "MODE") (stored_nick room nick
+    ∷ (if invisible then codes "+i" else codes "-i") ∷ []) None within (lit≤ tt)
+    (two_words (length (stored_nick room nick))
+    (length (if invisible then codes "+i" else codes "-i")) 0
+    (nick_in_line (length (stored_nick room nick)) (nick_short room nick within stored))
+    (sign_short invisible) (lit≤ tt))
+
 -- ---- each effect
 
 pub sent_fits_its_line : SentFitsItsLine
@@ -220,13 +235,8 @@ sent_fits_its_line room (Invite by nick channel) viewer within sent =
     (two_words (length (stored_nick room nick)) (length (stored_channel room channel)) 0
     (nick_in_line (length (stored_nick room nick)) (nick_short room nick within sent.nick_stored))
     (channel_short room channel within sent.channel_named) (lit≤ tt))
-sent_fits_its_line room (UserMode nick invisible) viewer within sent =
-    from_nick_whole room nick (codes "MODE") (stored_nick room nick
-    ∷ (if invisible then codes "+i" else codes "-i") ∷ []) None within (lit≤ tt)
-    (two_words (length (stored_nick room nick))
-    (length (if invisible then codes "+i" else codes "-i")) 0
-    (nick_in_line (length (stored_nick room nick)) (nick_short room nick within sent))
-    (sign_short invisible) (lit≤ tt))
+sent_fits_its_line room (ChangeUser nick change) viewer within sent =
+    change_whole room nick change within sent.nick_stored
 
 -- a prefix that is the nickname alone
 shorter : (all short full_prefix prefix nick user host body : ℕ) → all ≡ full_prefix + body

@@ -5,14 +5,14 @@ use Rattle.std.specs.Option.{option_and_then, option_map}
 use Rattle.irc_names.specs.Fold.{key}
 use Rattle.irc_names.specs.Tables.{alter, each, moved}
 use Rattle.irc_users.specs.declared.user.User.{User}
-use Rattle.irc_users.specs.UserTable.{with_nick, with_invisible}
+use Rattle.irc_users.specs.UserTable.{with_nick, with_change}
 use Rattle.irc_channels.specs.declared.channel.Channel.{Channel}
 use Rattle.irc_channels.specs.Channels.{new_channel, joined, left, without_user, renamed}
 use Rattle.irc_channels.specs.Channels.{invited_too, with_topic, respelled, all_changed}
 use Rattle.irc_effects.specs.declared.effect.Effect.{Effect}
 use Rattle.irc_effects.specs.declared.effect.Effect.TheVariants.{AddUser, Rename, Quit, Join, Part}
 use Rattle.irc_effects.specs.declared.effect.Effect.TheVariants.{Kick, ChangeModes, SetTopic, Say}
-use Rattle.irc_effects.specs.declared.effect.Effect.TheVariants.{Invite, UserMode}
+use Rattle.irc_effects.specs.declared.effect.Effect.TheVariants.{Invite, ChangeUser}
 use Rattle.irc_effects.specs.Room.{Room}
 
 -- one user, or one channel, made, changed or taken out
@@ -47,7 +47,7 @@ after room (Say by notice target text) = room
 -- an invitation to a channel that is not there is not kept (our own choice)
 after room (Invite by nick channel) =
     alter_channel channel (option_map (invited_too (key nick))) room
-after room (UserMode nick invisible) = alter_user nick (option_map (with_invisible invisible)) room
+after room (ChangeUser nick change) = alter_user nick (option_map (with_change change)) room
 
 -- The name of a channel is spelled as given, where that is greater by bytes. It is a step of a
 -- room that is no effect: nobody does it, and nobody is shown it.

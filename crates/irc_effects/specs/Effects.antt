@@ -13,7 +13,7 @@ use Rattle.irc_effects.specs.declared.effect.Target.TheVariants as target
 use Rattle.irc_effects.specs.declared.effect.Effect.{Effect}
 use Rattle.irc_effects.specs.declared.effect.Effect.TheVariants.{AddUser, Rename, Quit, Join, Part}
 use Rattle.irc_effects.specs.declared.effect.Effect.TheVariants.{Kick, ChangeModes, SetTopic, Say}
-use Rattle.irc_effects.specs.declared.effect.Effect.TheVariants.{Invite, UserMode}
+use Rattle.irc_effects.specs.declared.effect.Effect.TheVariants.{Invite, ChangeUser}
 use Rattle.irc_effects.specs.Room.{Room}
 
 -- whether a table has a row under a name, as spelled
@@ -69,7 +69,7 @@ doer_of (ChangeModes by channel changes) = by_nick by
 doer_of (SetTopic by channel text) = by_nick by
 doer_of (Say by notice to text) = Some by
 doer_of (Invite by nick channel) = Some by
-doer_of (UserMode nick invisible) = Some nick
+doer_of (ChangeUser nick change) = Some nick
 
 -- the nickname of the user that must be there besides the doer
 abbrev pub needs_other : Effect → Option (List ℕ)
@@ -90,7 +90,7 @@ needs_users (ChangeModes by channel changes) = option_to_list (by_nick by)
 needs_users (SetTopic by channel text) = option_to_list (by_nick by)
 needs_users (Say by notice to text) = by ∷ target_users to
 needs_users (Invite by nick channel) = by ∷ nick ∷ []
-needs_users (UserMode nick invisible) = nick ∷ []
+needs_users (ChangeUser nick change) = nick ∷ []
 
 -- the channel that must be there; a Join makes it, and an Invite to none is only told
 abbrev pub needs_channel : Effect → Option (List ℕ)

@@ -14,11 +14,12 @@ use Rattle.irc_line.specs.Messages.{IsPlainWord, Written, named, joined_text, te
 use Rattle.irc_names.specs.Names.{IsNick, IsChannel, IsHost, IsServer, IsBanMask, IsKey}
 use Rattle.irc_names.specs.UserTexts.{IsUserName}
 use Rattle.irc_users.specs.declared.user.User.{User}
+use Rattle.irc_users.specs.declared.user_change.UserChange.TheVariants.{Invisible}
 use Rattle.irc_channels.specs.declared.channel.Channel.{Channel}
 use Rattle.irc_modes.specs.Modes.{no_modes}
 use Rattle.irc_effects.specs.declared.effect.Effect.{Effect}
 use Rattle.irc_effects.specs.declared.effect.Effect.TheVariants.{Quit, Join, Part, Kick, Say}
-use Rattle.irc_effects.specs.declared.effect.Effect.TheVariants.{UserMode}
+use Rattle.irc_effects.specs.declared.effect.Effect.TheVariants.{ChangeUser}
 use Rattle.irc_effects.specs.declared.effect.Target.TheVariants as target
 use Rattle.irc_effects.specs.Room.{Room, IsWellFormed}
 use Rattle.irc_effects.specs.Effects.{is_idle, IsPossible}
@@ -128,7 +129,8 @@ IsShownAlone room effect user = map (λ (s : Showing). s.viewer) (seen room effe
 abbrev pub OwnModeSeenAlone : Type 0
 OwnModeSeenAlone = (room : Room) (nick : List ℕ) (invisible : Bool) (user : User)
     → IsWellFormed room
-    → row room.users (key nick) ≡ Some user → IsShownAlone room (UserMode nick invisible) user
+    → row room.users (key nick) ≡ Some user → IsShownAlone room
+    (ChangeUser nick (Invisible invisible)) user
 
 -- a text for a user is shown to that user alone: to its sender just where it is for its sender
 abbrev pub PrivateTextSeenAlone : Type 0

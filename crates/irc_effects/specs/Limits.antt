@@ -8,6 +8,8 @@ use Rattle.irc_names.specs.Names.{IsNick, IsChannel, IsHost, IsServer}
 use Rattle.irc_names.specs.Tables.{row}
 use Rattle.irc_names.specs.UserTexts.{IsUserName, IsRealName}
 use Rattle.irc_users.specs.declared.user.User.{User}
+use Rattle.irc_users.specs.declared.user_change.UserChange.{UserChange}
+use Rattle.irc_users.specs.declared.user_change.UserChange.TheVariants.{Invisible}
 use Rattle.irc_channels.specs.Texts.{IsWords}
 use Rattle.irc_modes.specs.ModesSet.{AreWithinLimits}
 use Rattle.irc_modes.specs.declared.modes.ModeChange.{ModeChange}
@@ -16,7 +18,7 @@ use Rattle.irc_modes.specs.declared.modes.ModeLetter.TheVariants as letter
 use Rattle.irc_channels.specs.declared.channel.Channel.{Channel}
 use Rattle.irc_effects.specs.declared.effect.Effect.{Effect}
 use Rattle.irc_effects.specs.declared.effect.Effect.TheVariants.{AddUser, Rename, Join, ChangeModes}
-use Rattle.irc_effects.specs.declared.effect.Effect.TheVariants.{SetTopic}
+use Rattle.irc_effects.specs.declared.effect.Effect.TheVariants.{SetTopic, ChangeUser}
 use Rattle.irc_effects.specs.Room.{Room}
 
 -- a topic, or the text of a quit, a part or a kick, that a line can carry
@@ -52,6 +54,10 @@ abbrev pub IsBanCarried : ModeLetter → Option (List ℕ) → Type 0
 IsBanCarried letter.Ban word = IfSome word IsCarried
 IsBanCarried other word = ⊤
 
+-- a change of a user's own: mode i has no limit
+abbrev pub IsChangeWithin : UserChange → Type 0
+IsChangeWithin (Invisible invisible) = ⊤
+
 -- What an effect has to be so that a room stays within its limits, whoever does it: the names that
 -- it brings keep their rules, and a line can carry the texts that are kept. A change whose
 -- parameter breaks the rule of its letter changes nothing.
@@ -62,4 +68,5 @@ KeepsLimits (Join nick channel op) = IsChannel channel
 KeepsLimits (ChangeModes by channel changes) =
     AllByRecursion (λ (c : ModeChange). IsBanCarried c.letter c.word) changes
 KeepsLimits (SetTopic by channel text) = IsCarriedText text
+KeepsLimits (ChangeUser nick change) = IsChangeWithin change
 KeepsLimits other = ⊤

@@ -9,6 +9,9 @@ use Rattle.irc_names.specs.Fold.{key, same}
 use Rattle.irc_names.specs.Tables.{row}
 use Rattle.irc_line.specs.Messages.{Sender, Written, named, full, text, middle_text}
 use Rattle.irc_users.specs.declared.user.User.{User}
+use Rattle.irc_users.specs.declared.user_change.UserChange.{UserChange}
+use Rattle.irc_users.specs.declared.user_change.UserChange.TheVariants.{Invisible}
+use Rattle.irc_users.specs.UserTable.{is_shown}
 use Rattle.irc_modes.specs.declared.modes.ModeChange.{ModeChange}
 use Rattle.irc_channels.specs.declared.channel.Channel.{Channel}
 use Rattle.irc_channels.specs.Channels.{has_member}
@@ -21,7 +24,7 @@ use Rattle.irc_effects.specs.declared.effect.Target.TheVariants as target
 use Rattle.irc_effects.specs.declared.effect.Effect.{Effect}
 use Rattle.irc_effects.specs.declared.effect.Effect.TheVariants.{AddUser, Rename, Quit, Join, Part}
 use Rattle.irc_effects.specs.declared.effect.Effect.TheVariants.{Kick, ChangeModes, SetTopic, Say}
-use Rattle.irc_effects.specs.declared.effect.Effect.TheVariants.{Invite, UserMode}
+use Rattle.irc_effects.specs.declared.effect.Effect.TheVariants.{Invite, ChangeUser}
 use Rattle.irc_effects.specs.Room.{Room}
 use Rattle.irc_effects.specs.Effects.{is_idle, is_member}
 
@@ -44,7 +47,7 @@ sees room (Say by notice (target.User nick) text) viewer = same nick viewer
 sees room (Say by notice (target.Channel channel) text) viewer =
     not (same by viewer) && is_member room viewer channel
 sees room (Invite by nick channel) viewer = same nick viewer
-sees room (UserMode nick invisible) viewer = same nick viewer
+sees room (ChangeUser nick change) viewer = is_shown change && same nick viewer
 
 -- Users and channels that are there are written as stored.
 abbrev pub stored_nick : Room → List ℕ → List ℕ
@@ -98,6 +101,11 @@ abbrev pub target_name : Room → Target → List ℕ
 target_name room (target.User nick) = stored_nick room nick
 target_name room (target.Channel channel) = stored_channel room channel
 
+-- what a user is told of a change of its own
+abbrev pub change_parts : List ℕ → UserChange → Option Sender → Option Written
+change_parts nick (Invisible invisible) sender = parts_of (codes "MODE")
+    (nick ∷ (if invisible then codes "+i" else codes "-i") ∷ []) None sender
+
 -- the parts of the line that an effect shows to a viewer, and the line
 abbrev pub shown_parts : Room → Effect → User → Option Written
 shown_parts room (AddUser user) viewer = None
@@ -123,9 +131,8 @@ shown_parts room (Say by notice to words) viewer =
 shown_parts room (Invite by nick channel) viewer =
     parts_of (codes "INVITE") (stored_nick room nick ∷ stored_channel room channel ∷ []) None
     (from_nick room by)
-shown_parts room (UserMode nick invisible) viewer =
-    parts_of (codes "MODE") (stored_nick room nick ∷ (if invisible then codes "+i" else codes "-i")
-    ∷ []) None (from_nick room nick)
+shown_parts room (ChangeUser nick change) viewer =
+    change_parts (stored_nick room nick) change (from_nick room nick)
 
 -- the line that an effect shows to a viewer, if it shows one
 abbrev pub shown_line : Room → Effect → User → Option (List ℕ)

@@ -12,6 +12,7 @@ use Rattle.irc_names.specs.Fold.{key}
 use Rattle.irc_names.specs.Names.{IsNick, IsChannel}
 use Rattle.irc_names.specs.Tables.{row}
 use Rattle.irc_users.specs.declared.user.User.{User}
+use Rattle.irc_users.specs.declared.user_change.UserChange.{UserChange}
 use Rattle.irc_channels.specs.declared.channel.Channel.{Channel}
 use Rattle.irc_modes.specs.Readable.{AreReadable}
 use Rattle.irc_modes.specs.declared.modes.ModeChange.{ModeChange}
@@ -21,9 +22,9 @@ use Rattle.irc_effects.specs.declared.effect.Target.TheVariants as target
 use Rattle.irc_effects.specs.declared.effect.Effect.{Effect}
 use Rattle.irc_effects.specs.declared.effect.Effect.TheVariants.{AddUser, Rename, Quit, Join, Part}
 use Rattle.irc_effects.specs.declared.effect.Effect.TheVariants.{Kick, ChangeModes, SetTopic, Say}
-use Rattle.irc_effects.specs.declared.effect.Effect.TheVariants.{Invite, UserMode}
+use Rattle.irc_effects.specs.declared.effect.Effect.TheVariants.{Invite, ChangeUser}
 use Rattle.irc_effects.specs.Room.{Room}
-use Rattle.irc_effects.specs.Limits.{IsCarriedText, IsUserWithin}
+use Rattle.irc_effects.specs.Limits.{IsCarriedText, IsChangeWithin, IsUserWithin}
 use Rattle.irc_effects.specs.Seen.{full_sender, names_member}
 
 -- a nickname that a user has, spelled as that user has it
@@ -122,6 +123,10 @@ pub record IsSentInvite (room : Room) (by nick channel : List ℕ) : Type 0 wher
   pub nick_stored : IsStoredNick room nick
   pub channel_named : IsChannelOrNew room channel
 
+pub record IsSentUserChange (room : Room) (nick : List ℕ) (change : UserChange) : Type 0 where
+  pub nick_stored : IsStoredNick room nick
+  pub keeps : IsChangeWithin change
+
 abbrev pub IsSendable : Room → Effect → Type 0
 IsSendable room (AddUser user) = IsUserWithin user
 IsSendable room (Rename nick new) = IsSentRename room nick new
@@ -136,4 +141,4 @@ IsSendable room (SetTopic (by.User nick) channel text) = IsSentTopic room nick c
 IsSendable room (SetTopic by.Home channel text) = ⊥
 IsSendable room (Say by notice to text) = IsSentText room by notice to (text.items)
 IsSendable room (Invite by nick channel) = IsSentInvite room by nick channel
-IsSendable room (UserMode nick invisible) = IsStoredNick room nick
+IsSendable room (ChangeUser nick change) = IsSentUserChange room nick change

@@ -5,7 +5,7 @@ use irc_channels::Words;
 use irc_line::Line;
 use irc_modes::ModeChange;
 use irc_names::{ChannelName, Nick};
-use irc_users::User;
+use irc_users::{User, UserChange};
 use std::alloc::Global;
 use std::marker::Model;
 
@@ -145,11 +145,11 @@ pub enum Effect {
         /// To which channel.
         channel: ChannelName,
     },
-    /// A user's mode i changes (RFC 2812 section 3.1.5).
-    UserMode {
+    /// A user changes what it has set of itself (RFC 2812 section 3.1.5).
+    ChangeUser {
         /// Who.
         nick: Nick,
-        /// Whether it is set.
-        invisible: bool,
+        /// What.
+        change: UserChange,
     },
 }

@@ -20,7 +20,7 @@ impl Effect {
             | Effect::Quit { nick, .. }
             | Effect::Join { nick, .. }
             | Effect::Part { nick, .. }
-            | Effect::UserMode { nick, .. } => Some(nick),
+            | Effect::ChangeUser { nick, .. } => Some(nick),
             Effect::Kick { by, .. } | Effect::Invite { by, .. } | Effect::Say { by, .. } => {
                 Some(by)
             }

@@ -20,9 +20,10 @@ use Rattle.irc_engine.specs.Lemmas.HearingLaws.{hears_gone, hears_same}
 use Rattle.irc_engine.specs.Carrying.{bytes_owed, is_closed_by, is_exchange, AddsAll, Passage}
 use Rattle.irc_engine.specs.Carrying.{finished}
 use Rattle.irc_engine.specs.Loops.Counts.{count_of}
-use Rattle.irc_engine.specs.Loops.Tables.{connection_count, connection_of, is_done_at, AreSame}
+use Rattle.irc_engine.specs.Loops.Tables.{connection_count, is_done_at, AreSame}
+use Rattle.irc_engine.specs.Moments.{connection_of, lost_at}
 use Rattle.irc_engine.specs.Loops.Tables.{at_connection, no_connection, IsPushedAt, IsClosedAt}
-use Rattle.irc_engine.specs.Loops.Connections.{lost_at, lost_by, IsLostAs, Ends, Loses, EndsOrWaits}
+use Rattle.irc_engine.specs.Loops.Connections.{lost_by, IsLostAs, Ends, Loses, EndsOrWaits}
 use Rattle.irc_engine.specs.Loops.Connections.{ended, stayed, Carries}
 use Rattle.irc_engine.proofs.TableLaws.{nat_eq-refl, IsQueuedAt}
 use Rattle.irc_engine.proofs.KindLaws.{kind_kept, kind_forgotten, kind_gone}

@@ -13,8 +13,9 @@ use Rattle.irc_engine.specs.declared.connection_table.Connection.{Connection}
 use Rattle.irc_engine.specs.Carrying.{bytes_owed, open_kind_at, AddsAll, cut_off, overflowed}
 use Rattle.irc_engine.specs.Carrying.{Passage}
 use Rattle.irc_engine.specs.Loops.Counts.{count_of}
-use Rattle.irc_engine.specs.Loops.Tables.{connection_count, connection_of, IsSet}
-use Rattle.irc_engine.specs.Loops.Connections.{lost_at, lost_by, IsLostAs, Ends, Loses, Carries}
+use Rattle.irc_engine.specs.Loops.Tables.{connection_count, IsSet}
+use Rattle.irc_engine.specs.Moments.{connection_of, lost_at}
+use Rattle.irc_engine.specs.Loops.Connections.{lost_by, IsLostAs, Ends, Loses, Carries}
 use Rattle.irc_engine.proofs.TableLaws.{one_number, nat_eq-refl}
 use Rattle.irc_engine.specs.Lemmas.HearingLaws.{hears_gone}
 use Rattle.irc_engine.proofs.KindLaws.{kind_of_lost, some_lost, lost_by_open, lost_by_close}

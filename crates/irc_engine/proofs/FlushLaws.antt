@@ -21,10 +21,9 @@ use Rattle.irc_engine.specs.declared.connection_table.Connection.{Connection}
 use Rattle.irc_engine.specs.Carrying.{has_some_at}
 use Rattle.irc_engine.specs.Writing.{one_if, destination, destinations, is_some_write, WritesEach}
 use Rattle.irc_engine.specs.Laws.Turns.{was_there}
-use Rattle.irc_engine.specs.Loops.Connections.{has, AreWrites, IsMarked, KeepsMarks, Writes}
-use Rattle.irc_engine.specs.Loops.Moments.{moment_of}
+use Rattle.irc_engine.specs.Loops.Connections.{AreWrites, IsMarked, KeepsMarks, Writes}
+use Rattle.irc_engine.specs.Moments.{has, moment_of, connection_of}
 use Rattle.irc_engine.specs.Loops.Flushing.{Flushing, FlushesSoFar}
-use Rattle.irc_engine.specs.Loops.Tables.{connection_of}
 use Rattle.irc_engine.specs.Hearing.{nothing_of}
 use Rattle.irc_engine.specs.Running.{AllTold, Flushes, IsInOrder, Ran, RanOn}
 use Rattle.irc_engine.proofs.RunLaws.{ran_after, ran_connections, ran_both, ran_marked}

@@ -13,10 +13,10 @@ use Rattle.irc_server.specs.declared.event.Event.{Event}
 use Rattle.irc_server.specs.declared.event.Event.TheVariants.{Connect, Line, Gone, LinkUp, LinkLine}
 use Rattle.irc_server.specs.declared.event.Event.TheVariants.{LinkDown}
 use Rattle.irc_server.specs.declared.event.ServerFault.{ServerFault}
-use Rattle.irc_server.specs.Served.{Occurrence, fault_of, link_there, no_link, not_there, served}
+use Rattle.irc_server.specs.Served.{ReadEvent, fault_of, link_there, no_link, not_there, served}
 use Rattle.irc_server.specs.Served.{there}
-use Rattle.irc_server.specs.Happening.{occurrence_of, IsHandled, has_failed, refuses_it, takes_it}
-use Rattle.irc_server.specs.Happening.{wants_memory}
+use Rattle.irc_server.specs.ReadEvents.{read_event_of, IsHandled, has_failed, refuses_it, takes_it}
+use Rattle.irc_server.specs.ReadEvents.{wants_memory}
 use Rattle.irc_server.specs.Connected.{client_comes, client_goes, is_client_ended}
 use Rattle.irc_server.specs.Connected.{is_link_ended, link_comes, link_goes, AreConnectedAfter}
 use Rattle.irc_server.specs.Connected.{WhoIsConnected}
@@ -33,9 +33,10 @@ use Rattle.irc_engine.specs.Hearing.{end_event_of, line_event_of}
 use Rattle.irc_engine.specs.Knowing.{is_client, is_link, kind_after, known_kind, HasAs, HasNobody}
 use Rattle.irc_engine.specs.Knowing.{IsArrival, IsAtOne, IsOf, IsSettled, IsToHear}
 use Rattle.irc_engine.specs.Loops.Faults.{is_out_of_memory}
-use Rattle.irc_engine.specs.Loops.Tables.{connection_of, at_connection, no_connection, FramesAt}
+use Rattle.irc_engine.specs.Loops.Tables.{at_connection, no_connection, FramesAt}
+use Rattle.irc_engine.specs.Moments.{connection_of, lost_at}
 use Rattle.irc_engine.specs.Loops.Tables.{IsSet}
-use Rattle.irc_engine.specs.Loops.Connections.{lost_at, lost_by, Carries, Loses}
+use Rattle.irc_engine.specs.Loops.Connections.{lost_by, Carries, Loses}
 use Rattle.irc_engine.proofs.TableLaws.{one_number}
 use Rattle.irc_engine.proofs.EachConnection.{set_here}
 
@@ -131,8 +132,8 @@ at_number known conn q kind is one = ap known (sym (one_number conn q one)) ∙ 
 
 -- which clients an event brings and takes
 client_by : (event : Event) (known : ℕ → Option ConnectionKind) → IsOf event known
-    → (q : ℕ) → ((is_client (known q) || client_comes q (occurrence_of event))
-    && not (client_goes q (occurrence_of event))) ≡ is_client (kind_after event q (known q))
+    → (q : ℕ) → ((is_client (known q) || client_comes q (read_event_of event))
+    && not (client_goes q (read_event_of event))) ≡ is_client (kind_after event q (known q))
 client_by (Connect conn host) known due q = by (nat_eq conn q)
   where
     by : (t : Bool)
@@ -162,8 +163,8 @@ client_by (LinkDown link) known due q = by (nat_eq link q) refl
 
 -- and which links
 link_by : (event : Event) (known : ℕ → Option ConnectionKind) → IsOf event known
-    → (q : ℕ) → ((is_link (known q) || link_comes q (occurrence_of event))
-    && not (link_goes q (occurrence_of event))) ≡ is_link (kind_after event q (known q))
+    → (q : ℕ) → ((is_link (known q) || link_comes q (read_event_of event))
+    && not (link_goes q (read_event_of event))) ≡ is_link (kind_after event q (known q))
 link_by (Connect conn host) known due q = by (nat_eq conn q) refl
   where
     by : (t : Bool) → nat_eq conn q ≡ t
@@ -192,7 +193,7 @@ link_by (LinkDown link) known due q = by (nat_eq link q)
     by false = stays (is_link (known q))
 
 client_gone : (event : Event) (q : ℕ) (was : Option ConnectionKind)
-    → client_goes q (occurrence_of event) ≡ true → kind_after event q was ≡ None
+    → client_goes q (read_event_of event) ≡ true → kind_after event q was ≡ None
 client_gone (Connect conn host) q was is = cc is
 client_gone (Line conn line) q was is = cc is
 client_gone (Gone conn) q was is = ap (λ t. cond t None was) is
@@ -201,7 +202,7 @@ client_gone (LinkLine link line) q was is = cc is
 client_gone (LinkDown link) q was is = cc is
 
 link_gone : (event : Event) (q : ℕ) (was : Option ConnectionKind)
-    → link_goes q (occurrence_of event) ≡ true → kind_after event q was ≡ None
+    → link_goes q (read_event_of event) ≡ true → kind_after event q was ≡ None
 link_gone (Connect conn host) q was is = cc is
 link_gone (Line conn line) q was is = cc is
 link_gone (Gone conn) q was is = cc is
@@ -239,7 +240,7 @@ module _ (view : View) (known : ℕ → Option ConnectionKind)
   no_fault (LinkLine link line) due = link_some (get view.ends link) ((has link).1 ∙ ap is_link due)
   no_fault (LinkDown link) due = link_some (get view.ends link) ((has link).1 ∙ ap is_link due)
 
-  new_link : (event : Event) → IsOf event known → IsNewLink view (occurrence_of event)
+  new_link : (event : Event) → IsOf event known → IsNewLink view (read_event_of event)
   new_link (Connect conn host) due = tt
   new_link (Line conn line) due = tt
   new_link (Gone conn) due = tt
@@ -249,8 +250,8 @@ module _ (view : View) (known : ℕ → Option ConnectionKind)
 
   -- behind the event it has just those whom it is to have, but for those that it has closed
   has_after : WhoIsConnected → (event : Event) → IsOf event known → (q : ℕ)
-      → HasAs (served view (occurrence_of event)).view q
-      (cond (is_closed_by q (served view (occurrence_of event)).out) None
+      → HasAs (served view (read_event_of event)).state q
+      (cond (is_closed_by q (served view (read_event_of event)).out) None
       (kind_after event q (known q)))
   has_after law event due q = (
     after.clients q ∙ ap (λ t. (t || client_comes q now)
@@ -272,8 +273,8 @@ module _ (view : View) (known : ℕ → Option ConnectionKind)
         (or_swap (is_link_ended q out) (is_client_ended q out) ∙ sym (closed_by_either q out)),
   )
     where
-      now : Occurrence
-      now = occurrence_of event
+      now : ReadEvent
+      now = read_event_of event
 
       out : List Sent
       out = (served view now).out
@@ -395,7 +396,7 @@ module _ {W : Type 0} (is_after : W → List Call → Type 0) where
             subst (λ (v : View). HasAs v q (known_kind (connection_of new.table q)
             (lost_at new.lost q))) (sym does.view_is ∙ one_view view_after seen is)
             (subst (λ (k : Option ConnectionKind).
-            HasAs (served view (occurrence_of event)).view q k)
+            HasAs (served view (read_event_of event)).state q k)
             (sym (known_now q))
             (has_after view awaits.kinds (λ p. awaits.has p view refl) law event awaits.is_of q));
         lost_is_gone = λ q. gone_passage q carries.calls outs (connection_of old.table q)
@@ -406,11 +407,11 @@ module _ {W : Type 0} (is_after : W → List Call → Type 0) where
       one_view : (a b : View) → Some a ≡ Some b → a ≡ b
       one_view a b same = cc same
 
-      put_out : outs ≡ (served view (occurrence_of event)).out
-      put_out = does.out_is ∙ ap (λ os. os ++ (served view (occurrence_of event)).out) none
+      put_out : outs ≡ (served view (read_event_of event)).out
+      put_out = does.out_is ∙ ap (λ os. os ++ (served view (read_event_of event)).out) none
 
       known_now : (q : ℕ) → known_kind (connection_of new.table q) (lost_at new.lost q)
-          ≡ cond (is_closed_by q (served view (occurrence_of event)).out) None
+          ≡ cond (is_closed_by q (served view (read_event_of event)).out) None
           (kind_after event q (awaits.kinds q))
       known_now q =
           known_passage q carries.calls outs (connection_of old.table q) (lost_at old.lost q)
@@ -419,7 +420,7 @@ module _ {W : Type 0} (is_after : W → List Call → Type 0) where
           ∙ ap (λ os. cond (is_closed_by q os) None
           (known_kind (connection_of old.table q) (lost_at old.lost q))) put_out
           ∙ ap (λ (k : Option ConnectionKind). cond
-          (is_closed_by q (served view (occurrence_of event)).out) None k) (awaits.known q)
+          (is_closed_by q (served view (read_event_of event)).out) None k) (awaits.known q)
 
   -- something is done that no event asks for
   pub at_one_carried : (server : Option View) (exchanges : List Call) (old new : Connections W)

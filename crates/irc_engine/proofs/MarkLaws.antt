@@ -12,9 +12,10 @@ use Rattle.irc_engine.specs.declared.connection_table.Pushed.TheVariants.{Nothin
 use Rattle.irc_engine.specs.declared.kind.ConnectionKind.{ConnectionKind}
 use Rattle.irc_engine.specs.declared.connection_table.Connection.{Connection}
 use Rattle.irc_engine.specs.Carrying.{fresh_connection, has_some_at, is_done_at}
-use Rattle.irc_engine.specs.Loops.Tables.{connection_of, at_connection, no_connection, IsPushedAt}
+use Rattle.irc_engine.specs.Loops.Tables.{at_connection, no_connection, IsPushedAt}
+use Rattle.irc_engine.specs.Moments.{connection_of, has}
 use Rattle.irc_engine.specs.Loops.Tables.{IsQueued, IsSet, IsClosedAt, FramesAt}
-use Rattle.irc_engine.specs.Loops.Connections.{has, ended, stayed, IsNoted, IsMarked, IsMarkedAt}
+use Rattle.irc_engine.specs.Loops.Connections.{ended, stayed, IsNoted, IsMarked, IsMarkedAt}
 use Rattle.irc_engine.specs.Loops.Connections.{KeepsMarks, KeepsNotes, EndsOrWaits}
 use Rattle.irc_engine.proofs.TableLaws.{one_number}
 use Rattle.irc_engine.proofs.EachConnection.{at_once, set_here, set_other}

@@ -16,7 +16,7 @@ use Rattle.irc_outbox.specs.Calls.{Call, reads, closes, bytes_got, Adds, FitsIn}
 use Rattle.irc_server.specs.declared.event.Event.{Event}
 use Rattle.irc_batch.specs.Batches.{Sent}
 use Rattle.irc_stage.specs.View.{View}
-use Rattle.irc_server.specs.Happening.{IsHandled}
+use Rattle.irc_server.specs.ReadEvents.{IsHandled}
 use Rattle.irc_engine.specs.declared.connections.Connections.{Connections}
 use Rattle.irc_engine.specs.declared.kind.ConnectionKind.{ConnectionKind}
 use Rattle.irc_engine.specs.declared.kind.ConnectionKind.TheVariants as kinds
@@ -40,8 +40,9 @@ use Rattle.irc_engine.specs.Writing.{one_if}
 use Rattle.irc_engine.proofs.NotingLaws.{enters_both}
 use Rattle.irc_engine.specs.Lemmas.HearingLaws.{lines_by-append, times_gone-append, hears_on}
 use Rattle.irc_engine.specs.Lemmas.HearingLaws.{hears_kept, hears_same, hears_gone, hears_deaf}
-use Rattle.irc_engine.specs.Loops.Tables.{connection_of, at_connection, no_connection, FramesAt}
-use Rattle.irc_engine.specs.Loops.Connections.{has, lost_at, lost_by, Carries, Loses}
+use Rattle.irc_engine.specs.Loops.Tables.{at_connection, no_connection, FramesAt}
+use Rattle.irc_engine.specs.Moments.{connection_of, has, lost_at}
+use Rattle.irc_engine.specs.Loops.Connections.{lost_by, Carries, Loses}
 use Rattle.irc_engine.specs.Loops.Moments.{came, passed_on}
 use Rattle.irc_engine.proofs.EachConnection.{adds_none, adds_both, at_once, set_here, set_other}
 use Rattle.irc_engine.proofs.EachConnection.{close_elsewhere, last_close}

@@ -14,7 +14,8 @@ use Rattle.irc_engine.specs.declared.connection_table.Pushed.{Pushed}
 use Rattle.irc_engine.specs.declared.connection_table.Pushed.TheVariants.{First, More}
 use Rattle.irc_engine.specs.declared.connection_table.Connection.{Connection}
 use Rattle.irc_engine.specs.declared.connection_table.ConnectionTable.{ConnectionTable}
-use Rattle.irc_engine.specs.Loops.Tables.{connection_at, connection_count, connection_of}
+use Rattle.irc_engine.specs.Loops.Tables.{connection_count}
+use Rattle.irc_engine.specs.Moments.{connection_at, connection_of}
 use Rattle.irc_engine.specs.Loops.Tables.{IsPushedAt, IsQueued, IsSet, Through, at_connection}
 use Rattle.irc_engine.specs.Loops.Tables.{no_connection, Within, in_none, in_connection}
 

@@ -2,7 +2,7 @@
 use Rattle.std.proofs.Common.{◌≡◌, ℕ, ◌<◌, IsErrAnd, Option, Result, Ok, Err, List, sym, subst}
 use Rattle.irc_outbox.specs.Calls.{Call}
 use Rattle.irc_engine.specs.declared.engine.EngineFault.{EngineFault}
-use Rattle.irc_engine.specs.Turning.{EngineView}
+use Rattle.irc_engine.specs.EngineView.{EngineView}
 use Rattle.irc_engine.specs.Telling.{RunsTelling, TellsTurned, ToldTurns, told_stopped}
 
 -- one turn is not taken, behind those that were

@@ -10,10 +10,10 @@ use Rattle.irc_engine.specs.declared.engine.OutboxSizes.{OutboxSizes}
 use Rattle.irc_engine.specs.declared.engine.EngineFault.{EngineFault}
 use Rattle.irc_engine.specs.Running.{Moment, AllTold, Answers, Does, Flushes, IsInOrder}
 use Rattle.irc_engine.specs.Loops.Connections.{IsMarkedAt, KeepsNotes}
-use Rattle.irc_engine.specs.Loops.Moments.{moment_of}
-use Rattle.irc_engine.specs.Loops.Engines.{ChangesWireAlone}
+use Rattle.irc_engine.specs.Moments.{moment_of}
+use Rattle.irc_engine.specs.EngineView.{ChangesWireAlone, EngineView}
 use Rattle.irc_engine.proofs.RunLaws.{ran_none}
-use Rattle.irc_engine.specs.Turning.{EngineView, Taken, takes_it, runs_out, Turned, takes_turn}
+use Rattle.irc_engine.specs.Turning.{Taken, takes_it, runs_out, Turned, takes_turn}
 use Rattle.irc_engine.specs.Turning.{wants_memory, Turns, Runs, stopped}
 
 -- a call behind something that is no call

@@ -8,8 +8,9 @@ use Rattle.irc_outbox.specs.Outboxes.{IsFront}
 use Rattle.irc_engine.specs.declared.connections.Connections.{Connections}
 use Rattle.irc_engine.specs.declared.connection_table.Connection.{Connection}
 use Rattle.irc_engine.specs.Loops.Counts.{count_of}
-use Rattle.irc_engine.specs.Loops.Tables.{connection_of, at_connection, no_connection, IsWrittenAt}
-use Rattle.irc_engine.specs.Loops.Connections.{has, lost_at, lost_by, AreWrites, Carries, Loses}
+use Rattle.irc_engine.specs.Loops.Tables.{at_connection, no_connection, IsWrittenAt}
+use Rattle.irc_engine.specs.Moments.{connection_of, has, lost_at}
+use Rattle.irc_engine.specs.Loops.Connections.{lost_by, AreWrites, Carries, Loses}
 use Rattle.irc_engine.specs.Loops.Connections.{EndsOrWaits, Writes}
 use Rattle.irc_engine.proofs.EachConnection.{adds_both, at_once, set_here, set_other}
 use Rattle.irc_engine.proofs.EachConnection.{write_elsewhere, write_drops}

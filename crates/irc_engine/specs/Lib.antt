@@ -4,6 +4,8 @@ pub mod Writing
 pub mod Noting
 pub mod Knowing
 pub mod Running
+pub mod Moments
+pub mod EngineView
 pub mod Turning
 pub mod Telling
 pub mod Loops

@@ -3,6 +3,5 @@ pub mod Counts
 pub mod Connections
 pub mod Moments
 pub mod Faults
-pub mod Engines
 pub mod Flushing
 pub mod Turns

@@ -8,7 +8,8 @@ use Rattle.irc_journal.specs.declared.tidings.Outcome.TheVariants.{Unreached}
 use Rattle.irc_journal.specs.Signs.{IsEmptied}
 use Rattle.irc_journal.specs.Saying.{AreSaid, IsSaid}
 use Rattle.irc_engine.specs.declared.engine.EngineFault.{EngineFault}
-use Rattle.irc_engine.specs.Turning.{EngineView, Turned}
+use Rattle.irc_engine.specs.Turning.{Turned}
+use Rattle.irc_engine.specs.EngineView.{EngineView}
 
 -- what is told of a call that has failed
 abbrev pub call_told : FailedCall → Tidings

@@ -11,14 +11,8 @@ use Rattle.irc_engine.specs.declared.engine.EngineFault.{EngineFault}
 use Rattle.irc_engine.specs.declared.engine.EngineFault.TheVariants.{Memory, Failed, Device}
 use Rattle.irc_engine.specs.Carrying.{has_some_at}
 use Rattle.irc_journal.specs.Signs.{IsBlank}
+use Rattle.irc_engine.specs.EngineView.{EngineView}
 use Rattle.irc_engine.specs.Running.{Moment, IsInOrder, Does, Turn}
-
--- An engine, as those who have one see it: whether memory ran out for it, how many bytes its
--- outboxes have room for, and how it is now.
-pub record EngineView (W : Type 0) : Type 0 where
-  pub failed : Bool
-  pub sizes : OutboxSizes
-  pub now : Moment W
 
 -- an engine that has served nobody
 pub record IsNew {W : Type 0} (server : Option View) (wire : W) (client_room link_room : ℕ)

@@ -4,7 +4,8 @@ ghost use Rattle.std.specs.Prelude.{◌≡◌, ℕ, Some, None, is_some, length,
 ghost use Rattle.std.specs.List.{slice_get};
 ghost use Rattle.irc_engine.specs.Loops.Tables.{fresh_connection, has_some_at, is_done_at};
 ghost use Rattle.irc_engine.specs.Loops.Tables.{is_open_at, open_kind_at, connection_count};
-ghost use Rattle.irc_engine.specs.Loops.Tables.{connection_of, CountsWithout, Sets, IsPushedTo};
+ghost use Rattle.irc_engine.specs.Loops.Tables.{CountsWithout, Sets, IsPushedTo};
+ghost use Rattle.irc_engine.specs.Moments.{connection_of};
 ghost use Rattle.irc_engine.specs.Loops.Tables.{IsPushedAt, IsPushedIn, IsClosedAt, IsWrittenAt};
 ghost use Rattle.irc_engine.specs.Loops.Tables.{IsWrittenIn, with_line, Frames, FramesAt, FramesIn};
 ghost use Rattle.irc_engine.specs.Loops.Tables.{Within};

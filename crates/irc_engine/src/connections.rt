@@ -4,7 +4,8 @@ ghost use Rattle.std.specs.Prelude.{◌≡◌, ◌+◌, ◌<◌, ◌≤◌, ◌�
 ghost use Rattle.std.specs.Prelude.{IfNone, IfSome, IsSome, OnOk};
 ghost use Rattle.std.specs.Ordering.{nat_cmp};
 ghost use Rattle.std.specs.BTreeMap.{btree_map_len, IsLowerBound, IsUnchanged, Updates};
-ghost use Rattle.irc_engine.specs.Loops.Connections.{lost_at, Carries, CarriesOne, Ends, IsLostAs};
+ghost use Rattle.irc_engine.specs.Loops.Connections.{Carries, CarriesOne, Ends, IsLostAs};
+ghost use Rattle.irc_engine.specs.Moments.{lost_at};
 ghost use Rattle.irc_engine.specs.Loops.Connections.{IsNoted, KeepsMarks, Loses, EndsOrWaits};
 ghost use Rattle.irc_engine.specs.Loops.Connections.{Writes};
 ghost use Rattle.irc_engine.specs.Writing.{one_if};

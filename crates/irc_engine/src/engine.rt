@@ -4,16 +4,15 @@ ghost use Rattle.irc_outbox.specs.Calls.{Keeps};
 ghost use Rattle.irc_engine.specs.Loops.Counts.{count_of};
 ghost use Rattle.irc_engine.specs.Hearing.{end_event_of};
 ghost use Rattle.irc_engine.specs.Knowing.{HasNobody, IsArrival, IsSettled};
-ghost use Rattle.irc_engine.specs.Loops.Moments.{came, knows_at, yields_at, moment_of, passed_on};
+ghost use Rattle.irc_engine.specs.Loops.Moments.{came, knows_at, yields_at, passed_on};
+ghost use Rattle.irc_engine.specs.Moments.{moment_of, connection_of, lost_at};
 ghost use Rattle.irc_engine.specs.Loops.Moments.{AsksFor, HearsFrom, IsAtOneIn, IsNobodyNoted};
 ghost use Rattle.irc_engine.specs.Loops.Moments.{IsOpenAs, IsSettledIn, IsToHearIn, KeepsOrder};
 ghost use Rattle.irc_engine.specs.Loops.Moments.{KeepsTold, Spans};
 ghost use Rattle.irc_engine.specs.Loops.Faults.{is_out_of_memory};
-ghost use Rattle.irc_engine.specs.Loops.Tables.{connection_of};
-ghost use Rattle.irc_engine.specs.Loops.Connections.{lost_at, KeepsMarks, KeepsNotes};
+ghost use Rattle.irc_engine.specs.Loops.Connections.{KeepsMarks, KeepsNotes};
 ghost use Rattle.irc_engine.specs.Running.{AllTold, Answers, AsksOnce, Does, Flushes, PassesOn};
 ghost use Rattle.irc_engine.specs.Running.{RanOn, Reads, Starts, TellsLosses};
-ghost use Rattle.irc_engine.specs.Turning.{brings_nothing, HasFailed, IsNew, Runs, Taken, Turned};
 
 use crate::connection_table::ConnectionTable;
 use crate::connections::{Connections, take_lowest};
@@ -82,7 +81,8 @@ pub(crate) struct Core<W> {
 }
 
 impl<W: Wire + Drop> Engine<W> {
-    ghost use Rattle.irc_engine.specs.Loops.Engines.{engine_view};
+    ghost use Rattle.irc_engine.specs.EngineView.{engine_view};
+    ghost use Rattle.irc_engine.specs.Turning.{IsNew};
 
     /// An engine for a server that has no connection and no link, over a wire that has reported
     /// nothing. An outbox of a client has room for `client_room` bytes, and that of a link for
@@ -126,7 +126,8 @@ impl<W: Wire + Drop> Engine<W> {
 }
 
 impl<W: Wire> Engine<W> {
-    ghost use Rattle.irc_engine.specs.Loops.Engines.{engine_view, ChangesWireAlone};
+    ghost use Rattle.irc_engine.specs.EngineView.{engine_view, ChangesWireAlone};
+    ghost use Rattle.irc_engine.specs.Turning.{HasFailed, Runs, Taken, Turned};
 
     /// Takes one turn: asks what is ready and does it, then writes once from each outbox that is
     /// not empty, in order of number.
@@ -182,6 +183,8 @@ impl<W: Wire> Engine<W> {
 }
 
 impl<W: Wire> Core<W> {
+    ghost use Rattle.irc_engine.specs.Turning.{brings_nothing};
+
     /// Does what is ready, and writes.
     fn turn(&mut self, ready: Ready, sizes: OutboxSizes) -> Result<(), AllocError>
         requires { IsSettledIn self.old }

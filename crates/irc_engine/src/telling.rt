@@ -1,6 +1,6 @@
 //! What an engine says of its links, behind each of its turns.
 ghost use Rattle.std.specs.Prelude.{◌≡◌};
-ghost use Rattle.irc_engine.specs.Loops.Engines.{engine_view};
+ghost use Rattle.irc_engine.specs.EngineView.{engine_view};
 ghost use Rattle.irc_engine.specs.Telling.{call_told, IsCallSaid, RunsTelling, Tells, TellsTurned};
 
 use crate::engine::{Engine, EngineFault};

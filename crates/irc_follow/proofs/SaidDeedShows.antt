@@ -72,17 +72,17 @@ module _ (who : ℕ) where
       (told_by link (a_server uplink name distance token info) before).out ≡ lines_to who before.out
   unfolding told_by
   none_of_gain link uplink name distance token info before =
-      by (is_taken before.view.routes link name token)
+      by (is_taken before.state.routes link name token)
     where
       more : Served
-      more = record before { view = with_row link uplink name distance token info before.view }
+      more = record before { state = with_row link uplink name distance token info before.state }
 
       by : (b : Bool) → lines_to who (if b then gain_told link uplink name info (record before
-          { view = with_row link uplink name distance token info before.view }) else before).out
+          { state = with_row link uplink name distance token info before.state }) else before).out
           ≡ lines_to who before.out
-      by true = but_links who before.out (but (Some link) (met_links before.view.ends))
-          (deed_parts before.view.room (with_row link uplink name distance token info
-          before.view).routes (gains uplink name info))
+      by true = but_links who before.out (but (Some link) (met_links before.state.ends))
+          (deed_parts before.state.room (with_row link uplink name distance token info
+          before.state).routes (gains uplink name info))
       by false = refl
 
 module _ (s : ItemSetting) (p t : Name) (w : of_side.SideState) (view : View)
@@ -135,7 +135,7 @@ module _ (s : ItemSetting) (p t : Name) (w : of_side.SideState) (view : View)
   on_all : (arrival : Option ℕ) (parts : Written) (before : Served)
       → lines_to who (told_on_all arrival parts before).out ≡ lines_to who before.out
   on_all arrival parts before =
-      but_links who before.out (but arrival (met_links before.view.ends)) parts
+      but_links who before.out (but arrival (met_links before.state.ends)) parts
 
   -- ---- each deed
 

@@ -103,7 +103,7 @@ module _ (known : IsKnownOfLines) (s : ItemSetting) (p t u : Name) (w : of_side.
   -- has spelled it
   lines_of : (deed : Deed) (room : Room) (effects : List Effect) (parts : Written)
       (after : Served → Served) → ((before : Served) → (after before).out ≡ before.out)
-      → ((before : Served) → (after before).view.ends ≡ before.view.ends)
+      → ((before : Served) → (after before).state.ends ≡ before.state.ends)
       → told_by (number s p) (a_deed deed) (in_silence view)
       ≡ told_on_all (Some (number s p)) parts (after (all_changed effects (at_room view room [])))
       → told_by (number s p) (a_deed deed) (in_silence view) ≡ neighbour_served s p view line

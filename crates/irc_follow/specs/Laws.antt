@@ -24,7 +24,7 @@ abbrev pub SaidDeedFits : Type 0
 SaidDeedFits =
     (s : ItemSetting) (p t : Name) (w : SideState) (view : View) (deed : Deed) (line : List ℕ)
     → IsItemSetting s → TakesFrom s.streams t p → Fits s t w view
-    → Says s p t w view deed line → Fits s t (done s w deed) (neighbour_served s p view line).view
+    → Says s p t w view deed line → Fits s t (done s w deed) (neighbour_served s p view line).state
 
 -- And it shows to each client what the network shows to that by the deed.
 abbrev pub SaidDeedShows : Type 0
@@ -37,7 +37,7 @@ SaidDeedShows =
 -- it fits as it did, and puts out nothing
 pub record PutsOutNothing (s : ItemSetting) (t : Name) (w : SideState)
     (after : Served) : Type 0 where
-  pub fits : Fits s t w after.view
+  pub fits : Fits s t w after.state
   pub silent : after.out ≡ []
 
 -- A line that says no deed changes nothing, and nothing is told on or shown upon it.

@@ -63,7 +63,7 @@ lines_on link out = filter_map (line_on_link link) out
 -- as one client of the network sees it
 abbrev pub machine : ItemSetting → ℕ → Machine View (List ℕ) (List ℕ)
 machine s client = record {
-  step = λ t p view line. (neighbour_served s p view line).view;
+  step = λ t p view line. (neighbour_served s p view line).state;
   sends = λ t p view line u. if same u p then []
       else lines_on (number s u) (neighbour_served s p view line).out;
   shows = λ t p view line. if is_home_of s.homes t client

@@ -20,8 +20,8 @@ reasons_of_closings (end_of_link link why ∷ out) =
 
 pub only_lines_close : ServedClosesItsOwn → OnlyLinesClose
 only_lines_close its_own = record {
-  by_clients = λ view happening. reasons_of_closings (served view (of_client happening)).out
-      ∙ ap (map (λ (c : ℕ × CloseReason). c.1)) (its_own view (of_client happening));
+  by_clients = λ view client_event. reasons_of_closings (served view (of_client client_event)).out
+      ∙ ap (map (λ (c : ℕ × CloseReason). c.1)) (its_own view (of_client client_event));
   by_losses = λ view link. reasons_of_closings (served view (link_down link)).out
       ∙ ap (map (λ (c : ℕ × CloseReason). c.1)) (its_own view (link_down link));
 }

@@ -6,11 +6,11 @@ use Rattle.irc_line.specs.Reading.{read_of}
 use Rattle.irc_relay.specs.Links.{Name}
 use Rattle.irc_stage.specs.Handle.{connects, goes, says}
 use Rattle.irc_stage.specs.View.{View}
-use Rattle.irc_server.specs.Served.{Occurrence, ServedKeepsItsSetting, link_down, link_says}
+use Rattle.irc_server.specs.Served.{ReadEvent, ServedKeepsItsSetting, link_down, link_says}
 use Rattle.irc_server.specs.Served.{link_up, of_client}
 use Rattle.irc_world.specs.Stepping.{Item, connect, cut, gone, line, link}
 use Rattle.irc_network.specs.Network.{Progress, LinkPlaces, Network, Served, Node, node_asked}
-use Rattle.irc_network.specs.Network.{asked_at, node_asked_if, begun, node_changed_at, line_counted}
+use Rattle.irc_network.specs.Network.{asked_at, begun, line_counted, node_asked_if, node_changed_at}
 use Rattle.irc_network.specs.Network.{delivered, done_by, link_places, given, home_place, left}
 use Rattle.irc_network.specs.Network.{servers_parted, servers_linked, next_client, server_place}
 use Rattle.irc_network.specs.Network.{reply, node_at, taken_of, waiting, with_client, with_reply}
@@ -41,72 +41,72 @@ changed_keeps place change same net = by (node_at net place) refl
         ∙ set_alike place node (change node) net e (same_server node (change node) (same node))
 
 module _ (kept : ServedKeepsItsSetting) where
-  replied_keeps : (place : ℕ) (occurrence : Occurrence) (progress : Progress) (node : Node)
+  replied_keeps : (place : ℕ) (read_event : ReadEvent) (progress : Progress Network) (node : Node)
       (view : View) → node_at progress.net place ≡ Some node → node.server ≡ Some view → settings_of
-      (with_reply place progress node (reply view occurrence)).net ≡ settings_of progress.net
-  replied_keeps place occurrence progress node view is server =
+      (with_reply place progress node (reply view read_event)).net ≡ settings_of progress.net
+  replied_keeps place read_event progress node view is server =
       (all_sent place answer.out replied mid is_there).changed.settings
       ∙ set_alike place node replied progress.net is alike
     where
       answer : Served
-      answer = reply view occurrence
+      answer = reply view read_event
 
       replied : Node
-      replied = record node { server = Some (reply view occurrence).view }
+      replied = record node { server = Some (reply view read_event).state }
 
-      mid : Progress
+      mid : Progress Network
       mid = record progress {
         net = with_node place
-            (record node { server = Some (reply view occurrence).view }) progress.net;
+            (record node { server = Some (reply view read_event).state }) progress.net;
       }
 
-      alike : IsAlikeNode node (record node { server = Some (reply view occurrence).view })
+      alike : IsAlikeNode node (record node { server = Some (reply view read_event).state })
       alike = record {
-        named = ap Some (reply_alike kept view occurrence).name
+        named = ap Some (reply_alike kept view read_event).name
             ∙ sym (ap (option_map (λ (v : View). v.routes.name)) server);
-        setting = ap Some (setting_alike view (reply view occurrence).view
-            (reply_alike kept view occurrence)) ∙ sym (ap (option_map setting_now) server);
+        setting = ap Some (setting_alike view (reply view read_event).state
+            (reply_alike kept view read_event)) ∙ sym (ap (option_map setting_now) server);
       }
 
       is_there : node_at (with_node place
-          (record node { server = Some (reply view occurrence).view }) progress.net) place ≡ Some
-          (record node { server = Some (reply view occurrence).view })
+          (record node { server = Some (reply view read_event).state }) progress.net) place ≡ Some
+          (record node { server = Some (reply view read_event).state })
       is_there = (node_set place node
-          (record node { server = Some (reply view occurrence).view }) progress.net
+          (record node { server = Some (reply view read_event).state }) progress.net
           (with_node place
-          (record node { server = Some (reply view occurrence).view }) progress.net)
+          (record node { server = Some (reply view read_event).state }) progress.net)
           is alike refl).is_after
 
-  asked_keeps : (place : ℕ) (occurrence : Occurrence) (progress : Progress)
-      → settings_of (node_asked place occurrence progress).net ≡ settings_of progress.net
+  asked_keeps : (place : ℕ) (read_event : ReadEvent) (progress : Progress Network)
+      → settings_of (node_asked place read_event progress).net ≡ settings_of progress.net
   unfolding node_asked
-  asked_keeps place occurrence progress = by (node_at progress.net place) refl
+  asked_keeps place read_event progress = by (node_at progress.net place) refl
     where
       at : (node : Node) → node_at progress.net place ≡ Some node → (o : Option View) → node.server
-          ≡ o → settings_of (asked_at place occurrence progress node).net ≡ settings_of progress.net
+          ≡ o → settings_of (asked_at place read_event progress node).net ≡ settings_of progress.net
       at node is None e = ap (λ o. settings_of (option_map_or (λ (view : View).
-          with_reply place progress node (reply view occurrence)) o progress).net) e
+          with_reply place progress node (reply view read_event)) o progress).net) e
       at node is (Some view) e =
           ap (λ o. settings_of (option_map_or (λ (view : View).
-          with_reply place progress node (reply view occurrence)) o progress).net) e
-          ∙ replied_keeps place occurrence progress node view is e
+          with_reply place progress node (reply view read_event)) o progress).net) e
+          ∙ replied_keeps place read_event progress node view is e
 
       by : (o : Option Node) → node_at progress.net place ≡ o → settings_of
-          (option_map_or (asked_at place occurrence progress)
+          (option_map_or (asked_at place read_event progress)
           (node_at progress.net place) progress).net
           ≡ settings_of progress.net
       by None e =
           ap (λ o. settings_of
-          (option_map_or (asked_at place occurrence progress) o progress).net) e
+          (option_map_or (asked_at place read_event progress) o progress).net) e
       by (Some node) e =
           ap (λ o. settings_of
-          (option_map_or (asked_at place occurrence progress) o progress).net) e
+          (option_map_or (asked_at place read_event progress) o progress).net) e
           ∙ at node e node.server refl
 
-  asked_of_keeps : (o : Option ℕ) (occurrence : Occurrence) (progress : Progress)
-      → settings_of (node_asked_if o occurrence progress).net ≡ settings_of progress.net
-  asked_of_keeps None occurrence progress = refl
-  asked_of_keeps (Some place) occurrence progress = asked_keeps place occurrence progress
+  asked_of_keeps : (o : Option ℕ) (read_event : ReadEvent) (progress : Progress Network)
+      → settings_of (node_asked_if o read_event progress).net ≡ settings_of progress.net
+  asked_of_keeps None read_event progress = refl
+  asked_of_keeps (Some place) read_event progress = asked_keeps place read_event progress
 
   made_keeps : (near far : Name) (net : Network) (ends : LinkPlaces)
       → settings_of (servers_linked near far net ends).net ≡ settings_of net
@@ -155,7 +155,8 @@ module _ (kept : ServedKeepsItsSetting) where
           → taken_of from to old node lines ≡ Some new → settings_of new.net ≡ settings_of old.net
       taken node there [] e = absurd (cc e)
       taken node there (first ∷ rest) e =
-          ap (λ (o : Option Progress). option_map_or (λ (c : Progress). settings_of c.net) o
+          ap (λ (o : Option (Progress Network)). option_map_or
+          (λ (c : Progress Network). settings_of c.net) o
           (settings_of new.net)) (sym e)
           ∙ asked_keeps to (link_says from (read_of first))
           (record old { net = line_counted (with_node from (left to rest node) old.net) })

@@ -4,7 +4,7 @@ use Rattle.std.proofs.Common.{refl, sym, ap, subst, ◌∙◌, arith}
 use Rattle.std.specs.Option.{option_and_then, option_map_or}
 use Rattle.irc_line.specs.Reading.{read_of}
 use Rattle.irc_stage.specs.View.{View}
-use Rattle.irc_server.specs.Served.{Occurrence, link_says}
+use Rattle.irc_server.specs.Served.{ReadEvent, link_says}
 use Rattle.irc_world.specs.World.{new_world}
 use Rattle.irc_network.specs.Network.{Progress, Network, Served, Node, node_asked, asked_at}
 use Rattle.irc_network.specs.Network.{line_counted, delivered, left, max_count, none_yet, reply}
@@ -22,68 +22,68 @@ pub record IsOnlyTaken (old new : Network) : Type 0 where
   pub items : new.items ≡ old.items
   pub taken : new.taken ≡ old.taken
 
-replied_taken : (place : ℕ) (progress : Progress) (node : Node) (answer : Served)
+replied_taken : (place : ℕ) (progress : Progress Network) (node : Node) (answer : Served)
     → node_at progress.net place ≡ Some node
     → IsOnlyTaken progress.net (with_reply place progress node answer).net
 replied_taken place progress node answer is =
     record { items = sent.changed.items; taken = sent.taken }
   where
-    sent : IsSentOut place answer.out (record node { server = Some answer.view })
+    sent : IsSentOut place answer.out (record node { server = Some answer.state })
         (record progress {
           net = with_node place
-              (record node { server = Some answer.view }) progress.net;
+              (record node { server = Some answer.state }) progress.net;
         })
         (with_reply place progress node answer)
-    sent = all_sent place answer.out (record node { server = Some answer.view })
+    sent = all_sent place answer.out (record node { server = Some answer.state })
         (record progress {
           net = with_node place
-              (record node { server = Some answer.view }) progress.net;
+              (record node { server = Some answer.state }) progress.net;
         })
-        (set_there progress.net.nodes place node (record node { server = Some answer.view }) is)
+        (set_there progress.net.nodes place node (record node { server = Some answer.state }) is)
 
-asked_taken : (place : ℕ) (occurrence : Occurrence) (progress : Progress)
-    → IsOnlyTaken progress.net (node_asked place occurrence progress).net
+asked_taken : (place : ℕ) (read_event : ReadEvent) (progress : Progress Network)
+    → IsOnlyTaken progress.net (node_asked place read_event progress).net
 unfolding node_asked
-asked_taken place occurrence progress = by (node_at progress.net place) refl
+asked_taken place read_event progress = by (node_at progress.net place) refl
   where
     same : (net : Network) → IsOnlyTaken net net
     same net = record { items = refl; taken = refl }
 
     at : (node : Node) → node_at progress.net place ≡ Some node → (o : Option View)
-        → node.server ≡ o → IsOnlyTaken progress.net (asked_at place occurrence progress node).net
+        → node.server ≡ o → IsOnlyTaken progress.net (asked_at place read_event progress node).net
     at node is None e = subst (λ o. IsOnlyTaken progress.net (option_map_or
-        (λ (view : View). with_reply place progress node (reply view occurrence)) o progress).net)
+        (λ (view : View). with_reply place progress node (reply view read_event)) o progress).net)
         (sym e) (same progress.net)
     at node is (Some view) e = subst
         (λ o. IsOnlyTaken progress.net (option_map_or (λ (view : View).
-        with_reply place progress node (reply view occurrence)) o progress).net) (sym e)
-        (replied_taken place progress node (reply view occurrence) is)
+        with_reply place progress node (reply view read_event)) o progress).net) (sym e)
+        (replied_taken place progress node (reply view read_event) is)
 
     by : (o : Option Node) → node_at progress.net place ≡ o → IsOnlyTaken progress.net
-        (option_map_or (asked_at place occurrence progress)
+        (option_map_or (asked_at place read_event progress)
         (node_at progress.net place) progress).net
     by None e = subst (λ o. IsOnlyTaken progress.net
-        (option_map_or (asked_at place occurrence progress) o progress).net) (sym e)
+        (option_map_or (asked_at place read_event progress) o progress).net) (sym e)
         (same progress.net)
     by (Some node) e = subst (λ o. IsOnlyTaken progress.net (option_map_or
-        (asked_at place occurrence progress) o progress).net) (sym e) (at node e node.server refl)
+        (asked_at place read_event progress) o progress).net) (sym e) (at node e node.server refl)
 
 pub record IsOneMore (old new : Network) : Type 0 where
   pub items : new.items ≡ old.items
   pub taken : new.taken ≡ min (old.taken + 1) max_count
 
-pub delivered_one : (from to : ℕ) (old new : Progress) → delivered from to old ≡ Some new
+pub delivered_one : (from to : ℕ) (old new : Progress Network) → delivered from to old ≡ Some new
     → IsOneMore old.net new.net
 unfolding delivered
 delivered_one from to old new is = by (node_at old.net from) refl
   where
-    same_some : (a b : Progress) → Some a ≡ Some b → a ≡ b
+    same_some : (a b : Progress Network) → Some a ≡ Some b → a ≡ b
     same_some a b e = cc e
 
     taken : (node : Node) → (lines : List (List ℕ)) → taken_of from to old node lines ≡ Some new
         → IsOneMore old.net new.net
     taken node [] e = absurd (cc e)
-    taken node (first ∷ rest) e = subst (λ (c : Progress). IsOneMore old.net c.net)
+    taken node (first ∷ rest) e = subst (λ (c : Progress Network). IsOneMore old.net c.net)
         (same_some _ new e) (record { items = one.items; taken = one.taken })
       where
         one : IsOnlyTaken (line_counted (with_node from (left to rest node) old.net))

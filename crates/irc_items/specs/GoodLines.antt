@@ -43,7 +43,7 @@ closings out = filter_map reason_of out
 -- What is put out on another link is behind all that is owed there: nothing is owed, or nothing is
 -- put out.
 pub record PaysNothing (s : ItemSetting) (view : View) (after : Served) (u : Name) : Type 0 where
-  pub owes_as_before : owed_to s after.view u ≡ owed_to s view u
+  pub owes_as_before : owed_to s after.state u ≡ owed_to s view u
   pub in_turn : (lines_on (number s u) after.out ≡ []) ⊎ (owed_to s view u ≡ [])
 
 -- `back` goes back on the link of p, by which the line came
@@ -55,9 +55,9 @@ pub record IsGoodReply (s : ItemSetting) (links : List Link) (p t : Name) (view 
       → lines_on (number s u) after.out ≡ line ∷ lines → AreLinked links t u
   pub to_own : (client : ℕ) (line : List ℕ) (lines : List (List ℕ))
       → lines_to client after.out ≡ line ∷ lines → is_home_of s.homes t client ≡ true
-  pub pays : lines_on (number s p) after.out ++ owed_to s after.view p ≡ owed_to s view p ++ back
+  pub pays : lines_on (number s p) after.out ++ owed_to s after.state p ≡ owed_to s view p ++ back
   pub others : (u : Name) → u ≢ p → PaysNothing s view after u
-  pub met_stay : (u : Name) → is_met_with s view u ≡ true → is_met_with s after.view u ≡ true
+  pub met_stay : (u : Name) → is_met_with s view u ≡ true → is_met_with s after.state u ≡ true
 
 -- ---- what goes back
 

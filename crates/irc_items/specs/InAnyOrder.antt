@@ -34,8 +34,9 @@ use Rattle.irc_items.specs.Sound.{world_now, IsSound}
 -- some lines are delivered, one after another, each by some link
 pub data IsReached : Network → Network → Type 0 where
   none_yet : {net : Network} → IsReached net net
-  one_more : {first between : Network} {last : Progress} (from to : ℕ) → IsReached first between
-      → delivered from to (begun between) ≡ Some last → IsReached first last.net
+  one_more : {first between : Network} {last : Progress Network} (from to : ℕ)
+      → IsReached first between → delivered from to (begun between) ≡ Some last
+      → IsReached first last.net
 
 -- an item is given, and lines are delivered until none is on its way
 pub record IsThrough (net new : Network) (item : Item) : Type 0 where

@@ -11,11 +11,11 @@ pub record KeepsItems (count : ℕ) (old new : Network) : Type 0 where
   pub taken : new.taken ≡ min (old.taken + count) max_count
 
 abbrev pub DeliveryKeepsSound : Type 0
-DeliveryKeepsSound = (from to : ℕ) (old new : Progress) → delivered from to old ≡ Some new
+DeliveryKeepsSound = (from to : ℕ) (old new : Progress Network) → delivered from to old ≡ Some new
     → old.net.taken ≤ max_count → KeepsItems 1 old.net new.net
 
 abbrev pub SettlingKeepsSound : Type 0
-SettlingKeepsSound = (count : ℕ) (old new : Progress) → TakesInTurn count old new
+SettlingKeepsSound = (count : ℕ) (old new : Progress Network) → TakesInTurn count old new
     → old.net.taken ≤ max_count → KeepsItems count old.net new.net
 
 -- No more lines were taken in a sound network than servers need at most for the last item.
@@ -24,11 +24,12 @@ TakenAreFew = (net : Network) → IsSound net → net.taken ≤ most_now net
 
 -- Lines that are taken one after another are no more than servers need at most for the last item,
 abbrev pub TurnsAreFew : Type 0
-TurnsAreFew = (count : ℕ) (old new : Progress) → IsSound old.net → TakesInTurn count old new
+TurnsAreFew = (count : ℕ) (old new : Progress Network) → IsSound old.net → TakesInTurn count old new
     → count ≤ most_now old.net
 
 -- so each one leaves fewer.
 abbrev pub TurnLeavesFewer : Type 0
-TurnLeavesFewer = (most : ℕ) (old new : Progress) → IsSound old.net → most_now old.net ≤ most
+TurnLeavesFewer = (most : ℕ) (old new : Progress Network) → IsSound old.net
+    → most_now old.net ≤ most
     → next_in_turn old ≡ Some new
     → lines_left most new < lines_left most old

@@ -7,7 +7,7 @@ use Rattle.irc_line.specs.Reading.{read_of}
 use Rattle.irc_relay.specs.Links.{Name}
 use Rattle.irc_relay.specs.Relay.{IsFront}
 use Rattle.irc_server.specs.Served.{link_down, link_says, link_up, of_client, served}
-use Rattle.irc_stage.specs.Handle.{Happening}
+use Rattle.irc_stage.specs.Handle.{ClientEvent}
 use Rattle.irc_stage.specs.View.{View}
 use Rattle.irc_world.specs.Refused.{refused}
 use Rattle.irc_world.specs.Stepping.{Item, link}
@@ -35,7 +35,7 @@ GivenStaysSound = (net : Network) (item : Item) → IsSound net → IsGivenAtRes
     → IsSound (given item net).net
 
 abbrev pub DeliveryStaysSound : Type 0
-DeliveryStaysSound = (from to : ℕ) (old new : Progress) → IsSound old.net
+DeliveryStaysSound = (from to : ℕ) (old new : Progress Network) → IsSound old.net
     → delivered from to old ≡ Some new → IsSound new.net
 
 abbrev pub RestIsOneRoom : Type 0
@@ -57,7 +57,8 @@ GivenKeepsSettings =
     (net : Network) (item : Item) → settings_of (given item net).net ≡ settings_of net
 
 abbrev pub DeliveryKeepsSettings : Type 0
-DeliveryKeepsSettings = (from to : ℕ) (old new : Progress) → delivered from to old ≡ Some new
+DeliveryKeepsSettings =
+    (from to : ℕ) (old new : Progress Network) → delivered from to old ≡ Some new
     → settings_of new.net ≡ settings_of old.net
 
 -- Each line that waits on a way is one: 1 to 510 bytes, none of them NUL, CR or LF. So a stream
@@ -90,6 +91,6 @@ NewLinkIsOpen = (net : Network) (near far : Name) → IsSound net
 -- What a server's clients do closes no link, nor does the loss of another: a server closes one only
 -- upon a line of it, or as it is made.
 pub record OnlyLinesClose : Type 0 where
-  pub by_clients : (view : View) (happening : Happening)
-      → closings (served view (of_client happening)).out ≡ []
+  pub by_clients : (view : View) (client_event : ClientEvent)
+      → closings (served view (of_client client_event)).out ≡ []
   pub by_losses : (view : View) (link : ℕ) → closings (served view (link_down link)).out ≡ []

@@ -9,4 +9,4 @@ mod tidings;
 pub use journal::Journal;
 pub use page::Page;
 pub use saying::{say, say_one};
-pub use tidings::{Line, Outcome, Tidings, Words};
+pub use tidings::{JournalLine, Outcome, ReasonWords, Tidings};

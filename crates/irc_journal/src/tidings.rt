@@ -11,13 +11,13 @@ use std::io::{Error, Write};
 const WORDS: usize = 128;
 
 /// The words of a reason.
-pub type Words = ArrayVec<u8, WORDS>;
+pub type ReasonWords = ArrayVec<u8, WORDS>;
 
 /// How many bytes a line may have: those of the parts around the words come to 120 at most.
 const LINE: usize = 256;
 
 /// A line, with its line feed.
-pub type Line = ArrayVec<u8, LINE>;
+pub type JournalLine = ArrayVec<u8, LINE>;
 
 /// What has come of a link, or of a call.
 #[derive(Clone, Copy, Drop)]
@@ -64,10 +64,10 @@ impl Outcome {
     }
 
     /// The words of its reason, as the reason itself has them.
-    fn words(&self) -> Words
+    fn words(&self) -> ReasonWords
         ensures { AreWords self.now result.items }
     {
-        let mut words = Words::new();
+        let mut words = ReasonWords::new();
         match self {
             Outcome::Refused(reason) | Outcome::Closed(reason) => {
                 let _cut = write!(words, "{reason}");
@@ -83,11 +83,11 @@ impl Outcome {
 
 impl Tidings {
     /// The line that tells it.
-    pub fn line(&self) -> Line
+    pub fn line(&self) -> JournalLine
         ensures { IsLineOf self.now result.items }
     {
         let words = self.outcome.words();
-        let mut line = Line::new();
+        let mut line = JournalLine::new();
         let _ = line.try_extend_from_slice(self.side());
         let _ = line.try_extend_from_slice(self.far());
         let _ = line.try_extend_from_slice(b": ");

@@ -32,19 +32,9 @@ use Rattle.irc_link_reader.specs.Lemmas.SaidSo.{effects_told_of, said_so}
 effect_back : (server : Option (List ℕ)) (e : Effect)
     → effect_of_told (a_deed (kept_prefix server e)) ≡ e ∷ []
 effect_back None e = refl
-effect_back (Some server) (effect.AddUser user) = refl
-effect_back (Some server) (effect.Rename nick new) = refl
-effect_back (Some server) (effect.Quit nick text) = refl
-effect_back (Some server) (effect.Join nick channel op) = refl
-effect_back (Some server) (effect.Part nick channel text) = refl
-effect_back (Some server) (effect.Kick by channel nick text) = refl
 effect_back (Some server) (effect.ChangeModes by.Home channel changes) = refl
-effect_back (Some server) (effect.ChangeModes (by.User nick) channel changes) = refl
 effect_back (Some server) (effect.SetTopic by.Home channel topic) = refl
-effect_back (Some server) (effect.SetTopic (by.User nick) channel topic) = refl
-effect_back (Some server) (effect.Say by notice to text) = refl
-effect_back (Some server) (effect.Invite by nick channel) = refl
-effect_back (Some server) (effect.UserMode nick invisible) = refl
+effect_back (Some server) other = refl
 
 effects_back : (prefix : Option (List ℕ)) (effects : List Effect)
     → flat_map effect_of_told (map (told_of prefix) effects) ≡ effects
@@ -124,14 +114,7 @@ row_is_so word (first ∷ rows) r is =
 mode_is_so : (command : EffectCommand) (word : List ℕ) → wire_row_of word ≡ Some (row command)
     → takes_memory command ≡ true → is_command (codes "MODE") word ≡ true
 mode_is_so command.Mode word is takes = row_is_so word wire_table (row command.Mode) is
-mode_is_so command.Nick word is takes = cc takes
-mode_is_so command.Quit word is takes = cc takes
-mode_is_so command.Join word is takes = cc takes
-mode_is_so command.Part word is takes = cc takes
-mode_is_so command.Kick word is takes = cc takes
-mode_is_so command.Topic word is takes = cc takes
-mode_is_so (command.Say notice) word is takes = cc takes
-mode_is_so command.Invite word is takes = cc takes
+mode_is_so other word is takes = cc takes
 
 module _ (reader : Reader) (message : Parsed) (command : EffectCommand)
     (result : Result (Vec Effect) WireFault)

@@ -5,6 +5,7 @@ use Rattle.std.specs.Prelude.{⊤}
 use Rattle.std.specs.Str.{bytes_eq}
 use Rattle.irc_batch.specs.declared.close_reason.CloseReason.{CloseReason}
 use Rattle.irc_batch.specs.declared.close_reason.CloseReason.TheVariants as reason
+use Rattle.irc_users.specs.declared.user_change.UserChange.TheVariants.{Invisible}
 use Rattle.irc_room.specs.effect.By.TheVariants as by
 use Rattle.irc_room.specs.effect.Effect.{Effect}
 use Rattle.irc_room.specs.effect.Effect.TheVariants as effect
@@ -33,19 +34,9 @@ IsPlain other = ⊤
 pub kept_plain : (server : Option (List ℕ)) (e : Effect) → IsPlain e
     → kept_prefix server e ≡ does e
 kept_plain None e plain = refl
-kept_plain (Some server) (effect.AddUser user) plain = refl
-kept_plain (Some server) (effect.Rename nick new) plain = refl
-kept_plain (Some server) (effect.Quit nick text) plain = refl
-kept_plain (Some server) (effect.Join nick channel op) plain = refl
-kept_plain (Some server) (effect.Part nick channel text) plain = refl
-kept_plain (Some server) (effect.Kick by channel nick text) plain = refl
 kept_plain (Some server) (effect.ChangeModes by.Home channel changes) plain = absurd plain
-kept_plain (Some server) (effect.ChangeModes (by.User nick) channel changes) plain = refl
 kept_plain (Some server) (effect.SetTopic by.Home channel topic) plain = absurd plain
-kept_plain (Some server) (effect.SetTopic (by.User nick) channel topic) plain = refl
-kept_plain (Some server) (effect.Say by notice to text) plain = refl
-kept_plain (Some server) (effect.Invite by nick channel) plain = refl
-kept_plain (Some server) (effect.UserMode nick invisible) plain = refl
+kept_plain (Some server) other plain = refl
 
 pub there_plain : (prefix : Option (List ℕ)) (reader : Reader) (e : Effect) → IsPlain e
     → map a_doing (if_there reader e) ≡ map (told_of prefix) (if_there reader e)
@@ -217,7 +208,7 @@ own_plain : (reader : Reader) (name target : List ℕ) (words : List (List ℕ))
     ≡ map (told_of (Some name)) (user_mode_line reader name target words).effects
 own_plain reader name target [] = refl
 own_plain reader name target (mode ∷ []) =
-    there_plain (Some name) reader (effect.UserMode name (bytes_eq mode with_i)) tt
+    there_plain (Some name) reader (effect.ChangeUser name (Invisible (bytes_eq mode with_i))) tt
 own_plain reader name target (mode ∷ more ∷ words) = refl
 
 pub own_told : (reader : Reader) (name target : List ℕ) (words : List (List ℕ))

@@ -40,11 +40,12 @@ use Rattle.irc_names.specs.Fold.{same}
 use Rattle.irc_names.specs.Limits.{max_real_name}
 use Rattle.irc_names.specs.Names.{fits, is_nick, is_channel, is_host, is_server}
 use Rattle.irc_names.specs.Digits.{number_of}
+use Rattle.irc_users.specs.declared.user_change.UserChange.TheVariants.{Invisible}
 use Rattle.irc_room.specs.effect.By.{By}
 use Rattle.irc_room.specs.effect.By.TheVariants as by
 use Rattle.irc_room.specs.effect.Effect.{Effect}
 use Rattle.irc_room.specs.effect.Effect.TheVariants.{AddUser, Rename, Quit, Join, Part, Kick}
-use Rattle.irc_room.specs.effect.Effect.TheVariants.{ChangeModes, SetTopic, Say, Invite, UserMode}
+use Rattle.irc_room.specs.effect.Effect.TheVariants.{ChangeModes, SetTopic, Say, Invite, ChangeUser}
 use Rattle.irc_room.specs.Effects.{needs_users}
 use Rattle.irc_room.specs.Room.{Room}
 use Rattle.irc_routes.specs.Known.{Known}
@@ -203,7 +204,7 @@ abbrev pub user_mode_line : Reader → List ℕ → List ℕ → List (List ℕ)
 user_mode_line reader nick target (mode ∷ []) =
     of_user reader nick ((bytes_eq mode with_i || bytes_eq mode without_i)
     && is_itself_or_none nick target) (is_nick target)
-    (UserMode nick (bytes_eq mode with_i))
+    (ChangeUser nick (Invisible (bytes_eq mode with_i)))
 user_mode_line reader nick target _ = malformed
 
 abbrev pub mode_line : Reader → Option (List ℕ) → List (List ℕ) → Checked

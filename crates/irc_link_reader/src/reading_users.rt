@@ -17,7 +17,7 @@ use irc_link_words::{
 };
 use irc_names::{ServerName, is_nick, same};
 use irc_room::Effect;
-use irc_users::User;
+use irc_users::{User, UserChange};
 
 /// A user leaves.
 pub(crate) fn quit_line(
@@ -206,9 +206,9 @@ pub(crate) fn user_mode_line(
     read_nick(target)?;
     Ok(if_there(
         at,
-        Effect::UserMode {
+        Effect::ChangeUser {
             nick,
-            invisible: is_with_i(mode),
+            change: UserChange::Invisible(is_with_i(mode)),
         },
     ))
 }

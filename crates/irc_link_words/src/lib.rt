@@ -1,9 +1,7 @@
-//! The words of the lines of a link (RFC 2813 section 4): a cursor over them, and a reader for each
-//! kind of word, which gives what the word says or why the line is refused. Definitions are in
+//! The words of the lines of a link (RFC 2813 section 4): a cursor over them, and a reader for
+//! each kind of word, which gives what the word says or why the line is refused; the two lines with
+//! which a link begins, written and read, and who may link (section 4.1). Definitions are in
 //! `specs/`.
-//!
-//! The two lines with which a link begins, written and read, and who may link (RFC 2813 section
-//! 4.1). Definitions are in `specs/`.
 #![tactic(auto)]
 
 mod changes;

@@ -19,11 +19,13 @@ use Rattle.std.specs.Prelude.{ℕ, suc, Option, Some, None, List, [], ◌∷◌,
 use Rattle.std.specs.Prelude.{if◌then◌else◌}
 use Rattle.irc_line.specs.Messages.{Written, nobody, named}
 use Rattle.irc_users.specs.declared.user.User.{User}
+use Rattle.irc_users.specs.declared.user_change.UserChange.{UserChange}
+use Rattle.irc_users.specs.declared.user_change.UserChange.TheVariants.{Invisible}
 use Rattle.irc_room.specs.effect.By.{By}
 use Rattle.irc_room.specs.effect.By.TheVariants as by
 use Rattle.irc_room.specs.effect.Effect.{Effect}
 use Rattle.irc_room.specs.effect.Effect.TheVariants.{AddUser, Rename, Quit, Join, Part, Kick}
-use Rattle.irc_room.specs.effect.Effect.TheVariants.{ChangeModes, SetTopic, Say, Invite, UserMode}
+use Rattle.irc_room.specs.effect.Effect.TheVariants.{ChangeModes, SetTopic, Say, Invite, ChangeUser}
 use Rattle.irc_room.specs.Room.{Room}
 use Rattle.irc_room.specs.Seen.{stored_nick, stored_channel, target_name, changes_words}
 use Rattle.irc_routes.specs.Known.{Known, distance_of, token_out}
@@ -60,6 +62,11 @@ introduction known user = record {
   last = Some user.real;
 }
 
+-- what the user of a nickname changes of itself
+abbrev pub wire_change : List ℕ → UserChange → Written
+wire_change nick (Invisible invisible) =
+    from nick (codes "MODE") (nick ∷ (if invisible then with_i else without_i) ∷ []) None
+
 abbrev pub wire : Room → Known → Effect → Written
 wire room known (AddUser user) = introduction known user
 wire room known (Rename nick new) = from (stored_nick room nick) (codes "NICK") (new ∷ []) None
@@ -82,6 +89,4 @@ wire room known (Say by notice to text) =
 wire room known (Invite by nick channel) =
     from (stored_nick room by) (codes "INVITE")
     (stored_nick room nick ∷ stored_channel room channel ∷ []) None
-wire room known (UserMode nick invisible) =
-    from (stored_nick room nick) (codes "MODE")
-    (stored_nick room nick ∷ (if invisible then with_i else without_i) ∷ []) None
+wire room known (ChangeUser nick change) = wire_change (stored_nick room nick) change

@@ -13,7 +13,7 @@ ghost use Rattle.irc_link_writer.specs.Loops.Families.{written_join, written_kic
 ghost use Rattle.irc_link_writer.specs.Loops.Families.{written_user_mode};
 ghost use Rattle.irc_link_words.specs.Words.{marked, with_i, without_i};
 ghost use Rattle.irc_link_writer.specs.Written.{by_name, from, introduction, next_distance, wire};
-ghost use Rattle.irc_link_writer.specs.Written.{written_token};
+ghost use Rattle.irc_link_writer.specs.Written.{wire_change, written_token};
 
 use crate::mode_line::mode_line;
 use arrayvec::ArrayVec;
@@ -22,7 +22,7 @@ use irc_link_words::OPERATOR_MARK;
 use irc_names::{MAX_CHANNEL, ServerName, copied};
 use irc_room::{By, Effect, Named, Room, target_name};
 use irc_routes::Routes;
-use irc_users::User;
+use irc_users::{User, UserChange};
 use itoa::Buffer;
 
 /// A channel's name, and room for what makes its first member an operator.
@@ -125,7 +125,7 @@ fn user_line(effect: &Effect, named: Named<'_>, routes: &Routes) -> Text
             named.other_nick(nick),
             named.channel_name(channel),
         ),
-        Effect::UserMode { nick, invisible } => user_mode_line(named.doer_nick(nick), *invisible),
+        Effect::ChangeUser { nick, change } => change_line(named.doer_nick(nick), change),
         _ => unreachable!(),
     }
 }
@@ -190,6 +190,15 @@ fn invite_line<'a>(by: &[u8], nick: &'a [u8], channel: &'a [u8]) -> Text
     ensures { result.items ≡ text (written_invite by.now nick.now channel.now) }
 {
     line(by, b"INVITE", &[nick, channel], None)
+}
+
+/// The line of what a user changes of itself.
+fn change_line(nick: &[u8], change: &UserChange) -> Text
+    ensures { result.items ≡ text (wire_change nick.now change.now) }
+{
+    match change {
+        UserChange::Invisible(invisible) => user_mode_line(nick, *invisible),
+    }
 }
 
 fn user_mode_line(nick: &[u8], invisible: bool) -> Text

@@ -4,11 +4,12 @@ use Rattle.std.specs.Prelude.{ℕ, Bool, true, not, ◌||◌, List, [], ◌∷�
 use Rattle.std.specs.List.{list_any}
 use Rattle.irc_names.specs.Fold.{same}
 use Rattle.irc_users.specs.declared.user.User.{User}
+use Rattle.irc_users.specs.declared.user_change.UserChange.TheVariants.{Invisible}
 use Rattle.irc_modes.specs.Letters.{plus_byte}
 use Rattle.irc_modes.specs.ModeWords.{is_sign}
 use Rattle.irc_numerics.specs.declared.replies.Reply.TheVariants.{UserModeIs, UModeUnknownFlag}
 use Rattle.irc_numerics.specs.declared.replies.Reply.TheVariants.{UsersDontMatch}
-use Rattle.irc_room.specs.effect.Effect.TheVariants.{UserMode}
+use Rattle.irc_room.specs.effect.Effect.TheVariants.{ChangeUser}
 use Rattle.irc_acts.specs.declared.act.Act.{Act}
 use Rattle.irc_acts.specs.declared.act.Act.TheVariants.{Answer, Do}
 use Rattle.irc_moderation.specs.Judging.{differs}
@@ -43,7 +44,8 @@ unknown_told letters = if list_any is_unknown_flag letters then Answer UModeUnkn
 -- what makes it invisible, or visible, where it is not so already
 abbrev pub made_invisible : User → Bool → List Act
 made_invisible me invisible =
-    if differs me.invisible invisible then Do (UserMode me.nick invisible) ∷ [] else []
+    if differs me.invisible invisible then Do (ChangeUser me.nick (Invisible invisible)) ∷ []
+    else []
 
 -- what the parameters behind the nickname do; the first sign is `+`, and those behind the letters
 -- are ignored

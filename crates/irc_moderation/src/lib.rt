@@ -1,7 +1,5 @@
-//! Commands by which channels and users are kept in order.
-//!
-//! What comes of one change of a channel's modes that an operator asks for, in the channel as the
-//! changes so far have left it.
+//! MODE, by which channels and users are kept in order: each change that an operator asks for is
+//! judged in the channel as the changes before it have left it.
 #![tactic(auto)]
 
 mod channel_mode;

@@ -19,7 +19,7 @@ use irc_acts::{Act, Context, only, put};
 use irc_names::same;
 use irc_numerics::Reply;
 use irc_room::Effect;
-use irc_users::User;
+use irc_users::{User, UserChange};
 use std::alloc::{AllocError, Global};
 
 /// What a MODE of a nickname does: a user sees and changes its own mode alone (RFC 2812 section
@@ -122,7 +122,8 @@ fn make_invisible(
 {
     if me.invisible != invisible {
         let nick = me.nick.copy();
-        put(steps, Act::Do(Effect::UserMode { nick, invisible }))?;
+        let change = UserChange::Invisible(invisible);
+        put(steps, Act::Do(Effect::ChangeUser { nick, change }))?;
     }
     Ok(())
 }

@@ -1,10 +1,6 @@
-//! What holds of two channels' modes, joined, and of what one raises in the other. Each law is a
-//! function that does nothing, and its contract is the law: the check proves it, and a crate above
-//! may cite it.
-//!
-//! What holds of changes of modes, and of the modes that they leave. Each law is a function that
-//! does nothing, and its contract is the law:
-//! the check proves it, and a crate above may cite it.
+//! What holds of changes of modes and of the modes that they leave, of two channels' modes, joined,
+//! and of what one raises in the other. Each law is a function that does nothing, and its contract
+//! is the law: the check proves it, and a crate above may cite it.
 
 ghost use Rattle.irc_modes.specs.ModeLaws.{
   BansAreReadable,

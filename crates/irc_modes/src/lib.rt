@@ -1,6 +1,5 @@
-//! The modes of a channel: what is set, and what each change does.
-//!
-//! The words of a MODE of a channel: read as changes, and written.
+//! The modes of a channel: what is set, what each change does, and the words of a MODE, read as
+//! changes and written.
 #![tactic(auto)]
 
 mod ban_changing;

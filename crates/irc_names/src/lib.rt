@@ -1,8 +1,5 @@
-//! Names of an IRC network, each kind a type of its own. The rules of names are irc_names', passed
-//! on here.
-//!
-//! Rules of names: their case fold, what each kind is, masks, how long each may be; and the digits
-//! of a number.
+//! Names of an IRC network, each kind a type of its own, and the rules of names: their case fold,
+//! what each kind is, masks, how long each may be; and the digits of a number.
 #![tactic(auto)]
 
 mod ban_mask;

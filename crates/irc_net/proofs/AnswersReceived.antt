@@ -6,7 +6,7 @@ use Rattle.std.specs.Option.{option_and_then, option_map_or}
 use Rattle.irc_relay.specs.Links.{Name}
 use Rattle.irc_world.specs.Stepping.{Item}
 use Rattle.irc_network.specs.Behind.{emptied}
-use Rattle.irc_network.specs.ByteNetwork.{ByteProgress, ByteNetwork, all_heard, byte_begun}
+use Rattle.irc_network.specs.ByteNetwork.{ByteNetwork, all_heard}
 use Rattle.irc_network.specs.ByteNetwork.{bytes_come, completed_in, progress_without_wires}
 use Rattle.irc_network.specs.ByteNetwork.{item_given}
 use Rattle.irc_network.specs.Turns.{TurnsGo, none_yet, turn_first, turn_in, turn_taken}
@@ -22,7 +22,7 @@ use Rattle.irc_network.specs.Views.{receipts_of}
 use Rattle.irc_wires.specs.Wires.{Direction, first_direction, has_byte, through_line_feed}
 
 -- since clients had received what they have in a network
-abbrev IsTold : Network → ByteProgress → Type 0
+abbrev IsTold : Network → Progress ByteNetwork → Type 0
 IsTold net progress = AreReceived net (progress_without_wires progress)
 
 nothing_told : (net : Network) → AreReceived net (begun net)
@@ -34,7 +34,7 @@ emptied_received : (net : Network) (client : ℕ)
 emptied_received net zero = refl
 emptied_received net (suc earlier) = refl
 
-as_progress : (old new : NetView) (receipts : List Receipt) (last : ByteProgress)
+as_progress : (old new : NetView) (receipts : List Receipt) (last : Progress ByteNetwork)
     → new ≡ standing last.net → receipts ≡ last.receipts → IsTold old.network.network last
     → HasReceived old.network new.network receipts
 as_progress old new receipts last after same told =
@@ -44,11 +44,11 @@ as_progress old new receipts last after same told =
 none_received : (old new : NetView) (receipts : List Receipt) → new ≡ standing old.network
     → receipts ≡ [] → HasReceived old.network new.network receipts
 none_received old new receipts after none =
-    as_progress old new receipts (byte_begun old.network) after none
+    as_progress old new receipts (begun old.network) after none
     (nothing_told old.network.network)
 
 module _ (law : ReceiptsAreReceived) where
-  heard_told : (net : Network) (from to : ℕ) (lines : List (List ℕ)) (progress : Progress)
+  heard_told : (net : Network) (from to : ℕ) (lines : List (List ℕ)) (progress : Progress Network)
       → AreReceived net progress → AreReceived net
       (all_heard from to progress lines)
   heard_told net from to [] progress told = told
@@ -56,8 +56,8 @@ module _ (law : ReceiptsAreReceived) where
       heard_told net from to lines (heard from to progress line)
       (law.heard from to line net progress told)
 
-  come_told : (net : Network) (from to count : ℕ) (progress : ByteProgress) → IsTold net progress
-      → IsTold net (bytes_come from to count progress)
+  come_told : (net : Network) (from to count : ℕ) (progress : Progress ByteNetwork)
+      → IsTold net progress → IsTold net (bytes_come from to count progress)
   unfolding bytes_come
   come_told net from to count progress told client =
       let last =
@@ -71,11 +71,11 @@ module _ (law : ReceiptsAreReceived) where
   item_told net item client =
       emptied_received (given item net.network).net client ∙ law.given item net.network client
 
-  turn_told : (net : Network) (old new : ByteProgress) → turn_taken old ≡ Some new → IsTold net old
-      → IsTold net new
+  turn_told : (net : Network) (old new : Progress ByteNetwork) → turn_taken old ≡ Some new
+      → IsTold net old → IsTold net new
   turn_told net old new turn told = by (first_direction old.net.wires) turn
     where
-      same_some : (a b : ByteProgress) → Some a ≡ Some b → a ≡ b
+      same_some : (a b : Progress ByteNetwork) → Some a ≡ Some b → a ≡ b
       same_some a b is = cc is
 
       by : (o : Option Direction) → option_map (turn_in old) o ≡ Some new → IsTold net new
@@ -83,33 +83,33 @@ module _ (law : ReceiptsAreReceived) where
       by (Some d) some = subst (IsTold net) (same_some (turn_in old d) new some)
           (come_told net d.from d.to _ old told)
 
-  turns_told : (net : Network) {count : ℕ} {old new : ByteProgress} → TurnsGo count old new
+  turns_told : (net : Network) {count : ℕ} {old new : Progress ByteNetwork} → TurnsGo count old new
       → IsTold net old → IsTold net new
   turns_told net none_yet told = told
   turns_told net {old = old} (turn_first {between = between} turn all_is rest) told =
       turns_told net rest (turn_told net old between turn told)
 
   piece_told : (count : ℕ) (net : ByteNetwork) (o : Option LinkPlaces)
-      → IsTold net.network (option_map_or (piece_between count net) o (byte_begun net))
+      → IsTold net.network (option_map_or (piece_between count net) o (begun net))
   piece_told count net None = nothing_told net.network
   piece_told count net (Some ends) =
-      come_told net.network ends.near ends.far count (byte_begun net) (nothing_told net.network)
+      come_told net.network ends.near ends.far count (begun net) (nothing_told net.network)
 
-  abbrev through : ByteNetwork → LinkPlaces → ByteProgress
+  abbrev through : ByteNetwork → LinkPlaces → Progress ByteNetwork
   through net ends = piece_between (through_line_feed (wire_between net ends).bytes) net ends
 
-  line_told : (net : ByteNetwork) (ends : LinkPlaces) (last : ByteProgress)
+  line_told : (net : ByteNetwork) (ends : LinkPlaces) (last : Progress ByteNetwork)
       → line_between net ends ≡ Some last → IsTold net.network last
   line_told net ends last = by (has_byte (wire_between net ends))
     where
-      same_some : (a b : ByteProgress) → Some a ≡ Some b → a ≡ b
+      same_some : (a b : Progress ByteNetwork) → Some a ≡ Some b → a ≡ b
       same_some a b is = cc is
 
       by : (b : Bool) → (if b then Some (through net ends) else None) ≡ Some last
           → IsTold net.network last
       by false none = absurd (cc none)
       by true some = subst (IsTold net.network) (same_some (through net ends) last some)
-          (come_told net.network ends.near ends.far _ (byte_begun net) (nothing_told net.network))
+          (come_told net.network ends.near ends.far _ (begun net) (nothing_told net.network))
 
   -- ---- each call
 
@@ -132,8 +132,8 @@ module _ (law : ReceiptsAreReceived) where
   delivered_received old new from to was_taken receipts (delivers_it stands none delivers) =
       by (link_places old.network.network from to) delivers
     where
-      took : (ends : LinkPlaces) (o : Option ByteProgress) → line_between old.network ends ≡ o
-          → Delivers o old.network was_taken receipts new
+      took : (ends : LinkPlaces) (o : Option (Progress ByteNetwork))
+          → line_between old.network ends ≡ o → Delivers o old.network was_taken receipts new
           → HasReceived old.network new.network receipts
       took ends None is so = none_received old new receipts so.2 so.1
       took ends (Some last) is so =

@@ -15,8 +15,8 @@ use Rattle.irc_net.specs.declared.step.Step.{Step}
 use Rattle.irc_net.specs.declared.step.StepAnswer.{StepAnswer}
 use Rattle.irc_net.specs.declared.step.StepAnswer.TheVariants.{Refused}
 use Rattle.irc_room.specs.Lemmas.Rows.{same_some}
-use Rattle.irc_network.specs.ByteNetwork.{ByteProgress, ByteNetwork, byte_begun}
-use Rattle.irc_network.specs.Loops.Coming.{byte_progress, bytes_between, come_between}
+use Rattle.irc_network.specs.ByteNetwork.{ByteNetwork}
+use Rattle.irc_network.specs.Loops.Coming.{bytes_between, come_between, progress_of}
 use Rattle.irc_line.specs.Bytes.{line_feed}
 use Rattle.irc_relay.specs.Links.{linked as are_linked}
 use Rattle.irc_world.specs.Refused.{Refusal, no_such_server, not_linked}
@@ -31,7 +31,8 @@ use Rattle.irc_net.specs.Faults.{deliver_fault, fault_by, is_refusal, item_fault
 use Rattle.irc_net.specs.Loops.Settling.{SettlesAt}
 use Rattle.irc_forest.specs.declared.places.EndPlaces.{EndPlaces}
 use Rattle.irc_network.specs.Loops.Progress.{ends_now}
-use Rattle.irc_network.specs.Network.{LinkPlaces, Network, Receipt, link_places, server_place}
+use Rattle.irc_network.specs.Network.{Progress, LinkPlaces, Network, Receipt, begun, link_places}
+use Rattle.irc_network.specs.Network.{server_place}
 use Rattle.irc_network.specs.Refusing.{way_fault}
 use Rattle.irc_net.specs.Views.{answers_now, counted_now, delivered_now}
 use Rattle.irc_network.specs.Views.{receipts_of}
@@ -182,12 +183,12 @@ pieces_came old new from to ends count (Ok pair) are comes =
       none = are.none;
       taken_is = comes.taken_is
           ∙ sym (ap (λ o. option_map_or (count_between count old.network) o 0) are.ends_are);
-      received = comes.received ∙ sym (ap (λ (c : ByteProgress). c.receipts) at);
-      after = comes.after ∙ sym (ap (λ (c : ByteProgress). standing c.net) at);
+      received = comes.received ∙ sym (ap (λ (c : Progress ByteNetwork). c.receipts) at);
+      after = comes.after ∙ sym (ap (λ (c : Progress ByteNetwork). standing c.net) at);
     })
   where
     at : piece count old.network from to ≡ piece_between count old.network (ends_now ends)
-    at = ap (λ o. option_map_or (piece_between count old.network) o (byte_begun old.network))
+    at = ap (λ o. option_map_or (piece_between count old.network) o (begun old.network))
         are.ends_are
 pieces_came old new from to ends count (Err fault) are wants =
     subst (λ f. BytesTaken old from to count (Err f) new) (sym wants.0)
@@ -196,17 +197,17 @@ pieces_came old new from to ends count (Err fault) are wants =
 -- as the code answers it
 pub came_to : (old : NetView) (net new : ByteNetwork) (ends : EndPlaces)
     (count taken : ℕ) (lines none : List KeptReceipt) → net ≡ old.network → none ≡ []
-    → taken ≡ min count (bytes_between net ends) → byte_progress new lines ≡ come_between ends count
-    (byte_progress net none) → ComesTo old ends count taken (receipts_of lines) (standing new)
+    → taken ≡ min count (bytes_between net ends) → progress_of new lines ≡ come_between ends count
+    (progress_of net none) → ComesTo old ends count taken (receipts_of lines) (standing new)
 came_to old net new ends count taken lines none same begins taken_is comes = record {
   taken_is = taken_is ∙ ap (λ n. min count (bytes_between n ends)) same;
-  received = ap (λ (c : ByteProgress). c.receipts) so;
-  after = ap (λ (c : ByteProgress). standing c.net) so;
+  received = ap (λ (c : Progress ByteNetwork). c.receipts) so;
+  after = ap (λ (c : Progress ByteNetwork). standing c.net) so;
 }
   where
-    so : byte_progress new lines ≡ piece_between count old.network (ends_now ends)
-    so = comes ∙ ap (λ n. come_between ends count (byte_progress n none)) same
-        ∙ ap (λ ls. come_between ends count (byte_progress old.network ls)) begins
+    so : progress_of new lines ≡ piece_between count old.network (ends_now ends)
+    so = comes ∙ ap (λ n. come_between ends count (progress_of n none)) same
+        ∙ ap (λ ls. come_between ends count (progress_of old.network ls)) begins
 
 pub coming_wants : (old new : NetView) (ends : EndPlaces) (count : ℕ)
     (r : Result (ℕ × Vec KeptReceipt) NetFault) → IsErrAnd r (λ e. e ≡ Memory) → new.failed ≡ true
@@ -215,11 +216,11 @@ coming_wants old new ends count (Ok answer) is failed = absurd is
 coming_wants old new ends count (Err e) is failed = (is, failed)
 
 pub settles_by : (net new : ByteNetwork) (lines : List KeptReceipt) (count : ℕ) → SettlesAt count
-    (byte_begun net) (byte_progress new lines)
+    (begun net) (progress_of new lines)
     → Settles net count (receipts_of lines) (standing new)
 settles_by net new lines count so = record {
   count = so.turns.count;
-  last = byte_progress new lines;
+  last = progress_of new lines;
   goes = so.turns.goes;
   rest = so.rest;
   counts = so.turns.counts;

@@ -10,7 +10,7 @@ use Rattle.irc_world.specs.Refused.{refused}
 use Rattle.irc_world.specs.Stepping.{Item}
 use Rattle.irc_world.specs.WithinLimits.{IsItemWithin}
 use Rattle.irc_world.specs.World.{new_world}
-use Rattle.irc_network.specs.ByteNetwork.{ByteNetwork, byte_begun, bytes_come, is_byte_rest}
+use Rattle.irc_network.specs.ByteNetwork.{ByteNetwork, bytes_come, is_byte_rest}
 use Rattle.irc_network.specs.Whole.{RestAsLines}
 use Rattle.irc_items.specs.Kept.{TakenAreFew}
 use Rattle.irc_items.specs.Laws.{NewLinkIsOpen, NoLinkIsClosed, ReceivedIsFront}
@@ -30,7 +30,7 @@ use Rattle.irc_net.specs.OneRoom.{IsKeptSound}
 use Rattle.irc_net.specs.Running.{HasRun, delivered, given, made, settled, taken}
 use Rattle.irc_net.proofs.NewNet.{made_is_new}
 use Rattle.irc_net.proofs.StaysOneRoom.{few_taken, one_room, owed_all, owed_front, refuses}
-use Rattle.irc_network.specs.Network.{LinkPlaces, Receipt, link_places, received_by}
+use Rattle.irc_network.specs.Network.{LinkPlaces, Receipt, begun, link_places, received_by}
 use Rattle.irc_network.specs.Refusing.{fault_at_rest}
 use Rattle.irc_wires.specs.Wires.{has_byte, through_line_feed}
 
@@ -60,9 +60,9 @@ module _ (stays : StaysKept) (set_up : SettingsStay) (configs : List Config) whe
   }
 
   come_run : {items : List Item} (net : ByteNetwork) (from to count : ℕ) → IsRun configs items net
-      → IsRun configs items (bytes_come from to count (byte_begun net)).net
+      → IsRun configs items (bytes_come from to count (begun net)).net
   come_run net from to count before =
-      stays_run net (bytes_come from to count (byte_begun net)).net before
+      stays_run net (bytes_come from to count (begun net)).net before
       (stays.come net from to count before.kept) (set_up.come net from to count)
 
   made_run : (net : NetView) → IsNetMade configs (Ok net) → IsStanding configs [] net
@@ -94,7 +94,7 @@ module _ (stays : StaysKept) (set_up : SettingsStay) (configs : List Config) whe
       run_at takes.after (by (link_places old.network.network from to))
     where
       by : (o : Option LinkPlaces) → IsRun configs items
-          (option_map_or (piece_between count old.network) o (byte_begun old.network)).net
+          (option_map_or (piece_between count old.network) o (begun old.network)).net
       by None = before.is_run
       by (Some ends) = come_run old.network ends.near ends.far count before.is_run
 

@@ -3,7 +3,7 @@ use Rattle.std.proofs.Common.{◌≡◌, ℕ, true, zero, suc, ◌+◌, ◌<◌,
 use Rattle.std.proofs.Common.{option_map, refl, sym, subst, ◌∙◌, ap, arith}
 use Rattle.irc_items.specs.Kept.{TurnLeavesFewer}
 use Rattle.irc_items.specs.Sound.{most_now}
-use Rattle.irc_network.specs.ByteNetwork.{ByteProgress, ByteNetwork, byte_begun, progress_in_lines}
+use Rattle.irc_network.specs.ByteNetwork.{ByteNetwork, progress_in_lines}
 use Rattle.irc_network.specs.ByteNetwork.{net_in_lines, is_byte_rest}
 use Rattle.irc_network.specs.Turns.{ComesToLine, GoesToLine, TurnsGo, lines_in_turn, none_yet}
 use Rattle.irc_network.specs.Turns.{turn_first, turn_in, turn_taken}
@@ -14,7 +14,7 @@ use Rattle.irc_net.specs.Loops.Settling.{GoesCounted, SettlesAt}
 use Rattle.irc_net.specs.OneRoom.{IsKeptSound}
 use Rattle.irc_net.proofs.StaysOneRoom.{AreTurning, IsTurnOf, next_line, nothing, turn_is}
 use Rattle.irc_net.proofs.StaysOneRoom.{turns_kept}
-use Rattle.irc_network.specs.Network.{Receipt, lines_left, max_count, next_in_turn}
+use Rattle.irc_network.specs.Network.{Progress, Receipt, begun, lines_left, max_count, next_in_turn}
 use Rattle.irc_wires.specs.Wires.{Direction, first_direction}
 
 -- ---- turns behind others
@@ -22,8 +22,8 @@ use Rattle.irc_wires.specs.Wires.{Direction, first_direction}
 none_first : (n : ℕ) → n ≡ 0 + n
 none_first n = omega arith
 
-pub turns_both : {one other : ℕ} {a b c : ByteProgress} → TurnsGo one a b → TurnsGo other b c
-    → TurnsGo (one + other) a c
+pub turns_both : {one other : ℕ} {a b c : Progress ByteNetwork} → TurnsGo one a b
+    → TurnsGo other b c → TurnsGo (one + other) a c
 turns_both {other = other} {a = a} {c = c} none_yet more =
     subst (λ n. TurnsGo n a c) (none_first other) more
 turns_both {one = one} {other = other} {a = a} {c = c}
@@ -33,14 +33,14 @@ turns_both {one = one} {other = other} {a = a} {c = c}
     behind : (x y n m : ℕ) → x ≡ y + n → x + m ≡ y + (n + m)
     behind x y n m is = omega (arith, is)
 
-pub one_turn : (lines : ℕ) (old new : ByteProgress) → turn_taken old ≡ Some new
+pub one_turn : (lines : ℕ) (old new : Progress ByteNetwork) → turn_taken old ≡ Some new
     → lines ≡ lines_in_turn old.net → TurnsGo lines old new
 one_turn lines old new turn is = turn_first turn (is ∙ alone (lines_in_turn old.net)) none_yet
   where
     alone : (n : ℕ) → n ≡ n + 0
     alone n = omega arith
 
-pub to_line : (lines : ℕ) (old new : ByteProgress) → GoesToLine lines old new
+pub to_line : (lines : ℕ) (old new : Progress ByteNetwork) → GoesToLine lines old new
     → TurnsGo lines old new
 to_line lines old new goes =
     subst (λ n. TurnsGo n old new) (sym (none_first lines))
@@ -48,11 +48,11 @@ to_line lines old new goes =
 
 -- ---- as the code counts them
 
-pub none_counted : (progress : ByteProgress) → GoesCounted 0 progress progress
+pub none_counted : (progress : Progress ByteNetwork) → GoesCounted 0 progress progress
 none_counted progress = record { count = 0; goes = none_yet; counts = omega arith }
 
-pub lines_counted : {first : ByteProgress} (old new : ByteProgress) (counted lines more : ℕ)
-    → GoesCounted counted first old → GoesToLine lines old new
+pub lines_counted : {first : Progress ByteNetwork} (old new : Progress ByteNetwork)
+    (counted lines more : ℕ) → GoesCounted counted first old → GoesToLine lines old new
     → more ≡ min (counted + lines) max_count → GoesCounted more first new
 lines_counted old new counted lines more turns goes is = record {
   count = turns.count + lines;
@@ -66,7 +66,7 @@ lines_counted old new counted lines more turns goes is = record {
 
 -- ---- no byte is left
 
-no_direction : (progress : ByteProgress) → turn_taken progress ≡ None
+no_direction : (progress : Progress ByteNetwork) → turn_taken progress ≡ None
     → first_direction progress.net.wires ≡ None
 no_direction progress none = by (first_direction progress.net.wires) none
   where
@@ -74,7 +74,7 @@ no_direction progress none = by (first_direction progress.net.wires) none
     by None is = refl
     by (Some d) is = cc is
 
-pub rests : NoByteRests → (progress : ByteProgress) → IsKeptSound progress.net
+pub rests : NoByteRests → (progress : Progress ByteNetwork) → IsKeptSound progress.net
     → turn_taken progress ≡ None → is_byte_rest progress.net ≡ true
 rests no_byte progress kept none = no_byte progress.net kept.whole (no_direction progress none)
 
@@ -85,7 +85,7 @@ none_then n m is = (omega (arith, is), omega (arith, is))
 
 module _ (laws : AreTurning) where
   -- turns that complete nothing change nothing where links carry lines
-  pub same_lines : {count : ℕ} {old new : ByteProgress} → TurnsGo count old new → count ≡ 0
+  pub same_lines : {count : ℕ} {old new : Progress ByteNetwork} → TurnsGo count old new → count ≡ 0
       → IsKeptSound old.net → progress_in_lines new ≡ progress_in_lines old
   same_lines none_yet is kept = refl
   same_lines {old = old} {new = new}
@@ -100,7 +100,7 @@ module _ (laws : AreTurning) where
       by (nothing none same) zero_is = same
       by (next_line one next) zero_is = cc (sym one ∙ zero_is)
 
-  pub leaves_fewer : TurnLeavesFewer → (most lines : ℕ) (old new : ByteProgress)
+  pub leaves_fewer : TurnLeavesFewer → (most lines : ℕ) (old new : Progress ByteNetwork)
       → IsKeptSound old.net → most_now (net_in_lines old.net) ≤ most → GoesToLine lines old new
       → lines_left most (progress_in_lines new) < lines_left most (progress_in_lines old)
   leaves_fewer fewer most lines old new kept few goes =
@@ -125,11 +125,12 @@ module _ (laws : AreTurning) where
 
   -- ---- as the code counts them
 
-  pub counted_kept : {first : ByteProgress} (now : ByteProgress) (counted : ℕ)
+  pub counted_kept : {first : Progress ByteNetwork} (now : Progress ByteNetwork) (counted : ℕ)
       → IsKeptSound first.net → GoesCounted counted first now → IsKeptSound now.net
   counted_kept now counted kept turns = (turns_kept laws turns.goes kept).kept
 
-  pub counted_fewer : TurnLeavesFewer → {first : ByteProgress} (old new : ByteProgress)
+  pub counted_fewer : TurnLeavesFewer → {first : Progress ByteNetwork}
+      (old new : Progress ByteNetwork)
       (counted lines : ℕ) → IsKeptSound first.net → GoesCounted counted first old
       → GoesToLine lines old new → lines_left (most_now (net_in_lines first.net))
       (progress_in_lines new) < lines_left (most_now (net_in_lines first.net))
@@ -143,9 +144,9 @@ module _ (laws : AreTurning) where
       same a b is = omega (arith, is)
 
   -- none is left
-  pub settles_at : NoByteRests → {first : ByteProgress} (old new : ByteProgress) (counted : ℕ)
-      → IsKeptSound first.net → GoesCounted counted first old → ComesToLine None old new
-      → SettlesAt counted first new
+  pub settles_at : NoByteRests → {first : Progress ByteNetwork} (old new : Progress ByteNetwork)
+      (counted : ℕ) → IsKeptSound first.net → GoesCounted counted first old
+      → ComesToLine None old new → SettlesAt counted first new
   settles_at no_byte {first = first} old new counted kept turns so = record {
     turns = record {
       count = turns.count + 0;
@@ -160,14 +161,15 @@ module _ (laws : AreTurning) where
 
   -- ---- some end
 
-  record Settling (progress : ByteProgress) : Type 0 where
+  record Settling (progress : Progress ByteNetwork) : Type 0 where
     count : ℕ
-    last : ByteProgress
+    last : Progress ByteNetwork
     goes : TurnsGo count progress last
     rest : is_byte_rest last.net ≡ true
 
   settling : TurnLeavesFewer → EachComesToLine → NoByteRests → (fuel most : ℕ)
-      (progress : ByteProgress) → IsKeptSound progress.net → most_now (net_in_lines progress.net)
+      (progress : Progress ByteNetwork) → IsKeptSound progress.net
+      → most_now (net_in_lines progress.net)
       ≤ most → lines_left most (progress_in_lines progress) < fuel → Settling progress
   settling fewer comes no_byte zero most progress kept few less =
       absurd (nothing_less (lines_left most (progress_in_lines progress)) less)
@@ -180,9 +182,10 @@ module _ (laws : AreTurning) where
       further : (a b n : ℕ) → a < b → b < suc n → a < n
       further a b n one other = omega (arith, one, other)
 
-      at : (lines : Option ℕ) (new : ByteProgress) → ComesToLine lines progress new
-          → ((next : ByteProgress) → IsKeptSound next.net → most_now (net_in_lines next.net) ≤ most
-          → lines_left most (progress_in_lines next) < fuel → Settling next) → Settling progress
+      at : (lines : Option ℕ) (new : Progress ByteNetwork) → ComesToLine lines progress new
+          → ((next : Progress ByteNetwork) → IsKeptSound next.net → most_now (net_in_lines next.net)
+          ≤ most → lines_left most (progress_in_lines next) < fuel → Settling next)
+          → Settling progress
       at None new so on = record {
         count = 0;
         last = new;
@@ -202,8 +205,8 @@ module _ (laws : AreTurning) where
             rest = more.rest;
           }
 
-      by : ComesToSome progress
-          → ((next : ByteProgress) → IsKeptSound next.net → most_now (net_in_lines next.net) ≤ most
+      by : ComesToSome progress → ((next : Progress ByteNetwork)
+          → IsKeptSound next.net → most_now (net_in_lines next.net) ≤ most
           → lines_left most (progress_in_lines next) < fuel → Settling next) → Settling progress
       by some on = at some.lines some.new some.comes on
 
@@ -212,8 +215,8 @@ module _ (laws : AreTurning) where
   each_settles fewer comes no_byte net kept =
       let most = most_now (net_in_lines net) in
       let so =
-      settling fewer comes no_byte (suc (lines_left most (progress_in_lines (byte_begun net))))
-      most (byte_begun net) kept (same most) (less _) in
+      settling fewer comes no_byte (suc (lines_left most (progress_in_lines (begun net))))
+      most (begun net) kept (same most) (less _) in
       record {
         counted = min so.count max_count;
         receipts = so.last.receipts;

@@ -10,7 +10,7 @@ use Rattle.irc_world.specs.WithinLimits.{IsItemWithin}
 use Rattle.irc_relay.specs.Relay.{IsFront}
 use Rattle.irc_network.specs.Network.{Progress, Direction, Network, delivered, first_direction}
 use Rattle.irc_network.specs.Network.{given}
-use Rattle.irc_network.specs.Network.{max_count, next_in_turn, received_by}
+use Rattle.irc_network.specs.Network.{begun, max_count, next_in_turn, received_by}
 use Rattle.irc_network.specs.Refusing.{fault_at_rest}
 use Rattle.irc_items.specs.Kept.{DeliveryKeepsSound, KeepsItems, TakenAreFew}
 use Rattle.irc_items.specs.Laws.{GivenStaysSound, IsGivenAtRest, NewLinkIsOpen, NewNetworkIsSound}
@@ -19,14 +19,14 @@ use Rattle.irc_items.specs.Laws.{RestIsOneRoom, WaitingAreLines}
 use Rattle.irc_items.specs.OneRoom.{IsOneRoom}
 use Rattle.irc_items.specs.Sound.{IsSound, most_now, most_of_last, owed_now, world_now}
 use Rattle.irc_items.specs.SetUp.{IsNew, settings_of}
-use Rattle.irc_network.specs.ByteNetwork.{ByteProgress, ByteNetwork, byte_begun, bytes_come}
+use Rattle.irc_network.specs.ByteNetwork.{ByteNetwork, bytes_come}
 use Rattle.irc_network.specs.ByteNetwork.{progress_in_lines, net_in_lines, is_byte_rest}
 use Rattle.irc_network.specs.ByteNetwork.{item_given}
 use Rattle.irc_network.specs.Turns.{TurnsGo, lines_in_turn, none_yet, turn_first, turn_taken}
 use Rattle.irc_network.specs.Whole.{AreLinesWaiting, BytesComeAsLines, Delivers, GivenAsLines}
 use Rattle.irc_network.specs.Whole.{NewIsWhole, RestAsLines, TurnAsLines, TurnsAsLines}
 use Rattle.irc_network.specs.Whole.{no_line, no_more, no_wires, one_first, one_line}
-use Rattle.irc_network.specs.Loops.Coming.{byte_progress, come_between}
+use Rattle.irc_network.specs.Loops.Coming.{come_between, progress_of}
 use Rattle.irc_net.specs.Calls.{NetView, standing}
 use Rattle.irc_net.specs.Laws.{KeptIsOwed, StaysKept}
 use Rattle.irc_forest.specs.declared.places.EndPlaces.{EndPlaces}
@@ -170,9 +170,10 @@ kept_given given_sound waiting as_lines resting net item kept none within =
     let so = as_lines net item kept.whole is_free.at_rest
     (are_lines waiting (given item (net_in_lines net)).net sound) in
     record {
-      sound = subst IsSound (sym (ap (λ (c : Progress). c.net) so.as_lines)) sound;
+      sound = subst IsSound (sym (ap (λ (c : Progress Network). c.net) so.as_lines)) sound;
       whole = so.whole;
-      counted = subst (λ n. n ≤ max_count) (sym (ap (λ (c : Progress). c.net.taken) so.as_lines
+      counted =
+          subst (λ n. n ≤ max_count) (sym (ap (λ (c : Progress Network). c.net.taken) so.as_lines
           ∙ given_taken (net_in_lines net) item)) (omega arith);
     }
 
@@ -207,7 +208,7 @@ few_now count old new keeps =
 one_more : (n : ℕ) → 1 + n ≡ suc n
 one_more n = omega arith
 
-pub deliveries_keep : DeliveryKeepsSound → {from to count : ℕ} {old new : Progress}
+pub deliveries_keep : DeliveryKeepsSound → {from to count : ℕ} {old new : Progress Network}
     → Delivers from to count old new → old.net.taken ≤ max_count → KeepsItems count old.net new.net
 deliveries_keep law {old = old} no_more few = none_kept old.net few
 deliveries_keep law {from = from} {to = to} {old = old} {new = new}
@@ -221,34 +222,34 @@ deliveries_keep law {from = from} {to = to} {old = old} {new = new}
 
 pub kept_come : DeliveryKeepsSound → WaitingAreLines → BytesComeAsLines
     → (net : ByteNetwork) (from to count : ℕ) → IsKeptSound net
-    → IsKeptSound (bytes_come from to count (byte_begun net)).net
+    → IsKeptSound (bytes_come from to count (begun net)).net
 kept_come law waiting as_lines net from to count kept =
-    let come = as_lines from to count (byte_begun net) kept.whole in
+    let come = as_lines from to count (begun net) kept.whole in
     let keeps = deliveries_keep law come.delivers kept.counted in
     let sound = keeps.sound kept.sound in
     let are = are_lines waiting come.last.net sound in
     let same = come.as_lines are in
     record {
-      sound = subst IsSound (sym (ap (λ (c : Progress). c.net) same)) sound;
+      sound = subst IsSound (sym (ap (λ (c : Progress Network). c.net) same)) sound;
       whole = come.whole are;
-      counted = subst (λ n. n ≤ max_count) (sym (ap (λ (c : Progress). c.net.taken) same))
+      counted = subst (λ n. n ≤ max_count) (sym (ap (λ (c : Progress Network). c.net.taken) same))
           (few_now _ (net_in_lines net) come.last.net keeps);
     }
 
 -- as the code lets them come
 pub kept_by : StaysKept → (net new : ByteNetwork) (ends : EndPlaces)
     (count : ℕ) (none lines : List KeptReceipt) → IsKeptSound net → none ≡ []
-    → byte_progress new lines ≡ come_between ends count (byte_progress net none) → IsKeptSound new
+    → progress_of new lines ≡ come_between ends count (progress_of net none) → IsKeptSound new
 kept_by stays net new ends count none lines kept begins comes =
-    subst IsKeptSound (sym (ap (λ (c : ByteProgress). c.net)
-    (comes ∙ ap (λ ls. come_between ends count (byte_progress net ls)) begins)))
+    subst IsKeptSound (sym (ap (λ (c : Progress ByteNetwork). c.net)
+    (comes ∙ ap (λ ls. come_between ends count (progress_of net ls)) begins)))
     (stays.come net ends.near ends.far count kept)
 
 pub kept_item : StaysKept → (net new : ByteNetwork) (item : Item) (lines : List KeptReceipt)
     → IsKeptSound net → item_fault net item ≡ None → IsItemWithin item
-    → byte_progress new lines ≡ item_given item net → IsKeptSound new
+    → progress_of new lines ≡ item_given item net → IsKeptSound new
 kept_item stays net new item lines kept none within is =
-    subst IsKeptSound (sym (ap (λ (c : ByteProgress). c.net) is))
+    subst IsKeptSound (sym (ap (λ (c : Progress ByteNetwork). c.net) is))
     (stays.given net item kept none within)
 
 -- ---- turns
@@ -259,17 +260,17 @@ pub record AreTurning : Type 0 where
   pub turns : TurnAsLines
 
 -- a turn keeps a network sound, and counts for the lines that it completes
-pub record IsTurnKept (old new : ByteProgress) : Type 0 where
+pub record IsTurnKept (old new : Progress ByteNetwork) : Type 0 where
   pub kept : IsKeptSound new.net
   pub keeps : KeepsItems (lines_in_turn old.net) (net_in_lines old.net) (net_in_lines new.net)
 
-pub data IsTurnOf (old new : ByteProgress) : Type 0 where
+pub data IsTurnOf (old new : Progress ByteNetwork) : Type 0 where
   nothing : lines_in_turn old.net ≡ 0 → progress_in_lines new ≡ progress_in_lines old
       → IsTurnOf old new
   next_line : lines_in_turn old.net ≡ 1
       → next_in_turn (progress_in_lines old) ≡ Some (progress_in_lines new) → IsTurnOf old new
 
-delivery_of : (old new : Progress) → next_in_turn old ≡ Some new
+delivery_of : (old new : Progress Network) → next_in_turn old ≡ Some new
     → (d : Direction) × (delivered d.from d.to old ≡ Some new)
 delivery_of old new is = by (first_direction old.net) is
   where
@@ -279,19 +280,19 @@ delivery_of old new is = by (first_direction old.net) is
     by (Some d) some = (d, some)
 
 module _ (laws : AreTurning) where
-  pub turn_as : (old new : ByteProgress) → IsKeptSound old.net → turn_taken old ≡ Some new
+  pub turn_as : (old new : Progress ByteNetwork) → IsKeptSound old.net → turn_taken old ≡ Some new
       → TurnsAsLines old new
   turn_as old new kept turn =
       laws.turns old new kept.whole (are_lines laws.waiting (net_in_lines old.net) kept.sound) turn
 
-  pub turn_kept : (old new : ByteProgress) → IsKeptSound old.net → turn_taken old ≡ Some new
+  pub turn_kept : (old new : Progress ByteNetwork) → IsKeptSound old.net → turn_taken old ≡ Some new
       → IsTurnKept old new
   turn_kept old new kept turn = by (turn_as old new kept turn)
     where
       by : TurnsAsLines old new → IsTurnKept old new
       by (no_line none same whole) =
           let net_is : net_in_lines old.net ≡ net_in_lines new.net =
-          sym (ap (λ (c : Progress). c.net) same) in
+          sym (ap (λ (c : Progress Network). c.net) same) in
           record {
             kept = record {
               sound = subst IsSound net_is kept.sound;
@@ -310,7 +311,7 @@ module _ (laws : AreTurning) where
           let sound = keeps.sound kept.sound in
           let are = are_lines laws.waiting last.net sound in
           let net_is : last.net ≡ net_in_lines new.net =
-          sym (ap (λ (c : Progress). c.net) (same are)) in
+          sym (ap (λ (c : Progress Network). c.net) (same are)) in
           record {
             kept = record {
               sound = subst IsSound net_is sound;
@@ -323,7 +324,7 @@ module _ (laws : AreTurning) where
           }
 
   -- where links carry lines it is nothing, or the next line in turn
-  pub turn_is : (old new : ByteProgress) → IsKeptSound old.net → turn_taken old ≡ Some new
+  pub turn_is : (old new : Progress ByteNetwork) → IsKeptSound old.net → turn_taken old ≡ Some new
       → IsTurnOf old new
   turn_is old new kept turn = by (turn_as old new kept turn)
     where
@@ -336,11 +337,11 @@ module _ (laws : AreTurning) where
           next_line one (next ∙ ap Some (sym (same (are_lines laws.waiting last.net sound))))
 
   -- so do turns one after another
-  pub record AreTurnsKept (count : ℕ) (old new : ByteProgress) : Type 0 where
+  pub record AreTurnsKept (count : ℕ) (old new : Progress ByteNetwork) : Type 0 where
     pub kept : IsKeptSound new.net
     pub keeps : KeepsItems count (net_in_lines old.net) (net_in_lines new.net)
 
-  pub turns_kept : {count : ℕ} {old new : ByteProgress} → TurnsGo count old new
+  pub turns_kept : {count : ℕ} {old new : Progress ByteNetwork} → TurnsGo count old new
       → IsKeptSound old.net → AreTurnsKept count old new
   turns_kept {old = old} none_yet kept =
       record { kept = kept; keeps = none_kept (net_in_lines old.net) kept.counted }

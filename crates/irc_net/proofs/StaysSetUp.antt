@@ -7,13 +7,13 @@ use Rattle.std.specs.List.{cons_option, filter_map, slice_get, slice_set}
 use Rattle.std.specs.Option.{option_map_or}
 use Rattle.irc_batch.specs.Batches.{Sent, line_to, end_of, line_on, end_of_link}
 use Rattle.irc_line.specs.Reading.{read_of}
-use Rattle.irc_server.specs.Served.{IsSetAlike, Occurrence, ServedKeepsItsSetting, link_says}
+use Rattle.irc_server.specs.Served.{IsSetAlike, ReadEvent, ServedKeepsItsSetting, link_says}
 use Rattle.irc_server.specs.Served.{served}
 use Rattle.irc_server.specs.declared.config.Config.{Config}
 use Rattle.irc_stage.specs.View.{View}
 use Rattle.irc_world.specs.Stepping.{Item}
 use Rattle.irc_network.specs.Behind.{Ahead, emptied, emptied_node, nodes_behind}
-use Rattle.irc_network.specs.ByteNetwork.{ByteProgress, ByteNetwork, all_heard, byte_begun}
+use Rattle.irc_network.specs.ByteNetwork.{ByteNetwork, all_heard}
 use Rattle.irc_network.specs.ByteNetwork.{bytes_come, completed_in, progress_without_wires}
 use Rattle.irc_network.specs.ByteNetwork.{item_given, lines_ahead, net_in_lines}
 use Rattle.irc_network.specs.Turns.{TurnsGo, none_yet, turn_first, turn_in, turn_taken}
@@ -26,8 +26,9 @@ use Rattle.irc_network.specs.Laws.{GivenIsKept}
 use Rattle.irc_network.specs.Network.{Progress, Network, Receipt, Served, Node, all_sent_out}
 use Rattle.irc_network.specs.Network.{asked_at}
 use Rattle.irc_network.specs.Network.{given, has_received, has_received_at, heard, line_body}
-use Rattle.irc_network.specs.Network.{line_counted, line_queued, reply, sent_out, serves_occurrence}
-use Rattle.irc_network.specs.Network.{node_asked, node_at, node_changed_at, with_reply, with_node}
+use Rattle.irc_network.specs.Network.{line_counted, line_queued, reply, sent_out, serves_read_event}
+use Rattle.irc_network.specs.Network.{begun, node_asked, node_at, node_changed_at, with_reply}
+use Rattle.irc_network.specs.Network.{with_node}
 use Rattle.irc_wires.specs.Wires.{Direction, first_direction}
 
 -- What is read of a network, where neither what clients receive nor a server that is set up as
@@ -102,23 +103,23 @@ queued_alike to text node = by (get node.queues to)
     by None = refl
     by (Some lines) = refl
 
-reply_alike : ServedKeepsItsSetting → (view : View) (occurrence : Occurrence)
-    → setting_now (reply view occurrence).view ≡ setting_now view
-reply_alike kept view occurrence = by (serves_occurrence view occurrence)
+reply_alike : ServedKeepsItsSetting → (view : View) (read_event : ReadEvent)
+    → setting_now (reply view read_event).state ≡ setting_now view
+reply_alike kept view read_event = by (serves_read_event view read_event)
   where
     answer : Bool → Served
     answer b = if b then record {
-      view = (served view occurrence).view;
-      out = (served view occurrence).out;
-    } else record { view = view; out = [] }
+      state = (served view read_event).state;
+      out = (served view read_event).out;
+    } else record { state = view; out = [] }
 
-    alike : IsSetAlike view (served view occurrence).view
-        → setting_now (served view occurrence).view ≡ setting_now view
+    alike : IsSetAlike view (served view read_event).state
+        → setting_now (served view read_event).state ≡ setting_now view
     alike so i =
         record { name = so.name i; info = so.info i; created = so.created i; peers = so.peers i }
 
-    by : (b : Bool) → setting_now (answer b).view ≡ setting_now view
-    by true = alike (kept view occurrence)
+    by : (b : Bool) → setting_now (answer b).state ≡ setting_now view
+    by true = alike (kept view read_event)
     by false = refl
 
 module _ {X : Type 0} (read : Network → X) (left : IsLeft read) where
@@ -132,7 +133,7 @@ module _ {X : Type 0} (read : Network → X) (left : IsLeft read) where
       by None e = refl
       by (Some node) e = left.set place node (change node) net e (same node)
 
-  received_more : (client : ℕ) (text : List ℕ) (progress : Progress)
+  received_more : (client : ℕ) (text : List ℕ) (progress : Progress Network)
       → read (has_received client text progress).net ≡ read progress.net
   received_more zero text progress = refl
   received_more (suc earlier) text progress = by (slice_get progress.net.received earlier)
@@ -143,7 +144,7 @@ module _ {X : Type 0} (read : Network → X) (left : IsLeft read) where
       by (Some lines) =
           left.told progress.net (slice_set progress.net.received earlier (lines ++ text ∷ []))
 
-  sent_keeps : (place : ℕ) (sent : Sent) (progress : Progress)
+  sent_keeps : (place : ℕ) (sent : Sent) (progress : Progress Network)
       → read (sent_out place sent progress).net ≡ read progress.net
   sent_keeps place (line_to client text) progress = received_more client text progress
   sent_keeps place (end_of client) progress = refl
@@ -151,41 +152,41 @@ module _ {X : Type 0} (read : Network → X) (left : IsLeft read) where
       changed place (line_queued to text) (queued_alike to text) progress.net
   sent_keeps place (end_of_link to reason) progress = refl
 
-  all_sent_keep : (place : ℕ) (out : List Sent) (progress : Progress)
+  all_sent_keep : (place : ℕ) (out : List Sent) (progress : Progress Network)
       → read (all_sent_out place out progress).net ≡ read progress.net
   all_sent_keep place [] progress = refl
   all_sent_keep place (sent ∷ out) progress = all_sent_keep place out (sent_out place sent progress)
       ∙ sent_keeps place sent progress
 
   module _ (kept : ServedKeepsItsSetting) where
-    replied_keeps : (place : ℕ) (occurrence : Occurrence) (progress : Progress) (node : Node)
+    replied_keeps : (place : ℕ) (read_event : ReadEvent) (progress : Progress Network) (node : Node)
         (view : View) → node_at progress.net place ≡ Some node → node.server ≡ Some view
-        → read (with_reply place progress node (reply view occurrence)).net ≡ read progress.net
-    replied_keeps place occurrence progress node view is server =
-        all_sent_keep place (reply view occurrence).out _
+        → read (with_reply place progress node (reply view read_event)).net ≡ read progress.net
+    replied_keeps place read_event progress node view is server =
+        all_sent_keep place (reply view read_event).out _
         ∙ left.set place node
-        (record node { server = Some (reply view occurrence).view }) progress.net is
-        (ap Some (reply_alike kept view occurrence) ∙ sym (ap (option_map setting_now) server))
+        (record node { server = Some (reply view read_event).state }) progress.net is
+        (ap Some (reply_alike kept view read_event) ∙ sym (ap (option_map setting_now) server))
 
-    asked_keeps : (place : ℕ) (occurrence : Occurrence) (progress : Progress)
-        → read (node_asked place occurrence progress).net ≡ read progress.net
+    asked_keeps : (place : ℕ) (read_event : ReadEvent) (progress : Progress Network)
+        → read (node_asked place read_event progress).net ≡ read progress.net
     unfolding node_asked
-    asked_keeps place occurrence progress = by (node_at progress.net place) refl
+    asked_keeps place read_event progress = by (node_at progress.net place) refl
       where
         at : (node : Node) → node_at progress.net place ≡ Some node → (o : Option View)
             → node.server ≡ o → read (option_map_or (λ (view : View). with_reply place progress node
-            (reply view occurrence)) o progress).net ≡ read progress.net
+            (reply view read_event)) o progress).net ≡ read progress.net
         at node is None e = refl
-        at node is (Some view) e = replied_keeps place occurrence progress node view is e
+        at node is (Some view) e = replied_keeps place read_event progress node view is e
 
         by : (o : Option Node) → node_at progress.net place ≡ o → read
-            (option_map_or (asked_at place occurrence progress) o progress).net ≡ read progress.net
+            (option_map_or (asked_at place read_event progress) o progress).net ≡ read progress.net
         by None e = refl
         by (Some node) e = at node e node.server refl
 
     -- ---- bytes come
 
-    heard_keep : (from to : ℕ) (lines : List (List ℕ)) (progress : Progress)
+    heard_keep : (from to : ℕ) (lines : List (List ℕ)) (progress : Progress Network)
         → read (all_heard from to progress lines).net ≡ read progress.net
     heard_keep from to [] progress = refl
     heard_keep from to (line ∷ lines) progress =
@@ -193,7 +194,7 @@ module _ {X : Type 0} (read : Network → X) (left : IsLeft read) where
         ∙ asked_keeps to (link_says from (read_of line))
         (record progress { net = line_counted progress.net }) ∙ left.counted progress.net
 
-    come_keeps : (from to count : ℕ) (progress : ByteProgress)
+    come_keeps : (from to count : ℕ) (progress : Progress ByteNetwork)
         → read (bytes_come from to count progress).net.network ≡ read progress.net.network
     unfolding bytes_come
     come_keeps from to count progress =
@@ -202,21 +203,22 @@ module _ {X : Type 0} (read : Network → X) (left : IsLeft read) where
         ∙ heard_keep from to (completed_in progress.net from to count)
         (progress_without_wires progress)
 
-    turn_keeps : (old new : ByteProgress) → turn_taken old ≡ Some new
+    turn_keeps : (old new : Progress ByteNetwork) → turn_taken old ≡ Some new
         → read new.net.network ≡ read old.net.network
     turn_keeps old new turn = by (first_direction old.net.wires) turn
       where
-        same_some : (a b : ByteProgress) → Some a ≡ Some b → a ≡ b
+        same_some : (a b : Progress ByteNetwork) → Some a ≡ Some b → a ≡ b
         same_some a b is = cc is
 
         by : (o : Option Direction) → option_map (turn_in old) o ≡ Some new
             → read new.net.network ≡ read old.net.network
         by None none = absurd (cc none)
         by (Some d) some =
-            ap (λ (c : ByteProgress). read c.net.network) (sym (same_some (turn_in old d) new some))
+            ap (λ (c : Progress ByteNetwork). read c.net.network)
+            (sym (same_some (turn_in old d) new some))
             ∙ come_keeps d.from d.to _ old
 
-    turns_keep : {count : ℕ} {old new : ByteProgress} → TurnsGo count old new
+    turns_keep : {count : ℕ} {old new : Progress ByteNetwork} → TurnsGo count old new
         → read new.net.network ≡ read old.net.network
     turns_keep none_yet = refl
     turns_keep {old = old} (turn_first {between = between} turn all_is rest) = turns_keep rest
@@ -263,8 +265,8 @@ settings_stay kept given_keeps given_kept = record {
   made = begins_set_up;
   given = given_stays given_keeps given_kept;
   come = λ net from to count. record {
-    settings = come_keeps settings_of settings_left kept from to count (byte_begun net);
-    items_are = come_keeps items_now items_left kept from to count (byte_begun net);
+    settings = come_keeps settings_of settings_left kept from to count (begun net);
+    items_are = come_keeps items_now items_left kept from to count (begun net);
   };
   settled = λ net last counted receipts settles. record {
     settings = settled_keeps settings_of settings_left kept net last counted receipts settles;

@@ -16,10 +16,11 @@ use Rattle.irc_net.specs.declared.step.StepAnswer.{StepAnswer}
 use Rattle.irc_net.specs.declared.step.StepAnswer.TheVariants.{Delivered, Given, Refused, Settled}
 use Rattle.irc_net.specs.declared.step.StepAnswer.TheVariants.{Taken}
 use Rattle.irc_net.specs.Faults.{deliver_fault, is_refusal, item_fault}
-use Rattle.irc_network.specs.Network.{LinkPlaces, Receipt, link_places, max_count, number_given}
+use Rattle.irc_network.specs.Network.{Progress, LinkPlaces, Receipt, begun, link_places, max_count}
+use Rattle.irc_network.specs.Network.{number_given}
 use Rattle.irc_network.specs.Views.{item_of, receipts_of}
 use Rattle.irc_wires.specs.Wires.{LinkWire, has_byte, through_line_feed, wire_at}
-use Rattle.irc_network.specs.ByteNetwork.{ByteProgress, ByteNetwork, byte_begun, bytes_come}
+use Rattle.irc_network.specs.ByteNetwork.{ByteNetwork, bytes_come}
 use Rattle.irc_network.specs.ByteNetwork.{is_byte_rest, item_given}
 use Rattle.irc_network.specs.Turns.{TurnsGo}
 
@@ -72,12 +73,12 @@ abbrev pub wire_between : ByteNetwork → LinkPlaces → LinkWire
 wire_between net ends = wire_at net.wires ends.near ends.far
 
 -- so many bytes come from one server to another, or all that are on their way where there are fewer
-abbrev pub piece_between : ℕ → ByteNetwork → LinkPlaces → ByteProgress
-piece_between count net ends = bytes_come ends.near ends.far count (byte_begun net)
+abbrev pub piece_between : ℕ → ByteNetwork → LinkPlaces → Progress ByteNetwork
+piece_between count net ends = bytes_come ends.near ends.far count (begun net)
 
-abbrev pub piece : ℕ → ByteNetwork → Name → Name → ByteProgress
+abbrev pub piece : ℕ → ByteNetwork → Name → Name → Progress ByteNetwork
 piece count net from to =
-    option_map_or (piece_between count net) (link_places net.network from to) (byte_begun net)
+    option_map_or (piece_between count net) (link_places net.network from to) (begun net)
 
 -- how many come
 abbrev pub count_between : ℕ → ByteNetwork → LinkPlaces → ℕ
@@ -113,17 +114,18 @@ pub data BytesTaken : NetView → Name → Name → ℕ → Result (ℕ × List 
 -- ---- a delivery
 
 -- all bytes up to and with the next LF
-abbrev pub line_between : ByteNetwork → LinkPlaces → Option ByteProgress
+abbrev pub line_between : ByteNetwork → LinkPlaces → Option (Progress ByteNetwork)
 line_between net ends =
     if has_byte (wire_between net ends) then Some
     (piece_between (through_line_feed (wire_between net ends).bytes) net ends) else None
 
 -- none where no byte is on its way from one server to another
-abbrev pub delivery : ByteNetwork → Name → Name → Option ByteProgress
+abbrev pub delivery : ByteNetwork → Name → Name → Option (Progress ByteNetwork)
 delivery net from to = option_and_then (line_between net) (link_places net.network from to)
 
 -- whether some came, and what clients received by them
-abbrev pub Delivers : Option ByteProgress → ByteNetwork → Bool → List Receipt → NetView → Type 0
+abbrev pub Delivers : Option (Progress ByteNetwork) → ByteNetwork → Bool → List Receipt → NetView
+    → Type 0
 Delivers None net was_taken receipts new =
     (was_taken ≡ false) × (receipts ≡ []) × (new ≡ standing net)
 Delivers (Some progress) net was_taken receipts new =
@@ -150,8 +152,8 @@ pub data IsDelivered : NetView → Name → Name → Result (Bool × List Receip
 pub record Settles (net : ByteNetwork) (counted : ℕ) (receipts : List Receipt)
     (new : NetView) : Type 0 where
   pub count : ℕ
-  pub last : ByteProgress
-  pub goes : TurnsGo count (byte_begun net) last
+  pub last : Progress ByteNetwork
+  pub goes : TurnsGo count (begun net) last
   pub rest : is_byte_rest last.net ≡ true
   pub counts : counted ≡ min count max_count
   pub received : receipts ≡ last.receipts

@@ -5,7 +5,7 @@ use Rattle.irc_world.specs.Stepping.{Item}
 use Rattle.irc_world.specs.WithinLimits.{IsItemWithin}
 use Rattle.irc_items.specs.SetUp.{settings_of, IsNew}
 use Rattle.irc_server.specs.declared.config.Config.{Config}
-use Rattle.irc_network.specs.ByteNetwork.{ByteNetwork, byte_begun, bytes_come, item_given}
+use Rattle.irc_network.specs.ByteNetwork.{ByteNetwork, bytes_come, item_given}
 use Rattle.irc_network.specs.Whole.{no_wires}
 use Rattle.irc_net.specs.declared.answer.Answer.{Answer}
 use Rattle.irc_net.specs.Calls.{BytesTaken, IsDelivered, IsGiven, IsSettled, NetView, Settles}
@@ -14,7 +14,7 @@ use Rattle.irc_net.specs.Faults.{item_fault}
 use Rattle.irc_net.specs.Making.{AreSettingsOf, IsMadeOf}
 use Rattle.irc_net.specs.OneRoom.{IsKeptSound, IsOwed}
 use Rattle.irc_net.specs.Running.{HasRun, IsOneRoomOf, SettlesOnce}
-use Rattle.irc_network.specs.Network.{Network, Receipt, lines_of_client, received_by}
+use Rattle.irc_network.specs.Network.{Network, Receipt, begun, lines_of_client, received_by}
 use Rattle.irc_network.specs.Views.{receipts_of}
 
 -- ---- what is answered
@@ -58,7 +58,7 @@ pub record SettingsStay : Type 0 where
   pub given : (net : ByteNetwork) (item : Item)
       → StaysSetUp net (item_given item net).net (net.network.items ++ item ∷ [])
   pub come : (net : ByteNetwork) (from to count : ℕ)
-      → StaysSetUp net (bytes_come from to count (byte_begun net)).net net.network.items
+      → StaysSetUp net (bytes_come from to count (begun net)).net net.network.items
   pub settled : (net last : ByteNetwork) (counted : ℕ) (receipts : List Receipt)
       → Settles net counted receipts (standing last) → StaysSetUp net last net.network.items
 
@@ -71,7 +71,7 @@ pub record StaysKept : Type 0 where
   pub given : (net : ByteNetwork) (item : Item) → IsKeptSound net → item_fault net item ≡ None
       → IsItemWithin item → IsKeptSound (item_given item net).net
   pub come : (net : ByteNetwork) (from to count : ℕ) → IsKeptSound net
-      → IsKeptSound (bytes_come from to count (byte_begun net)).net
+      → IsKeptSound (bytes_come from to count (begun net)).net
   pub settled : (net last : ByteNetwork) (counted : ℕ) (receipts : List Receipt) → IsKeptSound net
       → Settles net counted receipts (standing last) → IsKeptSound last
 

@@ -13,7 +13,9 @@ mod tests;
 
 pub use answer::Answer;
 pub use fault::NetFault;
-pub use irc_network::{Forgotten, History, Item, Kept, Receipt, laws as network_laws};
+pub use irc_network::{
+    ClientNumber, Forgotten, History, Item, Kept, Receipt, laws as network_laws,
+};
 pub use irc_server::{Config, Peer};
 pub use making::NetConfigFault;
 pub use net::Net;

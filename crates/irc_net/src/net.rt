@@ -26,7 +26,7 @@ use irc_forest::EndPlaces;
 use irc_items::laws;
 use irc_line::Text;
 use irc_names::ServerName;
-use irc_network::{CallOutput, History, Item, Kept, Network, Receipt, Refusal};
+use irc_network::{CallOutput, ClientNumber, History, Item, Kept, Network, Receipt, Refusal};
 use irc_server::Config;
 use std::alloc::{AllocError, Global};
 use std::marker::Model;
@@ -61,7 +61,7 @@ impl Net<Kept> {
     /// What a client has received, whole lines; also once it is closed. Nothing for a number that
     /// was never given. They are a front of the lines that one room machine for its joined part
     /// sends it, and at rest all of them.
-    pub fn received(&self, client: u64) -> &[Text]
+    pub fn received(&self, client: ClientNumber) -> &[Text]
         ensures lines { map line_bytes result.now ≡ received_by self.now.network.network client }
         ensures owed { IsOwed self.now client (map line_bytes result.now) }
     {

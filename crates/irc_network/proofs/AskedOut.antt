@@ -8,7 +8,7 @@ use Rattle.std.specs.FinMap.{FinMap, get, insert}
 use Rattle.std.specs.List.{slice_get, slice_set}
 use Rattle.std.specs.Option.{option_and_then, option_map_or}
 use Rattle.std.specs.Ordering.{nat_cmp}
-use Rattle.irc_server.specs.Served.{Occurrence, link_says}
+use Rattle.irc_server.specs.Served.{ReadEvent, link_says}
 use Rattle.irc_line.specs.Reading.{read_of}
 use Rattle.irc_stage.specs.Lemmas.Numbers.{get-with, one_number, same_number, same_number-refl}
 use Rattle.irc_network.specs.Network.{Progress, Network, Node, heard, left, line_body, line_counted}
@@ -367,56 +367,57 @@ module _ (same : SameWires) (ahead : Ahead) (net : Network) (wires out : Wires)
       (is_written (net_behind ahead net) wires lean (long ∙ sym (nodes_counted ahead net.nodes)))
       is_behind
 
-module _ (same : SameWires) (place : ℕ) (occurrence : Occurrence) (progress : Progress)
+module _ (same : SameWires) (place : ℕ) (read_event : ReadEvent) (progress : Progress Network)
     (wires : Wires)
     (lean : AreLean wires)
     (long : length wires ≡ length progress.net.nodes) where
   abbrev waiting_now : Ahead
   waiting_now from to = waiting_at progress.net from to
 
-  abbrev start : Progress
+  abbrev start : Progress Network
   start = progress_without_wires (progress_written progress wires)
 
-  abbrev last : Progress
-  last = node_asked place occurrence start
+  abbrev last : Progress Network
+  last = node_asked place read_event start
 
   was_behind : progress ≡ progress_behind waiting_now start
   was_behind = ap (λ net. record progress { net = net })
       (sym (refilled (λ from to. []) waiting_now progress.net (λ from to. refl)
       ∙ alone (λ from to. []) progress.net (λ from to. refl)))
 
-  asked_so : node_asked place occurrence progress ≡ progress_behind waiting_now last
+  asked_so : node_asked place read_event progress ≡ progress_behind waiting_now last
   asked_so =
-      ap (node_asked place occurrence) was_behind ∙ asked-behind waiting_now place occurrence start
+      ap (node_asked place read_event) was_behind ∙ asked-behind waiting_now place read_event start
 
   long_now : length wires ≡ length last.net.nodes
-  long_now = long ∙ sym (map_length progress.net.nodes) ∙ sym (asked_stays place occurrence start)
+  long_now = long ∙ sym (map_length progress.net.nodes) ∙ sym (asked_stays place read_event start)
 
   -- They are written before it is asked or with what it puts out: it is one.
-  pub written_between : asked_out place occurrence (progress_written progress wires)
-      ≡ progress_written (node_asked place occurrence progress) wires
+  pub written_between : asked_out place read_event (progress_written progress wires)
+      ≡ progress_written (node_asked place read_event progress) wires
   written_between =
       let written = is_written progress.net wires lean long in
-      sym (ap (λ (c : Progress). progress_written c wires) asked_so
+      sym (ap (λ (c : Progress Network). progress_written c wires) asked_so
       ∙ ap (λ (net : ByteNetwork). record { net = net; receipts = last.receipts })
       (written_ahead same waiting_now last.net wires
       (rows_written progress.net.nodes wires) lean written.lean long_now
       (as_many progress.net.nodes wires long ∙ sym long ∙ long_now)
       (λ from to none. none_there progress.net from to
-      (sym (emptied_ways progress.net from to) ∙ sym (asked_keeps place occurrence start from to)
+      (sym (emptied_ways progress.net from to) ∙ sym (asked_keeps place read_event start from to)
       ∙ none))
       written.wires_are))
 
 -- ---- lines that are heard in turn
 
 module _ (same : SameWires) (from to : ℕ) (wires : Wires) (lean : AreLean wires) where
-  one_heard : (progress : Progress) (line : List ℕ) → length wires ≡ length progress.net.nodes
+  one_heard : (progress : Progress Network) (line : List ℕ)
+      → length wires ≡ length progress.net.nodes
       → heard_out from to (progress_written progress wires) line ≡ progress_written
       (heard from to progress line) wires
   one_heard progress line long = written_between same to (link_says from (read_of line))
       (record progress { net = line_counted progress.net }) wires lean long
 
-  pub all_heard_written : (lines : List (List ℕ)) (progress : Progress)
+  pub all_heard_written : (lines : List (List ℕ)) (progress : Progress Network)
       → length wires ≡ length progress.net.nodes → all_heard_out from to
       (progress_written progress wires) lines ≡ progress_written
       (all_heard from to progress lines) wires

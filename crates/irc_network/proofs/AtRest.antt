@@ -9,7 +9,7 @@ use Rattle.irc_room.specs.Lemmas.Rows.{same_some}
 use Rattle.irc_stage.specs.Lemmas.Numbers.{one_number, same_number}
 use Rattle.irc_network.specs.Network.{Progress, Node, delivered, direction, first_among}
 use Rattle.irc_network.specs.Network.{first_way, given, is_at_rest, is_nothing, is_quiet, taken_of}
-use Rattle.irc_network.specs.Network.{waiting, waits}
+use Rattle.irc_network.specs.Network.{Network, waiting, waits}
 use Rattle.irc_network.specs.Laws.{GivenIsKept, RestStays}
 use Rattle.irc_network.proofs.ItemsStay.{same_items}
 
@@ -72,7 +72,7 @@ quiet_at (first ∷ nodes) zero all node is = ap is_quiet (sym (same_some first 
 quiet_at (first ∷ nodes) (suc place) all node is =
     quiet_at nodes place (both (is_quiet first) (list_all is_quiet nodes) all).1 node is
 
-no_delivery : (progress : Progress) → is_at_rest progress.net ≡ true → (from to : ℕ)
+no_delivery : (progress : Progress Network) → is_at_rest progress.net ≡ true → (from to : ℕ)
     → delivered from to progress ≡ None
 unfolding delivered
 no_delivery progress rest from to = by (slice_get progress.net.nodes from) refl

@@ -5,7 +5,7 @@ use Rattle.std.specs.List.{slice_get, slice_set}
 use Rattle.std.specs.Option.{option_and_then, option_map_or}
 use Rattle.irc_batch.specs.Batches.{Sent, end_of, end_of_link, line_on, line_to}
 use Rattle.irc_relay.specs.Links.{Name}
-use Rattle.irc_server.specs.Served.{Occurrence}
+use Rattle.irc_server.specs.Served.{ReadEvent}
 use Rattle.irc_stage.specs.View.{View}
 use Rattle.irc_network.specs.Network.{Progress, Network, Served, Node, all_sent_out, node_asked}
 use Rattle.irc_network.specs.Network.{asked_at, node_changed_at, has_received, has_received_at}
@@ -80,7 +80,7 @@ module _ (ahead : Ahead) where
 
   -- ---- what is put out
 
-  received-behind : (client : ℕ) (text : List ℕ) (progress : Progress)
+  received-behind : (client : ℕ) (text : List ℕ) (progress : Progress Network)
       → has_received client text (progress_behind ahead progress) ≡ progress_behind ahead
       (has_received client text progress)
   received-behind zero text progress = refl
@@ -93,7 +93,7 @@ module _ (ahead : Ahead) where
       by None = refl
       by (Some lines) = refl
 
-  sent-behind : (place : ℕ) (sent : Sent) (progress : Progress)
+  sent-behind : (place : ℕ) (sent : Sent) (progress : Progress Network)
       → sent_out place sent (progress_behind ahead progress) ≡ progress_behind ahead
       (sent_out place sent progress)
   sent-behind place (line_to client text) progress = received-behind client text progress
@@ -104,7 +104,8 @@ module _ (ahead : Ahead) where
       (queued_behind (ahead place) to text))
   sent-behind place (end_of_link to reason) progress = refl
 
-  all-sent-behind : (place : ℕ) (out : List Sent) (progress : Progress) → all_sent_out place out
+  all-sent-behind : (place : ℕ) (out : List Sent) (progress : Progress Network)
+      → all_sent_out place out
       (progress_behind ahead progress) ≡ progress_behind ahead (all_sent_out place out progress)
   all-sent-behind place [] progress = refl
   all-sent-behind place (sent ∷ out) progress =
@@ -113,38 +114,38 @@ module _ (ahead : Ahead) where
 
   -- ---- a server is asked
 
-  reply-behind : (place : ℕ) (progress : Progress) (node : Node) (r : Served)
+  reply-behind : (place : ℕ) (progress : Progress Network) (node : Node) (r : Served)
       → with_reply place (progress_behind ahead progress) (node_behind (ahead place) node) r
       ≡ progress_behind ahead (with_reply place progress node r)
   reply-behind place progress node r =
       ap (λ net. all_sent_out place r.out (record progress { net = net }))
-      (put-behind place (record node { server = Some r.view }) progress.net)
+      (put-behind place (record node { server = Some r.state }) progress.net)
       ∙ all-sent-behind place r.out (record progress {
         net = with_node place
-            (record node { server = Some r.view }) progress.net;
+            (record node { server = Some r.state }) progress.net;
       })
 
-  pub asked-behind : (place : ℕ) (occurrence : Occurrence) (progress : Progress)
-      → node_asked place occurrence (progress_behind ahead progress) ≡ progress_behind ahead
-      (node_asked place occurrence progress)
+  pub asked-behind : (place : ℕ) (read_event : ReadEvent) (progress : Progress Network)
+      → node_asked place read_event (progress_behind ahead progress) ≡ progress_behind ahead
+      (node_asked place read_event progress)
   unfolding node_asked
-  asked-behind place occurrence progress =
-      ap (λ o. option_map_or (asked_at place occurrence (progress_behind ahead progress)) o
+  asked-behind place read_event progress =
+      ap (λ o. option_map_or (asked_at place read_event (progress_behind ahead progress)) o
       (progress_behind ahead progress)) (at-behind progress.net place)
       ∙ by_node (node_at progress.net place)
     where
       by_view : (node : Node) (o : Option View) → option_map_or (λ (view : View). with_reply place
           (progress_behind ahead progress) (node_behind (ahead place) node)
-          (reply view occurrence)) o
+          (reply view read_event)) o
           (progress_behind ahead progress)
           ≡ progress_behind ahead (option_map_or
-          (λ (view : View). with_reply place progress node (reply view occurrence)) o progress)
+          (λ (view : View). with_reply place progress node (reply view read_event)) o progress)
       by_view node None = refl
-      by_view node (Some view) = reply-behind place progress node (reply view occurrence)
+      by_view node (Some view) = reply-behind place progress node (reply view read_event)
 
       by_node : (o : Option Node)
-          → option_map_or (asked_at place occurrence (progress_behind ahead progress))
+          → option_map_or (asked_at place read_event (progress_behind ahead progress))
           (option_map (node_behind (ahead place)) o) (progress_behind ahead progress)
-          ≡ progress_behind ahead (option_map_or (asked_at place occurrence progress) o progress)
+          ≡ progress_behind ahead (option_map_or (asked_at place read_event progress) o progress)
       by_node None = refl
       by_node (Some node) = by_view node node.server

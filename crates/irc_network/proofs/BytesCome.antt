@@ -93,7 +93,7 @@ way_of net from to is = by_node (node_at net from) refl is
     by_node (Some node) at some = by_way node at (get node.queues to) refl some
 
 module _ (from to : ℕ) (ahead : Ahead) (rest : List (List ℕ)) where
-  all_delivered : (lines : List (List ℕ)) (progress : Progress)
+  all_delivered : (lines : List (List ℕ)) (progress : Progress Network)
       → has_way progress.net from to ≡ true → Delivers from to (length lines)
       (progress_behind (ahead_on from to (lines ++ rest) ahead) progress)
       (progress_behind (ahead_on from to rest ahead) (all_heard from to progress lines))
@@ -125,7 +125,7 @@ module _ (known : IsKnownOfStreams) (old : ByteNetwork) (from to count : ℕ) (b
   abbrev ahead : Ahead
   ahead = lines_ahead old.wires
 
-  abbrev start : Progress
+  abbrev start : Progress Network
   start = record { net = old.network; receipts = before }
 
   -- the wires once they have come
@@ -136,7 +136,7 @@ module _ (known : IsKnownOfStreams) (old : ByteNetwork) (from to count : ℕ) (b
   abbrev now : Ahead
   now = ahead_on from to rest ahead
 
-  abbrev last : Progress
+  abbrev last : Progress Network
   last = all_heard from to start lines
 
   parted : ahead from to ≡ lines ++ rest
@@ -261,7 +261,7 @@ module _ (known : IsKnownOfStreams) (old : ByteNetwork) (from to count : ℕ) (b
     after_is = ap (net_behind (lines_ahead new.wires)) network_is
         ∙ refilled now (lines_ahead new.wires) last.net lines_are
 
-    all_ways : (ls : List (List ℕ)) (progress : Progress) (x y : ℕ)
+    all_ways : (ls : List (List ℕ)) (progress : Progress Network) (x y : ℕ)
         → has_way (all_heard from to progress ls).net x y ≡ has_way progress.net x y
     all_ways [] progress x y = refl
     all_ways (line ∷ ls) progress x y =

@@ -2,10 +2,10 @@
 use Rattle.std.proofs.Common.{◌≡◌, ℕ, Some, None, [], ◌∷◌, ◌++◌, length, option_map}
 use Rattle.std.proofs.Common.{refl, sym, ◌∙◌, ap}
 use Rattle.std.specs.Option.{option_map_or}
-use Rattle.irc_network.specs.Network.{done_by, given}
+use Rattle.irc_network.specs.Network.{Progress, done_by, given}
 use Rattle.irc_world.specs.Stepping.{Item}
 use Rattle.irc_wires.specs.Wires.{Direction, SameWires, advanced, first_direction, wire_at}
-use Rattle.irc_network.specs.ByteNetwork.{ByteProgress, ByteNetwork, bytes_come, completed_in}
+use Rattle.irc_network.specs.ByteNetwork.{ByteNetwork, bytes_come, completed_in}
 use Rattle.irc_network.specs.ByteNetwork.{progress_without_wires, progress_written, item_given}
 use Rattle.irc_network.specs.ByteNetwork.{wires_after, wires_come}
 use Rattle.irc_network.specs.Lemmas.Rows.{rows_stay}
@@ -19,7 +19,7 @@ use Rattle.irc_network.specs.Turns.{TurnsBy, bytes_in_turn, lines_in, turn_in}
 -- ---- what is given
 
 -- it is kept, and lines are counted anew
-abbrev pub byte_kept : Item → ByteProgress → ByteProgress
+abbrev pub byte_kept : Item → Progress ByteNetwork → Progress ByteNetwork
 byte_kept item progress = record progress {
   net = record progress.net {
     network = record progress.net.network {
@@ -29,7 +29,7 @@ byte_kept item progress = record progress {
   };
 }
 
-pub was_given : (old : ByteNetwork) (item : Item) (done : ByteProgress)
+pub was_given : (old : ByteNetwork) (item : Item) (done : Progress ByteNetwork)
     → done ≡ progress_written (done_by item old.network) (wires_after old.network item old.wires)
     → byte_kept item done ≡ item_given item old
 unfolding given item_given
@@ -50,7 +50,7 @@ come_tidy from to count net tidy = record {
 }
 
 -- what they complete is heard in turn, and what servers put out upon it is written at once
-pub have_come : SameWires → (from to count : ℕ) (old : ByteProgress) → IsTidy old.net
+pub have_come : SameWires → (from to count : ℕ) (old : Progress ByteNetwork) → IsTidy old.net
     → all_heard_out from to (record old { net = come_in from to count old.net })
     (completed_in old.net from to count) ≡ bytes_come from to count old
 unfolding bytes_come
@@ -64,10 +64,11 @@ have_come same from to count old tidy =
 
 -- ---- a turn
 
-pub no_turn : (old : ByteProgress) → None ≡ first_direction old.net.wires → TurnsBy None old old
+pub no_turn : (old : Progress ByteNetwork) → None ≡ first_direction old.net.wires
+    → TurnsBy None old old
 no_turn old none = (ap (option_map (turn_in old)) (sym none), refl)
 
-pub one_turn : (old new : ByteProgress) (d : Direction) (count lines : ℕ)
+pub one_turn : (old new : Progress ByteNetwork) (d : Direction) (count lines : ℕ)
     → Some d ≡ first_direction old.net.wires
     → count ≡ bytes_in_turn old.net d → new ≡ bytes_come d.from d.to count old
     → lines ≡ length (completed_in old.net d.from d.to count) → TurnsBy (Some lines) old new

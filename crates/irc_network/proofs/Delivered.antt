@@ -8,7 +8,7 @@ use Rattle.irc_line.specs.Reading.{read_of}
 use Rattle.irc_server.specs.Served.{link_says}
 use Rattle.irc_stage.specs.Lemmas.Numbers.{get-with, one_number, same_number, same_number-refl}
 use Rattle.irc_network.specs.Network.{Progress, Node, node_asked, line_counted, delivered, left}
-use Rattle.irc_network.specs.Network.{node_at, taken_of, waiting, with_node, heard}
+use Rattle.irc_network.specs.Network.{Network, node_at, taken_of, waiting, with_node, heard}
 use Rattle.irc_network.specs.Behind.{Ahead, net_behind, progress_behind, each_way, node_behind}
 use Rattle.irc_network.specs.Behind.{nodes_behind}
 use Rattle.irc_network.proofs.Behind.{asked-behind, at-behind}
@@ -64,7 +64,7 @@ set_other (suc from) one other (first ∷ nodes) node is alike = λ i.
 module _ (from to : ℕ) (line : List ℕ) (rest : List (List ℕ)) (ahead now : Ahead)
     (first : ahead from to ≡ line ∷ rest)
     (is_left : IsLeftOn from to rest ahead now)
-    (progress : Progress) (node : Node) (at : node_at progress.net from ≡ Some node)
+    (progress : Progress Network) (node : Node) (at : node_at progress.net from ≡ Some node)
     (lines : List (List ℕ)) (way : get node.queues to ≡ Some lines) where
   node_left : left to (rest ++ lines) (node_behind (ahead from) node) ≡ node_behind (now from) node
   node_left = ap (λ ways. record node { queues = ways })

@@ -23,7 +23,7 @@ use Rattle.irc_network.proofs.StillWires.{all_new, nothing_lost}
 use Rattle.irc_network.proofs.WireLines.{IsKnownOfStreams, all_are_written, new_has_none}
 use Rattle.irc_network.proofs.WireLines.{new_is_whole}
 
-abbrev pub with_net : Progress → Network → Progress
+abbrev pub with_net : Progress Network → Network → Progress Network
 with_net progress net = record progress { net = net }
 
 -- what waits at a place are lines

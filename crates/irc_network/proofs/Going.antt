@@ -1,7 +1,8 @@
 -- Turn by turn: turns behind those that were taken, and until one completes a line.
+use Rattle.irc_network.specs.ByteNetwork.{ByteNetwork}
 use Rattle.std.proofs.Common.{◌≡◌, ℕ, zero, suc, ◌+◌, ◌<◌, ◌≤◌, Option, Some, None, refl, sym, ◌∙◌}
 use Rattle.std.proofs.Common.{subst, arith}
-use Rattle.irc_network.specs.ByteNetwork.{ByteProgress}
+use Rattle.irc_network.specs.Network.{Progress}
 use Rattle.irc_network.specs.Loops.Turning.{bytes_on_way}
 use Rattle.irc_network.specs.Turns.{ComesToLine, TurnsBy, TurnsGo, lines_in_turn, none_yet}
 use Rattle.irc_network.specs.Turns.{turn_first, turn_taken}
@@ -11,7 +12,7 @@ use Rattle.irc_network.proofs.NothingWritten.{moves_alone}
 
 -- ---- one turn more
 
-pub turns_behind : {all : ℕ} {progress last new : ByteProgress} → TurnsGo all progress last
+pub turns_behind : {all : ℕ} {progress last new : Progress ByteNetwork} → TurnsGo all progress last
     → turn_taken last ≡ Some new → TurnsGo (all + lines_in_turn last.net) progress new
 turns_behind {last = last} none_yet taken =
     turn_first taken (alone (lines_in_turn last.net)) none_yet
@@ -27,7 +28,7 @@ turns_behind {last = last}
         → all + lines ≡ first + (count + lines)
     in_turn all first count lines is = omega arith
 
-pub none_behind : {progress last new : ByteProgress} → TurnsGo 0 progress last
+pub none_behind : {progress last new : Progress ByteNetwork} → TurnsGo 0 progress last
     → turn_taken last ≡ Some new → lines_in_turn last.net ≡ 0 → TurnsGo 0 progress new
 none_behind {progress = progress} {last = last} {new = new} goes taken none =
     subst (λ lines. TurnsGo lines progress new) (no_more (lines_in_turn last.net) none)
@@ -38,17 +39,17 @@ none_behind {progress = progress} {last = last} {new = new} goes taken none =
 
 -- ---- a turn by which no line is completed
 
-pub record GoesOn (old new : ByteProgress) : Type 0 where
+pub record GoesOn (old new : Progress ByteNetwork) : Type 0 where
   pub tidy : IsTidy new.net
   pub fewer : bytes_on_way new.net.wires < bytes_on_way old.net.wires
 
-pub goes_on : (old new : ByteProgress) → IsTidy old.net → turn_taken old ≡ Some new
+pub goes_on : (old new : Progress ByteNetwork) → IsTidy old.net → turn_taken old ≡ Some new
     → lines_in_turn old.net ≡ 0 → GoesOn old new
 goes_on old new tidy taken none =
     let moves = moves_alone old new tidy taken none in
     record {
       tidy = moves.tidy;
-      fewer = subst (λ (progress : ByteProgress). bytes_on_way progress.net.wires
+      fewer = subst (λ (progress : Progress ByteNetwork). bytes_on_way progress.net.wires
           < bytes_on_way old.net.wires) (sym moves.new_is)
           (fewer_bytes old.net.wires moves.way moves.is_first);
     }
@@ -56,43 +57,45 @@ goes_on old new tidy taken none =
 -- ---- what a call has done by a turn behind turns that completed none
 
 -- turns that complete no line have left a tidy network
-pub record GoesTidily (old new : ByteProgress) : Type 0 where
+pub record GoesTidily (old new : Progress ByteNetwork) : Type 0 where
   pub goes : TurnsGo 0 old new
   pub tidy : IsTidy new.net
 
 none_at_most : (lines : ℕ) → lines ≤ 0 → lines ≡ 0
 none_at_most lines few = omega (arith, few)
 
-pub tidily_on : (old now new : ByteProgress) (lines : ℕ) → GoesTidily old now
+pub tidily_on : (old now new : Progress ByteNetwork) (lines : ℕ) → GoesTidily old now
     → TurnsBy (Some lines) now new → lines ≤ 0 → GoesTidily old new
 tidily_on old now new lines before turn few = record {
   goes = none_behind before.goes turn.0 (sym turn.1 ∙ none_at_most lines few);
   tidy = (goes_on now new before.tidy turn.0 (sym turn.1 ∙ none_at_most lines few)).tidy;
 }
 
-pub fewer_on : (old now new : ByteProgress) (lines : ℕ) → GoesTidily old now → TurnsBy
+pub fewer_on : (old now new : Progress ByteNetwork) (lines : ℕ) → GoesTidily old now → TurnsBy
     (Some lines) now new → lines ≤ 0 → bytes_on_way new.net.wires < bytes_on_way now.net.wires
 fewer_on old now new lines before turn few =
     (goes_on now new before.tidy turn.0 (sym turn.1 ∙ none_at_most lines few)).fewer
 
-pub some_come : (old now new : ByteProgress) (lines : ℕ) → GoesTidily old now
+pub some_come : (old now new : Progress ByteNetwork) (lines : ℕ) → GoesTidily old now
     → TurnsBy (Some lines) now new → 0 < lines → ComesToLine (Some lines) old new
 some_come old now new lines before turn some =
     record { between = now; goes = before.goes; turn = turn.0; lines_are = turn.1; some = some }
 
-pub none_come : (old now new : ByteProgress) → GoesTidily old now → TurnsBy None now new
+pub none_come : (old now new : Progress ByteNetwork) → GoesTidily old now → TurnsBy None now new
     → ComesToLine None old new
 none_come old now new before turn =
-    subst (λ (last : ByteProgress). TurnsGo 0 old last × (turn_taken last ≡ None)) (sym turn.1)
+    subst (λ (last : Progress ByteNetwork). TurnsGo 0 old last × (turn_taken last ≡ None))
+    (sym turn.1)
     (before.goes, turn.0)
 
 -- ---- until one is
 
-comes_behind : (lines : Option ℕ) (old between new : ByteProgress) → turn_taken old ≡ Some between
-    → lines_in_turn old.net ≡ 0 → ComesToLine lines between new → ComesToLine lines old new
+comes_behind : (lines : Option ℕ) (old between new : Progress ByteNetwork)
+    → turn_taken old ≡ Some between → lines_in_turn old.net ≡ 0 → ComesToLine lines between new
+    → ComesToLine lines old new
 comes_behind lines old between new taken none = by lines
   where
-    before : {last : ByteProgress} → TurnsGo 0 between last → TurnsGo 0 old last
+    before : {last : Progress ByteNetwork} → TurnsGo 0 between last → TurnsGo 0 old last
     before goes = turn_first taken (first (lines_in_turn old.net) none) goes
       where
         first : (n : ℕ) → n ≡ 0 → 0 ≡ n + 0
@@ -108,16 +111,16 @@ comes_behind lines old between new taken none = by lines
       some = comes.some;
     }
 
-comes_within : (fuel : ℕ) (old : ByteProgress) → IsTidy old.net → bytes_on_way old.net.wires < fuel
-    → ComesToSome old
+comes_within : (fuel : ℕ) (old : Progress ByteNetwork) → IsTidy old.net
+    → bytes_on_way old.net.wires < fuel → ComesToSome old
 comes_within zero old tidy within = absurd (omega (arith, within))
 comes_within (suc fuel) old tidy within = by (turn_taken old) refl (comes_within fuel)
   where
     less : (now before : ℕ) → now < before → before < suc fuel → now < fuel
     less now before fewer most = omega arith
 
-    by_lines : (between : ByteProgress) → turn_taken old ≡ Some between → (n : ℕ)
-        → lines_in_turn old.net ≡ n → ((progress : ByteProgress) → IsTidy progress.net
+    by_lines : (between : Progress ByteNetwork) → turn_taken old ≡ Some between → (n : ℕ)
+        → lines_in_turn old.net ≡ n → ((progress : Progress ByteNetwork) → IsTidy progress.net
         → bytes_on_way progress.net.wires < fuel → ComesToSome progress) → ComesToSome old
     by_lines between taken (suc n) are later = record {
       lines = Some (suc n);
@@ -140,9 +143,9 @@ comes_within (suc fuel) old tidy within = by (turn_taken old) refl (comes_within
           comes = comes_behind rest.lines old between rest.new taken none rest.comes;
         }
 
-    by : (o : Option ByteProgress) → turn_taken old ≡ o → ((progress : ByteProgress)
-        → IsTidy progress.net → bytes_on_way progress.net.wires < fuel → ComesToSome progress)
-        → ComesToSome old
+    by : (o : Option (Progress ByteNetwork)) → turn_taken old ≡ o
+        → ((progress : Progress ByteNetwork) → IsTidy progress.net
+        → bytes_on_way progress.net.wires < fuel → ComesToSome progress) → ComesToSome old
     by None is later = record { lines = None; new = old; comes = (none_yet, is) }
     by (Some between) is later = by_lines between is (lines_in_turn old.net) refl later
 

@@ -3,20 +3,20 @@ use Rattle.std.proofs.Common.{◌≡◌, ℕ, Some, None, List, ◌∷◌, sym, 
 use Rattle.std.proofs.Common.{subst}
 use Rattle.std.specs.Option.{option_map_or}
 use Rattle.irc_relay.specs.Links.{Name, links_without}
-use Rattle.irc_server.specs.Served.{Occurrence, link_down, link_up}
+use Rattle.irc_server.specs.Served.{ReadEvent, link_down, link_up}
 use Rattle.irc_forest.specs.Forests.{Forest, name_at}
 use Rattle.irc_forest.specs.declared.places.EndPlaces.{EndPlaces}
 use Rattle.irc_wires.specs.Wires.{SameWires, Wires}
 use Rattle.irc_world.specs.Stepping.{cut, link}
-use Rattle.irc_network.specs.ByteNetwork.{ByteProgress, ByteNetwork}
-use Rattle.irc_network.specs.ByteNetwork.{byte_begun, progress_written, lost_along, wires_after}
+use Rattle.irc_network.specs.ByteNetwork.{ByteNetwork}
+use Rattle.irc_network.specs.ByteNetwork.{progress_written, lost_along, wires_after}
 use Rattle.irc_network.specs.Histories.{Past}
 use Rattle.irc_network.specs.Lemmas.NodesStay.{asked_stays}
 use Rattle.irc_network.specs.Loops.Progress.{AreNamed, asked_out, ends_now, way_closed, way_opened}
 use Rattle.irc_network.specs.Network.{LinkPlaces, Node, begun, done_by}
 use Rattle.irc_network.specs.Network.{link_places}
 use Rattle.irc_network.specs.Network.{servers_linked, servers_parted}
-use Rattle.irc_network.specs.Network.{node_asked}
+use Rattle.irc_network.specs.Network.{Progress, node_asked}
 use Rattle.irc_network.specs.Whole.{IsTidy}
 use Rattle.irc_network.proofs.AskedOut.{written_between}
 use Rattle.irc_network.proofs.Places.{whole}
@@ -25,9 +25,9 @@ use Rattle.irc_network.proofs.StaysTidy.{closed_tidy, opened_tidy}
 
 -- ---- two servers, one after the other
 
-pub both_asked : SameWires → (near far : ℕ) (one other : Occurrence) (start : ByteNetwork)
-    (middle last : ByteProgress) → IsTidy start
-    → middle ≡ asked_out near one (byte_begun start) → last ≡ asked_out far other middle
+pub both_asked : SameWires → (near far : ℕ) (one other : ReadEvent) (start : ByteNetwork)
+    (middle last : Progress ByteNetwork) → IsTidy start
+    → middle ≡ asked_out near one (begun start) → last ≡ asked_out far other middle
     → last ≡ progress_written (node_asked far other (node_asked near one (begun start.network)))
     start.wires
 both_asked same near far one other start middle last tidy first then =
@@ -56,10 +56,10 @@ opened_is_tidy near far ends net tidy =
     (record { quiet = tidy.quiet; rows = tidy.rows; lean = tidy.lean }))
 
 pub servers_were_linked : SameWires → (near far : Name) (ends : LinkPlaces) (net : ByteNetwork)
-    (middle last : ByteProgress) → IsTidy net
+    (middle last : Progress ByteNetwork) → IsTidy net
     → link_places net.network near far ≡ Some ends
     → middle ≡ asked_out ends.near (link_up ends.far (Some far))
-    (byte_begun (opened near far ends net))
+    (begun (opened near far ends net))
     → last ≡ asked_out ends.far (link_up ends.near None) middle
     → last ≡ progress_written (done_by (link near far) net.network) net.wires
 servers_were_linked same near far ends net middle last tidy are first then =
@@ -70,9 +70,9 @@ servers_were_linked same near far ends net middle last tidy are first then =
 
 pub none_linked : (near far : Name) (net : ByteNetwork) → IsTidy net
     → link_places net.network near far ≡ None
-    → byte_begun net ≡ progress_written (done_by (link near far) net.network) net.wires
+    → begun net ≡ progress_written (done_by (link near far) net.network) net.wires
 none_linked near far net tidy none =
-    sym (tidy_alone (byte_begun net) tidy)
+    sym (tidy_alone (begun net) tidy)
     ∙ sym (ap (λ o. progress_written (option_map_or (servers_linked near far net.network) o
     (begun net.network)) net.wires) none)
 
@@ -94,9 +94,9 @@ closed_is_tidy near far ends net tidy =
     (record { quiet = tidy.quiet; rows = tidy.rows; lean = tidy.lean })
 
 pub servers_were_parted : SameWires → (near far : Name) (ends : LinkPlaces) (net : ByteNetwork)
-    (middle last : ByteProgress) → IsTidy net
+    (middle last : Progress ByteNetwork) → IsTidy net
     → link_places net.network near far ≡ Some ends
-    → middle ≡ asked_out ends.near (link_down ends.far) (byte_begun (closed near far ends net))
+    → middle ≡ asked_out ends.near (link_down ends.far) (begun (closed near far ends net))
     → last ≡ asked_out ends.far (link_down ends.near) middle
     → last ≡ progress_written (done_by (cut near far) net.network)
     (wires_after net.network (cut near far) net.wires)
@@ -108,10 +108,10 @@ servers_were_parted same near far ends net middle last tidy are first then =
 
 pub none_parted : (near far : Name) (net : ByteNetwork) → IsTidy net
     → link_places net.network near far ≡ None
-    → byte_begun net ≡ progress_written (done_by (cut near far) net.network)
+    → begun net ≡ progress_written (done_by (cut near far) net.network)
     (wires_after net.network (cut near far) net.wires)
 none_parted near far net tidy none =
-    sym (tidy_alone (byte_begun net) tidy)
+    sym (tidy_alone (begun net) tidy)
     ∙ sym (ap (λ o. progress_written (option_map_or (servers_parted near far net.network) o
     (begun net.network)) (lost_along o net.wires)) none)
 

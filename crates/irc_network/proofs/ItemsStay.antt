@@ -3,19 +3,19 @@ use Rattle.std.proofs.Common.{◌≡◌, ℕ, zero, suc, Option, Some, None, Lis
 use Rattle.std.specs.List.{slice_get}
 use Rattle.std.specs.Option.{option_map_or}
 use Rattle.irc_batch.specs.Batches.{Sent, line_to, end_of, line_on, end_of_link}
-use Rattle.irc_server.specs.Served.{Occurrence}
+use Rattle.irc_server.specs.Served.{ReadEvent}
 use Rattle.irc_stage.specs.View.{View}
 use Rattle.irc_world.specs.Stepping.{Item, connect, line, gone, link, cut}
 use Rattle.irc_network.specs.Network.{Progress, LinkPlaces, Network, Node, all_sent_out, node_asked}
-use Rattle.irc_network.specs.Network.{asked_at, node_asked_if, begun, node_changed_at, done_by}
+use Rattle.irc_network.specs.Network.{asked_at, begun, done_by, node_asked_if, node_changed_at}
 use Rattle.irc_network.specs.Network.{link_places, has_received, has_received_at, home_place}
 use Rattle.irc_network.specs.Network.{servers_parted, servers_linked, server_place, reply, sent_out}
 use Rattle.irc_network.specs.Network.{node_at, with_reply, with_node}
 
-abbrev pub items_of : Progress → List Item
+abbrev pub items_of : Progress Network → List Item
 items_of progress = progress.net.items
 
-received_keeps : (client : ℕ) (text : List ℕ) (progress : Progress)
+received_keeps : (client : ℕ) (text : List ℕ) (progress : Progress Network)
     → items_of (has_received client text progress) ≡ items_of progress
 received_keeps zero text progress = refl
 received_keeps (suc earlier) text progress = by (slice_get progress.net.received earlier)
@@ -34,43 +34,43 @@ changed_keeps place change net = by (node_at net place)
     by None = refl
     by (Some node) = refl
 
-sent_keeps : (place : ℕ) (sent : Sent) (progress : Progress)
+sent_keeps : (place : ℕ) (sent : Sent) (progress : Progress Network)
     → items_of (sent_out place sent progress) ≡ items_of progress
 sent_keeps place (line_to client text) progress = received_keeps client text progress
 sent_keeps place (end_of client) progress = refl
 sent_keeps place (line_on to text) progress = changed_keeps place _ progress.net
 sent_keeps place (end_of_link to reason) progress = refl
 
-all_keep : (place : ℕ) (out : List Sent) (progress : Progress)
+all_keep : (place : ℕ) (out : List Sent) (progress : Progress Network)
     → items_of (all_sent_out place out progress) ≡ items_of progress
 all_keep place [] progress = refl
 all_keep place (sent ∷ more) progress =
     all_keep place more (sent_out place sent progress) ∙ sent_keeps place sent progress
 
-asked_keeps : (place : ℕ) (occurrence : Occurrence) (progress : Progress)
-    → items_of (node_asked place occurrence progress) ≡ items_of progress
+asked_keeps : (place : ℕ) (read_event : ReadEvent) (progress : Progress Network)
+    → items_of (node_asked place read_event progress) ≡ items_of progress
 unfolding node_asked
-asked_keeps place occurrence progress = by (node_at progress.net place)
+asked_keeps place read_event progress = by (node_at progress.net place)
   where
     by_view : (node : Node) (o : Option View) → items_of (option_map_or (λ (view : View).
-        with_reply place progress node (reply view occurrence)) o progress) ≡ items_of progress
+        with_reply place progress node (reply view read_event)) o progress) ≡ items_of progress
     by_view node None = refl
-    by_view node (Some view) = all_keep place (reply view occurrence).out
+    by_view node (Some view) = all_keep place (reply view read_event).out
         (record progress {
           net = with_node place
-              (record node { server = Some (reply view occurrence).view }) progress.net;
+              (record node { server = Some (reply view read_event).state }) progress.net;
         })
 
     by : (o : Option Node)
-        → items_of (option_map_or (asked_at place occurrence progress) o progress)
+        → items_of (option_map_or (asked_at place read_event progress) o progress)
         ≡ items_of progress
     by None = refl
     by (Some node) = by_view node node.server
 
-asked_of_keeps : (place : Option ℕ) (occurrence : Occurrence) (progress : Progress)
-    → items_of (node_asked_if place occurrence progress) ≡ items_of progress
-asked_of_keeps None occurrence progress = refl
-asked_of_keeps (Some place) occurrence progress = asked_keeps place occurrence progress
+asked_of_keeps : (place : Option ℕ) (read_event : ReadEvent) (progress : Progress Network)
+    → items_of (node_asked_if place read_event progress) ≡ items_of progress
+asked_of_keeps None read_event progress = refl
+asked_of_keeps (Some place) read_event progress = asked_keeps place read_event progress
 
 both_keep : (net : Network) (place other : ℕ) (change turn : Node → Node)
     → (node_changed_at other turn (node_changed_at place change net)).items ≡ net.items

@@ -12,11 +12,11 @@ use Rattle.std.specs.Option.{option_map, option_map_or}
 use Rattle.std.specs.Ordering.{nat_cmp}
 use Rattle.irc_stage.specs.Lemmas.Numbers.{one_number, same_number, same_number-refl}
 use Rattle.irc_tables.specs.Lemmas.OrderedEntries.{above-is, find-above}
-use Rattle.irc_network.specs.Network.{Network, Node, waiting}
+use Rattle.irc_network.specs.Network.{Progress, Network, Node, waiting}
 use Rattle.irc_wires.specs.Wires.{AreLean, Direction, IsLean, LinkWire, Wires, advanced}
 use Rattle.irc_wires.specs.Wires.{first_direction, is_still, new_wire, put_in, wire_at, wire_in}
 use Rattle.irc_wires.specs.Lemmas.PutWires.{get-put}
-use Rattle.irc_network.specs.ByteNetwork.{ByteProgress, ByteNetwork, all_heard, all_written}
+use Rattle.irc_network.specs.ByteNetwork.{ByteNetwork, all_heard, all_written}
 use Rattle.irc_network.specs.ByteNetwork.{bytes_come, completed_in, progress_without_wires}
 use Rattle.irc_network.specs.ByteNetwork.{progress_written, row_written, rows_written}
 use Rattle.irc_network.specs.ByteNetwork.{waiting_at, wires_come, queues_written}
@@ -140,7 +140,7 @@ nothing_written net wires none lean =
 -- ---- a turn
 
 -- the bytes through the next LF have come in the first direction, and that is all
-pub record MovesAlone (old new : ByteProgress) : Type 0 where
+pub record MovesAlone (old new : Progress ByteNetwork) : Type 0 where
   pub way : Direction
   pub is_first : first_direction old.net.wires ≡ Some way
   pub new_is : new ≡ record {
@@ -156,11 +156,11 @@ none_completed : (lines : List (List ℕ)) → length lines ≡ 0 → lines ≡ 
 none_completed [] none = refl
 none_completed (first ∷ lines) none = cc none
 
-module _ (old : ByteProgress) (tidy : IsTidy old.net) (way : Direction) where
+module _ (old : Progress ByteNetwork) (tidy : IsTidy old.net) (way : Direction) where
   abbrev come : Wires
   come = wires_come old.net way.from way.to (bytes_in_turn old.net way)
 
-  abbrev moved : ByteProgress
+  abbrev moved : Progress ByteNetwork
   moved =
       record { net = record { network = old.net.network; wires = come }; receipts = old.receipts }
 
@@ -185,17 +185,17 @@ module _ (old : ByteProgress) (tidy : IsTidy old.net) (way : Direction) where
     lean = come_lean;
   }
 
-  moves : (new : ByteProgress) → first_direction old.net.wires ≡ Some way → turn_in old way ≡ new
-      → lines_in old.net way ≡ 0 → MovesAlone old new
+  moves : (new : Progress ByteNetwork) → first_direction old.net.wires ≡ Some way
+      → turn_in old way ≡ new → lines_in old.net way ≡ 0 → MovesAlone old new
   moves new is taken none = record {
     way = way;
     is_first = is;
     new_is = sym taken ∙ turn_moves none;
-    tidy = subst (λ (progress : ByteProgress). IsTidy progress.net)
+    tidy = subst (λ (progress : Progress ByteNetwork). IsTidy progress.net)
         (sym (turn_moves none) ∙ taken) moved_tidy;
   }
 
-pub moves_alone : (old new : ByteProgress) → IsTidy old.net → turn_taken old ≡ Some new
+pub moves_alone : (old new : Progress ByteNetwork) → IsTidy old.net → turn_taken old ≡ Some new
     → lines_in_turn old.net ≡ 0 → MovesAlone old new
 moves_alone old new tidy taken none = by (first_direction old.net.wires) refl taken none
   where

@@ -10,7 +10,7 @@ use Rattle.irc_forest.specs.Forests.{Forest}
 use Rattle.irc_relay.specs.Links.{Name}
 use Rattle.irc_network.specs.declared.receipt.Receipt.{Receipt as KeptReceipt}
 use Rattle.irc_network.specs.Histories.{Becomes, Past, line_behind, with_line}
-use Rattle.irc_network.specs.Loops.Progress.{progress}
+use Rattle.irc_network.specs.Loops.Progress.{progress_of}
 use Rattle.irc_wires.specs.Wires.{Wires}
 use Rattle.irc_network.specs.ByteNetwork.{ByteNetwork}
 use Rattle.irc_network.specs.Network.{Network, Receipt, Node, has_received}
@@ -70,7 +70,7 @@ pub received_one : (net : Network) (receipts more : List KeptReceipt) (client ea
     (text : List ℕ) (past : Past) (kept : KeptReceipt) → length net.received ≡ length net.homes
     → client ≡ suc earlier → earlier < length net.homes → past ≡ with_line earlier text
     (past_of net) → more ≡ receipts ++ kept ∷ [] → receipt_of kept ≡ receipt client text
-    → progress (with_past past net) more ≡ has_received client text (progress net receipts)
+    → progress_of (with_past past net) more ≡ has_received client text (progress_of net receipts)
 received_one net receipts more client earlier text past kept each number within put behind kept_is =
     by (slice_get net.received earlier) refl
   where
@@ -79,20 +79,20 @@ received_one net receipts more client earlier text past kept each number within 
         ap receipts_of behind ∙ map-append receipt_of receipts (kept ∷ [])
         ∙ ap (λ r. receipts_of receipts ++ r ∷ []) (kept_is ∙ ap (λ n. receipt n text) number)
 
-    by : (o : Option (List (List ℕ))) → slice_get net.received earlier ≡ o
-        → progress (with_past past net) more ≡ has_received client text (progress net receipts)
+    by : (o : Option (List (List ℕ))) → slice_get net.received earlier ≡ o → progress_of
+        (with_past past net) more ≡ has_received client text (progress_of net receipts)
     by None none = absurd (not_none net.received earlier none (omega (arith, each, within)))
     by (Some lines) is =
-        ap (λ (p : Past). progress (with_past p net) more) (put
+        ap (λ (p : Past). progress_of (with_past p net) more) (put
         ∙ ap (λ o. option_map_or (line_behind earlier text (past_of net)) o (past_of net)) is)
         ∙ ap (λ (rs : List Receipt). record {
           net = with_past
               (line_behind earlier text (past_of net) lines) net;
           receipts = rs;
         }) told
-        ∙ sym (ap (λ o. option_map_or (has_received_at earlier text (progress net receipts)) o
-        (progress net receipts)) is)
-        ∙ ap (λ n. has_received n text (progress net receipts)) (sym number)
+        ∙ sym (ap (λ o. option_map_or (has_received_at earlier text (progress_of net receipts)) o
+        (progress_of net receipts)) is)
+        ∙ ap (λ n. has_received n text (progress_of net receipts)) (sym number)
 
 -- a line is put behind those of a client, or memory ran out
 pub put_behind : {E : Type 0} (result : Result (Unit {0}) E) (past : Past) (earlier : ℕ)

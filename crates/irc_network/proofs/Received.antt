@@ -11,7 +11,7 @@ use Rattle.irc_batch.specs.Batches.{Sent, line_to as line_out, end_of, line_on, 
 use Rattle.irc_line.specs.Reading.{read_of}
 use Rattle.irc_network.specs.Laws.{ReceiptsAreReceived}
 use Rattle.irc_network.specs.Network.{Progress, LinkPlaces, Network, Receipt, Node, TakesInTurn}
-use Rattle.irc_network.specs.Network.{all_sent_out, node_asked, asked_at, node_asked_if, begun}
+use Rattle.irc_network.specs.Network.{all_sent_out, asked_at, begun, node_asked, node_asked_if}
 use Rattle.irc_network.specs.Network.{node_changed_at, line_counted, delivered, done_by}
 use Rattle.irc_network.specs.Network.{link_places, given, has_received, has_received_at, home_place}
 use Rattle.irc_network.specs.Network.{left, servers_parted, servers_linked, none_yet, server_place}
@@ -19,12 +19,12 @@ use Rattle.irc_network.specs.Network.{line_queued, receipt, received_by, reply, 
 use Rattle.irc_network.specs.Network.{taken_of, then_one, waiting, with_client, with_reply}
 use Rattle.irc_network.specs.Network.{with_node, line_received, lines_of_client}
 use Rattle.irc_relay.specs.Links.{Name}
-use Rattle.irc_server.specs.Served.{Occurrence, link_says}
+use Rattle.irc_server.specs.Served.{ReadEvent, link_says}
 use Rattle.irc_stage.specs.View.{View}
 use Rattle.irc_world.specs.Stepping.{Item, connect, line, gone, link, cut}
 
 -- since clients had received so much
-abbrev pub IsTold : (ℕ → List (List ℕ)) → Progress → Type 0
+abbrev pub IsTold : (ℕ → List (List ℕ)) → Progress Network → Type 0
 IsTold before progress = (client : ℕ) → received_by progress.net client ≡ before client
     ++ lines_of_client client progress.receipts
 
@@ -38,8 +38,8 @@ same_received old new same (suc earlier) =
     ap (λ (inboxes : List (List (List ℕ))). unwrap_or (slice_get inboxes earlier) []) same
 
 -- nothing is received
-told_still : (before : ℕ → List (List ℕ)) (old new : Progress) → new.net.received ≡ old.net.received
-    → new.receipts ≡ old.receipts → IsTold before old → IsTold before new
+told_still : (before : ℕ → List (List ℕ)) (old new : Progress Network) → new.net.received
+    ≡ old.net.received → new.receipts ≡ old.receipts → IsTold before old → IsTold before new
 told_still before old new same receipts told client =
     same_received old.net new.net same client ∙ told client
     ∙ ap (λ rs. before client ++ lines_of_client client rs) (sym receipts)
@@ -78,8 +78,8 @@ put_behind (inbox ∷ inboxes) (suc earlier) (suc other) lines text is =
     put_behind inboxes earlier other lines text is
     ∙ next_there (unwrap_or (slice_get inboxes other) []) earlier other text
 
-received_behind : (progress : Progress) (earlier : ℕ) (text : List ℕ) (lines : List (List ℕ))
-    → slice_get progress.net.received earlier ≡ Some lines → (client : ℕ)
+received_behind : (progress : Progress Network) (earlier : ℕ) (text : List ℕ)
+    (lines : List (List ℕ)) → slice_get progress.net.received earlier ≡ Some lines → (client : ℕ)
     → received_by (has_received_at earlier text progress lines).net client
     ≡ received_by progress.net client ++ if_there (suc earlier) client text
 received_behind progress earlier text lines is zero =
@@ -94,7 +94,7 @@ told_behind : (client earlier : ℕ) (text : List ℕ) (receipts : List Receipt)
 told_behind client earlier text receipts =
     filter_map-append (line_received client) receipts (receipt (suc earlier) text ∷ [])
 
-told_at : (before : ℕ → List (List ℕ)) (progress : Progress) (earlier : ℕ) (text : List ℕ)
+told_at : (before : ℕ → List (List ℕ)) (progress : Progress Network) (earlier : ℕ) (text : List ℕ)
     (lines : List (List ℕ)) → slice_get progress.net.received earlier ≡ Some lines
     → IsTold before progress → IsTold before (has_received_at earlier text progress lines)
 told_at before progress earlier text lines is told client =
@@ -104,8 +104,9 @@ told_at before progress earlier text lines is told client =
     (if_there (suc earlier) client text)
     ∙ ap (λ ls. before client ++ ls) (sym (told_behind client earlier text progress.receipts))
 
-client_told : (before : ℕ → List (List ℕ)) (client : ℕ) (text : List ℕ) (progress : Progress)
-    → IsTold before progress → IsTold before (has_received client text progress)
+client_told : (before : ℕ → List (List ℕ)) (client : ℕ) (text : List ℕ)
+    (progress : Progress Network) → IsTold before progress
+    → IsTold before (has_received client text progress)
 client_told before zero text progress told = told
 client_told before (suc earlier) text progress told =
     by (slice_get progress.net.received earlier) refl
@@ -126,7 +127,7 @@ changed_received place change net = by (node_at net place)
     by None = refl
     by (Some node) = refl
 
-sent_told : (before : ℕ → List (List ℕ)) (place : ℕ) (sent : Sent) (progress : Progress)
+sent_told : (before : ℕ → List (List ℕ)) (place : ℕ) (sent : Sent) (progress : Progress Network)
     → IsTold before progress → IsTold before (sent_out place sent progress)
 sent_told before place (line_out client text) progress told =
     client_told before client text progress told
@@ -136,57 +137,57 @@ sent_told before place (line_on to text) progress told =
     (changed_received place (line_queued to text) progress.net) refl told
 sent_told before place (end_of_link to reason) progress told = told
 
-all_told : (before : ℕ → List (List ℕ)) (place : ℕ) (out : List Sent) (progress : Progress)
+all_told : (before : ℕ → List (List ℕ)) (place : ℕ) (out : List Sent) (progress : Progress Network)
     → IsTold before progress → IsTold before (all_sent_out place out progress)
 all_told before place [] progress told = told
 all_told before place (sent ∷ out) progress told =
     all_told before place out (sent_out place sent progress)
     (sent_told before place sent progress told)
 
-replied_told : (before : ℕ → List (List ℕ)) (place : ℕ) (occurrence : Occurrence)
-    (progress : Progress) (node : Node) (view : View) → IsTold before progress
-    → IsTold before (with_reply place progress node (reply view occurrence))
-replied_told before place occurrence progress node view told =
-    all_told before place (reply view occurrence).out (put node)
+replied_told : (before : ℕ → List (List ℕ)) (place : ℕ) (read_event : ReadEvent)
+    (progress : Progress Network) (node : Node) (view : View) → IsTold before progress
+    → IsTold before (with_reply place progress node (reply view read_event))
+replied_told before place read_event progress node view told =
+    all_told before place (reply view read_event).out (put node)
     (told_still before progress (put node) refl refl told)
   where
-    put : Node → Progress
+    put : Node → Progress Network
     put node = record progress {
       net = with_node place
-          (record node { server = Some (reply view occurrence).view }) progress.net;
+          (record node { server = Some (reply view read_event).state }) progress.net;
     }
 
 asked_told : (before : ℕ → List (List ℕ)) (place : ℕ)
-    (occurrence : Occurrence) (progress : Progress) → IsTold before progress
-    → IsTold before (node_asked place occurrence progress)
+    (read_event : ReadEvent) (progress : Progress Network) → IsTold before progress
+    → IsTold before (node_asked place read_event progress)
 unfolding node_asked
-asked_told before place occurrence progress told = by (node_at progress.net place)
+asked_told before place read_event progress told = by (node_at progress.net place)
   where
     at : (node : Node) (o : Option View) → IsTold before (option_map_or
-        (λ (view : View). with_reply place progress node (reply view occurrence)) o progress)
+        (λ (view : View). with_reply place progress node (reply view read_event)) o progress)
     at node None = told
-    at node (Some view) = replied_told before place occurrence progress node view told
+    at node (Some view) = replied_told before place read_event progress node view told
 
     by : (o : Option Node)
-        → IsTold before (option_map_or (asked_at place occurrence progress) o progress)
+        → IsTold before (option_map_or (asked_at place read_event progress) o progress)
     by None = told
     by (Some node) = at node node.server
 
 -- ---- lines that are delivered
 
-delivered_told : (before : ℕ → List (List ℕ)) (from to : ℕ) (old new : Progress)
+delivered_told : (before : ℕ → List (List ℕ)) (from to : ℕ) (old new : Progress Network)
     → delivered from to old ≡ Some new → IsTold before old → IsTold before new
 unfolding delivered
 delivered_told before from to old new is told = by (node_at old.net from) is
   where
-    same_progress : (a b : Progress) → Some a ≡ Some b → a ≡ b
+    same_progress : (a b : Progress Network) → Some a ≡ Some b → a ≡ b
     same_progress a b e = cc e
 
     took : (node : Node) (lines : List (List ℕ)) → taken_of from to old node lines ≡ Some new
         → IsTold before new
     took node [] e = absurd (cc e)
     took node (first ∷ rest) e =
-        let between : Progress =
+        let between : Progress Network =
         record old { net = record (with_node from (left to rest node) old.net) { taken = _ } }
         in
         subst (IsTold before)
@@ -199,7 +200,7 @@ delivered_told before from to old new is told = by (node_at old.net from) is
     by None e = absurd (cc e)
     by (Some node) e = took node (waiting node to) e
 
-pub taken_told : (before : ℕ → List (List ℕ)) {count : ℕ} {old new : Progress}
+pub taken_told : (before : ℕ → List (List ℕ)) {count : ℕ} {old new : Progress Network}
     → TakesInTurn count old new → IsTold before old → IsTold before new
 taken_told before none_yet told = told
 taken_told before (then_one {between = between} {last = last} {direction = d} earlier way is) told =
@@ -219,15 +220,15 @@ client_more : (net : Network) (home : Name) (client : ℕ)
 client_more net home zero = refl
 client_more net home (suc earlier) = one_inbox_more net.received earlier
 
-asked_of_told : (before : ℕ → List (List ℕ)) (place : Option ℕ) (occurrence : Occurrence)
-    (progress : Progress) → IsTold before progress
-    → IsTold before (node_asked_if place occurrence progress)
-asked_of_told before None occurrence progress told = told
-asked_of_told before (Some place) occurrence progress told =
-    asked_told before place occurrence progress told
+asked_of_told : (before : ℕ → List (List ℕ)) (place : Option ℕ) (read_event : ReadEvent)
+    (progress : Progress Network) → IsTold before progress
+    → IsTold before (node_asked_if place read_event progress)
+asked_of_told before None read_event progress told = told
+asked_of_told before (Some place) read_event progress told =
+    asked_told before place read_event progress told
 
 -- both ends are asked, once the network is changed so
-both_told : (net between : Network) (near far : ℕ) (one other : Occurrence)
+both_told : (net between : Network) (near far : ℕ) (one other : ReadEvent)
     → between.received ≡ net.received
     → IsTold (received_by net) (node_asked far other (node_asked near one (begun between)))
 both_told net between near far one other same =

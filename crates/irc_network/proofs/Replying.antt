@@ -3,9 +3,9 @@ use Rattle.std.proofs.Common.{◌≡◌, true, false, Option, Some, None, Result
 use Rattle.std.proofs.Common.{◌∙◌, ap, is_some, is_none, if◌then◌else◌}
 use Rattle.std.specs.FinMap.{get}
 use Rattle.irc_batch.specs.Batches.{Sent}
-use Rattle.irc_server.specs.Happening.{IsHandled, has_failed, occurrence_of, refuses_it, takes_it}
-use Rattle.irc_server.specs.Happening.{wants_memory}
-use Rattle.irc_server.specs.Served.{Occurrence, fault_of, link_there, no_link, not_there, served}
+use Rattle.irc_server.specs.ReadEvents.{IsHandled, has_failed, read_event_of, refuses_it, takes_it}
+use Rattle.irc_server.specs.ReadEvents.{wants_memory}
+use Rattle.irc_server.specs.Served.{ReadEvent, fault_of, link_there, no_link, not_there, served}
 use Rattle.irc_server.specs.Served.{there}
 use Rattle.irc_server.specs.declared.event.Event.{Event}
 use Rattle.irc_server.specs.declared.event.Event.TheVariants.{Connect, Line, Gone, LinkUp, LinkLine}
@@ -13,7 +13,7 @@ use Rattle.irc_server.specs.declared.event.Event.TheVariants.{LinkDown}
 use Rattle.irc_server.specs.declared.event.ServerFault.{ServerFault}
 use Rattle.irc_stage.specs.declared.clients.Client.{Client}
 use Rattle.irc_stage.specs.View.{End, View}
-use Rattle.irc_network.specs.Node.{Replies, Served, Node, serves_occurrence, reply}
+use Rattle.irc_network.specs.Node.{Replies, Served, Node, serves_read_event, reply}
 use Rattle.irc_network.specs.Loops.Nodes.{is_want}
 
 -- ---- what is refused is not taken, and what is not refused is
@@ -40,7 +40,7 @@ end_some None e = cc e
 end_some (Some c) e = refl
 
 pub taken_then : (view : View) (event : Event) → fault_of view event ≡ None
-    → serves_occurrence view (occurrence_of event) ≡ true
+    → serves_read_event view (read_event_of event) ≡ true
 taken_then view (Connect conn host) e = at_none (get view.clients conn) e
 taken_then view (Line conn line) e = at_some (get view.clients conn) e
 taken_then view (Gone conn) e = at_some (get view.clients conn) e
@@ -65,7 +65,7 @@ end_not_some None f e = refl
 end_not_some (Some c) f e = cc e
 
 pub refused_then : (view : View) (event : Event) (f : ServerFault) → fault_of view event ≡ Some f
-    → serves_occurrence view (occurrence_of event) ≡ false
+    → serves_read_event view (read_event_of event) ≡ false
 refused_then view (Connect conn host) f e = not_none (get view.clients conn) f e
 refused_then view (Line conn line) f e = not_some (get view.clients conn) f e
 refused_then view (Gone conn) f e = not_some (get view.clients conn) f e
@@ -75,39 +75,39 @@ refused_then view (LinkDown link) f e = end_not_some (get view.ends link) f e
 
 -- ---- so a server that is asked replies
 
-abbrev pub served_reply : View → Occurrence → Served
-served_reply view occurrence =
-    record { view = (served view occurrence).view; out = (served view occurrence).out }
+abbrev pub served_reply : View → ReadEvent → Served
+served_reply view read_event =
+    record { state = (served view read_event).state; out = (served view read_event).out }
 
 taken_reply : (view : View) (event : Event) → fault_of view event ≡ None
-    → reply view (occurrence_of event) ≡ served_reply view (occurrence_of event)
+    → reply view (read_event_of event) ≡ served_reply view (read_event_of event)
 taken_reply view event e =
-    ap (λ b. if b then served_reply view (occurrence_of event)
-    else (record { view = view; out = [] })) (taken_then view event e)
+    ap (λ b. if b then served_reply view (read_event_of event)
+    else (record { state = view; out = [] })) (taken_then view event e)
 
 still_reply : (view : View) (event : Event) (f : ServerFault) → fault_of view event ≡ Some f
-    → reply view (occurrence_of event) ≡ record { view = view; out = [] }
+    → reply view (read_event_of event) ≡ record { state = view; out = [] }
 still_reply view event f e =
-    ap (λ b. if b then served_reply view (occurrence_of event)
-    else (record { view = view; out = [] })) (refused_then view event f e)
+    ap (λ b. if b then served_reply view (read_event_of event)
+    else (record { state = view; out = [] })) (refused_then view event f e)
 
 pub answered : {old new : Option View} {event : Event} {out : List Sent}
     {result : Result (Unit {0}) ServerFault}
     (node : Node) → node.server ≡ old → IsHandled old event [] result new out
     → is_want result ≡ false
-    → Replies node (occurrence_of event) (record node { server = new }) out
+    → Replies node (read_event_of event) (record node { server = new }) out
 answered node at (takes_it {old = view} {event = event} none does) want = record {
   view = view;
   is_view = at;
   new_is = ap (λ (v : View). record node { server = Some v })
-      (does.view_is ∙ ap (λ (r : Served). r.view) (sym (taken_reply view event none)));
+      (does.view_is ∙ ap (λ (r : Served). r.state) (sym (taken_reply view event none)));
   out_is = does.out_is ∙ ap (λ (r : Served). r.out) (sym (taken_reply view event none));
 }
 answered node at (refuses_it {old = view} {event = event} {fault = fault} is) want = record {
   view = view;
   is_view = at;
   new_is = ap (λ (v : View). record node { server = Some v })
-      (ap (λ (r : Served). r.view) (sym (still_reply view event fault is)));
+      (ap (λ (r : Served). r.state) (sym (still_reply view event fault is)));
   out_is = ap (λ (r : Served). r.out) (sym (still_reply view event fault is));
 }
 answered node at (wants_memory none) want = cc want

@@ -5,10 +5,10 @@ use Rattle.std.proofs.Common.{length, take, refl, sym, ◌∙◌, ap, if◌then�
 use Rattle.std.specs.List.{slice_get}
 use Rattle.std.specs.Option.{option_map_or}
 use Rattle.irc_batch.specs.Batches.{Sent, end_of, end_of_link, line_on, line_to}
-use Rattle.irc_server.specs.Served.{Occurrence}
+use Rattle.irc_server.specs.Served.{ReadEvent}
 use Rattle.irc_wires.specs.Wires.{AreLean, SameWires, Wires, written_at}
 use Rattle.irc_network.specs.Behind.{emptied}
-use Rattle.irc_network.specs.ByteNetwork.{ByteProgress, ByteNetwork, progress_without_wires}
+use Rattle.irc_network.specs.ByteNetwork.{ByteNetwork, progress_without_wires}
 use Rattle.irc_network.specs.ByteNetwork.{progress_written, queues_written, rows_written}
 use Rattle.irc_network.specs.Lemmas.Emptied.{emptied_ways}
 use Rattle.irc_network.specs.Lemmas.NodesStay.{all_stay}
@@ -26,7 +26,7 @@ use Rattle.irc_network.proofs.Taking.{asked_nowhere, asked_there, one_more_sent,
 
 -- ---- nothing waits in a tidy network, so nothing is left to be written
 
-pub tidy_alone : (progress : ByteProgress) → IsTidy progress.net
+pub tidy_alone : (progress : Progress ByteNetwork) → IsTidy progress.net
     → progress_written (progress_without_wires progress) progress.net.wires ≡ progress
 tidy_alone progress tidy =
     ap (λ (net : ByteNetwork). record { net = net; receipts = progress.receipts })
@@ -34,14 +34,14 @@ tidy_alone progress tidy =
 
 -- ---- one thing
 
-received_written : (client : ℕ) (text : List ℕ) (progress : Progress) (wires : Wires)
+received_written : (client : ℕ) (text : List ℕ) (progress : Progress Network) (wires : Wires)
     → with_wires (rows_written progress.net.nodes wires) (has_received client text
     (progress_without_wires (progress_written progress wires)))
     ≡ progress_written (has_received client text progress) wires
 received_written zero text progress wires = refl
 received_written (suc earlier) text progress wires = by (slice_get progress.net.received earlier)
   where
-    start : Progress
+    start : Progress Network
     start = progress_without_wires (progress_written progress wires)
 
     by : (o : Option (List (List ℕ))) → with_wires (rows_written progress.net.nodes wires)
@@ -71,7 +71,7 @@ module _ (same : SameWires) (wires : Wires) (lean : AreLean wires) where
           ap (λ (n : Network). queues_written n wires)
           (sym (nowhere_queued same net wires lean long place to text none))
 
-  sent_written : (place : ℕ) (sent : Sent) (progress : Progress)
+  sent_written : (place : ℕ) (sent : Sent) (progress : Progress Network)
       → length wires ≡ length progress.net.nodes
       → byte_sent place sent (progress_written progress wires)
       ≡ progress_written (sent_out place sent progress) wires
@@ -83,7 +83,7 @@ module _ (same : SameWires) (wires : Wires) (lean : AreLean wires) where
       (queued_sent place to text progress.net long)
   sent_written place (end_of_link to reason) progress long = refl
 
-  sent_at_written : (place : ℕ) (sent : Option Sent) (progress : Progress)
+  sent_at_written : (place : ℕ) (sent : Option Sent) (progress : Progress Network)
       → length wires ≡ length progress.net.nodes
       → byte_sent_at place sent (progress_written progress wires)
       ≡ progress_written (sent_at place sent progress) wires
@@ -92,8 +92,8 @@ module _ (same : SameWires) (wires : Wires) (lean : AreLean wires) where
 
   -- ---- one thing after another
 
-  pub one_more_written : (place : ℕ) (out : List Sent) (i : ℕ) (start : Progress)
-      (now : ByteProgress) → length wires ≡ length start.net.nodes → i < length out
+  pub one_more_written : (place : ℕ) (out : List Sent) (i : ℕ) (start : Progress Network)
+      (now : Progress ByteNetwork) → length wires ≡ length start.net.nodes → i < length out
       → now ≡ progress_written (all_sent_out place (take i out) start) wires
       → byte_sent_at place (slice_get out i) now
       ≡ progress_written (all_sent_out place (take (i + 1) out) start) wires
@@ -102,25 +102,26 @@ module _ (same : SameWires) (wires : Wires) (lean : AreLean wires) where
       ap (byte_sent_at place (slice_get out i)) is
       ∙ sent_at_written place (slice_get out i) so_far
       (long ∙ sym (all_stay place (take i out) start))
-      ∙ ap (λ (progress : Progress). progress_written progress wires)
+      ∙ ap (λ (progress : Progress Network). progress_written progress wires)
       (one_more_sent place out i start within)
 
 -- ---- a server is asked
 
-pub nobody_asked : (place : ℕ) (occurrence : Occurrence) (progress : ByteProgress)
+pub nobody_asked : (place : ℕ) (read_event : ReadEvent) (progress : Progress ByteNetwork)
     → IsTidy progress.net → slice_get progress.net.network.nodes place ≡ None
-    → progress ≡ asked_out place occurrence progress
-nobody_asked place occurrence progress tidy none =
-    sym (tidy_alone progress tidy) ∙ ap (λ (c : Progress). progress_written c progress.net.wires)
-    (asked_nowhere place occurrence (progress_without_wires progress) none)
+    → progress ≡ asked_out place read_event progress
+nobody_asked place read_event progress tidy none =
+    sym (tidy_alone progress tidy)
+    ∙ ap (λ (c : Progress Network). progress_written c progress.net.wires)
+    (asked_nowhere place read_event (progress_without_wires progress) none)
 
-pub somebody_asked : (place : ℕ) (occurrence : Occurrence) (progress : ByteProgress)
+pub somebody_asked : (place : ℕ) (read_event : ReadEvent) (progress : Progress ByteNetwork)
     (node new : Node)
     (out : List Sent) → slice_get progress.net.network.nodes place ≡ Some node
-    → Replies node occurrence new out
+    → Replies node read_event new out
     → progress_written
     (all_sent_out place out (put_node place new (progress_without_wires progress)))
-    progress.net.wires ≡ asked_out place occurrence progress
-somebody_asked place occurrence progress node new out at replies =
-    ap (λ (c : Progress). progress_written c progress.net.wires)
-    (asked_there place occurrence (progress_without_wires progress) node new out at replies)
+    progress.net.wires ≡ asked_out place read_event progress
+somebody_asked place read_event progress node new out at replies =
+    ap (λ (c : Progress Network). progress_written c progress.net.wires)
+    (asked_there place read_event (progress_without_wires progress) node new out at replies)

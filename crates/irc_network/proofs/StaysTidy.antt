@@ -5,10 +5,10 @@ use Rattle.std.proofs.Common.{◌∷◌, length, refl, sym, ◌∙◌, ap, unwra
 use Rattle.std.specs.FinMap.{get}
 use Rattle.std.specs.List.{slice_get, slice_set}
 use Rattle.std.specs.Option.{option_map_or}
-use Rattle.irc_server.specs.Served.{Occurrence}
+use Rattle.irc_server.specs.Served.{ReadEvent}
 use Rattle.irc_stage.specs.Lemmas.Numbers.{get-with, get-without, same_number}
 use Rattle.irc_wires.specs.Wires.{AreLean, Wires}
-use Rattle.irc_network.specs.ByteNetwork.{ByteProgress, ByteNetwork, progress_without_wires}
+use Rattle.irc_network.specs.ByteNetwork.{ByteNetwork, progress_without_wires}
 use Rattle.irc_network.specs.ByteNetwork.{queues_written}
 use Rattle.irc_network.specs.Lemmas.Emptied.{emptied_waits}
 use Rattle.irc_network.specs.Lemmas.Rows.{closed_rows, length_set}
@@ -17,7 +17,8 @@ use Rattle.irc_network.specs.Lemmas.NodesStay.{asked_stays, changed_stays}
 use Rattle.irc_network.specs.Loops.Progress.{asked_out, heard_out, byte_counted, way_closed}
 use Rattle.irc_network.specs.Loops.Progress.{way_opened}
 use Rattle.irc_network.specs.Network.{LinkPlaces, Network, Node, node_asked, node_at}
-use Rattle.irc_network.specs.Network.{node_changed_at, waiting, with_node, with_way, without_way}
+use Rattle.irc_network.specs.Network.{Progress, node_changed_at, waiting, with_node, with_way}
+use Rattle.irc_network.specs.Network.{without_way}
 use Rattle.irc_network.specs.Whole.{IsTidy}
 use Rattle.irc_line.specs.Reading.{read_of}
 use Rattle.irc_server.specs.Served.{link_says}
@@ -34,18 +35,18 @@ tidy_written net wires lean long =
     let written = is_written net wires lean long in
     record { quiet = emptied_waits net; rows = written.rows; lean = written.lean }
 
-pub asked_tidy : (place : ℕ) (occurrence : Occurrence) (progress : ByteProgress)
-    → IsTidy progress.net → IsTidy (asked_out place occurrence progress).net
-asked_tidy place occurrence progress tidy =
+pub asked_tidy : (place : ℕ) (read_event : ReadEvent) (progress : Progress ByteNetwork)
+    → IsTidy progress.net → IsTidy (asked_out place read_event progress).net
+asked_tidy place read_event progress tidy =
     tidy_written
-    (node_asked place occurrence (progress_without_wires progress)).net progress.net.wires
-    tidy.lean (tidy.rows ∙ sym (asked_stays place occurrence (progress_without_wires progress)))
+    (node_asked place read_event (progress_without_wires progress)).net progress.net.wires
+    tidy.lean (tidy.rows ∙ sym (asked_stays place read_event (progress_without_wires progress)))
 
 pub counted_tidy : (net : ByteNetwork) → IsTidy net → IsTidy (byte_counted net)
 counted_tidy net tidy = record { quiet = tidy.quiet; rows = tidy.rows; lean = tidy.lean }
 
-pub heard_tidy : (from to : ℕ) (progress : ByteProgress) (line : List ℕ) → IsTidy progress.net
-    → IsTidy (heard_out from to progress line).net
+pub heard_tidy : (from to : ℕ) (progress : Progress ByteNetwork) (line : List ℕ)
+    → IsTidy progress.net → IsTidy (heard_out from to progress line).net
 heard_tidy from to progress line tidy =
     asked_tidy to (link_says from (read_of line))
     (record progress { net = byte_counted progress.net }) (counted_tidy progress.net tidy)

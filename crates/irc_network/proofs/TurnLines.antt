@@ -5,11 +5,11 @@ use Rattle.std.proofs.Common.{arith, option_map, unwrap_or}
 use Rattle.std.specs.Option.{option_and_then, option_map_or}
 use Rattle.irc_line.specs.Lines.{completed}
 use Rattle.irc_network.specs.Network.{Progress, delivered, direction}
-use Rattle.irc_network.specs.Network.{first_among, is_nothing, next_in_turn, node_at}
+use Rattle.irc_network.specs.Network.{Network, first_among, is_nothing, next_in_turn, node_at}
 use Rattle.irc_wires.specs.Wires.{Direction, LinkWire, first_direction, has_byte, is_none}
 use Rattle.irc_wires.specs.Wires.{lines_to_come, wire_at}
 use Rattle.irc_network.specs.Behind.{Ahead, nodes_behind}
-use Rattle.irc_network.specs.ByteNetwork.{ByteProgress, completed_in, progress_in_lines}
+use Rattle.irc_network.specs.ByteNetwork.{ByteNetwork, completed_in, progress_in_lines}
 use Rattle.irc_network.specs.ByteNetwork.{net_in_lines, lines_ahead}
 use Rattle.irc_network.specs.Turns.{bytes_in_turn, lines_in, lines_in_turn, turn_in}
 use Rattle.irc_network.specs.Whole.{AreLinesWaiting, BytesComeAsLines, ComeAsLines, Delivers}
@@ -20,13 +20,13 @@ use Rattle.irc_network.proofs.WireLines.{IsKnownOfStreams, lines_parted}
 
 -- ---- no line is delivered, or one
 
-none_is : {from to count : ℕ} {old last : Progress} → Delivers from to count old last → count ≡ 0
-    → last ≡ old
+none_is : {from to count : ℕ} {old last : Progress Network} → Delivers from to count old last
+    → count ≡ 0 → last ≡ old
 none_is no_more none = refl
 none_is (one_first {count = count} first rest) none = absurd (omega (arith, none))
 
-one_is : {from to count : ℕ} {old last : Progress} → Delivers from to count old last → count ≡ 1
-    → delivered from to old ≡ Some last
+one_is : {from to count : ℕ} {old last : Progress Network} → Delivers from to count old last
+    → count ≡ 1 → delivered from to old ≡ Some last
 one_is no_more one = absurd (omega (arith, one))
 one_is (one_first {count = count} first rest) one =
     first ∙ ap Some (sym (none_is rest (omega (arith, one))))
@@ -46,7 +46,7 @@ some_to_come : (all lines rest : List (List ℕ)) → all ≡ lines ++ rest → 
 some_to_come all [] rest is one = absurd (omega (arith, one))
 some_to_come all (first ∷ lines) rest is one = ap is_nothing is
 
-module _ (known : IsKnownOfStreams) (come : BytesComeAsLines) (old : ByteProgress)
+module _ (known : IsKnownOfStreams) (come : BytesComeAsLines) (old : Progress ByteNetwork)
     (whole : IsWholeNet old.net) (are : AreLinesWaiting (net_in_lines old.net))
     (d : Direction) (first : first_direction old.net.wires ≡ Some d) where
   abbrev wire : LinkWire
@@ -115,7 +115,7 @@ module _ (known : IsKnownOfStreams) (come : BytesComeAsLines) (old : ByteProgres
       by zero none =
           let same : comes.last ≡ progress_in_lines old = none_is comes.delivers none in
           let are_last : AreLinesWaiting comes.last.net =
-          subst (λ (c : Progress). AreLinesWaiting c.net) (sym same) are in
+          subst (λ (c : Progress Network). AreLinesWaiting c.net) (sym same) are in
           no_line (lines_are 0 none) (comes.as_lines are_last ∙ same) (comes.whole are_last)
       by (suc zero) one =
           one_line comes.last (lines_are 1 one) (next_is one) comes.as_lines comes.whole

@@ -6,7 +6,7 @@ use Rattle.std.specs.List.{slice_get, slice_set}
 use Rattle.std.specs.Option.{option_and_then, option_map_or}
 use Rattle.irc_batch.specs.Batches.{Sent, end_of, end_of_link, line_on, line_to}
 use Rattle.irc_line.specs.Reading.{read_of}
-use Rattle.irc_server.specs.Served.{Occurrence, link_says}
+use Rattle.irc_server.specs.Served.{ReadEvent, link_says}
 use Rattle.irc_stage.specs.View.{View}
 use Rattle.irc_stage.specs.Lemmas.Numbers.{get-with, one_number, same_number}
 use Rattle.irc_network.specs.Network.{Progress, Network, Node, all_sent_out, node_asked, asked_at}
@@ -67,7 +67,7 @@ changed_keeps place to text net from q = by (node_at net place) refl
     by (Some node) is =
         put_keeps net place node (line_queued to text node) is (queued_keeps to text node) from q
 
-received_keeps : (client : ℕ) (text : List ℕ) (progress : Progress)
+received_keeps : (client : ℕ) (text : List ℕ) (progress : Progress Network)
     → KeepsWays progress.net (has_received client text progress).net
 received_keeps zero text progress from to = refl
 received_keeps (suc earlier) text progress from to = by (slice_get progress.net.received earlier)
@@ -78,7 +78,7 @@ received_keeps (suc earlier) text progress from to = by (slice_get progress.net.
     by None = refl
     by (Some lines) = refl
 
-pub sent_keeps : (place : ℕ) (sent : Sent) (progress : Progress)
+pub sent_keeps : (place : ℕ) (sent : Sent) (progress : Progress Network)
     → KeepsWays progress.net (sent_out place sent progress).net
 sent_keeps place (line_to client text) progress from to =
     received_keeps client text progress from to
@@ -87,37 +87,37 @@ sent_keeps place (line_on link text) progress from to =
     changed_keeps place link text progress.net from to
 sent_keeps place (end_of_link link reason) progress from to = refl
 
-pub all_keep : (place : ℕ) (out : List Sent) (progress : Progress)
+pub all_keep : (place : ℕ) (out : List Sent) (progress : Progress Network)
     → KeepsWays progress.net (all_sent_out place out progress).net
 all_keep place [] progress from to = refl
 all_keep place (sent ∷ out) progress from to =
     all_keep place out (sent_out place sent progress) from to
     ∙ sent_keeps place sent progress from to
 
-pub asked_keeps : (place : ℕ) (occurrence : Occurrence) (progress : Progress)
-    → KeepsWays progress.net (node_asked place occurrence progress).net
+pub asked_keeps : (place : ℕ) (read_event : ReadEvent) (progress : Progress Network)
+    → KeepsWays progress.net (node_asked place read_event progress).net
 unfolding node_asked
-asked_keeps place occurrence progress from to = by_node (node_at progress.net place) refl
+asked_keeps place read_event progress from to = by_node (node_at progress.net place) refl
   where
     by_view : (node : Node) → node_at progress.net place ≡ Some node → (o : Option View)
         → has_way (option_map_or (λ (view : View). with_reply place progress node
-        (reply view occurrence)) o progress).net from to ≡ has_way progress.net from to
+        (reply view read_event)) o progress).net from to ≡ has_way progress.net from to
     by_view node at None = refl
     by_view node at (Some view) =
-        let r = reply view occurrence in
+        let r = reply view read_event in
         all_keep place r.out (record progress {
           net = with_node place
-              (record node { server = Some r.view }) progress.net;
+              (record node { server = Some r.state }) progress.net;
         }) from to
-        ∙ put_keeps progress.net place node (record node { server = Some r.view }) at
+        ∙ put_keeps progress.net place node (record node { server = Some r.state }) at
         (λ q. refl) from to
 
     by_node : (o : Option Node) → node_at progress.net place ≡ o → has_way (option_map_or
-        (asked_at place occurrence progress) o progress).net from to ≡ has_way progress.net from to
+        (asked_at place read_event progress) o progress).net from to ≡ has_way progress.net from to
     by_node None at = refl
     by_node (Some node) at = by_view node at node.server
 
-pub heard_ways : (x y : ℕ) (progress : Progress) (line : List ℕ) (from to : ℕ)
+pub heard_ways : (x y : ℕ) (progress : Progress Network) (line : List ℕ) (from to : ℕ)
     → has_way (heard x y progress line).net from to ≡ has_way progress.net from to
 heard_ways x y progress line from to = asked_keeps y (link_says x (read_of line))
     (record progress { net = line_counted progress.net }) from to

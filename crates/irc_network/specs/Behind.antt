@@ -34,7 +34,7 @@ nodes_behind ahead (node ∷ nodes) =
 abbrev pub net_behind : Ahead → Network → Network
 net_behind ahead net = record net { nodes = nodes_behind ahead net.nodes }
 
-abbrev pub progress_behind : Ahead → Progress → Progress
+abbrev pub progress_behind : Ahead → Progress Network → Progress Network
 progress_behind ahead progress = record progress { net = net_behind ahead progress.net }
 
 -- no line waits on any way

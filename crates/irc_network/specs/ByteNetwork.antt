@@ -25,15 +25,6 @@ pub record ByteNetwork : Type 0 where
   pub network : Network
   pub wires : Wires
 
--- a network while something is done to it, and what clients have received by that so far, in order
-pub record ByteProgress : Type 0 where
-  pub net : ByteNetwork
-  pub receipts : List Receipt
-
--- nothing has been done to it yet, and nothing received by that
-abbrev pub byte_begun : ByteNetwork → ByteProgress
-byte_begun net = record { net = net; receipts = [] }
-
 -- each server has a row of wires
 abbrev pub HasRows : ByteNetwork → Type 0
 HasRows net = length net.wires ≡ length net.network.nodes
@@ -47,7 +38,7 @@ lines_ahead wires from to = lines_to_come (wire_at wires from to)
 abbrev pub net_in_lines : ByteNetwork → Network
 net_in_lines net = net_behind (lines_ahead net.wires) net.network
 
-abbrev pub progress_in_lines : ByteProgress → Progress
+abbrev pub progress_in_lines : Progress ByteNetwork → Progress Network
 progress_in_lines progress =
     record { net = net_in_lines progress.net; receipts = progress.receipts }
 
@@ -86,7 +77,7 @@ abbrev pub queues_written : Network → Wires → ByteNetwork
 queues_written net wires = record { network = emptied net; wires = rows_written net.nodes wires }
 
 -- what servers have put out for each other is written; what clients received is theirs already
-abbrev pub progress_written : Progress → Wires → ByteProgress
+abbrev pub progress_written : Progress Network → Wires → Progress ByteNetwork
 progress_written progress wires =
     record { net = queues_written progress.net wires; receipts = progress.receipts }
 
@@ -107,14 +98,14 @@ lost_along (Some ends) wires =
 abbrev pub wires_after : Network → Item → Wires → Wires
 wires_after net item wires = lost_along (cut_ends net item) wires
 
-unfoldable pub item_given : Item → ByteNetwork → ByteProgress
+unfoldable pub item_given : Item → ByteNetwork → Progress ByteNetwork
 item_given item net =
     progress_written (given item net.network) (wires_after net.network item net.wires)
 
 -- ---- bytes come
 
 -- a server is asked for lines that have come from another, in turn
-abbrev pub all_heard : ℕ → ℕ → Progress → List (List ℕ) → Progress
+abbrev pub all_heard : ℕ → ℕ → Progress Network → List (List ℕ) → Progress Network
 all_heard from to progress [] = progress
 all_heard from to progress (line ∷ lines) = all_heard from to (heard from to progress line) lines
 
@@ -128,13 +119,13 @@ wires_come net from to count =
     with_wire from to (advanced count (wire_at net.wires from to)) net.wires
 
 -- servers are asked as in a network of lines: what is on its way is nothing to them
-abbrev pub progress_without_wires : ByteProgress → Progress
+abbrev pub progress_without_wires : Progress ByteNetwork → Progress Network
 progress_without_wires progress =
     record { net = progress.net.network; receipts = progress.receipts }
 
 -- So many bytes come from one server to another, or all that are on their way where there are
 -- fewer. The server that they come to is asked for each line that they complete, in turn.
-unfoldable pub bytes_come : ℕ → ℕ → ℕ → ByteProgress → ByteProgress
+unfoldable pub bytes_come : ℕ → ℕ → ℕ → Progress ByteNetwork → Progress ByteNetwork
 bytes_come from to count progress =
     progress_written (all_heard from to (progress_without_wires progress)
     (completed_in progress.net from to count)) (wires_come progress.net from to count)

@@ -18,12 +18,12 @@ use Rattle.irc_line.specs.Reading.{read_of}
 use Rattle.irc_relay.specs.Links.{Name, Link, links_without}
 use Rattle.irc_stage.specs.Handle.{connects, says, goes}
 use Rattle.irc_stage.specs.View.{View}
-use Rattle.irc_server.specs.Served.{Occurrence, of_client, link_up, link_says, link_down}
+use Rattle.irc_server.specs.Served.{ReadEvent, of_client, link_up, link_says, link_down}
 use Rattle.irc_world.specs.Stepping.{Item, connect, line, gone, link, cut}
 use Rattle.irc_world.specs.World.{home_in}
 pub use Rattle.irc_wires.specs.Wires.{Direction}
 pub use Rattle.irc_network.specs.Node.{Served, Node, line_body, first_way, is_nothing, is_quiet}
-pub use Rattle.irc_network.specs.Node.{serves_occurrence, left, line_queued, reply, waiting, waits}
+pub use Rattle.irc_network.specs.Node.{serves_read_event, left, line_queued, reply, waiting, waits}
 pub use Rattle.irc_network.specs.Node.{with_way, without_way}
 
 -- The servers' names in order, and the servers in the order of their names; the links, the newest
@@ -56,13 +56,14 @@ pub record Receipt : Type 0 where
   pub client : ℕ
   pub text : List ℕ
 
--- a network while something is done to it, and what clients have received by that so far, in order
-pub record Progress : Type 0 where
-  pub net : Network
+-- a network, of lines or of bytes, while something is done to it, and what clients have received by
+-- that so far, in order
+pub record Progress (Net : Type 0) : Type 0 where
+  pub net : Net
   pub receipts : List Receipt
 
 -- nothing has been done to it yet, and nothing received by that
-abbrev pub begun : Network → Progress
+abbrev pub begun : {Net : Type 0} → Net → Progress Net
 begun net = record { net = net; receipts = [] }
 
 -- ---- who is where
@@ -104,7 +105,7 @@ node_changed_at place change net =
 abbrev pub receipt : ℕ → List ℕ → Receipt
 receipt client text = record { client = client; text = text }
 
-abbrev pub has_received_at : ℕ → List ℕ → Progress → List (List ℕ) → Progress
+abbrev pub has_received_at : ℕ → List ℕ → Progress Network → List (List ℕ) → Progress Network
 has_received_at earlier text progress lines = record {
   net = record progress.net {
     received = slice_set progress.net.received earlier
@@ -114,38 +115,38 @@ has_received_at earlier text progress lines = record {
 }
 
 -- behind all that the client has received
-abbrev pub has_received : ℕ → List ℕ → Progress → Progress
+abbrev pub has_received : ℕ → List ℕ → Progress Network → Progress Network
 has_received zero text progress = progress
 has_received (suc earlier) text progress =
     option_map_or (has_received_at earlier text progress)
     (slice_get progress.net.received earlier) progress
 
 -- a line to a client is received, one on a link waits there; of an end nothing is left to be done
-abbrev pub sent_out : ℕ → Sent → Progress → Progress
+abbrev pub sent_out : ℕ → Sent → Progress Network → Progress Network
 sent_out place (line_to client text) progress = has_received client text progress
 sent_out place (end_of client) progress = progress
 sent_out place (line_on to text) progress =
     record progress { net = node_changed_at place (line_queued to text) progress.net }
 sent_out place (end_of_link to reason) progress = progress
 
-abbrev pub all_sent_out : ℕ → List Sent → Progress → Progress
+abbrev pub all_sent_out : ℕ → List Sent → Progress Network → Progress Network
 all_sent_out place [] progress = progress
 all_sent_out place (sent ∷ more) progress = all_sent_out place more (sent_out place sent progress)
 
-abbrev pub with_reply : ℕ → Progress → Node → Served → Progress
+abbrev pub with_reply : ℕ → Progress Network → Node → Served → Progress Network
 with_reply place progress node r =
     all_sent_out place r.out
-    (record progress { net = with_node place (record node { server = Some r.view }) progress.net })
+    (record progress { net = with_node place (record node { server = Some r.state }) progress.net })
 
-abbrev pub asked_at : ℕ → Occurrence → Progress → Node → Progress
-asked_at place occurrence progress node =
+abbrev pub asked_at : ℕ → ReadEvent → Progress Network → Node → Progress Network
+asked_at place read_event progress node =
     option_map_or
-    (λ (view : View). with_reply place progress node (reply view occurrence)) node.server progress
+    (λ (view : View). with_reply place progress node (reply view read_event)) node.server progress
 
 -- a server is asked for something that happens, and what it puts out goes its way
-unfoldable pub node_asked : ℕ → Occurrence → Progress → Progress
-node_asked place occurrence progress =
-    option_map_or (asked_at place occurrence progress) (node_at progress.net place) progress
+unfoldable pub node_asked : ℕ → ReadEvent → Progress Network → Progress Network
+node_asked place read_event progress =
+    option_map_or (asked_at place read_event progress) (node_at progress.net place) progress
 
 -- ---- a line is delivered
 
@@ -158,12 +159,12 @@ abbrev pub line_counted : Network → Network
 line_counted net = record net { taken = min (net.taken + 1) max_count }
 
 -- a server is asked for a line that has come from another, and the line is counted
-abbrev pub heard : ℕ → ℕ → Progress → List ℕ → Progress
+abbrev pub heard : ℕ → ℕ → Progress Network → List ℕ → Progress Network
 heard from to progress bytes =
     node_asked to (link_says from (read_of bytes))
     (record progress { net = line_counted progress.net })
 
-abbrev pub taken_of : ℕ → ℕ → Progress → Node → List (List ℕ) → Option Progress
+abbrev pub taken_of : ℕ → ℕ → Progress Network → Node → List (List ℕ) → Option (Progress Network)
 taken_of from to progress node [] = None
 taken_of from to progress node (first ∷ rest) =
     Some (node_asked to (link_says from (read_of first))
@@ -171,7 +172,7 @@ taken_of from to progress node (first ∷ rest) =
 
 -- The oldest line from one server to another is taken, and the other is asked for it. None: no line
 -- waits there.
-unfoldable pub delivered : ℕ → ℕ → Progress → Option Progress
+unfoldable pub delivered : ℕ → ℕ → Progress Network → Option (Progress Network)
 delivered from to progress = option_and_then
     (λ (node : Node). taken_of from to progress node (waiting node to)) (node_at progress.net from)
 
@@ -188,21 +189,21 @@ abbrev pub first_direction : Network → Option Direction
 first_direction net = first_among 0 net.nodes
 
 -- the oldest line of the first direction is taken; None: no line waits
-abbrev pub next_in_turn : Progress → Option Progress
+abbrev pub next_in_turn : Progress Network → Option (Progress Network)
 next_in_turn progress =
     option_and_then (λ (d : Direction). delivered d.from d.to progress)
     (first_direction progress.net)
 
 -- how many lines can be taken in turn, of a number at most
-abbrev pub lines_left : ℕ → Progress → ℕ
+abbrev pub lines_left : ℕ → Progress Network → ℕ
 lines_left zero progress = 0
 lines_left (suc most) progress =
     option_map_or (λ next. suc (lines_left most next)) (next_in_turn progress) 0
 
 -- So many lines are taken, each time the oldest of the first direction.
-pub data TakesInTurn : ℕ → Progress → Progress → Type 0 where
-  none_yet : {progress : Progress} → TakesInTurn 0 progress progress
-  then_one : {count : ℕ} {progress between last : Progress} {direction : Direction}
+pub data TakesInTurn : ℕ → Progress Network → Progress Network → Type 0 where
+  none_yet : {progress : Progress Network} → TakesInTurn 0 progress progress
+  then_one : {count : ℕ} {progress between last : Progress Network} {direction : Direction}
       → TakesInTurn count progress between → first_direction between.net ≡ Some direction
       → delivered direction.from direction.to between ≡ Some last
       → TakesInTurn (suc count) progress last
@@ -215,9 +216,9 @@ with_client home net =
     record net { homes = net.homes ++ home ∷ []; received = net.received ++ [] ∷ [] }
 
 -- a server is asked, if it is there
-abbrev pub node_asked_if : Option ℕ → Occurrence → Progress → Progress
-node_asked_if None occurrence progress = progress
-node_asked_if (Some place) occurrence progress = node_asked place occurrence progress
+abbrev pub node_asked_if : Option ℕ → ReadEvent → Progress Network → Progress Network
+node_asked_if None read_event progress = progress
+node_asked_if (Some place) read_event progress = node_asked place read_event progress
 
 -- the place of the server that a client connected to
 abbrev pub home_place : Network → ℕ → Option ℕ
@@ -236,7 +237,7 @@ link_places net near far =
 
 -- Two servers are linked, the first connecting; a link between two is lost, at the first of them
 -- first.
-abbrev pub servers_linked : Name → Name → Network → LinkPlaces → Progress
+abbrev pub servers_linked : Name → Name → Network → LinkPlaces → Progress Network
 servers_linked near far net ends =
     node_asked ends.far (link_up ends.near None) (node_asked ends.near (link_up ends.far (Some far))
     (begun (node_changed_at ends.far (with_way ends.near)
@@ -244,7 +245,7 @@ servers_linked near far net ends =
     (record net { links = record { near = near; far = far } ∷ net.links })))))
 
 -- The way between them is gone before they are asked, with what waits on it.
-abbrev pub servers_parted : Name → Name → Network → LinkPlaces → Progress
+abbrev pub servers_parted : Name → Name → Network → LinkPlaces → Progress Network
 servers_parted near far net ends =
     node_asked ends.far (link_down ends.near) (node_asked ends.near (link_down ends.far)
     (begun (node_changed_at ends.far (without_way ends.near)
@@ -256,7 +257,7 @@ abbrev pub next_client : Network → ℕ
 next_client net = length net.homes + 1
 
 -- what an item does at once; the lines that it sets on their way are delivered later
-abbrev pub done_by : Item → Network → Progress
+abbrev pub done_by : Item → Network → Progress Network
 done_by (connect server host) net =
     node_asked_if (server_place net server) (of_client (connects (next_client net) host))
     (begun (with_client server net))
@@ -270,12 +271,12 @@ done_by (cut near far) net =
     option_map_or (servers_parted near far net) (link_places net near far) (begun net)
 
 -- it is kept, and lines are counted anew
-abbrev pub item_kept : Item → Progress → Progress
+abbrev pub item_kept : Item → Progress Network → Progress Network
 item_kept item progress =
     record progress
     { net = record progress.net { items = progress.net.items ++ item ∷ []; taken = 0 } }
 
-unfoldable pub given : Item → Network → Progress
+unfoldable pub given : Item → Network → Progress Network
 given item net = item_kept item (done_by item net)
 
 -- the number that it gives to a client
@@ -302,6 +303,6 @@ lines_of_client client = filter_map (line_received client)
 
 -- By something that is done to a network each client has received just its lines among the
 -- receipts, behind all that it had.
-abbrev pub AreReceived : Network → Progress → Type 0
+abbrev pub AreReceived : Network → Progress Network → Type 0
 AreReceived old new = (client : ℕ) → received_by new.net client ≡ received_by old client
     ++ lines_of_client client new.receipts

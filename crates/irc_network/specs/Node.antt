@@ -9,7 +9,7 @@ use Rattle.irc_batch.specs.Batches.{Sent}
 pub use Rattle.irc_stage.specs.EffectTold.{Served}
 use Rattle.irc_stage.specs.Handle.{connects, says, goes}
 use Rattle.irc_stage.specs.View.{View, password_for}
-use Rattle.irc_server.specs.Served.{Occurrence, of_client, link_up, link_says, link_down, served}
+use Rattle.irc_server.specs.Served.{ReadEvent, of_client, link_up, link_says, link_down, served}
 
 -- A server, none once memory ran out for it; and the lines that it has put out on each of its links
 -- and that nobody has taken yet, the oldest first, without their line ends. A link's number at
@@ -75,25 +75,25 @@ without_way to node = record node { queues = remove node.queues to }
 
 -- whether a server serves what happens, rather than refusing it: the client or the link is there,
 -- or is not there yet
-abbrev pub serves_occurrence : View → Occurrence → Bool
-serves_occurrence view (of_client (connects conn host)) = is_none (get view.clients conn)
-serves_occurrence view (of_client (says conn read)) = is_some (get view.clients conn)
-serves_occurrence view (of_client (goes conn)) = is_some (get view.clients conn)
-serves_occurrence view (link_up number starts) = is_none (get view.ends number)
-serves_occurrence view (link_says number read) = is_some (get view.ends number)
-serves_occurrence view (link_down number) = is_some (get view.ends number)
+abbrev pub serves_read_event : View → ReadEvent → Bool
+serves_read_event view (of_client (connects conn host)) = is_none (get view.clients conn)
+serves_read_event view (of_client (says conn read)) = is_some (get view.clients conn)
+serves_read_event view (of_client (goes conn)) = is_some (get view.clients conn)
+serves_read_event view (link_up number starts) = is_none (get view.ends number)
+serves_read_event view (link_says number read) = is_some (get view.ends number)
+serves_read_event view (link_down number) = is_some (get view.ends number)
 
 -- a server after something that happens, and what it puts out; what it refuses changes nothing
-abbrev pub reply : View → Occurrence → Served
-reply view occurrence =
-    if serves_occurrence view occurrence
-    then record { view = (served view occurrence).view; out = (served view occurrence).out }
-    else record { view = view; out = [] }
+abbrev pub reply : View → ReadEvent → Served
+reply view read_event =
+    if serves_read_event view read_event
+    then record { state = (served view read_event).state; out = (served view read_event).out }
+    else record { state = view; out = [] }
 
 -- the server was there, and replied
-pub record Replies (old : Node) (occurrence : Occurrence) (new : Node)
+pub record Replies (old : Node) (read_event : ReadEvent) (new : Node)
     (out : List Sent) : Type 0 where
   pub view : View
   pub is_view : old.server ≡ Some view
-  pub new_is : new ≡ record old { server = Some (reply view occurrence).view }
-  pub out_is : out ≡ (reply view occurrence).out
+  pub new_is : new ≡ record old { server = Some (reply view read_event).state }
+  pub out_is : out ≡ (reply view read_event).out

@@ -9,17 +9,18 @@
 use Rattle.std.specs.Prelude.{◌≡◌, ℕ, ◌+◌, ◌<◌, Option, Some, None, length}
 use Rattle.std.specs.Option.{option_map, option_map_or}
 use Rattle.irc_wires.specs.Wires.{Direction, first_direction, through_line_feed, wire_at}
-use Rattle.irc_network.specs.ByteNetwork.{ByteProgress, ByteNetwork, bytes_come, completed_in}
+use Rattle.irc_network.specs.Network.{Progress}
+use Rattle.irc_network.specs.ByteNetwork.{ByteNetwork, bytes_come, completed_in}
 
 -- how many bytes come in a direction by a turn
 abbrev pub bytes_in_turn : ByteNetwork → Direction → ℕ
 bytes_in_turn net d = through_line_feed (wire_at net.wires d.from d.to).bytes
 
-abbrev pub turn_in : ByteProgress → Direction → ByteProgress
+abbrev pub turn_in : Progress ByteNetwork → Direction → Progress ByteNetwork
 turn_in progress d = bytes_come d.from d.to (bytes_in_turn progress.net d) progress
 
 -- none where no byte is on its way
-abbrev pub turn_taken : ByteProgress → Option ByteProgress
+abbrev pub turn_taken : Progress ByteNetwork → Option (Progress ByteNetwork)
 turn_taken progress = option_map (turn_in progress) (first_direction progress.net.wires)
 
 -- how many lines the turn completes
@@ -30,26 +31,26 @@ abbrev pub lines_in_turn : ByteNetwork → ℕ
 lines_in_turn net = option_map_or (lines_in net) (first_direction net.wires) 0
 
 -- a turn that completes so many lines, or none
-abbrev pub TurnsBy : Option ℕ → ByteProgress → ByteProgress → Type 0
+abbrev pub TurnsBy : Option ℕ → Progress ByteNetwork → Progress ByteNetwork → Type 0
 TurnsBy None old new = (turn_taken old ≡ None) × (new ≡ old)
 TurnsBy (Some lines) old new = (turn_taken old ≡ Some new) × (lines ≡ lines_in_turn old.net)
 
 -- turn by turn, by which so many lines are completed in all
-pub data TurnsGo : ℕ → ByteProgress → ByteProgress → Type 0 where
-  none_yet : {progress : ByteProgress} → TurnsGo 0 progress progress
-  turn_first : {all count : ℕ} {progress between last : ByteProgress}
+pub data TurnsGo : ℕ → Progress ByteNetwork → Progress ByteNetwork → Type 0 where
+  none_yet : {progress : Progress ByteNetwork} → TurnsGo 0 progress progress
+  turn_first : {all count : ℕ} {progress between last : Progress ByteNetwork}
       → turn_taken progress ≡ Some between → all ≡ lines_in_turn progress.net + count
       → TurnsGo count between last → TurnsGo all progress last
 
 -- turns that complete none, and behind them one that completes so many
-pub record GoesToLine (lines : ℕ) (old new : ByteProgress) : Type 0 where
-  pub between : ByteProgress
+pub record GoesToLine (lines : ℕ) (old new : Progress ByteNetwork) : Type 0 where
+  pub between : Progress ByteNetwork
   pub goes : TurnsGo 0 old between
   pub turn : turn_taken between ≡ Some new
   pub lines_are : lines ≡ lines_in_turn between.net
   pub some : 0 < lines
 
 -- until one completes a line, or no byte is on its way
-abbrev pub ComesToLine : Option ℕ → ByteProgress → ByteProgress → Type 0
+abbrev pub ComesToLine : Option ℕ → Progress ByteNetwork → Progress ByteNetwork → Type 0
 ComesToLine None old new = TurnsGo 0 old new × (turn_taken new ≡ None)
 ComesToLine (Some lines) old new = GoesToLine lines old new

@@ -13,7 +13,7 @@ use Rattle.irc_world.specs.Stepping.{Item}
 use Rattle.irc_wires.specs.Wires.{AreLean, LinkWire, advanced, first_direction, lines_by}
 use Rattle.irc_wires.specs.Wires.{lines_to_come}
 use Rattle.irc_wires.specs.Wires.{through_line_feed, wire_at}
-use Rattle.irc_network.specs.ByteNetwork.{ByteProgress, ByteNetwork, HasRows, bytes_come}
+use Rattle.irc_network.specs.ByteNetwork.{ByteNetwork, HasRows, bytes_come}
 use Rattle.irc_network.specs.ByteNetwork.{completed_in, progress_in_lines, net_in_lines}
 use Rattle.irc_network.specs.ByteNetwork.{is_byte_rest, item_given, waiting_at}
 use Rattle.irc_network.specs.Turns.{ComesToLine, lines_in_turn, turn_taken}
@@ -89,46 +89,48 @@ GivenAsLines = (old : ByteNetwork) (item : Item) → IsWholeNet old → is_byte_
 -- ---- bytes that come
 
 -- so many lines are delivered from one server to another
-pub data Delivers (from to : ℕ) : ℕ → Progress → Progress → Type 0 where
-  no_more : {progress : Progress} → Delivers from to 0 progress progress
-  one_first : {count : ℕ} {progress between last : Progress}
+pub data Delivers (from to : ℕ) : ℕ → Progress Network → Progress Network → Type 0 where
+  no_more : {progress : Progress Network} → Delivers from to 0 progress progress
+  one_first : {count : ℕ} {progress between last : Progress Network}
       → delivered from to progress ≡ Some between → Delivers from to count between last
       → Delivers from to (suc count) progress last
 
 -- They deliver the lines that they complete, where links carry lines.
-pub record ComeAsLines (from to count : ℕ) (old : ByteProgress) : Type 0 where
-  pub last : Progress
+pub record ComeAsLines (from to count : ℕ) (old : Progress ByteNetwork) : Type 0 where
+  pub last : Progress Network
   pub delivers : Delivers from to (length (completed_in old.net from to count))
       (progress_in_lines old) last
   pub as_lines : AreLinesWaiting last.net → progress_in_lines (bytes_come from to count old) ≡ last
   pub whole : AreLinesWaiting last.net → IsWholeNet (bytes_come from to count old).net
 
 abbrev pub BytesComeAsLines : Type 0
-BytesComeAsLines = (from to count : ℕ) (old : ByteProgress) → IsWholeNet old.net
+BytesComeAsLines = (from to count : ℕ) (old : Progress ByteNetwork) → IsWholeNet old.net
     → ComeAsLines from to count old
 
 -- ---- a turn
 
 -- By a turn no line is completed, or one, which is the next in turn where links carry lines.
-pub data TurnsAsLines (old new : ByteProgress) : Type 0 where
+pub data TurnsAsLines (old new : Progress ByteNetwork) : Type 0 where
   no_line : lines_in_turn old.net ≡ 0 → progress_in_lines new ≡ progress_in_lines old
       → IsWholeNet new.net → TurnsAsLines old new
-  one_line : (last : Progress) → lines_in_turn old.net ≡ 1 → next_in_turn (progress_in_lines old)
+  one_line : (last : Progress Network) → lines_in_turn old.net ≡ 1
+      → next_in_turn (progress_in_lines old)
       ≡ Some last → (AreLinesWaiting last.net → progress_in_lines new ≡ last)
       → (AreLinesWaiting last.net → IsWholeNet new.net) → TurnsAsLines old new
 
 abbrev pub TurnAsLines : Type 0
-TurnAsLines = (old new : ByteProgress) → IsWholeNet old.net → AreLinesWaiting (net_in_lines old.net)
+TurnAsLines =
+    (old new : Progress ByteNetwork) → IsWholeNet old.net → AreLinesWaiting (net_in_lines old.net)
     → turn_taken old ≡ Some new → TurnsAsLines old new
 
 -- a line comes in the end, or there is none
-pub record ComesToSome (old : ByteProgress) : Type 0 where
+pub record ComesToSome (old : Progress ByteNetwork) : Type 0 where
   pub lines : Option ℕ
-  pub new : ByteProgress
+  pub new : Progress ByteNetwork
   pub comes : ComesToLine lines old new
 
 abbrev pub EachComesToLine : Type 0
-EachComesToLine = (old : ByteProgress) → IsTidy old.net → ComesToSome old
+EachComesToLine = (old : Progress ByteNetwork) → IsTidy old.net → ComesToSome old
 
 -- ---- at rest
 

@@ -7,8 +7,9 @@ ghost use Rattle.irc_network.specs.Node.{line_body};
 ghost use Rattle.irc_network.specs.Whole.{IsTidy, has_way};
 
 use crate::call_output::CallOutput;
+use crate::client_number::ClientNumber;
 use crate::history::History;
-use crate::network::{Network, earlier};
+use crate::network::Network;
 use crate::receipt::Receipt;
 use irc_batch::Out;
 use irc_forest::ServerPlace;
@@ -65,7 +66,9 @@ impl<H: History> Network<H> {
         ensures out { output.new.out ≡ output.old.out }
     {
         match output.out.get(at) {
-            Some(Out::Line(client, text)) => self.receive(client, text, &mut output.lines),
+            Some(Out::Line(client, text)) => {
+                self.receive(ClientNumber::of(client), text, &mut output.lines)
+            }
             Some(Out::LinkLine(to, text)) => self.write(place, ServerPlace::of_link(to), text),
             _ => Ok(()),
         }
@@ -74,14 +77,14 @@ impl<H: History> Network<H> {
     /// A client receives a line, if there ever was a client of its number.
     fn receive(
         &mut self,
-        client: u64,
+        client: ClientNumber,
         text: &[u8],
         lines: &mut Vec<Receipt, Global>,
     ) -> Result<(), AllocError>
         requires fits { length text.now ≤ max_text }
         ensures { OnOk result (IsReceived client text.now self.old lines.old self.new lines.new) }
     {
-        let Some(earlier) = earlier(client) else {
+        let Some(earlier) = client.earlier() else {
             return Ok(());
         };
         if earlier >= self.homes.len() {

@@ -8,6 +8,7 @@ ghost use Rattle.irc_network.specs.Whole.{IsTidy};
 ghost use Rattle.irc_world.specs.Stepping.{connect, cut, line as line_by, link};
 
 use crate::call_output::CallOutput;
+use crate::client_number::ClientNumber;
 use crate::history::History;
 use crate::item::Item;
 use crate::network::Network;
@@ -44,20 +45,25 @@ impl<H: History> Network<H> {
         match item {
             Item::Connect(server, host) => self.connect(server, host, output),
             Item::Line(client, line) => self.say(*client, line, output),
-            Item::Gone(client) => self.ask_home(*client, &Event::Gone(*client), output),
+            Item::Gone(client) => self.ask_home(*client, &Event::Gone(client.number()), output),
             Item::Link(near, far) => self.link(near, far, output),
             Item::Cut(near, far) => self.cut(near, far, output),
         }
     }
 
     /// A client says a line.
-    fn say(&mut self, client: u64, line: &Line, output: &mut CallOutput) -> Result<(), AllocError>
+    fn say(
+        &mut self,
+        client: ClientNumber,
+        line: &Line,
+        output: &mut CallOutput,
+    ) -> Result<(), AllocError>
         requires tidy { IsTidy self.old }
         requires begins { output.old.lines.items ≡ [] }
         ensures { OnOk result
             (IsDone (line_by client line.now.items) self.old self.new output.new) }
     {
-        let event = Event::Line(client, copied(line.as_slice()));
+        let event = Event::Line(client.number(), copied(line.as_slice()));
         self.ask_home(client, &event, output)
     }
 
@@ -77,13 +83,13 @@ impl<H: History> Network<H> {
         self.history.add_client()?;
         self.homes.push(server.copy())?;
         let place = self.forest.place_of(server);
-        self.ask_if(place, &Event::Connect(client, host.copy()), output)
+        self.ask_if(place, &Event::Connect(client.number(), host.copy()), output)
     }
 
     /// The server that a client has connected to is asked for an event.
     fn ask_home(
         &mut self,
-        client: u64,
+        client: ClientNumber,
         event: &Event,
         output: &mut CallOutput,
     ) -> Result<(), AllocError>

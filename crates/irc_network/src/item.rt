@@ -2,18 +2,19 @@
 ghost use Rattle.std.specs.Prelude.{◌≡◌};
 ghost use Rattle.irc_network.specs.Views.{item_of};
 
+use crate::client_number::ClientNumber;
 use irc_line::Line;
 use irc_names::{Host, ServerName, copied};
 
 /// What is given to a network, one after another, each where no line is on its way.
 #[derive(Drop)]
 pub enum Item {
-    /// Somebody connects to a server, from a host. Clients are numbered from 1.
+    /// Somebody connects to a server, from a host.
     Connect(ServerName, Host),
     /// A client says a line, without its line end.
-    Line(u64, Line),
+    Line(ClientNumber, Line),
     /// A client is gone.
-    Gone(u64),
+    Gone(ClientNumber),
     /// Two servers are linked; the first calls the second (RFC 2813 section 4.1).
     Link(ServerName, ServerName),
     /// The link between two servers is lost, at the first of them first.

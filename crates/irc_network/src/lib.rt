@@ -3,6 +3,7 @@
 #![tactic(auto)]
 
 mod call_output;
+mod client_number;
 mod coming;
 mod delivery_counts;
 mod doing;
@@ -20,6 +21,7 @@ mod refusal;
 mod refusing;
 
 pub use call_output::CallOutput;
+pub use client_number::ClientNumber;
 pub use delivery_counts::DeliveryCounts;
 pub use forgotten::Forgotten;
 pub use history::History;

@@ -2,7 +2,7 @@
 ghost use Rattle.std.specs.Prelude.{◌≡◌, ◌<◌, length, map, IfOk, IfSome};
 ghost use Rattle.std.specs.Option.{option_copied, option_map};
 ghost use Rattle.irc_forest.specs.Forests.{name_at};
-ghost use Rattle.irc_network.specs.Loops.Progress.{AreNamed, AreWithin, IsEarlier};
+ghost use Rattle.irc_network.specs.Loops.Progress.{AreNamed, AreWithin};
 ghost use Rattle.irc_network.specs.Loops.Progress.{ends_now, inbox_of};
 ghost use Rattle.irc_network.specs.Views.{line_bytes};
 ghost use Rattle.irc_network.specs.Network.{home_place, link_places, new_network, next_client};
@@ -11,6 +11,7 @@ ghost use Rattle.irc_network.specs.Views.{item_of, items_of};
 ghost use Rattle.irc_network.specs.Whole.{no_wires};
 ghost use Rattle.irc_world.specs.World.{home_in};
 
+use crate::client_number::ClientNumber;
 use crate::history::History;
 use crate::inbox::Inbox;
 use crate::item::Item;
@@ -77,7 +78,7 @@ impl Network<Kept> {
 
     /// What a client has received, whole lines, the oldest first; also once it is closed. Nothing
     /// for a number that was never given.
-    pub fn received(&self, client: u64) -> &[Text]
+    pub fn received(&self, client: ClientNumber) -> &[Text]
         ensures { map line_bytes result.now ≡ received_by self.now.network client }
     {
         match self.inbox(client) {
@@ -86,10 +87,10 @@ impl Network<Kept> {
         }
     }
 
-    fn inbox(&self, client: u64) -> Option<&Inbox>
+    fn inbox(&self, client: ClientNumber) -> Option<&Inbox>
         ensures { option_copied result ≡ inbox_of self.now.network client }
     {
-        self.history.received.get(earlier(client)?)
+        self.history.received.get(client.earlier()?)
     }
 }
 
@@ -122,15 +123,15 @@ impl<H: History> Network<H> {
     }
 
     /// The number for the next client.
-    pub(crate) fn next_client(&self) -> u64
+    pub(crate) fn next_client(&self) -> ClientNumber
         ensures { result ≡ next_client self.now.network }
     {
-        self.homes.len() as u64 + 1
+        ClientNumber::behind(&self.homes)
     }
 
     /// The number that an item gives to a client, which is the one that connects by it; none where
     /// nobody does.
-    pub fn number_given(&self, item: &Item) -> Option<u64>
+    pub fn number_given(&self, item: &Item) -> Option<ClientNumber>
         ensures { result ≡ number_given self.now.network (item_of item.now) }
     {
         match item {
@@ -140,16 +141,16 @@ impl<H: History> Network<H> {
     }
 
     /// Where the server is that a client has connected to.
-    pub(crate) fn home_place(&self, client: u64) -> Option<ServerPlace>
+    pub(crate) fn home_place(&self, client: ClientNumber) -> Option<ServerPlace>
         ensures { result ≡ home_place self.now.network client }
     {
         self.forest.place_of(self.home(client)?)
     }
 
-    fn home(&self, client: u64) -> Option<&ServerName>
+    fn home(&self, client: ClientNumber) -> Option<&ServerName>
         ensures { option_copied result ≡ home_in self.now.network.homes client }
     {
-        self.homes.get(earlier(client)?)
+        self.homes.get(client.earlier()?)
     }
 
     /// Where the server of a name is.
@@ -179,11 +180,4 @@ impl<H: History> Network<H> {
             far: self.place_of(far)?,
         })
     }
-}
-
-/// How many clients have connected before the one of this number; none for 0, the number of nobody.
-pub(crate) fn earlier(client: u64) -> Option<usize>
-    ensures { IsEarlier client result }
-{
-    Some(client.checked_sub(1)? as usize)
 }

@@ -2,7 +2,7 @@
 ghost use Rattle.std.specs.Prelude.{◌≡◌, [], is_some, OnOk};
 ghost use Rattle.std.specs.FinMap.{empty, get};
 ghost use Rattle.std.specs.Option.{option_copied, option_map};
-ghost use Rattle.irc_server.specs.Happening.{occurrence_of};
+ghost use Rattle.irc_server.specs.ReadEvents.{read_event_of};
 ghost use Rattle.irc_server.specs.Loops.Acting.{room_kept, room_of};
 ghost use Rattle.irc_network.specs.Node.{is_connected, kept_for, with_way, without_way, Replies};
 ghost use Rattle.irc_network.specs.Loops.Nodes.{is_want};
@@ -88,7 +88,7 @@ impl Node {
     pub fn serve(&mut self, event: &Event, out: &mut Batch) -> Result<(), AllocError>
         requires none { out.old.outs ≡ [] }
         ensures { OnOk result
-            (Replies self.old (occurrence_of event.now) self.new out.new.outs) }
+            (Replies self.old (read_event_of event.now) self.new out.new.outs) }
     {
         let handled = self.server.handle(event, out);
         if is_want_of_memory(handled) {

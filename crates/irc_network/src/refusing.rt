@@ -8,6 +8,7 @@ ghost use Rattle.irc_network.specs.Loops.Parties.{have_one_password, IsParty, Is
 ghost use Rattle.irc_network.specs.Network.{node_view};
 ghost use Rattle.irc_network.specs.Views.{item_of, refusal_of};
 
+use crate::client_number::ClientNumber;
 use crate::history::History;
 use crate::item::Item;
 use crate::network::Network;
@@ -51,7 +52,7 @@ impl<H: History> Network<H> {
     }
 
     /// No client of this number is connected.
-    fn client_fault(&self, client: u64) -> Option<Refusal>
+    fn client_fault(&self, client: ClientNumber) -> Option<Refusal>
         ensures { option_map refusal_of result ≡ client_fault self.now.network client }
     {
         if self.is_there(client) {
@@ -62,17 +63,17 @@ impl<H: History> Network<H> {
     }
 
     /// Whether a client of this number is connected.
-    pub(crate) fn is_there(&self, client: u64) -> bool
+    pub(crate) fn is_there(&self, client: ClientNumber) -> bool
         ensures { result ≡ is_there self.now.network client }
     {
         match self.home_node(client) {
-            Some(node) => node.has_client(client),
+            Some(node) => node.has_client(client.number()),
             None => false,
         }
     }
 
     /// The server that a client has connected to.
-    fn home_node(&self, client: u64) -> Option<&Node>
+    fn home_node(&self, client: ClientNumber) -> Option<&Node>
         ensures { option_copied result ≡ home_node self.now.network client }
     {
         self.nodes.get(self.home_place(client)?.index())

@@ -82,7 +82,7 @@ module _ (numbers : Numbers) (apart : AreApart numbers) (client conn : ℕ)
   told_line : (mine theirs : List ℕ) → theirs ≡ mine → StaysAlike numbers
       (with_sent (line_to conn mine ∷ [])) (with_sent (line_to client theirs ∷ []))
   told_line mine theirs same own other alike =
-      then_put numbers own other alike own.view other.view alike.views (line_to conn mine ∷ [])
+      then_put numbers own other alike own.state other.state alike.views (line_to conn mine ∷ [])
       (line_to client theirs ∷ [])
       (subst (λ (line : List ℕ). ArePutOutAlike numbers (line_to conn mine ∷ [])
       (line_to client line ∷ [])) (sym same) (line_put mine))
@@ -116,8 +116,8 @@ module _ (numbers : Numbers) (apart : AreApart numbers) (client conn : ℕ)
   step_alike : (name : Option (List ℕ)) (act : Act)
       → StaysAlike numbers (step_told conn name act) (step_told client name act)
   step_alike name (Answer reply) own other alike =
-      told_line (reply_text own.view.routes.name name reply)
-      (reply_text other.view.routes.name name reply)
+      told_line (reply_text own.state.routes.name name reply)
+      (reply_text other.state.routes.name name reply)
       (ap (λ server. reply_text server name reply) alike.views.name) own other alike
   step_alike name (Raw line) own other alike = told_line line.items line.items refl own other alike
   step_alike name (Do effect) own other alike =
@@ -134,8 +134,8 @@ module _ (numbers : Numbers) (apart : AreApart numbers) (client conn : ℕ)
       → StaysAlike numbers (closed_told close conn) (closed_told close client)
   closed_alike false own other alike = alike
   closed_alike true own other alike =
-      then_put numbers own other alike (unseated conn own.view) (unseated client other.view)
-      (unseated_alike own.view other.view alike.views)
+      then_put numbers own other alike (unseated conn own.state) (unseated client other.state)
+      (unseated_alike own.state other.state alike.views)
       (end_of conn ∷ []) (end_of client ∷ []) end_put
 
   -- ---- lines

@@ -43,15 +43,15 @@ module _ (numbers : Numbers) (apart : AreApart numbers) where
 
   forgotten_alike : (name : List ℕ) → StaysAlike numbers (forgotten name) (forgotten name)
   forgotten_alike name own other alike = record {
-    views = routed numbers own.view other.view alike.views _ _
-        (less_alike numbers own.view.routes other.view.routes
-        (known_of numbers own.view other.view alike.views) name);
+    views = routed numbers own.state other.state alike.views _ _
+        (less_alike numbers own.state.routes other.state.routes
+        (known_of numbers own.state other.state alike.views) name);
     outs = alike.outs;
   }
 
   titled_alike : (channel : List ℕ) → StaysAlike numbers (titled_view channel) (titled_view channel)
   titled_alike channel own other alike = record {
-    views = housed numbers own.view other.view alike.views _ _
+    views = housed numbers own.state other.state alike.views _ _
         (ap (titled_by channel) alike.views.room);
     outs = alike.outs;
   }
@@ -63,21 +63,22 @@ module _ (numbers : Numbers) (apart : AreApart numbers) where
     -- both
     told_on : (deed : Deed) (serve : List Effect → Served → Served)
         → ((effects : List Effect) → StaysAlike numbers (serve effects) (serve effects))
-        → StaysAlike numbers (λ s. told_on_all mine (deed_parts s.view.room s.view.routes deed)
-        (serve (effects_of s.view.room deed) s))
-        (λ s. told_on_all theirs (deed_parts s.view.room s.view.routes deed)
-        (serve (effects_of s.view.room deed) s))
+        → StaysAlike numbers (λ s. told_on_all mine (deed_parts s.state.room s.state.routes deed)
+        (serve (effects_of s.state.room deed) s))
+        (λ s. told_on_all theirs (deed_parts s.state.room s.state.routes deed)
+        (serve (effects_of s.state.room deed) s))
     told_on deed serve stays own other alike =
-        let effects = effects_of own.view.room deed in
+        let effects = effects_of own.state.room deed in
         subst
         (λ does_so. AreServedAlike numbers
-        (told_on_all mine (deed_parts own.view.room own.view.routes deed) (serve effects own))
-        (told_on_all theirs (deed_parts other.view.room other.view.routes deed)
+        (told_on_all mine (deed_parts own.state.room own.state.routes deed) (serve effects own))
+        (told_on_all theirs (deed_parts other.state.room other.state.routes deed)
         (serve does_so other)))
-        (sym (deed_effects numbers own.view other.view alike.views deed))
-        (told_on_all_alike numbers apart mine theirs came (deed_parts own.view.room own.view.routes
-        deed) (deed_parts other.view.room other.view.routes deed)
-        (deed_written numbers own.view other.view alike.views deed) (serve effects own)
+        (sym (deed_effects numbers own.state other.state alike.views deed))
+        (told_on_all_alike numbers apart mine theirs came
+        (deed_parts own.state.room own.state.routes
+        deed) (deed_parts other.state.room other.state.routes deed)
+        (deed_written numbers own.state other.state alike.views deed) (serve effects own)
         (serve effects other) (stays effects own other alike))
 
     pub deed_alike : (deed : Deed)
@@ -151,17 +152,19 @@ module _ (numbers : Numbers) (apart : AreApart numbers) where
     pub told_by_alike : (told : Told) → StaysAlike numbers (told_by conn told) (told_by place told)
     unfolding told_by
     told_by_alike (a_deed deed) own other alike =
-        deed_alike (arrival_of own.view.routes.name conn deed)
-        (arrival_of other.view.routes.name place deed)
-        (arrivals_alike own.view.routes.name other.view.routes.name alike.views.name deed) deed own
+        deed_alike (arrival_of own.state.routes.name conn deed)
+        (arrival_of other.state.routes.name place deed)
+        (arrivals_alike own.state.routes.name other.state.routes.name alike.views.name deed)
+        deed own
         other alike
     told_by_alike (a_server uplink name distance token info) own other alike =
-        by (is_taken own.view.routes conn name token) (is_taken other.view.routes place name token)
-        (taken_same numbers own.view.routes other.view.routes
-        (known_of numbers own.view other.view alike.views) apart place conn is_end name token)
+        by (is_taken own.state.routes conn name token)
+        (is_taken other.state.routes place name token)
+        (taken_same numbers own.state.routes other.state.routes
+        (known_of numbers own.state other.state alike.views) apart place conn is_end name token)
       where
         more : ℕ → Served → Served
-        more link s = record s { view = with_row link uplink name distance token info s.view }
+        more link s = record s { state = with_row link uplink name distance token info s.state }
 
         by : (a b : Bool) → b ≡ a → AreServedAlike numbers
             (if a then gain_told conn uplink name info (more conn own) else own)
@@ -169,7 +172,7 @@ module _ (numbers : Numbers) (apart : AreApart numbers) where
         by true true same =
             gain_alike uplink name info (more conn own) (more place other)
             (record {
-              views = row_alike uplink name distance token info own.view other.view
+              views = row_alike uplink name distance token info own.state other.state
                   alike.views;
               outs = alike.outs;
             })
@@ -217,13 +220,13 @@ module _ (numbers : Numbers) (apart : AreApart numbers) where
     pub lost_alike : StaysAlike numbers (link_lost conn) (link_lost place)
     lost_alike own other alike =
         let mine =
-        deeds_told (Some conn) (lost_behind own.view conn (get own.view.ends conn)) own in
+        deeds_told (Some conn) (lost_behind own.state conn (get own.state.ends conn)) own in
         let theirs = deeds_told (Some place)
-        (lost_behind other.view place (get other.view.ends place)) other in
+        (lost_behind other.state place (get other.state.ends place)) other in
         let left : AreServedAlike numbers mine theirs =
         subst (λ deeds. AreServedAlike numbers mine (deeds_told (Some place) deeds other))
-        (sym (lost_same own.view other.view alike.views))
+        (sym (lost_same own.state other.state alike.views))
         (deeds_alike (Some conn) (Some place) is_end
-        (lost_behind own.view conn (get own.view.ends conn)) own other alike)
+        (lost_behind own.state conn (get own.state.ends conn)) own other alike)
         in
-        record { views = unlinked_view mine.view theirs.view left.views; outs = left.outs }
+        record { views = unlinked_view mine.state theirs.state left.views; outs = left.outs }

@@ -14,8 +14,7 @@ use Rattle.irc_users.specs.UserTable.{is_home}
 use Rattle.irc_batch.specs.declared.close_reason.CloseReason.{CloseReason}
 use Rattle.irc_batch.specs.Batches.{Sent, end_of, is_number, line_to}
 use Rattle.irc_room.specs.effect.Effect.{Effect}
-use Rattle.irc_room.specs.effect.Effect.TheVariants.{AddUser, Rename, Quit, Join, Part, Kick}
-use Rattle.irc_room.specs.effect.Effect.TheVariants.{ChangeModes, SetTopic, Say, Invite, UserMode}
+use Rattle.irc_room.specs.effect.Effect.TheVariants.{AddUser, Rename, Quit, Say, Invite}
 use Rattle.irc_room.specs.Room.{Room}
 use Rattle.irc_room.specs.After.{after}
 use Rattle.irc_room.specs.Applying.{does}
@@ -83,9 +82,9 @@ both_put numbers one two three four first second = record {
 pub then_put : (numbers : Numbers) (own other : Served) → AreServedAlike numbers own other
     → (mine theirs : View) → AreAlike numbers mine theirs → (more others : List Sent)
     → ArePutOutAlike numbers more others → AreServedAlike numbers (record {
-      view = mine;
+      state = mine;
       out = own.out ++ more;
-    }) (record { view = theirs; out = other.out ++ others })
+    }) (record { state = theirs; out = other.out ++ others })
 then_put numbers own other alike mine theirs views more others put = record {
   views = views;
   outs = both_put numbers own.out other.out more others alike.outs put;
@@ -180,16 +179,7 @@ module _ (numbers : Numbers) (own other : View) (alike : AreAlike numbers own ot
       ap (λ (room : Room). is_some
       (option_and_then (next_hop other.routes) (home_under room (key nick)))) alike.room
       ∙ home_same (home_under own.room (key nick))
-  elsewhere_same (AddUser user) = refl
-  elsewhere_same (Rename nick new) = refl
-  elsewhere_same (Quit nick text) = refl
-  elsewhere_same (Join nick channel op) = refl
-  elsewhere_same (Part nick channel text) = refl
-  elsewhere_same (Kick by channel nick text) = refl
-  elsewhere_same (ChangeModes by channel changes) = refl
-  elsewhere_same (SetTopic by channel topic) = refl
-  elsewhere_same (Say by notice target text) = refl
-  elsewhere_same (UserMode nick invisible) = refl
+  elsewhere_same effect = refl
 
   room_same : (effect : Effect) → room_after other effect ≡ room_after own effect
   room_same effect =
@@ -205,14 +195,7 @@ module _ (numbers : Numbers) (own other : View) (alike : AreAlike numbers own ot
   of_here_same (AddUser user) = ap (λ name. is_home name user) alike.name
   of_here_same (Quit nick text) = user_here_same nick
   of_here_same (Say by notice target text) = user_here_same by
-  of_here_same (Rename nick new) = refl
-  of_here_same (Join nick channel op) = refl
-  of_here_same (Part nick channel text) = refl
-  of_here_same (Kick by channel nick text) = refl
-  of_here_same (ChangeModes by channel changes) = refl
-  of_here_same (SetTopic by channel topic) = refl
-  of_here_same (Invite by nick channel) = refl
-  of_here_same (UserMode nick invisible) = refl
+  of_here_same effect = refl
 
   pub counts_same : (effect : Effect) → counts other effect ≡ counts own effect
   counts_same effect = λ i. does (alike.room i) effect
@@ -254,16 +237,7 @@ module _ (numbers : Numbers) (own other : View) (alike : AreAlike numbers own ot
       (clients_after (Rename nick new) other.clients) (room_after own (Rename nick new))
       (room_after other (Rename nick new)) (renamed_alike nick new) (renamed_among nick new)
       (room_same (Rename nick new))
-  view_alike (AddUser user) = same_clients (AddUser user)
-  view_alike (Quit nick text) = same_clients (Quit nick text)
-  view_alike (Join nick channel op) = same_clients (Join nick channel op)
-  view_alike (Part nick channel text) = same_clients (Part nick channel text)
-  view_alike (Kick by channel nick text) = same_clients (Kick by channel nick text)
-  view_alike (ChangeModes by channel changes) = same_clients (ChangeModes by channel changes)
-  view_alike (SetTopic by channel topic) = same_clients (SetTopic by channel topic)
-  view_alike (Say by notice target text) = same_clients (Say by notice target text)
-  view_alike (Invite by nick channel) = same_clients (Invite by nick channel)
-  view_alike (UserMode nick invisible) = same_clients (UserMode nick invisible)
+  view_alike effect = same_clients effect
 
   -- ---- what is shown
 
@@ -513,21 +487,22 @@ module _ (numbers : Numbers) (own other : View) (alike : AreAlike numbers own ot
 module _ (numbers : Numbers) (apart : AreApart numbers) where
   pub changed_alike : (effect : Effect) → StaysAlike numbers (changed effect) (changed effect)
   changed_alike effect own other alike =
-      then_put numbers own other alike (view_after own.view effect) (view_after other.view effect)
-      (view_alike numbers own.view other.view alike.views effect)
-      (shown_at own.view effect) (shown_at other.view effect)
-      (shown_alike numbers own.view other.view alike.views effect)
+      then_put numbers own other alike (view_after own.state effect) (view_after other.state effect)
+      (view_alike numbers own.state other.state alike.views effect)
+      (shown_at own.state effect) (shown_at other.state effect)
+      (shown_alike numbers own.state other.state alike.views effect)
 
   pub effect_alike : (arrival came : Option ℕ)
       → AreArrivalsAlike numbers arrival came → (effect : Effect)
       → StaysAlike numbers (effect_told arrival effect) (effect_told came effect)
   effect_alike arrival came arrivals effect own other alike =
       let done = changed_alike effect own other alike in
-      then_put numbers (changed effect own) (changed effect other) done (view_after own.view effect)
-      (view_after other.view effect) done.views
-      (on_links (ways_at own.view arrival effect) (wire own.view.room own.view.routes effect))
-      (on_links (ways_at other.view came effect) (wire other.view.room other.view.routes effect))
-      (effect_on_links numbers own.view other.view alike.views apart arrival came arrivals effect)
+      then_put numbers (changed effect own) (changed effect other) done
+      (view_after own.state effect)
+      (view_after other.state effect) done.views
+      (on_links (ways_at own.state arrival effect) (wire own.state.room own.state.routes effect))
+      (on_links (ways_at other.state came effect) (wire other.state.room other.state.routes effect))
+      (effect_on_links numbers own.state other.state alike.views apart arrival came arrivals effect)
 
   pub came_alike : (arrival came : Option ℕ)
       → AreArrivalsAlike numbers arrival came → (effect : Effect)
@@ -535,15 +510,15 @@ module _ (numbers : Numbers) (apart : AreApart numbers) where
   came_alike arrival came arrivals effect own other alike =
       done_if numbers (effect_told arrival effect) (effect_told came effect) own other alike
       (effect_alike arrival came arrivals effect own other alike)
-      (counts own.view effect) (counts other.view effect)
-      (counts_same numbers own.view other.view alike.views effect)
+      (counts own.state effect) (counts other.state effect)
+      (counts_same numbers own.state other.state alike.views effect)
 
   pub changed_if_alike : (effect : Effect)
       → StaysAlike numbers (changed_if effect) (changed_if effect)
   changed_if_alike effect own other alike =
       done_if numbers (changed effect) (changed effect) own other alike
-      (changed_alike effect own other alike) (counts own.view effect)
-      (counts other.view effect) (counts_same numbers own.view other.view alike.views effect)
+      (changed_alike effect own other alike) (counts own.state effect)
+      (counts other.state effect) (counts_same numbers own.state other.state alike.views effect)
 
   pub all_changed_alike : (effects : List Effect)
       → StaysAlike numbers (all_changed effects) (all_changed effects)
@@ -556,10 +531,10 @@ module _ (numbers : Numbers) (apart : AreApart numbers) where
       → AreArrivalsAlike numbers arrival came → (mine theirs : Written) → theirs ≡ mine
       → StaysAlike numbers (told_on_all arrival mine) (told_on_all came theirs)
   told_on_all_alike arrival came arrivals mine theirs same own other alike =
-      then_put numbers own other alike own.view other.view alike.views
-      (on_links (but arrival (met_links own.view.ends)) mine)
-      (on_links (but came (met_links other.view.ends)) theirs)
-      (told_alike numbers own.view other.view alike.views apart arrival came arrivals None mine
+      then_put numbers own other alike own.state other.state alike.views
+      (on_links (but arrival (met_links own.state.ends)) mine)
+      (on_links (but came (met_links other.state.ends)) theirs)
+      (told_alike numbers own.state other.state alike.views apart arrival came arrivals None mine
       theirs same)
 
   pub quit_by_alike : (nick text : List ℕ)
@@ -567,23 +542,24 @@ module _ (numbers : Numbers) (apart : AreApart numbers) where
   quit_by_alike nick text own other alike =
       done_if numbers (changed (Quit nick text)) (changed (Quit nick text)) own other alike
       (changed_alike (Quit nick text) own other alike)
-      (has_user own.view.room nick) (has_user other.view.room nick)
+      (has_user own.state.room nick) (has_user other.state.room nick)
       (ap (λ (room : Room). has_user room nick) alike.views.room)
 
   pub client_ended_alike : (nick text : List ℕ)
       → StaysAlike numbers (client_ended nick text) (client_ended nick text)
   client_ended_alike nick text own other alike =
       let showing : Showing = record { viewer = nick; line = error_line text } in
-      then_put numbers own other alike (client_ended nick text own).view
-      (client_ended nick text other).view
-      (ended_alike numbers own.view other.view alike.views nick)
-      (to_viewer own.view.clients showing ++ ends_of nick own.view.clients)
-      (to_viewer other.view.clients showing ++ ends_of nick other.view.clients)
-      (both_put numbers (to_viewer own.view.clients showing) (to_viewer other.view.clients showing)
-      (ends_of nick own.view.clients)
-      (ends_of nick other.view.clients)
-      (viewer_alike numbers own.view other.view alike.views showing)
-      (ends_alike numbers own.view other.view alike.views nick))
+      then_put numbers own other alike (client_ended nick text own).state
+      (client_ended nick text other).state
+      (ended_alike numbers own.state other.state alike.views nick)
+      (to_viewer own.state.clients showing ++ ends_of nick own.state.clients)
+      (to_viewer other.state.clients showing ++ ends_of nick other.state.clients)
+      (both_put numbers (to_viewer own.state.clients showing)
+      (to_viewer other.state.clients showing)
+      (ends_of nick own.state.clients)
+      (ends_of nick other.state.clients)
+      (viewer_alike numbers own.state other.state alike.views showing)
+      (ends_alike numbers own.state other.state alike.views nick))
 
   pub taken_out_alike : (nick text : List ℕ)
       → StaysAlike numbers (taken_out nick text) (taken_out nick text)

@@ -18,8 +18,7 @@ use Rattle.irc_numerics.specs.Replies.{reply_text}
 use Rattle.irc_merge.specs.Deeds.{Deed, does, gains, loses, kills, brings, sets, tops, effects_of}
 use Rattle.irc_merge.specs.Quits.{collision_text}
 use Rattle.irc_room.specs.effect.Effect.{Effect}
-use Rattle.irc_room.specs.effect.Effect.TheVariants.{AddUser, Rename, Quit, Join, Part, Kick}
-use Rattle.irc_room.specs.effect.Effect.TheVariants.{ChangeModes, SetTopic, Say, Invite, UserMode}
+use Rattle.irc_room.specs.effect.Effect.TheVariants.{Rename, Quit}
 use Rattle.irc_room.specs.Effects.{has_user}
 use Rattle.irc_room.specs.Seen.{Showing, seen}
 use Rattle.irc_routes.specs.Known.{place_of}
@@ -38,7 +37,7 @@ use Rattle.irc_stage.specs.Lemmas.Counting.{get-kept}
 use Rattle.irc_stage.specs.Lemmas.Numbers.{get-each}
 use Rattle.irc_stage.specs.RoomMachine.{Clients, client_of}
 use Rattle.irc_stage.specs.View.{End, View, machine_of, password_for, with_end}
-use Rattle.irc_stage.specs.Handle.{Happening, connects, says, goes, client_after, clients_after}
+use Rattle.irc_stage.specs.Handle.{ClientEvent, connects, says, goes, client_after, clients_after}
 use Rattle.irc_stage.specs.Handle.{fresh, is_client, lost_text, renamed_in, to_viewer, user_of}
 use Rattle.irc_stage.specs.EffectTold.{Served, all_changed, changed, changed_if, client_ended}
 use Rattle.irc_stage.specs.EffectTold.{counts, effect_came, effect_told, ends_of, in_silence}
@@ -98,22 +97,13 @@ as_there (Rename nick new) clients k = ap is_some (get-each (renamed_in nick new
     by : (o : Option Client) → is_some (option_map (renamed_in nick new) o) ≡ is_some o
     by None = refl
     by (Some client) = refl
-as_there (AddUser user) clients k = refl
-as_there (Quit nick text) clients k = refl
-as_there (Join nick channel op) clients k = refl
-as_there (Part nick channel text) clients k = refl
-as_there (Kick by channel nick text) clients k = refl
-as_there (ChangeModes by channel changes) clients k = refl
-as_there (SetTopic by channel topic) clients k = refl
-as_there (Say by notice target text) clients k = refl
-as_there (Invite by nick channel) clients k = refl
-as_there (UserMode nick invisible) clients k = refl
+as_there other clients k = refl
 
 module _ (conn : ℕ) where
   -- nothing is behind an end so far, and who was ended is a client no more
   record IsOrderly (s : Served) : Type 0 where
     last : ends_last (client_part conn s.out) ≡ true
-    ended : has_end (client_part conn s.out) ≡ true → get s.view.clients conn ≡ None
+    ended : has_end (client_part conn s.out) ≡ true → get s.state.clients conn ≡ None
 
   -- what is put out in a step
   record Puts (old : View) (more : List Sent) (new : View) : Type 0 where
@@ -125,15 +115,15 @@ module _ (conn : ℕ) where
   abbrev Keeps : (Served → Served) → Type 0
   Keeps serve = (s : Served) → IsOrderly s → IsOrderly (serve s)
 
-  then_more : (s : Served) (new : View) (more : List Sent) → IsOrderly s → Puts s.view more new
-      → IsOrderly (record { view = new; out = s.out ++ more })
-  then_more s new more orderly puts = by (get s.view.clients conn) refl
+  then_more : (s : Served) (new : View) (more : List Sent) → IsOrderly s → Puts s.state more new
+      → IsOrderly (record { state = new; out = s.out ++ more })
+  then_more s new more orderly puts = by (get s.state.clients conn) refl
     where
       all : client_part conn (s.out ++ more) ≡ client_part conn s.out ++ client_part conn more
       all = client_part-append conn s.out more
 
-      by : (o : Option Client) → get s.view.clients conn ≡ o
-          → IsOrderly (record { view = new; out = s.out ++ more })
+      by : (o : Option Client) → get s.state.clients conn ≡ o
+          → IsOrderly (record { state = new; out = s.out ++ more })
       by None is = record {
         last = ap ends_last (all ∙ ap (λ part. client_part conn s.out ++ part) (puts.to_none is)
             ∙ append-nil (client_part conn s.out)) ∙ orderly.last;
@@ -225,18 +215,18 @@ module _ (conn : ℕ) where
       }
 
   changed_orderly : (effect : Effect) → Keeps (changed effect)
-  changed_orderly effect s orderly = then_more s (view_after s.view effect)
-      (shown_at s.view effect) orderly (effect_puts s.view effect)
+  changed_orderly effect s orderly = then_more s (view_after s.state effect)
+      (shown_at s.state effect) orderly (effect_puts s.state effect)
 
   -- what goes on links goes to no client
   on_links_orderly : (links : List ℕ) (parts : Written) → Keeps (with_sent (on_links links parts))
   on_links_orderly links parts s orderly =
-      then_more s s.view (on_links links parts) orderly (puts_nothing s.view s.view
+      then_more s s.state (on_links links parts) orderly (puts_nothing s.state s.state
       (on_links links parts) (λ none. none) (to_no_client conn parts links))
 
   effect_orderly : (arrival : Option ℕ) (effect : Effect) → Keeps (effect_told arrival effect)
   effect_orderly arrival effect s orderly =
-      on_links_orderly (ways_at s.view arrival effect) (wire s.view.room s.view.routes effect)
+      on_links_orderly (ways_at s.state arrival effect) (wire s.state.room s.state.routes effect)
       (changed effect s) (changed_orderly effect s orderly)
 
   if_orderly : (serve : Served → Served) (s : Served) → IsOrderly s → IsOrderly (serve s)
@@ -247,17 +237,17 @@ module _ (conn : ℕ) where
   came_orderly : (arrival : Option ℕ) (effect : Effect) → Keeps (effect_came arrival effect)
   came_orderly arrival effect s orderly =
       if_orderly (effect_told arrival effect) s orderly (effect_orderly arrival effect s orderly)
-      (counts s.view effect)
+      (counts s.state effect)
 
   all_orderly : (effects : List Effect) → Keeps (all_changed effects)
   all_orderly [] s orderly = orderly
   all_orderly (effect ∷ effects) s orderly =
       all_orderly effects (changed_if effect s) (if_orderly (changed effect) s orderly
-      (changed_orderly effect s orderly) (counts s.view effect))
+      (changed_orderly effect s orderly) (counts s.state effect))
 
   told_orderly : (arrival : Option ℕ) (parts : Written) → Keeps (told_on_all arrival parts)
   told_orderly arrival parts s orderly =
-      on_links_orderly (but arrival (met_links s.view.ends)) parts s orderly
+      on_links_orderly (but arrival (met_links s.state.ends)) parts s orderly
 
   -- ---- a user is killed
 
@@ -320,12 +310,12 @@ module _ (conn : ℕ) where
   taken_orderly : (nick text : List ℕ) → Keeps (taken_out nick text)
   taken_orderly nick text s orderly =
       let left = quit_by nick text s in
-      then_more left (client_ended nick text left).view
-      (to_viewer left.view.clients (record { viewer = nick; line = error_line text })
-      ++ ends_of nick left.view.clients)
+      then_more left (client_ended nick text left).state
+      (to_viewer left.state.clients (record { viewer = nick; line = error_line text })
+      ++ ends_of nick left.state.clients)
       (if_orderly (changed (Quit nick text)) s orderly (changed_orderly (Quit nick text) s orderly)
-      (has_user s.view.room nick))
-      (ended_puts nick text left.view)
+      (has_user s.state.room nick))
+      (ended_puts nick text left.state)
 
   -- ---- what comes by links
 
@@ -334,28 +324,28 @@ module _ (conn : ℕ) where
   deed_orderly arrival (does effect) s orderly = came_orderly arrival effect s orderly
   deed_orderly arrival (gains uplink name info) s orderly = orderly
   deed_orderly arrival (loses server name text) s orderly =
-      let left = all_changed (effects_of s.view.room (loses server name text)) s in
-      let done = all_orderly (effects_of s.view.room (loses server name text)) s orderly in
-      told_orderly arrival (deed_parts s.view.room s.view.routes (loses server name text))
+      let left = all_changed (effects_of s.state.room (loses server name text)) s in
+      let done = all_orderly (effects_of s.state.room (loses server name text)) s orderly in
+      told_orderly arrival (deed_parts s.state.room s.state.routes (loses server name text))
       (forgotten name left)
       (record { last = done.last; ended = done.ended })
   deed_orderly arrival (kills server nick) s orderly =
-      told_orderly arrival (deed_parts s.view.room s.view.routes (kills server nick))
+      told_orderly arrival (deed_parts s.state.room s.state.routes (kills server nick))
       (taken_out nick collision_text s)
       (taken_orderly nick collision_text s orderly)
   deed_orderly arrival (brings server channel members) s orderly =
-      let effects = effects_of s.view.room (brings server channel members) in
+      let effects = effects_of s.state.room (brings server channel members) in
       let spelled = titled_view channel s in
-      told_orderly arrival (deed_parts s.view.room s.view.routes (brings server channel members))
+      told_orderly arrival (deed_parts s.state.room s.state.routes (brings server channel members))
       (all_changed effects spelled)
       (all_orderly effects spelled (record { last = orderly.last; ended = orderly.ended }))
   deed_orderly arrival (sets server channel changes) s orderly =
-      let effects = effects_of s.view.room (sets server channel changes) in
-      told_orderly arrival (deed_parts s.view.room s.view.routes (sets server channel changes))
+      let effects = effects_of s.state.room (sets server channel changes) in
+      told_orderly arrival (deed_parts s.state.room s.state.routes (sets server channel changes))
       (all_changed effects s) (all_orderly effects s orderly)
   deed_orderly arrival (tops server channel topic) s orderly =
-      let effects = effects_of s.view.room (tops server channel topic) in
-      told_orderly arrival (deed_parts s.view.room s.view.routes (tops server channel topic))
+      let effects = effects_of s.state.room (tops server channel topic) in
+      told_orderly arrival (deed_parts s.state.room s.state.routes (tops server channel topic))
       (all_changed effects s) (all_orderly effects s orderly)
 
   deeds_orderly : (arrival : Option ℕ) (deeds : List Deed) → Keeps (deeds_told arrival deeds)
@@ -366,17 +356,17 @@ module _ (conn : ℕ) where
   told_by_orderly : (link : ℕ) (told : Told) → Keeps (told_by link told)
   unfolding told_by
   told_by_orderly link (a_deed deed) s orderly =
-      deed_orderly (arrival_of s.view.routes.name link deed) deed s orderly
+      deed_orderly (arrival_of s.state.routes.name link deed) deed s orderly
   told_by_orderly link (a_server uplink name distance token info) s orderly =
-      by (is_taken s.view.routes link name token)
+      by (is_taken s.state.routes link name token)
     where
       by : (b : Bool) → IsOrderly (if b then gain_told link uplink name info
-          (record s { view = with_row link uplink name distance token info s.view }) else s)
+          (record s { state = with_row link uplink name distance token info s.state }) else s)
       by true =
           let known : Served =
-          record s { view = with_row link uplink name distance token info s.view } in
+          record s { state = with_row link uplink name distance token info s.state } in
           told_orderly (Some link)
-          (deed_parts known.view.room known.view.routes (gains uplink name info)) known
+          (deed_parts known.state.room known.state.routes (gains uplink name info)) known
           (record { last = orderly.last; ended = orderly.ended })
       by false = orderly
 
@@ -388,7 +378,7 @@ module _ (conn : ℕ) where
   lost_orderly : (link : ℕ) → Keeps (link_lost link)
   lost_orderly link s orderly =
       let done =
-      deeds_orderly (Some link) (lost_behind s.view link (get s.view.ends link)) s orderly in
+      deeds_orderly (Some link) (lost_behind s.state link (get s.state.ends link)) s orderly in
       record { last = done.last; ended = done.ended }
 
   silent_orderly : (view : View) → IsOrderly (in_silence view)
@@ -401,8 +391,8 @@ module _ (conn : ℕ) where
 
   on_link_orderly : (link : ℕ) (lines : List Written) → Keeps (with_sent (on_link link lines))
   on_link_orderly link lines s orderly =
-      then_more s s.view (on_link link lines) orderly
-      (puts_nothing s.view s.view (on_link link lines) (λ none. none) (no_line link lines))
+      then_more s s.state (on_link link lines) orderly
+      (puts_nothing s.state s.state (on_link link lines) (λ none. none) (no_line link lines))
 
   heard_orderly : (view : View) (link : ℕ) (it : Heard) → IsOrderly (after_heard view link it)
   heard_orderly view link ignored = silent_orderly view
@@ -437,35 +427,35 @@ module _ (conn : ℕ) where
 
   module _ (client : ℕ) where
     -- a line to it
-    line_orderly : (line : List ℕ) (s : Served) → IsOrderly s → is_some (get s.view.clients client)
+    line_orderly : (line : List ℕ) (s : Served) → IsOrderly s → is_some (get s.state.clients client)
         ≡ true → IsOrderly (with_sent (line_to client line ∷ []) s)
     line_orderly line s orderly there =
-        then_more s s.view (line_to client line ∷ []) orderly (by (nat_eq client conn) refl)
+        then_more s s.state (line_to client line ∷ []) orderly (by (nat_eq client conn) refl)
       where
-        by : (b : Bool) → nat_eq client conn ≡ b → Puts s.view (line_to client line ∷ []) s.view
+        by : (b : Bool) → nat_eq client conn ≡ b → Puts s.state (line_to client line ∷ []) s.state
         by true one = record {
           stays_none = λ none. none;
-          to_none = λ none. cc (sym there ∙ ap (λ n. is_some (get s.view.clients n))
+          to_none = λ none. cc (sym there ∙ ap (λ n. is_some (get s.state.clients n))
               (eqb-true client conn one) ∙ ap is_some none);
           last = ap (λ b. ends_last ((if b then Some line ∷ [] else []) ++ [])) one;
           ended = λ has.
               cc (sym (ap (λ b. has_end ((if b then Some line ∷ [] else []) ++ [])) one) ∙ has);
         }
-        by false two = puts_nothing s.view s.view (line_to client line ∷ []) (λ none. none)
+        by false two = puts_nothing s.state s.state (line_to client line ∷ []) (λ none. none)
             (ap (λ b. (if b then Some line ∷ [] else []) ++ []) two)
 
     -- its end
-    end_orderly : (s : Served) → IsOrderly s → is_some (get s.view.clients client) ≡ true
+    end_orderly : (s : Served) → IsOrderly s → is_some (get s.state.clients client) ≡ true
         → IsOrderly (closed_told true client s)
-    end_orderly s orderly there = then_more s (unseated client s.view) (end_of client ∷ []) orderly
+    end_orderly s orderly there = then_more s (unseated client s.state) (end_of client ∷ []) orderly
         (by (nat_eq client conn) refl)
       where
-        left_is : get (remove s.view.clients client) conn ≡ cond (nat_eq client conn) None
-            (get s.view.clients conn)
-        left_is = get-remove nat_cmp_total s.view.clients client conn ∙ ap (λ b. cond b None
-            (get s.view.clients conn)) (unsigned_tied conn client ∙ turned conn client)
+        left_is : get (remove s.state.clients client) conn ≡ cond (nat_eq client conn) None
+            (get s.state.clients conn)
+        left_is = get-remove nat_cmp_total s.state.clients client conn ∙ ap (λ b. cond b None
+            (get s.state.clients conn)) (unsigned_tied conn client ∙ turned conn client)
 
-        stays : get s.view.clients conn ≡ None → get (remove s.view.clients client) conn ≡ None
+        stays : get s.state.clients conn ≡ None → get (remove s.state.clients client) conn ≡ None
         stays none =
             left_is ∙ ap (cond (nat_eq client conn) None) none ∙ none_twice (nat_eq client conn)
           where
@@ -474,32 +464,32 @@ module _ (conn : ℕ) where
             none_twice false = refl
 
         by : (b : Bool) → nat_eq client conn ≡ b
-            → Puts s.view (end_of client ∷ []) (unseated client s.view)
+            → Puts s.state (end_of client ∷ []) (unseated client s.state)
         by true one = record {
           stays_none = stays;
-          to_none = λ none. cc (sym there ∙ ap (λ n. is_some (get s.view.clients n))
+          to_none = λ none. cc (sym there ∙ ap (λ n. is_some (get s.state.clients n))
               (eqb-true client conn one) ∙ ap is_some none);
           last = ap (λ b. ends_last ((if b then its_end else []) ++ [])) one;
-          ended = λ has. left_is ∙ ap (λ b. cond b None (get s.view.clients conn)) one;
+          ended = λ has. left_is ∙ ap (λ b. cond b None (get s.state.clients conn)) one;
         }
-        by false two = puts_nothing s.view (unseated client s.view) (end_of client ∷ []) stays
+        by false two = puts_nothing s.state (unseated client s.state) (end_of client ∷ []) stays
             (ap (λ b. (if b then its_end else []) ++ []) two)
 
     step_orderly : (name : Option (List ℕ)) (act : Act) (s : Served) → IsOrderly s
-        → is_some (get s.view.clients client) ≡ true → IsOrderly (step_told client name act s)
+        → is_some (get s.state.clients client) ≡ true → IsOrderly (step_told client name act s)
     step_orderly name (Answer reply) s orderly there =
-        line_orderly (reply_text s.view.routes.name name reply) s orderly there
+        line_orderly (reply_text s.state.routes.name name reply) s orderly there
     step_orderly name (Raw line) s orderly there = line_orderly line.items s orderly there
     step_orderly name (Do effect) s orderly there = effect_orderly None effect s orderly
 
     step_there : (name : Option (List ℕ)) (act : Act) (s : Served) → is_some (get
-        (step_told client name act s).view.clients client) ≡ is_some (get s.view.clients client)
+        (step_told client name act s).state.clients client) ≡ is_some (get s.state.clients client)
     step_there name (Answer reply) s = refl
     step_there name (Raw line) s = refl
-    step_there name (Do effect) s = as_there effect s.view.clients client
+    step_there name (Do effect) s = as_there effect s.state.clients client
 
     carried_orderly : (close : Bool) (name : Option (List ℕ)) (acts : List Act) (s : Served)
-        → IsOrderly s → is_some (get s.view.clients client) ≡ true
+        → IsOrderly s → is_some (get s.state.clients client) ≡ true
         → IsOrderly (closed_told close client (steps_told client name acts s))
     carried_orderly true name [] s orderly there = end_orderly s orderly there
     carried_orderly false name [] s orderly there = orderly
@@ -536,7 +526,8 @@ module _ (conn : ℕ) where
     quit_orderly view (Some nick) =
         effect_orderly None (Quit nick lost_text) (in_silence view) (silent_orderly view)
 
-  client_orderly : (view : View) (happening : Happening) → IsOrderly (client_told view happening)
+  client_orderly : (view : View) (client_event : ClientEvent)
+      → IsOrderly (client_told view client_event)
   unfolding client_told
   client_orderly view (connects client host) = silent_orderly (seated client (fresh host) view)
   client_orderly view (says client (Ok message)) =
@@ -547,7 +538,8 @@ module _ (conn : ℕ) where
 
 pub nothing_is_behind_an_end : NothingIsBehindAnEnd
 unfolding served
-nothing_is_behind_an_end view (of_client happening) conn = (client_orderly conn view happening).last
+nothing_is_behind_an_end view (of_client client_event) conn =
+    (client_orderly conn view client_event).last
 nothing_is_behind_an_end view (link_up link starts) conn =
     (opened_orderly conn view link starts).last
 nothing_is_behind_an_end view (link_says link read) conn = by (get view.ends link)

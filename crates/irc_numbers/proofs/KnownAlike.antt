@@ -16,8 +16,7 @@ use Rattle.irc_users.specs.declared.user.User.{User}
 use Rattle.irc_room.specs.effect.By.{By}
 use Rattle.irc_room.specs.effect.By.TheVariants as doer
 use Rattle.irc_room.specs.effect.Effect.{Effect}
-use Rattle.irc_room.specs.effect.Effect.TheVariants.{AddUser, Rename, Quit, Join, Part, Kick}
-use Rattle.irc_room.specs.effect.Effect.TheVariants.{ChangeModes, SetTopic, Say, Invite, UserMode}
+use Rattle.irc_room.specs.effect.Effect.TheVariants.{AddUser, ChangeModes, SetTopic}
 use Rattle.irc_room.specs.Room.{Room}
 use Rattle.irc_room.specs.Seen.{changes_words, stored_channel}
 use Rattle.irc_link_words.specs.Words.{no_mode, with_i}
@@ -267,14 +266,7 @@ module _ (numbers : Numbers) (own other : Known) (alike : AreKnownAlike numbers 
       (stored_channel room channel ∷ changes_words room changes) None) (by_name_same room who)
   wire_same room (SetTopic who channel topic) = ap (λ name. from name (codes "TOPIC")
       (stored_channel room channel ∷ []) (Some topic)) (by_name_same room who)
-  wire_same room (Rename nick new) = refl
-  wire_same room (Quit nick text) = refl
-  wire_same room (Join nick channel op) = refl
-  wire_same room (Part nick channel text) = refl
-  wire_same room (Kick who channel nick text) = refl
-  wire_same room (Say who notice target text) = refl
-  wire_same room (Invite who nick channel) = refl
-  wire_same room (UserMode nick invisible) = refl
+  wire_same room effect = refl
 
   server_same : (uplink name info : List ℕ)
       → server_parts other uplink name info ≡ server_parts own uplink name info

@@ -4,7 +4,7 @@
 -- and to 9 nothing more
 use Rattle.std.specs.Prelude.{◌≡◌, ℕ, Bool, true, false, Option, Some, None, List, [], ◌∷◌}
 use Rattle.irc_stage.specs.View.{View}
-use Rattle.irc_server.specs.Served.{Occurrence, served}
+use Rattle.irc_server.specs.Served.{ReadEvent, served}
 use Rattle.irc_numbers.specs.ServedAlike.{client_part}
 
 -- whether nothing is behind an end
@@ -16,5 +16,5 @@ ends_last (None ∷ (next ∷ part)) = false
 
 -- Whatever is served, it is so of each client's part.
 abbrev pub NothingIsBehindAnEnd : Type 0
-NothingIsBehindAnEnd = (view : View) (occurrence : Occurrence) (conn : ℕ)
-    → ends_last (client_part conn (served view occurrence).out) ≡ true
+NothingIsBehindAnEnd = (view : View) (read_event : ReadEvent) (conn : ℕ)
+    → ends_last (client_part conn (served view read_event).out) ≡ true

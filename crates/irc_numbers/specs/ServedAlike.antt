@@ -13,7 +13,7 @@ use Rattle.irc_batch.specs.declared.close_reason.CloseReason.{CloseReason}
 use Rattle.irc_stage.specs.Handle.{connects, says, goes}
 use Rattle.irc_stage.specs.View.{View}
 use Rattle.irc_stage.specs.EffectTold.{Served}
-use Rattle.irc_server.specs.Served.{Occurrence, of_client, link_up, link_says, link_down, served}
+use Rattle.irc_server.specs.Served.{ReadEvent, of_client, link_up, link_says, link_down, served}
 use Rattle.irc_numbers.specs.Alike.{AreAlike, AreApart, IsAmong, Numbers}
 
 -- ---- what is put out to one
@@ -49,7 +49,7 @@ pub record ArePutOutAlike (numbers : Numbers) (own other : List Sent) : Type 0 w
   pub on_no_other : (conn : ℕ) → (IsAmong numbers.link conn → ⊥) → link_part conn own ≡ []
 
 pub record AreServedAlike (numbers : Numbers) (own other : Served) : Type 0 where
-  pub views : AreAlike numbers own.view other.view
+  pub views : AreAlike numbers own.state other.state
   pub outs : ArePutOutAlike numbers own.out other.out
 
 -- what is done to two servers leaves them alike
@@ -67,7 +67,7 @@ AreArrivalsAlike numbers (Some conn) None = ⊥
 -- ---- the same happens to both
 
 -- under which number an engine has the client or the link to which this happens
-abbrev pub happens_at : Numbers → Occurrence → Option ℕ
+abbrev pub happens_at : Numbers → ReadEvent → Option ℕ
 happens_at numbers (of_client (connects client host)) = numbers.client client
 happens_at numbers (of_client (says client read)) = numbers.client client
 happens_at numbers (of_client (goes client)) = numbers.client client
@@ -76,7 +76,7 @@ happens_at numbers (link_says place read) = numbers.link place
 happens_at numbers (link_down place) = numbers.link place
 
 -- the same happens to this number
-abbrev pub renumbered : ℕ → Occurrence → Occurrence
+abbrev pub renumbered : ℕ → ReadEvent → ReadEvent
 renumbered conn (of_client (connects client host)) = of_client (connects conn host)
 renumbered conn (of_client (says client read)) = of_client (says conn read)
 renumbered conn (of_client (goes client)) = of_client (goes conn)
@@ -88,7 +88,7 @@ renumbered conn (link_down place) = link_down conn
 -- already: `AreAlike` holds under these too.
 abbrev pub NumbersAreNothing : Type 0
 NumbersAreNothing =
-    (numbers : Numbers) (own other : View) (occurrence : Occurrence) (conn : ℕ) → AreApart numbers
+    (numbers : Numbers) (own other : View) (read_event : ReadEvent) (conn : ℕ) → AreApart numbers
     → AreAlike numbers own other
-    → happens_at numbers occurrence ≡ Some conn
-    → AreServedAlike numbers (served own (renumbered conn occurrence)) (served other occurrence)
+    → happens_at numbers read_event ≡ Some conn
+    → AreServedAlike numbers (served own (renumbered conn read_event)) (served other read_event)

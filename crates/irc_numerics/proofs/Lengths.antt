@@ -12,8 +12,8 @@ use Rattle.irc_line.specs.Messages.{prefix_of, named}
 use Rattle.irc_line.specs.Lemmas.CutLaws.{cut_all}
 use Rattle.irc_names.specs.Limits.{max_nick, max_channel, max_server}
 use Rattle.irc_numerics.specs.Limits.{max_names}
-use Rattle.irc_numerics.specs.declared.replies.Mark.{Mark}
-use Rattle.irc_numerics.specs.declared.replies.Mark.TheVariants.{Plain, Voiced, Operator}
+use Rattle.irc_numerics.specs.declared.replies.MemberMark.{MemberMark}
+use Rattle.irc_numerics.specs.declared.replies.MemberMark.TheVariants.{Plain, Voiced, Operator}
 use Rattle.irc_numerics.specs.declared.replies.Visibility.{Visibility}
 use Rattle.irc_numerics.specs.declared.replies.Visibility.TheVariants.{Public, Private, Secret}
 use Rattle.irc_numerics.specs.declared.replies.Listed.{Listed}
@@ -92,7 +92,7 @@ row_fits digits ws ps short = let row : length (in_a_row ps) ≤ sizes ps = leng
 digits : (n : ℕ) → n < 2 ^ 64 → length (decimal n) ≤ 20
 digits n small = search (rules, length-decimal-le 20)
 
-length-mark_text : (mark : Mark) → length (mark_text mark) ≤ 1
+length-mark_text : (mark : MemberMark) → length (mark_text mark) ≤ 1
 length-mark_text Plain = lit≤ tt
 length-mark_text Voiced = lit≤ tt
 length-mark_text Operator = lit≤ tt

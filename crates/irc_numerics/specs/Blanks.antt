@@ -2,7 +2,7 @@
 use Rattle.std.specs.Prelude.{codes}
 use Rattle.irc_numerics.specs.declared.replies.Listed.{Listed}
 use Rattle.irc_numerics.specs.declared.replies.OnChannel.{OnChannel}
-use Rattle.irc_numerics.specs.declared.replies.Mark.TheVariants.{Plain}
+use Rattle.irc_numerics.specs.declared.replies.MemberMark.TheVariants.{Plain}
 
 -- where no member stands
 abbrev pub blank_member : Listed

@@ -6,12 +6,12 @@ use Rattle.std.specs.List.{flat_map, join_with_byte}
 use Rattle.std.specs.Option.{option_map}
 use Rattle.irc_line.specs.Bytes.{space}
 use Rattle.irc_line.specs.Messages.{Written, named, text}
-use Rattle.irc_numerics.specs.declared.replies.Mark.{Mark}
+use Rattle.irc_numerics.specs.declared.replies.MemberMark.{MemberMark}
 use Rattle.irc_numerics.specs.declared.replies.Visibility.{Visibility}
 use Rattle.irc_numerics.specs.declared.replies.Listed.{Listed}
 use Rattle.irc_numerics.specs.declared.replies.OnChannel.{OnChannel}
 use Rattle.irc_numerics.specs.declared.replies.Reply.{Reply}
-use Rattle.irc_numerics.specs.declared.replies.Mark.TheVariants.{Plain, Voiced, Operator}
+use Rattle.irc_numerics.specs.declared.replies.MemberMark.TheVariants.{Plain, Voiced, Operator}
 use Rattle.irc_numerics.specs.declared.replies.Visibility.TheVariants.{Public, Private, Secret}
 use Rattle.irc_numerics.specs.declared.replies.Reply.TheVariants.{Welcome, YourHost, Created}
 use Rattle.irc_numerics.specs.declared.replies.Reply.TheVariants.{MyInfo, UserModeIs, LuserClient}
@@ -65,7 +65,7 @@ abbrev pub spaced : List (List ℕ) → List ℕ
 spaced = join_with_byte space
 
 -- what stands before the name of a member
-abbrev pub mark_text : Mark → List ℕ
+abbrev pub mark_text : MemberMark → List ℕ
 mark_text Plain = []
 mark_text Voiced = codes "+"
 mark_text Operator = codes "@"

@@ -12,6 +12,7 @@ mod writing;
 
 pub use name_list::NameList;
 pub use replies::{
-    ClientWords, Created, Info, Listed, Mark, ModeLetters, OnChannel, Reply, TopicText, Visibility,
+    ClientWords, Created, InfoText, Listed, MemberMark, ModeLetters, OnChannel, Reply, TopicText,
+    Visibility,
 };
 pub use writing::reply_line;

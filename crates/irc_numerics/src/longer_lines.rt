@@ -6,7 +6,7 @@ ghost use Rattle.irc_line.specs.PartViews.{words_now};
 ghost use Rattle.irc_numerics.specs.Loops.Heads.{line_behind};
 ghost use Rattle.irc_numerics.specs.Replies.{plain, said, saying, in_a_row, mode_words};
 
-use crate::writing::Head;
+use crate::writing::ReplyHead;
 use irc_line::Text;
 use irc_line::limits::MAX_PARAMETERS;
 use irc_names::{ChannelName, Host, Key, Nick, UserName};
@@ -14,7 +14,7 @@ use itoa::Buffer;
 
 /// The first line that a user gets.
 pub(crate) fn welcome_line<'a>(
-    head: Head<'_>,
+    head: ReplyHead<'_>,
     nick: &'a Nick,
     user: &'a UserName,
     host: &'a Host,
@@ -39,7 +39,7 @@ pub(crate) fn welcome_line<'a>(
 }
 
 /// The line that counts users and servers.
-pub(crate) fn client_line(head: Head<'_>, users: usize, servers: usize) -> Text
+pub(crate) fn client_line(head: ReplyHead<'_>, users: usize, servers: usize) -> Text
     ensures { result.items ≡ line_behind head.entry (codes "251")
         (said (in_a_row (codes "There are " ∷ decimal users ∷ codes " users and 0 services on "
         ∷ decimal servers ∷ codes " servers" ∷ []))) }
@@ -53,7 +53,7 @@ pub(crate) fn client_line(head: Head<'_>, users: usize, servers: usize) -> Text
     )
 }
 
-fn client_counts<'a>(head: Head<'_>, users: &'a [u8], servers: &'a [u8]) -> Text
+fn client_counts<'a>(head: ReplyHead<'_>, users: &'a [u8], servers: &'a [u8]) -> Text
     ensures { result.items ≡ line_behind head.entry (codes "251")
         (said (in_a_row (codes "There are " ∷ users.now ∷ codes " users and 0 services on "
         ∷ servers.now ∷ codes " servers" ∷ []))) }
@@ -72,7 +72,7 @@ fn client_counts<'a>(head: Head<'_>, users: &'a [u8], servers: &'a [u8]) -> Text
 }
 
 /// The line that counts a server's own clients and links.
-pub(crate) fn own_line(head: Head<'_>, clients: usize, links: usize) -> Text
+pub(crate) fn own_line(head: ReplyHead<'_>, clients: usize, links: usize) -> Text
     ensures { result.items ≡ line_behind head.entry (codes "255")
         (said (in_a_row (codes "I have " ∷ decimal clients ∷ codes " clients and " ∷ decimal links
         ∷ codes " servers" ∷ []))) }
@@ -86,7 +86,7 @@ pub(crate) fn own_line(head: Head<'_>, clients: usize, links: usize) -> Text
     )
 }
 
-fn own_counts<'a>(head: Head<'_>, clients: &'a [u8], links: &'a [u8]) -> Text
+fn own_counts<'a>(head: ReplyHead<'_>, clients: &'a [u8], links: &'a [u8]) -> Text
     ensures { result.items ≡ line_behind head.entry (codes "255")
         (said (in_a_row (codes "I have " ∷ clients.now ∷ codes " clients and " ∷ links.now
         ∷ codes " servers" ∷ []))) }
@@ -99,7 +99,12 @@ fn own_counts<'a>(head: Head<'_>, clients: &'a [u8], links: &'a [u8]) -> Text
 }
 
 /// The line of one channel in the answer to a LIST.
-pub(crate) fn entry_line(head: Head<'_>, channel: &ChannelName, count: usize, topic: &[u8]) -> Text
+pub(crate) fn entry_line(
+    head: ReplyHead<'_>,
+    channel: &ChannelName,
+    count: usize,
+    topic: &[u8],
+) -> Text
     ensures { result.items ≡ line_behind head.entry (codes "322")
         (saying (channel.now ∷ decimal count ∷ []) topic.now) }
 {
@@ -112,7 +117,7 @@ pub(crate) fn entry_line(head: Head<'_>, channel: &ChannelName, count: usize, to
     )
 }
 
-fn counted_line<'a>(head: Head<'_>, channel: &'a [u8], count: &'a [u8], topic: &[u8]) -> Text
+fn counted_line<'a>(head: ReplyHead<'_>, channel: &'a [u8], count: &'a [u8], topic: &[u8]) -> Text
     ensures { result.items ≡ line_behind head.entry (codes "322")
         (saying (channel.now ∷ count.now ∷ []) topic.now) }
 {
@@ -121,7 +126,7 @@ fn counted_line<'a>(head: Head<'_>, channel: &'a [u8], count: &'a [u8], topic: &
 
 /// The line of a channel's modes: behind them its key if there is one, and then its limit.
 pub(crate) fn mode_line(
-    head: Head<'_>,
+    head: ReplyHead<'_>,
     channel: &ChannelName,
     modes: &[u8],
     key: &Option<Key>,
@@ -136,7 +141,7 @@ pub(crate) fn mode_line(
 }
 
 fn mode_words_line<'a>(
-    head: Head<'_>,
+    head: ReplyHead<'_>,
     channel: &'a [u8],
     modes: &'a [u8],
     key: Option<&'a [u8]>,
@@ -173,7 +178,7 @@ fn limit_digits(limit: Option<u16>, digits: &mut Buffer) -> Option<&[u8]>
 }
 
 /// The line of one user in the answer to a WHO: the hops to its server stand before its real name.
-pub(crate) fn who_line(head: Head<'_>, words: &[&[u8]], hops: u32, real: &[u8]) -> Text
+pub(crate) fn who_line(head: ReplyHead<'_>, words: &[&[u8]], hops: u32, real: &[u8]) -> Text
     requires { length words.now < MAX_PARAMETERS }
     ensures { result.items ≡ line_behind head.entry (codes "352")
         (saying (words_now words.now) (in_a_row (decimal hops ∷ codes " " ∷ real.now ∷ []))) }
@@ -182,7 +187,7 @@ pub(crate) fn who_line(head: Head<'_>, words: &[&[u8]], hops: u32, real: &[u8]) 
     who_text(head, words, digits.format(hops).as_bytes(), real)
 }
 
-fn who_text<'a>(head: Head<'_>, words: &[&[u8]], hops: &'a [u8], real: &'a [u8]) -> Text
+fn who_text<'a>(head: ReplyHead<'_>, words: &[&[u8]], hops: &'a [u8], real: &'a [u8]) -> Text
     requires { length words.now < MAX_PARAMETERS }
     ensures { result.items ≡ line_behind head.entry (codes "352")
         (saying (words_now words.now) (in_a_row (hops.now ∷ codes " " ∷ real.now ∷ []))) }

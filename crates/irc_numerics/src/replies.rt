@@ -19,7 +19,7 @@ pub type ClientWords = Line;
 pub type TopicText = ArrayVec<u8, MAX_WORDS>;
 
 /// What a server says of itself.
-pub type Info = ArrayVec<u8, MAX_INFO>;
+pub type InfoText = ArrayVec<u8, MAX_INFO>;
 
 /// When a server was made.
 pub type Created = ArrayVec<u8, MAX_CREATED>;
@@ -29,7 +29,7 @@ pub type ModeLetters = ArrayVec<u8, MAX_MODE_LETTERS>;
 
 /// What a member of a channel is there.
 #[derive(Clone, Copy, PartialEq, Eq)]
-pub enum Mark {
+pub enum MemberMark {
     /// A member, and no more.
     Plain,
     /// A member that has a voice in a moderated channel (RFC 2811 section 2.4.2).
@@ -38,15 +38,15 @@ pub enum Mark {
     Operator,
 }
 
-impl Mark {
+impl MemberMark {
     /// What is written before the name of such a member.
     pub(crate) fn as_bytes(&self) -> &[u8]
         ensures { result.now ≡ mark_text self.now }
     {
         match self {
-            Mark::Plain => b"",
-            Mark::Voiced => b"+",
-            Mark::Operator => b"@",
+            MemberMark::Plain => b"",
+            MemberMark::Voiced => b"+",
+            MemberMark::Operator => b"@",
         }
     }
 }
@@ -79,7 +79,7 @@ impl Visibility {
 #[derive(Drop)]
 pub struct Listed {
     /// What it is on that channel.
-    pub mark: Mark,
+    pub mark: MemberMark,
     /// Its nickname.
     pub nick: Nick,
 }
@@ -94,7 +94,7 @@ impl Default for Listed {
             unreachable!();
         };
         Listed {
-            mark: Mark::Plain,
+            mark: MemberMark::Plain,
             nick,
         }
     }
@@ -104,7 +104,7 @@ impl Default for Listed {
 #[derive(Drop)]
 pub struct OnChannel {
     /// What the user is there.
-    pub mark: Mark,
+    pub mark: MemberMark,
     /// The name of the channel.
     pub channel: ChannelName,
 }
@@ -119,7 +119,7 @@ impl Default for OnChannel {
             unreachable!();
         };
         OnChannel {
-            mark: Mark::Plain,
+            mark: MemberMark::Plain,
             channel,
         }
     }
@@ -180,7 +180,7 @@ pub enum Reply {
     WhoisServer {
         nick: Nick,
         server: ServerName,
-        info: Info,
+        info: InfoText,
     },
     /// 315, with what was asked for.
     EndOfWho {
@@ -231,7 +231,7 @@ pub enum Reply {
         host: Host,
         server: ServerName,
         nick: Nick,
-        mark: Mark,
+        mark: MemberMark,
         hops: u32,
         real: RealName,
     },

@@ -6,12 +6,12 @@ ghost use Rattle.irc_numerics.specs.Replies.{reply_number, words};
 use crate::longer_lines::{client_line, entry_line, mode_line, own_line, welcome_line, who_line};
 use crate::replies::Reply;
 use crate::texts::{channel_or_star, channels_text, here, names_text, user_mode};
-use crate::writing::Head;
+use crate::writing::ReplyHead;
 use irc_line::Text;
 use itoa::Buffer;
 
 /// The line of a reply.
-pub(crate) fn table_line(head: Head<'_>, reply: &Reply) -> Text
+pub(crate) fn table_line(head: ReplyHead<'_>, reply: &Reply) -> Text
     ensures { result.items ≡ line_behind head.entry (reply_number reply.now) (words reply.now) }
 {
     let mut digits = Buffer::new();

@@ -3,7 +3,7 @@ ghost use Rattle.std.specs.Prelude.{◌≡◌, ◌++◌, map, codes, unwrap_or, 
 ghost use Rattle.irc_line.specs.Bytes.{cut};
 ghost use Rattle.irc_numerics.specs.Replies.{spaced, marked_nick, mark_text, on_channel};
 
-use crate::replies::{Listed, Mark, OnChannel};
+use crate::replies::{Listed, MemberMark, OnChannel};
 use crate::writing::push_entry;
 use arrayvec::ArrayVec;
 use irc_line::Line;
@@ -27,13 +27,13 @@ pub(crate) fn channel_or_star(channel: &Option<ChannelName>) -> &[u8]
 }
 
 /// `H` for a user that is here, which each user is, and its mark.
-pub(crate) fn here(mark: &Mark) -> &[u8]
+pub(crate) fn here(mark: &MemberMark) -> &[u8]
     ensures { result.now ≡ codes "H" ++ mark_text mark.now }
 {
     match mark {
-        Mark::Plain => b"H",
-        Mark::Voiced => b"H+",
-        Mark::Operator => b"H@",
+        MemberMark::Plain => b"H",
+        MemberMark::Voiced => b"H+",
+        MemberMark::Operator => b"H@",
     }
 }
 

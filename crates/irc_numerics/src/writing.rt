@@ -6,7 +6,7 @@ ghost use Rattle.irc_line.specs.MessageViews.{optional_now, params_now};
 ghost use Rattle.irc_numerics.specs.Loops.Heads.{line_behind};
 ghost use Rattle.irc_numerics.specs.Replies.{reply_text, plain, said, saying, in_a_row, mark_text};
 
-use crate::replies::{Mark, Reply};
+use crate::replies::{MemberMark, Reply};
 use crate::table::table_line;
 use arrayvec::ArrayVec;
 use irc_line::limits::{MAX_LINE, MAX_PARAMETERS};
@@ -25,7 +25,7 @@ pub fn reply_line(server: &ServerName, nick: Option<&Nick>, reply: &Reply) -> Te
         None => NO_NAME,
         Some(nick) => nick.as_bytes(),
     };
-    let head = Head {
+    let head = ReplyHead {
         server: server.as_bytes(),
         name,
     };
@@ -34,12 +34,12 @@ pub fn reply_line(server: &ServerName, nick: Option<&Nick>, reply: &Reply) -> Te
 
 /// What is the same in each reply to a client: its server's name, and the reply name.
 #[derive(Clone, Copy)]
-pub(crate) struct Head<'a> {
+pub(crate) struct ReplyHead<'a> {
     pub(crate) server: &'a [u8],
     pub(crate) name: &'a [u8],
 }
 
-impl Head<'_> {
+impl ReplyHead<'_> {
     /// A reply of words without a space.
     pub(crate) fn plain(self, number: &[u8], words: &[&[u8]]) -> Text
         requires { length words.now < MAX_PARAMETERS }
@@ -139,7 +139,7 @@ fn push(text: &mut Line, bytes: &[u8])
 }
 
 /// Appends an entry of a list, which one space parts from the entry before it.
-pub(crate) fn push_entry(text: &mut Line, place: usize, mark: Mark, name: &[u8])
+pub(crate) fn push_entry(text: &mut Line, place: usize, mark: MemberMark, name: &[u8])
     ensures first { place ≡ 0
         → text.new.items ≡ cut (text.old.items ++ (mark_text mark ++ name.now)) }
     ensures later { 0 < place
@@ -154,7 +154,7 @@ pub(crate) fn push_entry(text: &mut Line, place: usize, mark: Mark, name: &[u8])
 }
 
 /// Appends a name behind its mark.
-fn push_marked(text: &mut Line, mark: Mark, name: &[u8])
+fn push_marked(text: &mut Line, mark: MemberMark, name: &[u8])
     ensures { text.new.items ≡ cut (text.old.items ++ (mark_text mark ++ name.now)) }
 {
     push(text, mark.as_bytes());

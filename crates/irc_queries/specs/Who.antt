@@ -11,8 +11,8 @@ use Rattle.irc_users.specs.declared.user.User.{User}
 use Rattle.irc_users.specs.UserTable.{is_found_by}
 use Rattle.irc_channels.specs.declared.flags.Flags.{Flags}
 use Rattle.irc_channels.specs.declared.channel.Channel.{Channel}
-use Rattle.irc_numerics.specs.declared.replies.Mark.{Mark}
-use Rattle.irc_numerics.specs.declared.replies.Mark.TheVariants.{Plain}
+use Rattle.irc_numerics.specs.declared.replies.MemberMark.{MemberMark}
+use Rattle.irc_numerics.specs.declared.replies.MemberMark.TheVariants.{Plain}
 use Rattle.irc_numerics.specs.declared.replies.Reply.TheVariants.{WhoReply, EndOfWho}
 use Rattle.irc_room.specs.Room.{Room}
 use Rattle.irc_routes.specs.Place.{Place, server_named}
@@ -28,7 +28,7 @@ abbrev pub hops_to : Place → List ℕ → ℕ
 hops_to place home = option_map_or (λ server. server.distance) (server_named place home) 0
 
 -- a user, and what it is in the channel that was asked for, if one was
-abbrev pub user_line : Place → Option (List ℕ) → Mark → User → Act
+abbrev pub user_line : Place → Option (List ℕ) → MemberMark → User → Act
 user_line place channel mark user =
     Answer (WhoReply channel user.user user.host user.home user.nick mark
     (hops_to place user.home) user.real)

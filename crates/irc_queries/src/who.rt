@@ -3,7 +3,7 @@ ghost use Rattle.std.specs.Prelude.{◌≡◌, ◌&&◌, None, Some, [], ◌∷�
 ghost use Rattle.irc_batch.specs.Growing.{Grew};
 ghost use Rattle.irc_line.specs.PartViews.{words_now};
 ghost use Rattle.irc_tables.specs.RowViews.{row_entry};
-ghost use Rattle.irc_numerics.specs.declared.replies.Mark.TheVariants.{Plain};
+ghost use Rattle.irc_numerics.specs.declared.replies.MemberMark.TheVariants.{Plain};
 ghost use Rattle.irc_routes.specs.Known.{place_of};
 ghost use Rattle.irc_acts.specs.declared.act.Act.TheVariants.{Answer};
 ghost use Rattle.irc_queries.specs.Who.{asks_for_operators, end_of_who, hops_to, is_asked_for};
@@ -21,7 +21,7 @@ use irc_acts::words::{client_words, names_channel};
 use irc_batch::Batch;
 use irc_channels::{Channel, Flags, Stored};
 use irc_names::{ChannelName, ServerName};
-use irc_numerics::{Mark, Reply};
+use irc_numerics::{MemberMark, Reply};
 use irc_routes::{Routes, laws};
 use irc_tables::Row;
 use irc_users::User;
@@ -216,7 +216,7 @@ fn say_user(
     ensures grew { Grew out.old.outs out.new.outs }
 {
     if is_asked_for(mask, user) && is_seen(context.me, own, user) {
-        let line = user_line(context.routes, None, Mark::Plain, user);
+        let line = user_line(context.routes, None, MemberMark::Plain, user);
         say(context, &line, conn, out)
     } else {
         Ok(())
@@ -231,7 +231,7 @@ fn is_asked_for(mask: &[u8], user: &User) -> bool
 }
 
 /// A user, and what it is in the channel that was asked for, if one was.
-fn user_line(routes: &Routes, channel: Option<ChannelName>, mark: Mark, user: &User) -> Reply
+fn user_line(routes: &Routes, channel: Option<ChannelName>, mark: MemberMark, user: &User) -> Reply
     ensures { Answer result ≡ user_line (place_of routes.now) channel mark user.now }
 {
     Reply::WhoReply {

@@ -22,7 +22,7 @@ use irc_acts::{Act, Context, only, put};
 use irc_channels::{Channel, Stored};
 use irc_names::{ServerName, copied};
 use irc_numerics::limits::MAX_WHOIS_CHANNELS;
-use irc_numerics::{Info, OnChannel, Reply};
+use irc_numerics::{InfoText, OnChannel, Reply};
 use irc_routes::{Routes, laws};
 use irc_tables::Row;
 use irc_users::User;
@@ -135,7 +135,7 @@ fn server_line(routes: &Routes, user: &User) -> Act
 }
 
 /// How the server of a name describes itself.
-fn info_of(routes: &Routes, home: &ServerName) -> Info
+fn info_of(routes: &Routes, home: &ServerName) -> InfoText
     ensures { result.items ≡ info_of (place_of routes.now) home.now }
 {
     laws::place_tells();

@@ -21,12 +21,10 @@ use Rattle.irc_names.specs.TableLaws.{row-alter_same, same_table}
 use Rattle.irc_tables.specs.Lemmas.OrderedEntries.{less_is}
 use Rattle.irc_tables.specs.Lemmas.RowsAsTable.{alter_alike, alter-absent}
 use Rattle.irc_users.specs.declared.user.User.{User}
-use Rattle.irc_users.specs.UserTable.{is_home, with_nick, with_invisible}
+use Rattle.irc_users.specs.UserTable.{is_home, with_nick, with_change}
 use Rattle.irc_effects.specs.declared.effect.Effect.{Effect}
-use Rattle.irc_effects.specs.declared.effect.Effect.TheVariants.{AddUser, Rename, Quit, Join, Part}
-use Rattle.irc_effects.specs.declared.effect.Effect.TheVariants.{Kick}
-use Rattle.irc_effects.specs.declared.effect.Effect.TheVariants.{ChangeModes, SetTopic, Say, Invite}
-use Rattle.irc_effects.specs.declared.effect.Effect.TheVariants.{UserMode}
+use Rattle.irc_effects.specs.declared.effect.Effect.TheVariants.{AddUser, Rename, Quit}
+use Rattle.irc_effects.specs.declared.effect.Effect.TheVariants.{ChangeUser}
 use Rattle.irc_effects.specs.Room.{Room}
 use Rattle.irc_effects.specs.After.{after}
 use Rattle.irc_effects.specs.Effects.{brings_free}
@@ -205,19 +203,13 @@ counted_after home room (Rename nick new) free =
     )
 counted_after home room (Quit nick text) free =
     omega (arith, taken_counted (is_home home) (key nick) room.users)
-counted_after home room (Join nick name op) free = refl
-counted_after home room (Part nick name text) free = refl
-counted_after home room (Kick by name nick text) free = refl
-counted_after home room (ChangeModes by name changes) free = refl
-counted_after home room (SetTopic by name text) free = refl
-counted_after home room (Say by notice target text) free = refl
-counted_after home room (Invite by nick name) free = refl
-counted_after home room (UserMode nick invisible) free =
+counted_after home room (ChangeUser nick change) free =
     omega (
       arith,
-      kept_counted (is_home home) (key nick) (with_invisible invisible) room.users
+      kept_counted (is_home home) (key nick) (with_change change) room.users
           (λ user. refl),
     )
+counted_after home room other free = refl
 
 -- who quits is among those who are there
 pub one_among : (home : List ℕ) (users : Table User) (nick : List ℕ)

@@ -74,8 +74,8 @@ fn change(
         }
         Effect::Say { .. } => Ok(()),
         Effect::Invite { nick, channel, .. } => channels.invite(nick, channel),
-        Effect::UserMode { nick, invisible } => {
-            users.set_invisible(nick, *invisible);
+        Effect::ChangeUser { nick, change } => {
+            users.change(nick, change);
             Ok(())
         }
     }

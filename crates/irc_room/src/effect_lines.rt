@@ -12,8 +12,8 @@ ghost use Rattle.irc_room.specs.Loops.LineViews.{IsByUser, IsOfUsers, IsTargeted
 ghost use Rattle.irc_room.specs.Loops.LineViews.{ShowsAll, ShowsAt};
 
 use crate::lines::{
-    invite_line, join_line, kick_line, mode_line, nick_line, part_line, quit_line, say_line,
-    topic_line, user_mode_line,
+    change_line, invite_line, join_line, kick_line, mode_line, nick_line, part_line, quit_line,
+    say_line, topic_line,
 };
 use crate::{By, Effect, Named, Tables, Target};
 use irc_line::{Prefix, Text};
@@ -52,15 +52,17 @@ pub fn effect_line(
     }
 }
 
-/// Whether an effect shows a line at all: it does where whoever brings it about is there.
+/// Whether an effect shows a line at all: it does where whoever brings it about is there, but for a
+/// change of a user that is not shown.
 pub(crate) fn has_line(effect: &Effect, named: Named<'_>) -> bool
     ensures { (room : Room) → IsNamed room effect.now named.entry
         → (viewer : User) → is_some (shown_line room effect.now viewer) ≡ result }
 {
-    match effect.doer() {
-        Some(_) => named.doer.is_some(),
+    match effect {
+        Effect::AddUser(_) => false,
+        Effect::ChangeUser { change, .. } => change.is_shown() && named.doer.is_some(),
         // A server always is there.
-        None => !matches!(effect, Effect::AddUser(_)),
+        _ => effect.doer().is_none() || named.doer.is_some(),
     }
 }
 
@@ -124,10 +126,10 @@ fn user_line(effect: &Effect, named: Named<'_>, line: &mut Text) -> bool
             text.as_slice(),
             line,
         ),
-        Effect::UserMode { nick, invisible } => user_mode_line(
+        Effect::ChangeUser { nick, change } => change_line(
             named.sender(),
             named.doer_nick(nick),
-            *invisible,
+            change,
             line,
         ),
         _ => unreachable!(),

@@ -1,16 +1,19 @@
 //! The line that each kind of effect shows (RFC 2812 section 3). Where the doer is not there, there
 //! is none.
 ghost use Rattle.std.specs.Prelude.{◌≡◌, None, Some, [], ◌∷◌, codes};
+ghost use Rattle.std.specs.Option.{option_map};
 ghost use Rattle.irc_line.specs.Messages.{text};
 ghost use Rattle.irc_line.specs.MessageViews.{optional_now};
 ghost use Rattle.irc_line.specs.PartViews.{sender, words_now};
+ghost use Rattle.irc_effects.specs.Seen.{change_parts};
 ghost use Rattle.irc_room.specs.Loops.LineViews.{invisible_word, mode_params, mode_parts};
-ghost use Rattle.irc_room.specs.Loops.LineViews.{say_command, Writes};
+ghost use Rattle.irc_room.specs.Loops.LineViews.{line_if, say_command, Writes};
 
 use crate::Tables;
 use crate::mode_letters::push_changes;
 use irc_line::{Parts, Prefix, Text, push_cut, push_prefix, write_message};
 use irc_modes::ModeChange;
+use irc_users::UserChange;
 
 /// Writes the line with these tables, if there is somebody who sends it. Here and below: tells
 /// whether it did.
@@ -162,13 +165,24 @@ pub(crate) fn invite_line<'a>(
     write_line(doer, b"INVITE", &[nick, channel], None, line)
 }
 
-/// A user's mode i changes (RFC 2812 section 3.1.5).
-pub(crate) fn user_mode_line(
+/// A user changes what it has set of itself (RFC 2812 section 3.1.5). A change that is not shown
+/// has no line.
+pub(crate) fn change_line(
     doer: Option<Prefix<'_>>,
     nick: &[u8],
-    invisible: bool,
+    change: &UserChange,
     line: &mut Text,
 ) -> bool
+    ensures { line_if result line.new
+        ≡ option_map text (change_parts nick.now change.now (option_map sender doer.entry)) }
+{
+    match change {
+        UserChange::Invisible(invisible) => user_mode_line(doer, nick, *invisible, line),
+    }
+}
+
+/// A user's mode i changes (RFC 2812 section 3.1.5).
+fn user_mode_line(doer: Option<Prefix<'_>>, nick: &[u8], invisible: bool, line: &mut Text) -> bool
     ensures { Writes result line.new doer.entry (codes "MODE")
         (nick.now ∷ invisible_word invisible ∷ []) None }
 {

@@ -7,8 +7,8 @@ ghost use Rattle.irc_channels.specs.Channels.{has_member};
 ghost use Rattle.irc_effects.specs.Effects.{is_member};
 ghost use Rattle.irc_room.specs.Indexes.{holds, own_names};
 ghost use Rattle.irc_room.specs.Loops.Viewing.{hears, hears_text, is_in_any, is_one_of, is_sharer};
-ghost use Rattle.irc_room.specs.Loops.Viewing.{sees_join, sees_quit, sees_rename, user_named};
-ghost use Rattle.irc_room.specs.Loops.Viewing.{AreSharers, Finds, Gains};
+ghost use Rattle.irc_room.specs.Loops.Viewing.{sees_change, sees_join, sees_quit, sees_rename};
+ghost use Rattle.irc_room.specs.Loops.Viewing.{user_named, AreSharers, Finds, Gains};
 ghost use Rattle.irc_effects.specs.Found.{users_under};
 ghost use Rattle.irc_effects.specs.Readers.{users_now};
 ghost use Rattle.irc_effects.specs.Seen.{sees};
@@ -17,7 +17,7 @@ use crate::{Effect, IndexedChannels, Tables, Target};
 use irc_channels::Flags;
 use irc_names::{ChannelName, MAX_CHANNEL, Nick};
 use irc_tables::{NameTable, Row};
-use irc_users::{User, Users};
+use irc_users::{User, UserChange, Users};
 use std::alloc::{AllocError, Global};
 
 /// The users that see an effect, found by the names that stand in the channels it is about: besides
@@ -39,7 +39,8 @@ pub(crate) fn viewers<'a>(
         | Effect::ChangeModes { channel, .. }
         | Effect::SetTopic { channel, .. } => members(alloc, tables, channel),
         Effect::Say { by, target, .. } => hearers(alloc, tables, by, target),
-        Effect::Invite { nick, .. } | Effect::UserMode { nick, .. } => only(alloc, tables, nick),
+        Effect::Invite { nick, .. } => only(alloc, tables, nick),
+        Effect::ChangeUser { nick, change } => told_itself(alloc, tables, nick, change),
     }
 }
 
@@ -57,6 +58,22 @@ fn hearers<'a>(
         Target::User(nick) => only(alloc, tables, nick),
         Target::Channel(channel) => others(alloc, tables, by, channel),
     }
+}
+
+/// The user that changes what it has set of itself, where it is told of the change.
+fn told_itself<'a>(
+    alloc: Global,
+    tables: &'a Tables,
+    nick: &Nick,
+    change: &UserChange,
+) -> Result<Vec<&'a User, Global>, AllocError>
+    ensures { IfOk result
+        (λ found. Finds tables.now (λ room. sees_change nick.now change.now) found.items) }
+{
+    if !change.is_shown() {
+        return Ok(Vec::new(alloc));
+    }
+    only(alloc, tables, nick)
 }
 
 /// The user of a nickname, if it is there.

@@ -5,14 +5,14 @@ use Rattle.std.proofs.lemmas.Grind.{flat_map-append}
 use Rattle.std.proofs.lemmas.List.Elements.{filter_map-append}
 use Rattle.std.proofs.lemmas.List.Folds.{flat_map-map}
 use Rattle.std.specs.List.{cons_option, flat_map}
-use Rattle.irc_net.specs.ByteNetwork.{ByteProgress, ByteNetwork, item_given}
+use Rattle.irc_net.specs.ByteNetwork.{ByteNetwork, item_given}
 use Rattle.irc_net.specs.declared.fault.NetFault.{NetFault}
 use Rattle.irc_net.specs.Calls.{Delivers, delivers_it, delivery, piece, piece_count, settles_it}
 use Rattle.irc_net.specs.Calls.{standing, takes_them}
 use Rattle.irc_net.specs.Faults.{deliver_fault, item_fault}
 use Rattle.irc_net.specs.Laws.{AnswersAreReceived, HasReceived}
 use Rattle.irc_net.specs.NetworkLaws.{ReceiptsAreReceived}
-use Rattle.irc_net.specs.Network.{Receipt, lines_of_client, received_by}
+use Rattle.irc_net.specs.Network.{Progress, Receipt, lines_of_client, received_by}
 use Rattle.irc_net.specs.Stepping.{Item}
 use Rattle.irc_script.specs.Moves.{Move, gives, delivers_line, takes_bytes, settles_all}
 use Rattle.irc_script.specs.OneRoom.{ScriptEntry, counts, entry_text, line_to, lines_shown_to}
@@ -72,7 +72,7 @@ receipts_shown client [] = refl
 receipts_shown client (receipt ∷ receipts) =
     ap (cons_option (line_to client (receives receipt))) (receipts_shown client receipts)
 
-progress_shown : (first : ByteNetwork) (progress : ByteProgress)
+progress_shown : (first : ByteNetwork) (progress : Progress ByteNetwork)
     → HasReceived first progress.net progress.receipts
     → Shows first progress.net (flat_map printed progress.receipts)
 progress_shown first progress are = record {
@@ -83,7 +83,7 @@ progress_shown first progress are = record {
 }
 
 -- lines were taken, and their number is printed behind
-taken_shown : (first : ByteNetwork) (progress : ByteProgress) (count : ℕ)
+taken_shown : (first : ByteNetwork) (progress : Progress ByteNetwork) (count : ℕ)
     → HasReceived first progress.net progress.receipts
     → Shows first progress.net (taken_text count progress.receipts)
 taken_shown first progress count are =
@@ -111,7 +111,8 @@ module _ (law : ReceiptsAreReceived) (answers : AnswersAreReceived) where
       by (Some fault) e = subst (ShowsOutcome first) (sym e) (refusal_shown first fault)
   comes_shown first (delivers_line from to) outcome is = by (deliver_fault first from to) refl is
     where
-      came : deliver_fault first from to ≡ None → (progress : ByteProgress) → delivery first from to
+      came : deliver_fault first from to ≡ None → (progress : Progress ByteNetwork)
+          → delivery first from to
           ≡ Some progress → HasReceived first progress.net progress.receipts
       came none progress some =
           answers.delivered (standing first) (standing progress.net) from to true progress.receipts
@@ -119,7 +120,7 @@ module _ (law : ReceiptsAreReceived) (answers : AnswersAreReceived) where
           (subst (λ o. Delivers o first true progress.receipts (standing progress.net)) (sym some)
           (refl, refl, refl)))
 
-      took : deliver_fault first from to ≡ None → (o : Option ByteProgress)
+      took : deliver_fault first from to ≡ None → (o : Option (Progress ByteNetwork))
           → delivery first from to ≡ o → outcome ≡ delivered_by o first → ShowsOutcome first outcome
       took none None nothing_there e = subst (ShowsOutcome first) (sym e) (count_shown first 0)
       took none (Some progress) some e =

@@ -2,7 +2,7 @@
 use Rattle.std.proofs.Common.{◌≡◌, ℕ, Bool, true, false, cond, Option, Some, None, Result, Ok, Err}
 use Rattle.std.proofs.Common.{List, [], ◌∷◌, ap, sym, subst, refl, ◌∙◌}
 use Rattle.std.specs.List.{flat_map}
-use Rattle.irc_net.specs.ByteNetwork.{ByteProgress, ByteNetwork, item_given}
+use Rattle.irc_net.specs.ByteNetwork.{ByteNetwork, item_given}
 use Rattle.irc_net.specs.declared.answer.Answer.{Answer}
 use Rattle.irc_net.specs.receipt.Receipt.{Receipt as KeptReceipt}
 use Rattle.irc_net.specs.declared.fault.NetFault.{NetFault}
@@ -12,7 +12,7 @@ use Rattle.irc_net.specs.Calls.{taking_wants_memory, taking_by_failed, given_it,
 use Rattle.irc_net.specs.Calls.{given_wants_memory, given_to_failed, delivers_it, delivery_refused}
 use Rattle.irc_net.specs.Calls.{delivery_wants_memory, delivery_by_failed, settles_it}
 use Rattle.irc_net.specs.Faults.{deliver_fault, is_refusal}
-use Rattle.irc_net.specs.Network.{Receipt}
+use Rattle.irc_net.specs.Network.{Progress, Receipt}
 use Rattle.irc_net.specs.NetworkViews.{receipts_of}
 use Rattle.irc_relay.specs.Links.{Name}
 use Rattle.irc_net.specs.Stepping.{Item}
@@ -83,18 +83,18 @@ refusal_played r first last item fault old new (given_to_failed failed) p =
 
 taken_so : (r : Result (Unit {0}) Trouble) (first last : NetView)
     (from to : Name) (was_taken : Bool) (receipts : List Receipt) (old new : Sink)
-    → deliver_fault first.network from to ≡ None → (o : Option ByteProgress)
+    → deliver_fault first.network from to ≡ None → (o : Option (Progress ByteNetwork))
     → delivery first.network from to ≡ o → Delivers o first.network was_taken receipts last
     → IsPut r old new (taken_text (taken_count was_taken) receipts)
     → IsPlayed r first.network (delivers_line from to ∷ []) last.network old new
 taken_so r first last from to was_taken receipts old new none o is so p = by o is so
   where
-    comes : (o : Option ByteProgress) → delivery first.network from to ≡ o
+    comes : (o : Option (Progress ByteNetwork)) → delivery first.network from to ≡ o
         → Comes first.network (delivers_line from to) (delivered_by o first.network)
     comes o is = sym (ap (λ (f : Option NetFault). delivered_or f from to first.network) none
-        ∙ ap (λ (c : Option ByteProgress). delivered_by c first.network) is)
+        ∙ ap (λ (c : Option (Progress ByteNetwork)). delivered_by c first.network) is)
 
-    by : (o : Option ByteProgress) → delivery first.network from to ≡ o
+    by : (o : Option (Progress ByteNetwork)) → delivery first.network from to ≡ o
         → Delivers o first.network was_taken receipts last
         → IsPlayed r first.network (delivers_line from to ∷ []) last.network old new
     by None is so =

@@ -7,10 +7,10 @@ use Rattle.std.specs.List.{find, list_all}
 use Rattle.std.specs.Option.{option_map, option_map_or}
 use Rattle.std.specs.Ordering.{nat_cmp}
 use Rattle.irc_line.specs.Lines.{has_nothing}
-use Rattle.irc_net.specs.ByteNetwork.{ByteProgress, ByteNetwork, is_byte_rest}
+use Rattle.irc_net.specs.ByteNetwork.{ByteNetwork, is_byte_rest}
 use Rattle.irc_net.specs.Turns.{TurnsGo, lines_in_turn, none_yet, turn_first, turn_in, turn_taken}
 use Rattle.irc_net.specs.Calls.{NetView, Settles, standing}
-use Rattle.irc_net.specs.Network.{Receipt, max_count}
+use Rattle.irc_net.specs.Network.{Progress, Receipt, max_count}
 use Rattle.irc_room.specs.Lemmas.Rows.{same_some}
 use Rattle.irc_wires.specs.Wires.{Direction, LinkWire, Wires, are_still, are_still_in, first_from}
 use Rattle.irc_wires.specs.Wires.{first_in, has_byte, is_none, is_still, wire_in}
@@ -45,22 +45,23 @@ none_from place (row ∷ wires) still =
     way : ℕ → ℕ → Direction
     way from to = record { from = from; to = to }
 
-no_turn : (progress : ByteProgress) → is_byte_rest progress.net ≡ true → turn_taken progress ≡ None
+no_turn : (progress : Progress ByteNetwork) → is_byte_rest progress.net ≡ true
+    → turn_taken progress ≡ None
 no_turn progress rest = ap (option_map (turn_in progress)) (none_from 0 progress.net.wires rest)
 
-never_on : (progress : ByteProgress) {between : ByteProgress} → is_byte_rest progress.net ≡ true
-    → turn_taken progress ≡ Some between → ⊥
+never_on : (progress : Progress ByteNetwork) {between : Progress ByteNetwork}
+    → is_byte_rest progress.net ≡ true → turn_taken progress ≡ Some between → ⊥
 never_on progress rest turn = cc (sym (no_turn progress rest) ∙ turn)
 
 -- ---- one end
 
-record SameTurns (count other : ℕ) (last next : ByteProgress) : Type 0 where
+record SameTurns (count other : ℕ) (last next : Progress ByteNetwork) : Type 0 where
   count_is : count ≡ other
   last_is : last ≡ next
 
-turns_one : {count other : ℕ} {progress last next : ByteProgress} → TurnsGo count progress last
-    → is_byte_rest last.net ≡ true → TurnsGo other progress next → is_byte_rest next.net ≡ true
-    → SameTurns count other last next
+turns_one : {count other : ℕ} {progress last next : Progress ByteNetwork}
+    → TurnsGo count progress last → is_byte_rest last.net ≡ true → TurnsGo other progress next
+    → is_byte_rest next.net ≡ true → SameTurns count other last next
 turns_one none_yet rest none_yet rest' = record { count_is = refl; last_is = refl }
 turns_one {progress = progress} none_yet rest (turn_first turn all goes) rest' =
     absurd (never_on progress rest turn)
@@ -94,9 +95,11 @@ settles_one one another =
     record {
       count_is = one.counts ∙ ap (λ n. min n max_count) same.count_is ∙ sym another.counts;
       receipts_are =
-          one.received ∙ ap (λ (c : ByteProgress). c.receipts) same.last_is ∙ sym another.received;
+          one.received ∙ ap (λ (c : Progress ByteNetwork). c.receipts) same.last_is
+          ∙ sym another.received;
       last_is =
-          ap (λ (v : NetView). v.network) one.after ∙ ap (λ (c : ByteProgress). c.net) same.last_is
+          ap (λ (v : NetView). v.network) one.after
+          ∙ ap (λ (c : Progress ByteNetwork). c.net) same.last_is
           ∙ sym (ap (λ (v : NetView). v.network) another.after);
     }
 

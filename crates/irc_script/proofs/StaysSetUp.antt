@@ -3,12 +3,12 @@ use Rattle.std.proofs.Common.{◌≡◌, ℕ, Bool, true, false, Option, Some, N
 use Rattle.std.proofs.Common.{sym, refl, ◌∙◌, ap, if◌then◌else◌}
 use Rattle.std.specs.List.{filter_map}
 use Rattle.std.specs.Option.{option_and_then, option_map_or}
-use Rattle.irc_net.specs.ByteNetwork.{ByteProgress, ByteNetwork, byte_begun}
+use Rattle.irc_net.specs.ByteNetwork.{ByteNetwork}
 use Rattle.irc_net.specs.declared.fault.NetFault.{NetFault}
 use Rattle.irc_net.specs.Calls.{delivery, line_between, piece_between, wire_between}
 use Rattle.irc_net.specs.Faults.{deliver_fault, item_fault}
 use Rattle.irc_net.specs.Laws.{SettingsStay}
-use Rattle.irc_net.specs.Network.{LinkPlaces, link_places}
+use Rattle.irc_net.specs.Network.{Progress, LinkPlaces, begun, link_places}
 use Rattle.irc_net.specs.SetUp.{setting_at, settings_of}
 use Rattle.irc_net.specs.World.{Setting}
 use Rattle.irc_relay.specs.Links.{Name}
@@ -38,7 +38,7 @@ abbrev settings_at : MoveOutcome → List Setting
 settings_at outcome = settings_of outcome.network.network
 
 module _ (law : SettingsStay) where
-  line_set_up : (first : ByteNetwork) (o : Option LinkPlaces) (progress : ByteProgress)
+  line_set_up : (first : ByteNetwork) (o : Option LinkPlaces) (progress : Progress ByteNetwork)
       → option_and_then (line_between first) o ≡ Some progress
       → settings_of progress.net.network ≡ settings_of first.network
   line_set_up first None progress is = absurd (cc is)
@@ -47,19 +47,19 @@ module _ (law : SettingsStay) where
       count : ℕ
       count = through_line_feed (wire_between first ends).bytes
 
-      same_some : (a b : ByteProgress) → Some a ≡ Some b → a ≡ b
+      same_some : (a b : Progress ByteNetwork) → Some a ≡ Some b → a ≡ b
       same_some a b e = cc e
 
       by : (b : Bool)
-          → ◌≡◌ {A = Option ByteProgress} (if b then Some (piece_between count first ends)
+          → ◌≡◌ {A = Option (Progress ByteNetwork)} (if b then Some (piece_between count first ends)
           else None) (Some progress) → settings_of progress.net.network ≡ settings_of first.network
-      by true e = ap (λ (c : ByteProgress). settings_of c.net.network)
+      by true e = ap (λ (c : Progress ByteNetwork). settings_of c.net.network)
           (sym (same_some (piece_between count first ends) progress e))
           ∙ (law.come first ends.near ends.far count).settings
       by false e = absurd (cc e)
 
   piece_set_up : (first : ByteNetwork) (count : ℕ) (o : Option LinkPlaces)
-      → settings_of (option_map_or (piece_between count first) o (byte_begun first)).net.network
+      → settings_of (option_map_or (piece_between count first) o (begun first)).net.network
       ≡ settings_of first.network
   piece_set_up first count None = refl
   piece_set_up first count (Some ends) = (law.come first ends.near ends.far count).settings
@@ -74,7 +74,7 @@ module _ (law : SettingsStay) where
   comes_set_up first (delivers_line from to) outcome is =
       ap settings_at is ∙ by (deliver_fault first from to)
     where
-      took : (o : Option ByteProgress) → delivery first from to ≡ o
+      took : (o : Option (Progress ByteNetwork)) → delivery first from to ≡ o
           → settings_at (delivered_by o first) ≡ settings_of first.network
       took None none = refl
       took (Some progress) some =

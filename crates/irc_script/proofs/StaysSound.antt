@@ -4,13 +4,13 @@ use Rattle.std.proofs.Common.{if◌then◌else◌}
 use Rattle.std.specs.Bool.{⊤}
 use Rattle.std.specs.List.{AllByRecursion}
 use Rattle.std.specs.Option.{option_and_then, option_map_or}
-use Rattle.irc_net.specs.ByteNetwork.{ByteProgress, ByteNetwork, byte_begun}
+use Rattle.irc_net.specs.ByteNetwork.{ByteNetwork}
 use Rattle.irc_net.specs.declared.fault.NetFault.{NetFault}
 use Rattle.irc_net.specs.Calls.{delivery, line_between, piece_between, wire_between}
 use Rattle.irc_net.specs.Faults.{deliver_fault, item_fault}
 use Rattle.irc_net.specs.Laws.{StaysKept}
 use Rattle.irc_net.specs.OneRoom.{IsKeptSound}
-use Rattle.irc_net.specs.Network.{LinkPlaces, link_places}
+use Rattle.irc_net.specs.Network.{Progress, LinkPlaces, begun, link_places}
 use Rattle.irc_room.specs.Lemmas.Rows.{same_some}
 use Rattle.irc_wires.specs.Wires.{has_byte, through_line_feed}
 use Rattle.irc_net.specs.WithinLimits.{IsItemWithin}
@@ -34,26 +34,28 @@ abbrev IsKeptIn : MoveOutcome → Type 0
 IsKeptIn outcome = IsKeptSound outcome.network
 
 -- the line that comes between two servers, if one does
-line_kept : StaysKept → (first : ByteNetwork) (o : Option LinkPlaces) (progress : ByteProgress)
-    → option_and_then (line_between first) o ≡ Some progress → IsKeptSound first
-    → IsKeptSound progress.net
+line_kept : StaysKept → (first : ByteNetwork) (o : Option LinkPlaces)
+    (progress : Progress ByteNetwork) → option_and_then (line_between first) o ≡ Some progress
+    → IsKeptSound first → IsKeptSound progress.net
 line_kept laws first None progress is kept = absurd (cc is)
 line_kept laws first (Some ends) progress is kept = by (has_byte (wire_between first ends)) is
   where
     count : ℕ
     count = through_line_feed (wire_between first ends).bytes
 
-    by : (b : Bool) → ◌≡◌ {A = Option ByteProgress} (if b then Some (piece_between count first ends)
+    by : (b : Bool)
+        → ◌≡◌ {A = Option (Progress ByteNetwork)} (if b then Some (piece_between count first ends)
         else None) (Some progress) → IsKeptSound progress.net
     by true e =
-        subst (λ (c : ByteProgress). IsKeptSound c.net) (same_some (piece_between count first ends)
+        subst (λ (c : Progress ByteNetwork). IsKeptSound c.net)
+        (same_some (piece_between count first ends)
         progress e) (laws.come first ends.near ends.far count kept)
     by false e = absurd (cc e)
 
 -- the bytes that come between two servers, if there are such
 piece_kept : StaysKept → (first : ByteNetwork) (count : ℕ)
     (o : Option LinkPlaces) → IsKeptSound first
-    → IsKeptSound (option_map_or (piece_between count first) o (byte_begun first)).net
+    → IsKeptSound (option_map_or (piece_between count first) o (begun first)).net
 piece_kept laws first count None kept = kept
 piece_kept laws first count (Some ends) kept = laws.come first ends.near ends.far count kept
 
@@ -68,8 +70,8 @@ comes_kept laws first (gives item) outcome within is kept = by (item_fault first
 comes_kept laws first (delivers_line from to) outcome within is kept =
     by (deliver_fault first from to) is
   where
-    took : (o : Option ByteProgress) → delivery first from to ≡ o → outcome ≡ delivered_by o first
-        → IsKeptSound outcome.network
+    took : (o : Option (Progress ByteNetwork)) → delivery first from to ≡ o
+        → outcome ≡ delivered_by o first → IsKeptSound outcome.network
     took None none e = subst IsKeptIn (sym e) kept
     took (Some progress) some e = subst IsKeptIn (sym e)
         (line_kept laws first (link_places first.network from to) progress some kept)

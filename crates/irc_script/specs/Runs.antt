@@ -5,10 +5,10 @@ use Rattle.std.specs.Prelude.{IfSome}
 use Rattle.std.specs.Io.KnownBytes.{Appends}
 use Rattle.std.specs.List.{flat_map}
 use Rattle.irc_net.specs.declared.fault.NetFault.{NetFault}
-use Rattle.irc_net.specs.ByteNetwork.{ByteProgress, ByteNetwork, item_given}
+use Rattle.irc_net.specs.ByteNetwork.{ByteNetwork, item_given}
 use Rattle.irc_net.specs.Calls.{Settles, delivery, piece, piece_count, standing}
 use Rattle.irc_net.specs.Faults.{deliver_fault, item_fault}
-use Rattle.irc_net.specs.Network.{Receipt}
+use Rattle.irc_net.specs.Network.{Progress, Receipt}
 use Rattle.irc_relay.specs.Links.{Name}
 use Rattle.irc_net.specs.Stepping.{Item}
 use Rattle.irc_script.specs.declared.fault.SimFault.{SimFault}
@@ -28,7 +28,7 @@ pub record MoveOutcome : Type 0 where
 abbrev pub move_refused : NetFault → ByteNetwork → MoveOutcome
 move_refused fault net = record { text = refusal_line (fault_number fault); network = net }
 
-abbrev pub lines_received : ByteProgress → MoveOutcome
+abbrev pub lines_received : Progress ByteNetwork → MoveOutcome
 lines_received progress =
     record { text = flat_map printed progress.receipts; network = progress.net }
 
@@ -37,7 +37,7 @@ given_or None item net = lines_received (item_given item net)
 given_or (Some fault) item net = move_refused fault net
 
 -- bytes came, or none is on its way
-abbrev pub delivered_by : Option ByteProgress → ByteNetwork → MoveOutcome
+abbrev pub delivered_by : Option (Progress ByteNetwork) → ByteNetwork → MoveOutcome
 delivered_by None net = record { text = taken_text 0 []; network = net }
 delivered_by (Some progress) net =
     record { text = taken_text 1 progress.receipts; network = progress.net }

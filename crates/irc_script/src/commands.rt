@@ -10,6 +10,7 @@ ghost use Rattle.irc_script.specs.Loops.Commands.{request_by};
 
 use crate::number::read_number;
 use irc_names::{Host, ServerName};
+use irc_net::ClientNumber;
 
 const SPACE: u8 = b' ';
 
@@ -19,9 +20,9 @@ pub enum ScriptCommand<'a> {
     /// A client connects to this server from this host.
     Connect(ServerName, Host),
     /// The client with this number sends these bytes and an LF.
-    Say(u64, &'a [u8]),
+    Say(ClientNumber, &'a [u8]),
     /// The client with this number is gone.
-    Gone(u64),
+    Gone(ClientNumber),
     /// These two servers are linked.
     Link(ServerName, ServerName),
     /// The link of these two servers is lost.
@@ -129,14 +130,14 @@ fn read_say(words: &[u8]) -> Option<ScriptCommand<'_>>
     ensures { option_map request result ≡ say_of words.now }
 {
     let (number, rest) = cut_at_space(words)?;
-    Some(ScriptCommand::Say(read_number(number)?, rest))
+    Some(ScriptCommand::Say(ClientNumber::of(read_number(number)?), rest))
 }
 
 /// What follows `gone`: the number of a client.
 fn read_gone(word: &[u8]) -> Option<ScriptCommand<'_>>
     ensures { option_map request result ≡ gone_of word.now }
 {
-    Some(ScriptCommand::Gone(read_number(word)?))
+    Some(ScriptCommand::Gone(ClientNumber::of(read_number(word)?)))
 }
 
 /// Whether two texts are the same.

@@ -119,7 +119,7 @@ fn print_receipt<W: Write>(
         output.old waiting.old output.new waiting.new }
 {
     let mut digits = Buffer::new();
-    let number = digits.format(line.client).as_bytes();
+    let number = digits.format(line.client.number()).as_bytes();
     print_pieces(
         &[number, b" ", line_body(&line.text), b"\n"],
         waiting,

@@ -15,7 +15,7 @@ use crate::lines::lines_said;
 use crate::printing::{print_fault, print_receipts, print_taken, written};
 use crate::sink::PrintBuffer;
 use irc_names::ServerName;
-use irc_net::{Forgotten, Item, Net};
+use irc_net::{ClientNumber, Forgotten, Item, Net};
 use std::alloc::Global;
 use std::io::Write;
 
@@ -77,7 +77,7 @@ impl ScriptRun {
     /// Gives the lines that a client says.
     fn say<W: Write>(
         &mut self,
-        client: u64,
+        client: ClientNumber,
         rest: &[u8],
         waiting: &mut PrintBuffer,
         output: &mut W,

@@ -14,10 +14,10 @@ use Rattle.irc_stage.specs.Linked.{with_far}
 use Rattle.irc_server.specs.Heard.{Heard, ignored, closes, password, meets, tells, heard}
 use Rattle.irc_server.specs.LinkServed.{after_heard, line_served, link_opened, on_link}
 use Rattle.irc_server.specs.LinkServed.{opening_parts, owes}
-use Rattle.irc_server.specs.Served.{Occurrence, of_client, link_up, link_says, link_down, served}
+use Rattle.irc_server.specs.Served.{ReadEvent, of_client, link_up, link_says, link_down, served}
 use Rattle.irc_server.specs.Closings.{closing_by_line, closing_heard, closing_opened}
 use Rattle.irc_server.specs.Closings.{closings_due}
-use Rattle.irc_server.proofs.PutOut.{IsKeptBehind, all_told_stays, happening_stays, lost_stays}
+use Rattle.irc_server.proofs.PutOut.{IsKeptBehind, all_told_stays, client_event_stays, lost_stays}
 use Rattle.irc_server.proofs.PutOut.{on_link_stays, told_by_stays}
 
 abbrev pub Closings : Type 0
@@ -73,11 +73,11 @@ module _ (test : Sent → Bool) (Holds : Closings → List Sent → Type 0)
   line_so view link read None = keeps.nothing
   line_so view link read (Some end) = heard_so view link (heard view link end read)
 
-  pub served_so : (view : View) (occurrence : Occurrence)
-      → HoldsAt (closings_due view occurrence) (served view occurrence)
+  pub served_so : (view : View) (read_event : ReadEvent)
+      → HoldsAt (closings_due view read_event) (served view read_event)
   unfolding served
-  served_so view (of_client happening) =
-      happening_stays test (Holds []) (keeps.behind []) keeps.nothing view happening
+  served_so view (of_client client_event) =
+      client_event_stays test (Holds []) (keeps.behind []) keeps.nothing view client_event
   served_so view (link_up link starts) = opened_so view link starts
   served_so view (link_says link read) = line_so view link read (get view.ends link)
   served_so view (link_down link) =

@@ -24,8 +24,7 @@ use Rattle.irc_numerics.specs.Replies.{reply_text}
 use Rattle.irc_commands.specs.Closing.{error_line}
 use Rattle.irc_commands.specs.Register.{register}
 use Rattle.irc_room.specs.effect.Effect.{Effect}
-use Rattle.irc_room.specs.effect.Effect.TheVariants.{AddUser, ChangeModes, Invite, Join, Kick, Part}
-use Rattle.irc_room.specs.effect.Effect.TheVariants.{Quit, Rename, Say, SetTopic, UserMode}
+use Rattle.irc_room.specs.effect.Effect.TheVariants.{Quit, Rename}
 use Rattle.irc_room.specs.Lemmas.ViewerLaws.{both_true}
 use Rattle.irc_room.specs.Effects.{has_user}
 use Rattle.irc_room.specs.Seen.{Showing, seen}
@@ -40,7 +39,7 @@ use Rattle.irc_stage.specs.declared.clients.Client.{Client}
 use Rattle.irc_stage.specs.declared.clients.Client.TheVariants.{Registering, Registered}
 use Rattle.irc_stage.specs.RoomMachine.{Clients, client_of}
 use Rattle.irc_stage.specs.View.{View, machine_of, password_for, with_end}
-use Rattle.irc_stage.specs.Handle.{Happening, connects, says, goes, client_after, clients_after}
+use Rattle.irc_stage.specs.Handle.{ClientEvent, connects, says, goes, client_after, clients_after}
 use Rattle.irc_stage.specs.Handle.{fresh, is_client, lost_text, renamed_in, to_viewer, user_of}
 use Rattle.irc_stage.specs.EffectTold.{Served, all_changed, changed, changed_if, client_ended}
 use Rattle.irc_stage.specs.EffectTold.{counts, effect_came, effect_told, ends_of, in_silence}
@@ -58,7 +57,7 @@ use Rattle.irc_server.specs.DeedTold.{gain_told, link_lost, lost_behind, titled_
 use Rattle.irc_server.specs.Heard.{Heard, ignored, closes, password, meets, tells, heard}
 use Rattle.irc_server.specs.LinkServed.{after_heard, line_served, link_opened, met_by, on_link}
 use Rattle.irc_server.specs.LinkServed.{opening_parts, owes}
-use Rattle.irc_server.specs.Served.{Occurrence, of_client, link_up, link_says, link_down, served}
+use Rattle.irc_server.specs.Served.{ReadEvent, of_client, link_up, link_says, link_down, served}
 use Rattle.irc_server.specs.Connected.{AreConnectedAfter, WhoIsConnected, client_comes}
 use Rattle.irc_server.specs.Connected.{client_goes, ends_client, has_client, has_link}
 use Rattle.irc_server.specs.Connected.{is_client_ended, is_link_ended, is_there_after}
@@ -106,14 +105,14 @@ or_false false b is = is
 -- Of the clients that were there just those are there whom nothing that was put out closed, and
 -- nobody else was closed; and the links are those that were.
 record Counted (clients links : ℕ → Bool) (s : Served) : Type 0 where
-  there : (q : ℕ) → has_client s.view q ≡ (clients q && not (is_client_ended q s.out))
+  there : (q : ℕ) → has_client s.state q ≡ (clients q && not (is_client_ended q s.out))
   were : (q : ℕ) → is_client_ended q s.out ≡ true → clients q ≡ true
-  linked : (q : ℕ) → has_link s.view q ≡ links q
+  linked : (q : ℕ) → has_link s.state q ≡ links q
 
 -- Nobody was closed yet.
 record Quiet (clients links : ℕ → Bool) (s : Served) : Type 0 where
-  there : (q : ℕ) → has_client s.view q ≡ clients q
-  linked : (q : ℕ) → has_link s.view q ≡ links q
+  there : (q : ℕ) → has_client s.state q ≡ clients q
+  linked : (q : ℕ) → has_link s.state q ≡ links q
   no_end : list_all is_no_end s.out ≡ true
 
 and_not_false : (a b : Bool) → b ≡ false → a ≡ (a && not b)
@@ -131,9 +130,9 @@ counted clients links s quiet = record {
 
 -- nobody comes, goes or is closed by lines that are put out, where the same are there
 same_there : (clients links : ℕ → Bool) (s : Served) (view : View) (sent : List Sent)
-    → list_all is_no_end sent ≡ true → ((q : ℕ) → has_client view q ≡ has_client s.view q)
-    → ((q : ℕ) → has_link view q ≡ has_link s.view q) → Counted clients links s
-    → Counted clients links (record { view = view; out = s.out ++ sent })
+    → list_all is_no_end sent ≡ true → ((q : ℕ) → has_client view q ≡ has_client s.state q)
+    → ((q : ℕ) → has_link view q ≡ has_link s.state q) → Counted clients links s
+    → Counted clients links (record { state = view; out = s.out ++ sent })
 same_there clients links s view sent all same same_links so = record {
   there = λ q. same q ∙ so.there q ∙ ap (λ b. clients q && not b)
       (sym (or_false (is_client_ended q s.out) (is_client_ended q sent) (no_client_ends q sent all))
@@ -145,9 +144,9 @@ same_there clients links s view sent all same same_links so = record {
 }
 
 still_quiet : (clients links : ℕ → Bool) (s : Served) (view : View) (sent : List Sent)
-    → list_all is_no_end sent ≡ true → ((q : ℕ) → has_client view q ≡ has_client s.view q)
-    → ((q : ℕ) → has_link view q ≡ has_link s.view q) → Quiet clients links s
-    → Quiet clients links (record { view = view; out = s.out ++ sent })
+    → list_all is_no_end sent ≡ true → ((q : ℕ) → has_client view q ≡ has_client s.state q)
+    → ((q : ℕ) → has_link view q ≡ has_link s.state q) → Quiet clients links s
+    → Quiet clients links (record { state = view; out = s.out ++ sent })
 still_quiet clients links s view sent all same same_links so = record {
   there = λ q. same q ∙ so.there q;
   linked = λ q. same_links q ∙ so.linked q;
@@ -184,16 +183,7 @@ same_clients_after : (effect : Effect) (clients : Clients) (q : ℕ)
 same_clients_after (Rename nick new) clients q =
     ap is_some (get-each (renamed_in nick new) clients q)
     ∙ some_mapped (renamed_in nick new) (get clients q)
-same_clients_after (AddUser user) clients q = refl
-same_clients_after (Quit nick text) clients q = refl
-same_clients_after (Join nick channel op) clients q = refl
-same_clients_after (Part nick channel text) clients q = refl
-same_clients_after (Kick by channel nick text) clients q = refl
-same_clients_after (ChangeModes by channel changes) clients q = refl
-same_clients_after (SetTopic by channel text) clients q = refl
-same_clients_after (Say by notice target text) clients q = refl
-same_clients_after (Invite by nick channel) clients q = refl
-same_clients_after (UserMode nick invisible) clients q = refl
+same_clients_after other clients q = refl
 
 on_links_end_none : (links : List ℕ) (parts : Written)
     → list_all is_no_end (on_links links parts) ≡ true
@@ -263,18 +253,19 @@ module _ (clients links : ℕ → Bool) where
   Stays serve = (s : Served) → Counted clients links s → Counted clients links (serve s)
 
   sent_counts : (sent : List Sent) → list_all is_no_end sent ≡ true → Stays (with_sent sent)
-  sent_counts sent all s so = same_there clients links s s.view sent all (λ q. refl) (λ q. refl) so
+  sent_counts sent all s so = same_there clients links s s.state sent all (λ q. refl) (λ q. refl) so
 
   changed_counts : (effect : Effect) → Stays (changed effect)
   changed_counts effect s so =
-      same_there clients links s (changed effect s).view (shown_at s.view effect)
-      (shown_end_none s.view effect)
-      (λ q. same_clients_after effect s.view.clients q) (λ q. refl) so
+      same_there clients links s (changed effect s).state (shown_at s.state effect)
+      (shown_end_none s.state effect)
+      (λ q. same_clients_after effect s.state.clients q) (λ q. refl) so
 
   effect_counts : (arrival : Option ℕ) (effect : Effect) → Stays (effect_told arrival effect)
   effect_counts arrival effect s so =
-      sent_counts (on_links (ways_at s.view arrival effect) (wire s.view.room s.view.routes effect))
-      (on_links_end_none (ways_at s.view arrival effect) (wire s.view.room s.view.routes effect))
+      sent_counts
+      (on_links (ways_at s.state arrival effect) (wire s.state.room s.state.routes effect))
+      (on_links_end_none (ways_at s.state arrival effect) (wire s.state.room s.state.routes effect))
       (changed effect s) (changed_counts effect s so)
 
   either_counts : (b : Bool) (one other : Served) → Counted clients links one
@@ -283,23 +274,23 @@ module _ (clients links : ℕ → Bool) where
   either_counts false one other first second = second
 
   came_counts : (arrival : Option ℕ) (effect : Effect) → Stays (effect_came arrival effect)
-  came_counts arrival effect s so = either_counts (counts s.view effect)
+  came_counts arrival effect s so = either_counts (counts s.state effect)
       (effect_told arrival effect s) s (effect_counts arrival effect s so) so
 
   all_changed_counts : (effects : List Effect) → Stays (all_changed effects)
   all_changed_counts [] s so = so
   all_changed_counts (effect ∷ effects) s so =
-      all_changed_counts effects (changed_if effect s) (either_counts (counts s.view effect)
+      all_changed_counts effects (changed_if effect s) (either_counts (counts s.state effect)
       (changed effect s) s (changed_counts effect s so) so)
 
   all_told_counts : (arrival : Option ℕ) (parts : Written) → Stays (told_on_all arrival parts)
   all_told_counts arrival parts s so =
-      sent_counts (on_links (but arrival (met_links s.view.ends)) parts)
-      (on_links_end_none (but arrival (met_links s.view.ends)) parts) s so
+      sent_counts (on_links (but arrival (met_links s.state.ends)) parts)
+      (on_links_end_none (but arrival (met_links s.state.ends)) parts) s so
 
   client_ended_counts : (nick words : List ℕ) → Stays (client_ended nick words)
   client_ended_counts nick words s so = record {
-    there = λ q. kept_is s.view.clients nick q (get s.view.clients q) refl
+    there = λ q. kept_is s.state.clients nick q (get s.state.clients q) refl
         ∙ ap (λ b. b && not (here q)) (so.there q)
         ∙ both (clients q) (is_client_ended q s.out) (here q)
         ∙ ap (λ b. clients q && not b) (sym (ended_all q));
@@ -308,21 +299,21 @@ module _ (clients links : ℕ → Bool) where
   }
     where
       told : List Sent
-      told = to_viewer s.view.clients (record { viewer = nick; line = error_line words })
+      told = to_viewer s.state.clients (record { viewer = nick; line = error_line words })
 
       here : ℕ → Bool
-      here q = option_map_or (is_client nick) (get s.view.clients q) false
+      here q = option_map_or (is_client nick) (get s.state.clients q) false
 
       ended_all : (q : ℕ) → is_client_ended q (client_ended nick words s).out
           ≡ (is_client_ended q s.out || here q)
       ended_all q =
-          ended-append q s.out (told ++ ends_of nick s.view.clients)
+          ended-append q s.out (told ++ ends_of nick s.state.clients)
           ∙ ap (λ b. is_client_ended q s.out || b)
-          (ended-append q told (ends_of nick s.view.clients)
-          ∙ ap (λ b. b || is_client_ended q (ends_of nick s.view.clients))
+          (ended-append q told (ends_of nick s.state.clients)
+          ∙ ap (λ b. b || is_client_ended q (ends_of nick s.state.clients))
           (no_client_ends q told
-          (lines_end_none s.view.clients (record { viewer = nick; line = error_line words })))
-          ∙ ended_is s.view.clients nick q)
+          (lines_end_none s.state.clients (record { viewer = nick; line = error_line words })))
+          ∙ ended_is s.state.clients nick q)
 
       both : (a b c : Bool) → ((a && not b) && not c) ≡ (a && not (b || c))
       both true true c = refl
@@ -343,13 +334,13 @@ module _ (clients links : ℕ → Bool) where
       by q true before c now is = so.were q before
       by q false before true now is =
           first (clients q) (not (is_client_ended q s.out))
-          (sym (so.there q) ∙ some_here (get s.view.clients q) now)
+          (sym (so.there q) ∙ some_here (get s.state.clients q) now)
       by q false before false now is = absurd (cc (sym now ∙ is))
 
   taken_out_counts : (nick words : List ℕ) → Stays (taken_out nick words)
   taken_out_counts nick words s so =
       client_ended_counts nick words (quit_by nick words s)
-      (either_counts (has_user s.view.room nick) (changed (Quit nick words) s) s
+      (either_counts (has_user s.state.room nick) (changed (Quit nick words) s) s
       (changed_counts (Quit nick words) s so) so)
 
   -- ---- deeds
@@ -361,31 +352,32 @@ module _ (clients links : ℕ → Bool) where
   titled_counts channel s so = record { there = so.there; were = so.were; linked = so.linked }
 
   whole_counts : (arrival : Option ℕ) (deed : Deed) (s : Served) → Counted clients links s
-      → Counted clients links (told_on_all arrival (deed_parts s.view.room s.view.routes deed)
-      (all_changed (effects_of s.view.room deed) s))
+      → Counted clients links (told_on_all arrival (deed_parts s.state.room s.state.routes deed)
+      (all_changed (effects_of s.state.room deed) s))
   whole_counts arrival deed s so =
-      all_told_counts arrival (deed_parts s.view.room s.view.routes deed)
-      (all_changed (effects_of s.view.room deed) s)
-      (all_changed_counts (effects_of s.view.room deed) s so)
+      all_told_counts arrival (deed_parts s.state.room s.state.routes deed)
+      (all_changed (effects_of s.state.room deed) s)
+      (all_changed_counts (effects_of s.state.room deed) s so)
 
   deed_counts : (arrival : Option ℕ) (deed : Deed) → Stays (deed_told arrival deed)
   unfolding deed_told
   deed_counts arrival (does effect) s so = came_counts arrival effect s so
   deed_counts arrival (gains uplink name info) s so = so
   deed_counts arrival (loses server name words) s so =
-      let left = all_changed (effects_of s.view.room (loses server name words)) s in
-      all_told_counts arrival (deed_parts s.view.room s.view.routes (loses server name words))
+      let left = all_changed (effects_of s.state.room (loses server name words)) s in
+      all_told_counts arrival (deed_parts s.state.room s.state.routes (loses server name words))
       (forgotten name left)
       (forgotten_counts name left
-      (all_changed_counts (effects_of s.view.room (loses server name words)) s so))
+      (all_changed_counts (effects_of s.state.room (loses server name words)) s so))
   deed_counts arrival (kills server nick) s so =
-      all_told_counts arrival (deed_parts s.view.room s.view.routes (kills server nick))
+      all_told_counts arrival (deed_parts s.state.room s.state.routes (kills server nick))
       (taken_out nick collision_text s)
       (taken_out_counts nick collision_text s so)
   deed_counts arrival (brings server channel members) s so =
-      let effects = effects_of s.view.room (brings server channel members) in
+      let effects = effects_of s.state.room (brings server channel members) in
       let spelled = titled_view channel s in
-      all_told_counts arrival (deed_parts s.view.room s.view.routes (brings server channel members))
+      all_told_counts arrival
+      (deed_parts s.state.room s.state.routes (brings server channel members))
       (all_changed effects spelled)
       (all_changed_counts effects spelled (titled_counts channel s so))
   deed_counts arrival (sets server channel changes) s so =
@@ -401,13 +393,13 @@ module _ (clients links : ℕ → Bool) where
   told_by_counts : (link : ℕ) (told : Told) → Stays (told_by link told)
   unfolding told_by
   told_by_counts link (a_deed deed) s so =
-      deed_counts (arrival_of s.view.routes.name link deed) deed s so
+      deed_counts (arrival_of s.state.routes.name link deed) deed s so
   told_by_counts link (a_server uplink name distance token info) s so =
-      let more = record s { view = with_row link uplink name distance token info s.view } in
-      either_counts (is_taken s.view.routes link name token)
+      let more = record s { state = with_row link uplink name distance token info s.state } in
+      either_counts (is_taken s.state.routes link name token)
       (gain_told link uplink name info more) s
       (all_told_counts (Some link)
-      (deed_parts more.view.room more.view.routes (gains uplink name info)) more
+      (deed_parts more.state.room more.state.routes (gains uplink name info)) more
       (record { there = so.there; were = so.were; linked = so.linked })) so
 
   tells_counts : (link : ℕ) (told : List Told) → Stays (all_told link told)
@@ -420,20 +412,20 @@ module _ (clients links : ℕ → Bool) where
   effect_quiet : (arrival : Option ℕ) (effect : Effect) (s : Served) → Quiet clients links s
       → Quiet clients links (effect_told arrival effect s)
   effect_quiet arrival effect s so =
-      still_quiet clients links (changed effect s) (changed effect s).view
-      (on_links (ways_at s.view arrival effect) (wire s.view.room s.view.routes effect))
-      (on_links_end_none (ways_at s.view arrival effect) (wire s.view.room s.view.routes effect))
+      still_quiet clients links (changed effect s) (changed effect s).state
+      (on_links (ways_at s.state arrival effect) (wire s.state.room s.state.routes effect))
+      (on_links_end_none (ways_at s.state arrival effect) (wire s.state.room s.state.routes effect))
       (λ q. refl) (λ q. refl)
-      (still_quiet clients links s (changed effect s).view (shown_at s.view effect)
-      (shown_end_none s.view effect)
-      (λ q. same_clients_after effect s.view.clients q) (λ q. refl) so)
+      (still_quiet clients links s (changed effect s).state (shown_at s.state effect)
+      (shown_end_none s.state effect)
+      (λ q. same_clients_after effect s.state.clients q) (λ q. refl) so)
 
   step_quiet : (conn : ℕ) (name : Option (List ℕ)) (act : Act) (s : Served) → Quiet clients links s
       → Quiet clients links (step_told conn name act s)
   step_quiet conn name (Answer reply) s so =
-      still_quiet clients links s s.view (line_to conn (reply_text s.view.routes.name name reply)
+      still_quiet clients links s s.state (line_to conn (reply_text s.state.routes.name name reply)
       ∷ []) refl (λ q. refl) (λ q. refl) so
-  step_quiet conn name (Raw line) s so = still_quiet clients links s s.view
+  step_quiet conn name (Raw line) s so = still_quiet clients links s s.state
       (line_to conn line.items ∷ []) refl (λ q. refl) (λ q. refl) so
   step_quiet conn name (Do effect) s so = effect_quiet None effect s so
 
@@ -463,10 +455,10 @@ as_come false false = refl
 
 -- of a server's clients, by what is served
 record ClientsAfter (view : View) (came left : ℕ → Bool) (s : Served) : Type 0 where
-  there : (q : ℕ) → has_client s.view q ≡ is_there_after (has_client view q) (came q) (left q)
+  there : (q : ℕ) → has_client s.state q ≡ is_there_after (has_client view q) (came q) (left q)
       (is_client_ended q s.out)
   were : (q : ℕ) → is_client_ended q s.out ≡ true → has_client view q ≡ true
-  linked : (q : ℕ) → has_link s.view q ≡ has_link view q
+  linked : (q : ℕ) → has_link s.state q ≡ has_link view q
 
 abbrev nobody : ℕ → Bool
 nobody q = false
@@ -500,18 +492,18 @@ closed_after view true conn here s so = record {
         ∙ ap (λ b. b || (nat_eq conn q || false)) (no_client_ends q s.out so.no_end)
         ∙ or_false (nat_eq conn q) false refl
 
-    unseated_is : (q : ℕ) → has_client (unseated conn s.view) q
-        ≡ is_some (cond (nat_eq conn q) None (get s.view.clients q))
+    unseated_is : (q : ℕ) → has_client (unseated conn s.state) q
+        ≡ is_some (cond (nat_eq conn q) None (get s.state.clients q))
     unseated_is q =
-        ap is_some (get-without s.view.clients conn q)
-        ∙ ap (λ b. is_some (cond b None (get s.view.clients q))) (same_as q conn)
+        ap is_some (get-without s.state.clients conn q)
+        ∙ ap (λ b. is_some (cond b None (get s.state.clients q))) (same_as q conn)
 
     by : (q : ℕ) (b : Bool) → nat_eq conn q ≡ b
-        → has_client (unseated conn s.view) q
+        → has_client (unseated conn s.state) q
         ≡ is_there_after (has_client view q) false false
         (is_client_ended q (s.out ++ end_of conn ∷ []))
     by q true is =
-        unseated_is q ∙ ap (λ b. is_some (cond b None (get s.view.clients q))) is
+        unseated_is q ∙ ap (λ b. is_some (cond b None (get s.state.clients q))) is
         ∙ none (has_client view q)
         ∙ ap (λ b. is_there_after (has_client view q) false false b) (sym (now_ended q ∙ is))
       where
@@ -519,7 +511,7 @@ closed_after view true conn here s so = record {
         none true = refl
         none false = refl
     by q false is =
-        unseated_is q ∙ ap (λ b. is_some (cond b None (get s.view.clients q))) is ∙ so.there q
+        unseated_is q ∙ ap (λ b. is_some (cond b None (get s.state.clients q))) is ∙ so.there q
         ∙ still (has_client view q)
         ∙ ap (λ b. is_there_after (has_client view q) false false b) (sym (now_ended q ∙ is))
       where
@@ -624,12 +616,12 @@ link_ended_is q (end_of conn ∷ outs) = link_ended_is q outs
 link_ended_is q (line_on link line ∷ outs) = link_ended_is q outs
 link_ended_is q (end_of_link link why ∷ outs) = ap (λ b. nat_eq link q || b) (link_ended_is q outs)
 
-link_ended_as : (view : View) (occurrence : Occurrence) (q : ℕ)
-    (due : List (ℕ × CloseReason)) → closings_due view occurrence ≡ due
-    → is_link_ended q (served view occurrence).out ≡ list_any (closed_as q) due
-link_ended_as view occurrence q due is =
-    link_ended_is q (served view occurrence).out
-    ∙ ap (list_any (closed_as q)) (closes_its_own view occurrence ∙ is)
+link_ended_as : (view : View) (read_event : ReadEvent) (q : ℕ)
+    (due : List (ℕ × CloseReason)) → closings_due view read_event ≡ due
+    → is_link_ended q (served view read_event).out ≡ list_any (closed_as q) due
+link_ended_as view read_event q due is =
+    link_ended_is q (served view read_event).out
+    ∙ ap (list_any (closed_as q)) (closes_its_own view read_event ∙ is)
 
 some_more : (view : View) (link : ℕ) (end : End) (q : ℕ)
     → is_some (get (insert view.ends link end) q) ≡ (has_link view q || nat_eq link q)
@@ -673,9 +665,10 @@ same_end view link end changed there q = some_more view link changed q ∙ by (n
 -- as the law has it, of what was served
 record AreCounted (view : View) (came left link_came link_left : ℕ → Bool)
     (s : Served) : Type 0 where
-  clients : (q : ℕ) → has_client s.view q ≡ is_there_after (has_client view q) (came q) (left q)
+  clients : (q : ℕ) → has_client s.state q ≡ is_there_after (has_client view q) (came q) (left q)
       (is_client_ended q s.out)
-  links : (q : ℕ) → has_link s.view q ≡ is_there_after (has_link view q) (link_came q) (link_left q)
+  links : (q : ℕ) → has_link s.state q ≡ is_there_after (has_link view q) (link_came q)
+      (link_left q)
       (is_link_ended q s.out)
   clients_were : (q : ℕ) → is_client_ended q s.out ≡ true → has_client view q ≡ true
   links_were : (q : ℕ) → is_link_ended q s.out ≡ true → (has_link view q || link_came q) ≡ true
@@ -699,10 +692,12 @@ links_stay view came left s so none = record {
   links_were = λ q is. absurd (cc (sym (none q) ∙ is));
 }
 
-happening_after : (view : View) (happening : Happening) → ClientsAfter view (λ q. client_comes q
-    (of_client happening)) (λ q. client_goes q (of_client happening)) (client_told view happening)
+client_event_after : (view : View) (client_event : ClientEvent)
+    → ClientsAfter view (λ q. client_comes q
+    (of_client client_event)) (λ q. client_goes q (of_client client_event))
+    (client_told view client_event)
 unfolding client_told
-happening_after view (connects conn host) = record {
+client_event_after view (connects conn host) = record {
   there = λ q. ap is_some (get-with view.clients conn (fresh host) q)
       ∙ ap (λ b. is_some (cond b (Some (fresh host)) (get view.clients q))) (same_as q conn)
       ∙ by (nat_eq conn q) (get view.clients q)
@@ -716,12 +711,12 @@ happening_after view (connects conn host) = record {
     by true (Some c) = refl
     by false None = refl
     by false (Some c) = refl
-happening_after view (says conn (Ok message)) =
+client_event_after view (says conn (Ok message)) =
     message_after view conn (client_of (machine_of view) conn) message refl
-happening_after view (says conn (Err fault)) =
+client_event_after view (says conn (Err fault)) =
     clients_stay view (in_silence view)
     (counted (has_client view) (has_link view) (in_silence view) (at_start view))
-happening_after view (goes conn) =
+client_event_after view (goes conn) =
     gone_after view conn (user_of view.room (client_of (machine_of view) conn))
 
 itself : (view : View) → AreCounted view nobody nobody nobody nobody (in_silence view)
@@ -794,22 +789,22 @@ opened_after view link (Some name) new = by (is_none (password_for view name))
 
 -- a link that is lost is there no more, whatever is told of that
 lost_after : (view : View) (link : ℕ) (s : Served) → Counted (has_client view) (has_link view) s
-    → (q : ℕ) → has_link (link_lost link s).view q ≡ (has_link view q && not (nat_eq link q))
+    → (q : ℕ) → has_link (link_lost link s).state q ≡ (has_link view q && not (nat_eq link q))
 lost_after view link s so q =
-    by (deeds_told (Some link) (lost_behind s.view link (get s.view.ends link)) s)
+    by (deeds_told (Some link) (lost_behind s.state link (get s.state.ends link)) s)
     (deeds_counts (has_client view) (has_link view) (Some link)
-    (lost_behind s.view link (get s.view.ends link)) s so)
+    (lost_behind s.state link (get s.state.ends link)) s so)
   where
     by : (left : Served) → Counted (has_client view) (has_link view) left
-        → has_link (unlinked link left.view) q ≡ (has_link view q && not (nat_eq link q))
+        → has_link (unlinked link left.state) q ≡ (has_link view q && not (nat_eq link q))
     by left counts =
-        some_fewer left.view.ends link q ∙ ap (λ b. b && not (nat_eq link q)) (counts.linked q)
+        some_fewer left.state.ends link q ∙ ap (λ b. b && not (nat_eq link q)) (counts.linked q)
 
 lost_counts : (view : View) (link : ℕ) (s : Served) → Counted (has_client view) (has_link view) s
-    → (q : ℕ) → has_client (link_lost link s).view q ≡ is_there_after
+    → (q : ℕ) → has_client (link_lost link s).state q ≡ is_there_after
     (has_client view q) false false (is_client_ended q (link_lost link s).out)
 lost_counts view link s so q =
-    let deeds = lost_behind s.view link (get s.view.ends link) in
+    let deeds = lost_behind s.state link (get s.state.ends link) in
     let left = deeds_counts (has_client view) (has_link view) (Some link) deeds s so in
     left.there q
     ∙ as_before (has_client view q) (is_client_ended q (deeds_told (Some link) deeds s).out)
@@ -818,7 +813,7 @@ lost_were : (view : View) (link : ℕ) (s : Served) → Counted (has_client view
     → (q : ℕ) → is_client_ended q (link_lost link s).out ≡ true → has_client view q ≡ true
 lost_were view link s so q =
     (deeds_counts (has_client view) (has_link view) (Some link)
-    (lost_behind s.view link (get s.view.ends link)) s so).were q
+    (lost_behind s.state link (get s.state.ends link)) s so).were q
 
 start_counts : (view : View) → Counted (has_client view) (has_link view) (in_silence view)
 start_counts view = counted (has_client view) (has_link view) (in_silence view) (at_start view)
@@ -891,10 +886,10 @@ module _ (view : View) (link : ℕ) (end : End) (there : get view.ends link ≡ 
       (clients_stay view (all_told link told (in_silence view)) (tells_counts (has_client view)
       (has_link view) link told (in_silence view) (start_counts view))) ended
 
-as_law : (view : View) (occurrence : Occurrence) → AreCounted view (λ q. client_comes q occurrence)
-    (λ q. client_goes q occurrence) (λ q. link_comes q occurrence) (λ q. link_goes q occurrence)
-    (served view occurrence) → AreConnectedAfter view occurrence
-as_law view occurrence so = record {
+as_law : (view : View) (read_event : ReadEvent) → AreCounted view (λ q. client_comes q read_event)
+    (λ q. client_goes q read_event) (λ q. link_comes q read_event) (λ q. link_goes q read_event)
+    (served view read_event) → AreConnectedAfter view read_event
+as_law view read_event so = record {
   clients = so.clients;
   links = so.links;
   clients_were_there = so.clients_were;
@@ -903,16 +898,18 @@ as_law view occurrence so = record {
 
 pub who_is_connected : WhoIsConnected
 unfolding served
-who_is_connected view (of_client happening) new =
-    as_law view (of_client happening) (by_client view happening)
+who_is_connected view (of_client client_event) new =
+    as_law view (of_client client_event) (by_client view client_event)
   where
-    by_client : (view : View) (happening : Happening)
-        → AreCounted view (λ q. client_comes q (of_client happening))
-        (λ q. client_goes q (of_client happening)) nobody nobody (served view (of_client happening))
-    by_client view happening =
-        links_stay view (λ q. client_comes q (of_client happening))
-        (λ q. client_goes q (of_client happening)) (client_told view happening)
-        (happening_after view happening) (λ q. link_ended_as view (of_client happening) q [] refl)
+    by_client : (view : View) (client_event : ClientEvent)
+        → AreCounted view (λ q. client_comes q (of_client client_event))
+        (λ q. client_goes q (of_client client_event)) nobody nobody
+        (served view (of_client client_event))
+    by_client view client_event =
+        links_stay view (λ q. client_comes q (of_client client_event))
+        (λ q. client_goes q (of_client client_event)) (client_told view client_event)
+        (client_event_after view client_event)
+        (λ q. link_ended_as view (of_client client_event) q [] refl)
 who_is_connected view (link_up link starts) new =
     as_law view (link_up link starts) (by_link view new)
   where

@@ -29,33 +29,35 @@ told_last arrival line parts mid done result is written =
 -- a server more is told of, where it was taken
 pub gains_more : {E : Type 0} (link : ℕ) (uplink name : List ℕ) (distance token : ℕ)
     (info line : List ℕ) (old mid : Served) (taken : Bool) (result : Result Served E)
-    → taken ≡ is_taken old.view.routes link name token
-    → mid ≡ where_it_is (if taken then with_row link uplink name distance token info old.view
-    else old.view) old → taken ≡ true → line ≡ text (server_parts mid.view.routes uplink name info)
+    → taken ≡ is_taken old.state.routes link name token
+    → mid ≡ where_it_is (if taken then with_row link uplink name distance token info old.state
+    else old.state) old → taken ≡ true
+    → line ≡ text (server_parts mid.state.routes uplink name info)
     → IfOk result (λ s. s ≡ told_to_all (Some link) line mid)
     → IfOk result (λ s. s ≡ told_by link (a_server uplink name distance token info) old)
 unfolding told_by
 gains_more link uplink name distance token info line old mid taken result is gained taking written =
-    let row = with_row link uplink name distance token info old.view in
+    let row = with_row link uplink name distance token info old.state in
     let more = where_it_is row old in
     let is_more : mid ≡ more = gained
-    ∙ ap (λ b. where_it_is (if b then row else old.view) old) taking in
+    ∙ ap (λ b. where_it_is (if b then row else old.state) old) taking in
     λ told. put_otherwise result (gain_told link uplink name info more)
-    (if is_taken old.view.routes link name token then gain_told link uplink name info more else old)
+    (if is_taken old.state.routes link name token then gain_told link uplink name info more
+    else old)
     (sym (ap (λ b. if b then gain_told link uplink name info more else old) (sym is ∙ taking)))
-    (told_last (Some link) line (server_parts more.view.routes uplink name info) mid more result
+    (told_last (Some link) line (server_parts more.state.routes uplink name info) mid more result
     is_more (written
-    ∙ ap (λ (s : Served). text (server_parts s.view.routes uplink name info)) is_more) told)
+    ∙ ap (λ (s : Served). text (server_parts s.state.routes uplink name info)) is_more) told)
 
 pub gains_none : (link : ℕ) (uplink name : List ℕ) (distance token : ℕ) (info : List ℕ)
-    (old new : Served) (taken : Bool) → taken ≡ is_taken old.view.routes link name token
-    → new ≡ where_it_is (if taken then with_row link uplink name distance token info old.view
-    else old.view) old → taken ≡ false → new ≡ told_by link
+    (old new : Served) (taken : Bool) → taken ≡ is_taken old.state.routes link name token
+    → new ≡ where_it_is (if taken then with_row link uplink name distance token info old.state
+    else old.state) old → taken ≡ false → new ≡ told_by link
     (a_server uplink name distance token info) old
 unfolding told_by
 gains_none link uplink name distance token info old new taken is gained leaving =
-    let row = with_row link uplink name distance token info old.view in
-    gained ∙ ap (λ b. where_it_is (if b then row else old.view) old) leaving
+    let row = with_row link uplink name distance token info old.state in
+    gained ∙ ap (λ b. where_it_is (if b then row else old.state) old) leaving
     ∙ sym (ap (λ b. if b then gain_told link uplink name info (where_it_is row old) else old)
     (sym is ∙ leaving))
 

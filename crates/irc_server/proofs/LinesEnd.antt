@@ -55,6 +55,6 @@ stay_ended = record {
 }
 
 pub lines_end : ServedLinesEnd
-lines_end view occurrence =
-    all-told is_ended EndsInLineEnd ends (served view occurrence).out
-    (served_so is_ended AllEnded stay_ended view occurrence)
+lines_end view read_event =
+    all-told is_ended EndsInLineEnd ends (served view read_event).out
+    (served_so is_ended AllEnded stay_ended view read_event)

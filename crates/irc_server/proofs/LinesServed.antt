@@ -85,13 +85,13 @@ met_now view link name = by (get view.ends link)
 
 -- the two lines with which an end begins
 pub begun : (link : ℕ) (name pass greeted : List ℕ) (s one new : Served)
-    → pass ≡ text (pass_parts (unwrap_or (password_for s.view name) []))
-    → greeted ≡ text (greeting s.view.routes) → one ≡ told_on link pass s
+    → pass ≡ text (pass_parts (unwrap_or (password_for s.state name) []))
+    → greeted ≡ text (greeting s.state.routes) → one ≡ told_on link pass s
     → new ≡ told_on link greeted one
-    → new ≡ with_sent (on_link link (opening_parts s.view name)) s
+    → new ≡ with_sent (on_link link (opening_parts s.state name)) s
 begun link name pass greeted s one new pass_is greeting_is first put =
-    let password = text (pass_parts (unwrap_or (password_for s.view name) [])) in
-    let server = text (greeting s.view.routes) in
+    let password = text (pass_parts (unwrap_or (password_for s.state name) [])) in
+    let server = text (greeting s.state.routes) in
     put ∙ ap (told_on link greeted) (first ∙ ap (λ line. told_on link line s) pass_is)
     ∙ ap (λ line. told_on link line (told_on link password s)) greeting_is
     ∙ ap (λ out. record s { out = out })
@@ -107,40 +107,40 @@ is_called (Some found) starts false is called_is = ap is_none is
 
 -- what an end says first, where it was called, and then what its side holds, is what it owes
 pub answered : (link : ℕ) (name : List ℕ) (end : End) (called : Bool) (lines : List (List ℕ))
-    (s greeted new : Served) → get s.view.ends link ≡ Some end → called ≡ is_none end.starts
-    → greeted ≡ with_sent (on_link link (greeting_of s.view called name)) s
-    → lines ≡ map text (burst_parts s.view.room s.view.routes link)
+    (s greeted new : Served) → get s.state.ends link ≡ Some end → called ≡ is_none end.starts
+    → greeted ≡ with_sent (on_link link (greeting_of s.state called name)) s
+    → lines ≡ map text (burst_parts s.state.room s.state.routes link)
     → new ≡ lines_told link lines greeted
-    → new ≡ with_sent (on_link link (owes s.view link name)) s
+    → new ≡ with_sent (on_link link (owes s.state link name)) s
 answered link name end called lines s greeted new there called_is hello written put =
-    let burst = burst_parts s.view.room s.view.routes link in
-    let first = greeting_of s.view (is_none end.starts) name in
+    let burst = burst_parts s.state.room s.state.routes link in
+    let first = greeting_of s.state (is_none end.starts) name in
     put ∙ ap (λ ls. lines_told link ls greeted) written
     ∙ ap (λ sent. with_sent sent greeted) (map-map (line_on link) text burst)
     ∙ ap (with_sent (on_link link burst))
-    (hello ∙ ap (λ b. with_sent (on_link link (greeting_of s.view b name)) s) called_is)
+    (hello ∙ ap (λ b. with_sent (on_link link (greeting_of s.state b name)) s) called_is)
     ∙ ap (λ out. record s { out = out })
     (append_assoc s.out (on_link link first) (on_link link burst)
     ∙ ap (λ sent. s.out ++ sent)
     (sym (map-append (λ parts. line_on link (text parts)) first burst)))
     ∙ ap (λ (o : Option End). with_sent
-    (on_link link (option_map_or (owed_by s.view link name) o [])) s) (sym there)
+    (on_link link (option_map_or (owed_by s.state link name) o [])) s) (sym there)
 
 -- where no link is open nothing is owed
-pub nothing_owed : (link : ℕ) (name : List ℕ) (s : Served) → get s.view.ends link ≡ None
-    → s ≡ with_sent (on_link link (owes s.view link name)) s
+pub nothing_owed : (link : ℕ) (name : List ℕ) (s : Served) → get s.state.ends link ≡ None
+    → s ≡ with_sent (on_link link (owes s.state link name)) s
 nothing_owed link name s none =
     ap (λ out. record s { out = out }) (sym (append-nil s.out))
     ∙ ap (λ (o : Option End). with_sent
-    (on_link link (option_map_or (owed_by s.view link name) o [])) s) (sym none)
+    (on_link link (option_map_or (owed_by s.state link name) o [])) s) (sym none)
 
 -- the server at the other end is answered, and told of
 pub met_served : (link : ℕ) (name own info : List ℕ) (s answered far new : Served)
-    → answered ≡ with_sent (on_link link (owes s.view link name)) s
-    → far ≡ where_it_is (with_far link name answered.view) answered
-    → own ≡ s.view.routes.name
+    → answered ≡ with_sent (on_link link (owes s.state link name)) s
+    → far ≡ where_it_is (with_far link name answered.state) answered
+    → own ≡ s.state.routes.name
     → new ≡ told_by link (a_server own name 1 1 info) far → new ≡ met_in link name info s
 met_served link name own info s answered far new owed named own_is told =
     told ∙ ap (λ own. told_by link (a_server own name 1 1 info) far) own_is
-    ∙ ap (told_by link (a_server s.view.routes.name name 1 1 info))
-    (named ∙ ap (λ (t : Served). where_it_is (with_far link name t.view) t) owed)
+    ∙ ap (told_by link (a_server s.state.routes.name name 1 1 info))
+    (named ∙ ap (λ (t : Served). where_it_is (with_far link name t.state) t) owed)

@@ -121,16 +121,16 @@ of_ended link nick (c ∷ cs) = by (is_client nick c.1) (of_ended link nick cs)
 by_change : (link : ℕ) (effect : Effect) (s : Served)
     → PutsOutElsewhere link s.out (changed effect s).out
 by_change link effect s =
-    more_out link s.out (shown_at s.view effect) (by (is_elsewhere s.view effect))
+    more_out link s.out (shown_at s.state effect) (by (is_elsewhere s.state effect))
   where
     by : (b : Bool) → list_any (goes_on link)
-        (if b then [] else flat_map (to_viewer s.view.clients) (seen s.view.room effect)) ≡ false
+        (if b then [] else flat_map (to_viewer s.state.clients) (seen s.state.room effect)) ≡ false
     by true = refl
-    by false = to_clients link s.view.clients (seen s.view.room effect)
+    by false = to_clients link s.state.clients (seen s.state.room effect)
 
 by_change_if : (link : ℕ) (effect : Effect) (s : Served)
     → PutsOutElsewhere link s.out (changed_if effect s).out
-by_change_if link effect s = by (counts s.view effect)
+by_change_if link effect s = by (counts s.state effect)
   where
     by : (b : Bool) → PutsOutElsewhere link s.out (if b then changed effect s else s).out
     by true = by_change link effect s
@@ -150,26 +150,27 @@ then_told link links parts before s so =
 
 by_effect : (link : ℕ) (effect : Effect) (s : Served)
     → PutsOutElsewhere link s.out (effect_came (Some link) effect s).out
-by_effect link effect s = by (counts s.view effect)
+by_effect link effect s = by (counts s.state effect)
   where
     by : (b : Bool)
         → PutsOutElsewhere link s.out (if b then effect_told (Some link) effect s else s).out
-    by true = then_told link (ways_toward s.view.ends s.view.routes (told_homes s.view.room effect))
-        (wire s.view.room s.view.routes effect) s.out (changed effect s) (by_change link effect s)
+    by true =
+        then_told link (ways_toward s.state.ends s.state.routes (told_homes s.state.room effect))
+        (wire s.state.room s.state.routes effect) s.out (changed effect s) (by_change link effect s)
     by false = same_out link s.out
 
 by_end : (link : ℕ) (nick text : List ℕ) (s : Served)
     → PutsOutElsewhere link s.out (client_ended nick text s).out
 by_end link nick text s =
-    let told = to_viewer s.view.clients (record { viewer = nick; line = error_line text }) in
-    more_out link s.out (told ++ ends_of nick s.view.clients)
-    (any-append link told (ends_of nick s.view.clients) (to_client link
-    (record { viewer = nick; line = error_line text }) (entries s.view.clients))
-    (of_ended link nick (entries s.view.clients)))
+    let told = to_viewer s.state.clients (record { viewer = nick; line = error_line text }) in
+    more_out link s.out (told ++ ends_of nick s.state.clients)
+    (any-append link told (ends_of nick s.state.clients) (to_client link
+    (record { viewer = nick; line = error_line text }) (entries s.state.clients))
+    (of_ended link nick (entries s.state.clients)))
 
 by_quit : (link : ℕ) (nick text : List ℕ) (s : Served)
     → PutsOutElsewhere link s.out (quit_by nick text s).out
-by_quit link nick text s = by (has_user s.view.room nick)
+by_quit link nick text s = by (has_user s.state.room nick)
   where
     by : (b : Bool) → PutsOutElsewhere link s.out (if b then changed (Quit nick text) s else s).out
     by true = by_change link (Quit nick text) s
@@ -184,29 +185,30 @@ by_taken_out link nick text s =
 then_all : (link : ℕ) (parts : Written) (before : List Sent) (s : Served)
     → PutsOutElsewhere link before s.out
     → PutsOutElsewhere link before (told_on_all (Some link) parts s).out
-then_all link parts before s so = then_told link (met_links s.view.ends) parts before s so
+then_all link parts before s so = then_told link (met_links s.state.ends) parts before s so
 
 by_effects : (link : ℕ) (deed : Deed) (s : Served)
     → PutsOutElsewhere link s.out (told_on_all (Some link)
-    (deed_parts s.view.room s.view.routes deed) (all_changed (effects_of s.view.room deed) s)).out
+    (deed_parts s.state.room s.state.routes deed)
+    (all_changed (effects_of s.state.room deed) s)).out
 by_effects link deed s =
-    then_all link (deed_parts s.view.room s.view.routes deed) s.out
-    (all_changed (effects_of s.view.room deed) s) (by_all link (effects_of s.view.room deed) s)
+    then_all link (deed_parts s.state.room s.state.routes deed) s.out
+    (all_changed (effects_of s.state.room deed) s) (by_all link (effects_of s.state.room deed) s)
 
 pub never_back : NeverBack
 unfolding deed_told
 never_back link (done effect) s = by_effect link effect s
 never_back link (gains uplink name info) s = same_out link s.out
 never_back link (loses server name words) s =
-    let effects = effects_of s.view.room (loses server name words) in
-    then_all link (deed_parts s.view.room s.view.routes (loses server name words)) s.out
+    let effects = effects_of s.state.room (loses server name words) in
+    then_all link (deed_parts s.state.room s.state.routes (loses server name words)) s.out
     (forgotten name (all_changed effects s)) (by_all link effects s)
 never_back link (kills server nick) s =
-    then_all link (deed_parts s.view.room s.view.routes (kills server nick)) s.out
+    then_all link (deed_parts s.state.room s.state.routes (kills server nick)) s.out
     (taken_out nick collision_text s) (by_taken_out link nick collision_text s)
 never_back link (brings server channel members) s =
-    let effects = effects_of s.view.room (brings server channel members) in
-    then_all link (deed_parts s.view.room s.view.routes (brings server channel members)) s.out
+    let effects = effects_of s.state.room (brings server channel members) in
+    then_all link (deed_parts s.state.room s.state.routes (brings server channel members)) s.out
     (all_changed effects (titled_view channel s))
     (by_all link effects (titled_view channel s))
 never_back link (sets server channel changes) s = by_effects link (sets server channel changes) s

@@ -11,8 +11,7 @@ use Rattle.std.specs.Ordering.{nat_cmp}
 use Rattle.irc_batch.specs.Batches.{Sent, end_of, is_number, line_on, line_to}
 use Rattle.irc_line.specs.Messages.{Written, text}
 use Rattle.irc_room.specs.effect.Effect.{Effect}
-use Rattle.irc_room.specs.effect.Effect.TheVariants.{AddUser, Rename, Quit, Join, Part, Kick}
-use Rattle.irc_room.specs.effect.Effect.TheVariants.{ChangeModes, SetTopic, Say, Invite, UserMode}
+use Rattle.irc_room.specs.effect.Effect.TheVariants.{Rename, Quit}
 use Rattle.irc_room.specs.Effects.{has_user}
 use Rattle.irc_room.specs.Lemmas.Rows.{is_some_map}
 use Rattle.irc_room.specs.Seen.{Showing, seen}
@@ -43,11 +42,11 @@ use Rattle.irc_commands.specs.Closing.{error_line}
 
 -- a server after something, of what it was at the start
 pub record IsOwn (start : View) (s : Served) : Type 0 where
-  pub clients : (conn : ℕ) → is_some (get s.view.clients conn) ≡ true
+  pub clients : (conn : ℕ) → is_some (get s.state.clients conn) ≡ true
       → is_some (get start.clients conn) ≡ true
-  pub ends : (link : ℕ) → is_some (get s.view.ends link) ≡ true
+  pub ends : (link : ℕ) → is_some (get s.state.ends link) ≡ true
       → is_some (get start.ends link) ≡ true
-  pub met : AreEnds s.view.ends s.view.routes
+  pub met : AreEnds s.state.ends s.state.routes
   pub out : list_all (is_its_own start) s.out ≡ true
 
 abbrev pub had_client : View → ℕ → Bool
@@ -124,21 +123,21 @@ module _ (start : View) where
       all-filter (had_link start) (λ link. not (is_number arrival link)) links had
 
   ways_own : (arrival : Option ℕ) (effect : Effect) (s : Served) → IsOwn start s
-      → list_all (had_link start) (ways_at s.view arrival effect) ≡ true
+      → list_all (had_link start) (ways_at s.state arrival effect) ≡ true
   ways_own arrival effect s own =
-      but_own arrival (ways_toward s.view.ends s.view.routes (told_homes s.view.room effect))
-      (toward (told_homes s.view.room effect))
+      but_own arrival (ways_toward s.state.ends s.state.routes (told_homes s.state.room effect))
+      (toward (told_homes s.state.room effect))
     where
       toward : (o : Option (List (List ℕ)))
-          → list_all (had_link start) (ways_toward s.view.ends s.view.routes o) ≡ true
-      toward None = met_own s.view.ends own.ends
-      toward (Some homes) = toward_own s.view.ends s.view.routes own.ends own.met homes
+          → list_all (had_link start) (ways_toward s.state.ends s.state.routes o) ≡ true
+      toward None = met_own s.state.ends own.ends
+      toward (Some homes) = toward_own s.state.ends s.state.routes own.ends own.met homes
 
   pub all_own : (arrival : Option ℕ) (parts : Written) → StaysOwn (told_on_all arrival parts)
   all_own arrival parts s own =
-      sent_own (on_links (but arrival (met_links s.view.ends)) parts)
-      (lines_own (but arrival (met_links s.view.ends)) parts
-      (but_own arrival (met_links s.view.ends) (met_own s.view.ends own.ends))) s own
+      sent_own (on_links (but arrival (met_links s.state.ends)) parts)
+      (lines_own (but arrival (met_links s.state.ends)) parts
+      (but_own arrival (met_links s.state.ends) (met_own s.state.ends own.ends))) s own
 
   -- ---- effects
 
@@ -147,48 +146,39 @@ module _ (start : View) where
   still_client (Rename nick new) clients conn is =
       sym (is_some_map (renamed_in nick new) (get clients conn))
       ∙ sym (ap is_some (get-each (renamed_in nick new) clients conn)) ∙ is
-  still_client (AddUser user) clients conn is = is
-  still_client (Quit nick text) clients conn is = is
-  still_client (Join nick channel op) clients conn is = is
-  still_client (Part nick channel text) clients conn is = is
-  still_client (Kick by channel nick text) clients conn is = is
-  still_client (ChangeModes by channel changes) clients conn is = is
-  still_client (SetTopic by channel text) clients conn is = is
-  still_client (Say by notice target text) clients conn is = is
-  still_client (Invite by nick channel) clients conn is = is
-  still_client (UserMode nick invisible) clients conn is = is
+  still_client other clients conn is = is
 
   changed_own : (effect : Effect) → StaysOwn (changed effect)
   changed_own effect s own = record {
-    clients = λ conn is. own.clients conn (still_client effect s.view.clients conn is);
+    clients = λ conn is. own.clients conn (still_client effect s.state.clients conn is);
     ends = own.ends;
     met = own.met;
-    out = all-append (is_its_own start) s.out (shown_at s.view effect) own.out
-        (by (is_elsewhere s.view effect));
+    out = all-append (is_its_own start) s.out (shown_at s.state effect) own.out
+        (by (is_elsewhere s.state effect));
   }
     where
       by : (b : Bool) → list_all (is_its_own start)
-          (if b then [] else flat_map (to_viewer s.view.clients) (seen s.view.room effect)) ≡ true
+          (if b then [] else flat_map (to_viewer s.state.clients) (seen s.state.room effect)) ≡ true
       by true = refl
-      by false = all-flat (is_its_own start) (to_viewer s.view.clients)
-          (viewers_own s.view.clients own.clients) (seen s.view.room effect)
+      by false = all-flat (is_its_own start) (to_viewer s.state.clients)
+          (viewers_own s.state.clients own.clients) (seen s.state.room effect)
 
   pub told_own : (arrival : Option ℕ) (effect : Effect) → StaysOwn (effect_told arrival effect)
   told_own arrival effect s own =
-      sent_own (on_links (ways_at s.view arrival effect) (wire s.view.room s.view.routes effect))
-      (lines_own (ways_at s.view arrival effect) (wire s.view.room s.view.routes effect)
+      sent_own (on_links (ways_at s.state arrival effect) (wire s.state.room s.state.routes effect))
+      (lines_own (ways_at s.state arrival effect) (wire s.state.room s.state.routes effect)
       (ways_own arrival effect s own)) (changed effect s)
       (changed_own effect s own)
 
   came_own : (arrival : Option ℕ) (effect : Effect) → StaysOwn (effect_came arrival effect)
-  came_own arrival effect s own = by (counts s.view effect)
+  came_own arrival effect s own = by (counts s.state effect)
     where
       by : (b : Bool) → IsOwn start (if b then effect_told arrival effect s else s)
       by true = told_own arrival effect s own
       by false = own
 
   changed_if_own : (effect : Effect) → StaysOwn (changed_if effect)
-  changed_if_own effect s own = by (counts s.view effect)
+  changed_if_own effect s own = by (counts s.state effect)
     where
       by : (b : Bool) → IsOwn start (if b then changed effect s else s)
       by true = changed_own effect s own
@@ -202,7 +192,7 @@ module _ (start : View) where
   -- ---- a user is taken out
 
   quit_own : (nick words : List ℕ) → StaysOwn (quit_by nick words)
-  quit_own nick words s own = by (has_user s.view.room nick)
+  quit_own nick words s own = by (has_user s.state.room nick)
     where
       by : (b : Bool) → IsOwn start (if b then changed (Quit nick words) s else s)
       by true = changed_own (Quit nick words) s own
@@ -210,21 +200,22 @@ module _ (start : View) where
 
   client_ended_own : (nick words : List ℕ) → StaysOwn (client_ended nick words)
   client_ended_own nick words s own = record {
-    clients = λ conn is. own.clients conn (kept conn (is_another s.view.clients nick conn)
-        (sym (ap is_some (get-kept s.view.clients (is_another s.view.clients nick) conn)) ∙ is));
+    clients = λ conn is. own.clients conn (kept conn (is_another s.state.clients nick conn)
+        (sym (ap is_some (get-kept s.state.clients (is_another s.state.clients nick) conn)) ∙ is));
     ends = own.ends;
     met = own.met;
-    out = all-append (is_its_own start) s.out (told ++ ends_of nick s.view.clients) own.out
-        (all-append (is_its_own start) told (ends_of nick s.view.clients)
-        (viewers_own s.view.clients own.clients (record { viewer = nick; line = error_line words }))
-        (ended_own s.view.clients own.clients nick));
+    out = all-append (is_its_own start) s.out (told ++ ends_of nick s.state.clients) own.out
+        (all-append (is_its_own start) told (ends_of nick s.state.clients)
+        (viewers_own s.state.clients own.clients
+        (record { viewer = nick; line = error_line words }))
+        (ended_own s.state.clients own.clients nick));
   }
     where
       told : List Sent
-      told = to_viewer s.view.clients (record { viewer = nick; line = error_line words })
+      told = to_viewer s.state.clients (record { viewer = nick; line = error_line words })
 
-      kept : (conn : ℕ) (b : Bool) → is_some (cond b (get s.view.clients conn) None) ≡ true
-          → is_some (get s.view.clients conn) ≡ true
+      kept : (conn : ℕ) (b : Bool) → is_some (cond b (get s.state.clients conn) None) ≡ true
+          → is_some (get s.state.clients conn) ≡ true
       kept conn true is = is
       kept conn false is = absurd (cc is)
 
@@ -238,7 +229,7 @@ module _ (start : View) where
   forgotten_own name s own = record {
     clients = own.clients;
     ends = own.ends;
-    met = left_met s.view.ends s.view.routes name own.met;
+    met = left_met s.state.ends s.state.routes name own.met;
     out = own.out;
   }
 
@@ -251,27 +242,27 @@ module _ (start : View) where
   deed_own arrival (does effect) s own = came_own arrival effect s own
   deed_own arrival (gains uplink name info) s own = own
   deed_own arrival (loses server name words) s own =
-      let left = all_changed (effects_of s.view.room (loses server name words)) s in
-      all_own arrival (deed_parts s.view.room s.view.routes (loses server name words))
+      let left = all_changed (effects_of s.state.room (loses server name words)) s in
+      all_own arrival (deed_parts s.state.room s.state.routes (loses server name words))
       (forgotten name left)
       (forgotten_own name left
-      (all_changed_own (effects_of s.view.room (loses server name words)) s own))
+      (all_changed_own (effects_of s.state.room (loses server name words)) s own))
   deed_own arrival (kills server nick) s own =
-      all_own arrival (deed_parts s.view.room s.view.routes (kills server nick))
+      all_own arrival (deed_parts s.state.room s.state.routes (kills server nick))
       (taken_out nick collision_text s) (taken_out_own nick collision_text s own)
   deed_own arrival (brings server channel members) s own =
-      let effects = effects_of s.view.room (brings server channel members) in
+      let effects = effects_of s.state.room (brings server channel members) in
       let spelled = titled_view channel s in
-      all_own arrival (deed_parts s.view.room s.view.routes (brings server channel members))
+      all_own arrival (deed_parts s.state.room s.state.routes (brings server channel members))
       (all_changed effects spelled)
       (all_changed_own effects spelled (titled_own channel s own))
   deed_own arrival (sets server channel changes) s own =
-      let effects = effects_of s.view.room (sets server channel changes) in
-      all_own arrival (deed_parts s.view.room s.view.routes (sets server channel changes))
+      let effects = effects_of s.state.room (sets server channel changes) in
+      all_own arrival (deed_parts s.state.room s.state.routes (sets server channel changes))
       (all_changed effects s) (all_changed_own effects s own)
   deed_own arrival (tops server channel topic) s own =
-      let effects = effects_of s.view.room (tops server channel topic) in
-      all_own arrival (deed_parts s.view.room s.view.routes (tops server channel topic))
+      let effects = effects_of s.state.room (tops server channel topic) in
+      all_own arrival (deed_parts s.state.room s.state.routes (tops server channel topic))
       (all_changed effects s) (all_changed_own effects s own)
 
   pub deeds_own : (arrival : Option ℕ) (deeds : List Deed) → StaysOwn (deeds_told arrival deeds)

@@ -36,7 +36,7 @@ use Rattle.irc_stage.specs.declared.clients.Client.{Client}
 use Rattle.irc_stage.specs.declared.clients.Client.TheVariants.{Registering, Registered}
 use Rattle.irc_stage.specs.RoomMachine.{client_of}
 use Rattle.irc_stage.specs.View.{View, machine_of, password_for, with_end}
-use Rattle.irc_stage.specs.Handle.{Happening, connects, says, goes, client_after, lost_text}
+use Rattle.irc_stage.specs.Handle.{ClientEvent, connects, says, goes, client_after, lost_text}
 use Rattle.irc_stage.specs.Handle.{user_of}
 use Rattle.irc_stage.specs.EffectTold.{Served, in_silence, with_sent}
 use Rattle.irc_stage.specs.Linked.{is_taken, unlinked, with_far, with_password, with_row}
@@ -49,7 +49,7 @@ use Rattle.irc_server.specs.Heard.{closes, heard, met_unless, of_met, opened}
 use Rattle.irc_server.specs.LinkServed.{after_heard, line_served, link_opened, met_by, on_link}
 use Rattle.irc_server.specs.LinkServed.{opening_parts, owes}
 use Rattle.irc_server.specs.Lemmas.StayingEnds.{told_by_keeps_ends}
-use Rattle.irc_server.specs.Served.{Occurrence, of_client, link_up, link_says, link_down, served}
+use Rattle.irc_server.specs.Served.{ReadEvent, of_client, link_up, link_says, link_down, served}
 use Rattle.irc_server.specs.Own.{ServedGoesToItsOwn, ServedKeepsEnds, is_its_own, is_on_new}
 use Rattle.irc_server.proofs.AllOf.{all-each, all-one, all-weaker, either_first, either_second}
 use Rattle.irc_server.proofs.MetEnds.{added_met, left_no_more, put_met, put_no_more, put_there}
@@ -63,7 +63,7 @@ module _ (start : View) where
   step_own : (conn : ℕ) (name : Option (List ℕ)) (act : Act) → had_client start conn ≡ true
       → StaysOwn start (step_told conn name act)
   step_own conn name (Answer reply) here s own =
-      let line = line_to conn (reply_text s.view.routes.name name reply) in
+      let line = line_to conn (reply_text s.state.routes.name name reply) in
       sent_own start (line ∷ []) (all-one (is_its_own start) line here) s own
   step_own conn name (Raw line) here s own = sent_own start (line_to conn line.items ∷ [])
       (all-one (is_its_own start) (line_to conn line.items) here) s own
@@ -76,17 +76,17 @@ module _ (start : View) where
       steps_own conn name acts here (step_told conn name act s) (step_own conn name act here s own)
 
   unseated_own : (conn : ℕ) (s : Served) → IsOwn start s
-      → IsOwn start (record s { view = unseated conn s.view })
+      → IsOwn start (record s { state = unseated conn s.state })
   unseated_own conn s own = record {
     clients = λ q is. own.clients q
-        (by q (same_number q conn) (sym (ap is_some (get-without s.view.clients conn q)) ∙ is));
+        (by q (same_number q conn) (sym (ap is_some (get-without s.state.clients conn q)) ∙ is));
     ends = own.ends;
     met = own.met;
     out = own.out;
   }
     where
-      by : (q : ℕ) (b : Bool) → is_some (cond b None (get s.view.clients q)) ≡ true
-          → is_some (get s.view.clients q) ≡ true
+      by : (q : ℕ) (b : Bool) → is_some (cond b None (get s.state.clients q)) ≡ true
+          → is_some (get s.state.clients q) ≡ true
       by q true is = absurd (cc is)
       by q false is = is
 
@@ -94,7 +94,7 @@ module _ (start : View) where
       → StaysOwn start (closed_told close conn)
   close_own true conn here s own =
       sent_own start (end_of conn ∷ []) (all-one (is_its_own start) (end_of conn) here)
-      (record s { view = unseated conn s.view }) (unseated_own conn s own)
+      (record s { state = unseated conn s.state }) (unseated_own conn s own)
   close_own false conn here s own = own
 
   carried_own : (close : Bool) (conn : ℕ) (name : Option (List ℕ)) (acts : List Act)
@@ -105,31 +105,32 @@ module _ (start : View) where
 
   -- ---- what comes by links
 
-  told_by_own : (link : ℕ) (told : Told) (s : Served) → IsMetEnd (get s.view.ends link)
+  told_by_own : (link : ℕ) (told : Told) (s : Served) → IsMetEnd (get s.state.ends link)
       → IsOwn start s → IsOwn start (told_by link told s)
   unfolding told_by
   told_by_own link (a_deed deed) s met own =
-      deed_own start (arrival_of s.view.routes.name link deed) deed s own
+      deed_own start (arrival_of s.state.routes.name link deed) deed s own
   told_by_own link (a_server uplink name distance token info) s met own =
-      by (is_taken s.view.routes link name token)
+      by (is_taken s.state.routes link name token)
     where
       more : Served
-      more = record s { view = with_row link uplink name distance token info s.view }
+      more = record s { state = with_row link uplink name distance token info s.state }
 
       more_own : IsOwn start more
       more_own = record {
         clients = own.clients;
         ends = own.ends;
-        met = added_met s.view.ends s.view.routes link uplink name distance token info own.met met;
+        met =
+            added_met s.state.ends s.state.routes link uplink name distance token info own.met met;
         out = own.out;
       }
 
       by : (b : Bool) → IsOwn start (if b then gain_told link uplink name info more else s)
       by true = all_own start (Some link)
-          (deed_parts more.view.room more.view.routes (gains uplink name info)) more more_own
+          (deed_parts more.state.room more.state.routes (gains uplink name info)) more more_own
       by false = own
 
-  all_told_own : (link : ℕ) (told : List Told) (s : Served) → IsMetEnd (get s.view.ends link)
+  all_told_own : (link : ℕ) (told : List Told) (s : Served) → IsMetEnd (get s.state.ends link)
       → IsOwn start s → IsOwn start (all_told link told s)
   all_told_own link [] s met own = own
   all_told_own link (told ∷ later) s met own =
@@ -142,14 +143,14 @@ module _ (start : View) where
       by (deeds_told (Some link) deeds s) (deeds_own start (Some link) deeds s own)
     where
       deeds : List Deed
-      deeds = lost_behind s.view link (get s.view.ends link)
+      deeds = lost_behind s.state link (get s.state.ends link)
 
       by : (left : Served) → IsOwn start left
-          → IsOwn start (record left { view = unlinked link left.view })
+          → IsOwn start (record left { state = unlinked link left.state })
       by left own = record {
         clients = own.clients;
-        ends = λ number is. own.ends number (left_no_more left.view.ends link number is);
-        met = unlinked_met left.view.ends left.view.routes link own.met;
+        ends = λ number is. own.ends number (left_no_more left.state.ends link number is);
+        met = unlinked_met left.state.ends left.state.routes link own.met;
         out = own.out;
       }
 
@@ -292,20 +293,20 @@ module _ (view : View) (met : AreEnds view.ends view.routes) where
 -- ---- the laws
 
 -- what is served leaves this
-record IsLeft (view : View) (occurrence : Occurrence) (s : Served) : Type 0 where
-  met : AreEnds s.view.ends s.view.routes
-  out : list_all (λ sent. is_its_own view sent || is_on_new occurrence sent) s.out ≡ true
+record IsLeft (view : View) (read_event : ReadEvent) (s : Served) : Type 0 where
+  met : AreEnds s.state.ends s.state.routes
+  out : list_all (λ sent. is_its_own view sent || is_on_new read_event sent) s.out ≡ true
 
-left : (view : View) (occurrence : Occurrence) (s : Served) → IsOwn view s
-    → IsLeft view occurrence s
-left view occurrence s own = record {
+left : (view : View) (read_event : ReadEvent) (s : Served) → IsOwn view s
+    → IsLeft view read_event s
+left view read_event s own = record {
   met = own.met;
-  out = all-weaker (is_its_own view) (λ sent. is_its_own view sent || is_on_new occurrence sent)
-      (λ sent is. either_first (is_its_own view sent) (is_on_new occurrence sent) is) s.out own.out;
+  out = all-weaker (is_its_own view) (λ sent. is_its_own view sent || is_on_new read_event sent)
+      (λ sent is. either_first (is_its_own view sent) (is_on_new read_event sent) is) s.out own.out;
 }
 
-client_left : (view : View) (happening : Happening) → AreEnds view.ends view.routes
-    → IsLeft view (of_client happening) (client_told view happening)
+client_left : (view : View) (client_event : ClientEvent) → AreEnds view.ends view.routes
+    → IsLeft view (of_client client_event) (client_told view client_event)
 unfolding client_told
 client_left view (connects conn host) met = record { met = met; out = refl }
 client_left view (says conn (Ok message)) met =
@@ -340,14 +341,14 @@ opened_out view link (Some name) = by (is_none (password_for view name))
 
 opened_met : (view : View) (link : ℕ) (starts : Option (List ℕ))
     → AreEnds view.ends view.routes → get view.ends link ≡ None
-    → AreEnds (link_opened view link starts).view.ends (link_opened view link starts).view.routes
+    → AreEnds (link_opened view link starts).state.ends (link_opened view link starts).state.routes
 opened_met view link starts met new = by starts
   where
     put : (o : Option (List ℕ)) → AreEnds (insert view.ends link (fresh_end o)) view.routes
     put o = put_met view.ends view.routes link (fresh_end o) met
         (λ counts. absurd (subst IsMetEnd new counts))
 
-    of_peer : (name : List ℕ) (b : Bool) → (λ (s : Served). AreEnds s.view.ends s.view.routes)
+    of_peer : (name : List ℕ) (b : Bool) → (λ (s : Served). AreEnds s.state.ends s.state.routes)
         (if b then with_sent (end_of_link link reason.UnknownPeer ∷ []) (in_silence view)
         else with_sent (on_link link (opening_parts view name))
         (in_silence (with_end link (Some name) view)))
@@ -355,13 +356,13 @@ opened_met view link starts met new = by starts
     of_peer name false = put (Some name)
 
     by : (o : Option (List ℕ))
-        → AreEnds (link_opened view link o).view.ends (link_opened view link o).view.routes
+        → AreEnds (link_opened view link o).state.ends (link_opened view link o).state.routes
     by None = put None
     by (Some name) = of_peer name (is_none (password_for view name))
 
 pub keeps_ends : ServedKeepsEnds
 unfolding served
-keeps_ends view (of_client happening) met new = (client_left view happening met).met
+keeps_ends view (of_client client_event) met new = (client_left view client_event met).met
 keeps_ends view (link_up link starts) met new = opened_met view link starts met new
 keeps_ends view (link_says link read) met new =
     (line_own view met link read (get view.ends link) refl).met
@@ -370,7 +371,7 @@ keeps_ends view (link_down link) met new =
 
 pub goes_to_its_own : ServedGoesToItsOwn
 unfolding served
-goes_to_its_own view (of_client happening) met = (client_left view happening met).out
+goes_to_its_own view (of_client client_event) met = (client_left view client_event met).out
 goes_to_its_own view (link_up link starts) met = opened_out view link starts
 goes_to_its_own view (link_says link read) met =
     (left view (link_says link read) _ (line_own view met link read (get view.ends link) refl)).out

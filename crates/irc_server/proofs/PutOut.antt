@@ -29,7 +29,7 @@ use Rattle.irc_stage.specs.declared.clients.Client.{Client}
 use Rattle.irc_stage.specs.declared.clients.Client.TheVariants.{Registering, Registered}
 use Rattle.irc_stage.specs.RoomMachine.{Clients, client_of}
 use Rattle.irc_stage.specs.View.{View, machine_of}
-use Rattle.irc_stage.specs.Handle.{Happening, connects, says, goes, client_after, is_client}
+use Rattle.irc_stage.specs.Handle.{ClientEvent, connects, says, goes, client_after, is_client}
 use Rattle.irc_stage.specs.Handle.{lost_text, to_viewer, user_of}
 use Rattle.irc_stage.specs.EffectTold.{Served, all_changed, changed, changed_if, counts}
 use Rattle.irc_stage.specs.EffectTold.{effect_came, effect_told, ends_of, in_silence, is_elsewhere}
@@ -77,7 +77,7 @@ module _ (test : Sent → Bool) (Holds : List Sent → Type 0) (keeps : IsKeptBe
       (all-each test (λ parts. line_on link (text parts)) (keeps.on_link link) lines)
 
   all_stays : (arrival : Option ℕ) (parts : Written) → Stays (told_on_all arrival parts)
-  all_stays arrival parts s = links_stays (but arrival (met_links s.view.ends)) parts s
+  all_stays arrival parts s = links_stays (but arrival (met_links s.state.ends)) parts s
 
   -- something for some of the clients, and never on a link
   clients_stays : (clients : Clients) (b : ℕ × Client → Bool) (g : ℕ × Client → Sent)
@@ -97,17 +97,17 @@ module _ (test : Sent → Bool) (Holds : List Sent → Type 0) (keeps : IsKeptBe
 
   changed_stays : (effect : Effect) → Stays (changed effect)
   changed_stays effect s holds =
-      keeps.behind s.out (shown_at s.view effect) (by (is_elsewhere s.view effect)) holds
+      keeps.behind s.out (shown_at s.state effect) (by (is_elsewhere s.state effect)) holds
     where
       by : (b : Bool) → list_all test
-          (if b then [] else flat_map (to_viewer s.view.clients) (seen s.view.room effect)) ≡ true
+          (if b then [] else flat_map (to_viewer s.state.clients) (seen s.state.room effect)) ≡ true
       by true = refl
-      by false = all-flat test (to_viewer s.view.clients) (viewers_stays s.view.clients)
-          (seen s.view.room effect)
+      by false = all-flat test (to_viewer s.state.clients) (viewers_stays s.state.clients)
+          (seen s.state.room effect)
 
   effect_stays : (arrival : Option ℕ) (effect : Effect) → Stays (effect_told arrival effect)
   effect_stays arrival effect s holds =
-      links_stays (ways_at s.view arrival effect) (wire s.view.room s.view.routes effect)
+      links_stays (ways_at s.state arrival effect) (wire s.state.room s.state.routes effect)
       (changed effect s) (changed_stays effect s holds)
 
   -- what is done, or is not
@@ -117,13 +117,13 @@ module _ (test : Sent → Bool) (Holds : List Sent → Type 0) (keeps : IsKeptBe
   either_stays false one other first second = second
 
   came_stays : (arrival : Option ℕ) (effect : Effect) → Stays (effect_came arrival effect)
-  came_stays arrival effect s holds = either_stays (counts s.view effect)
+  came_stays arrival effect s holds = either_stays (counts s.state effect)
       (effect_told arrival effect s) s (effect_stays arrival effect s holds) holds
 
   all_changed_stays : (effects : List Effect) → Stays (all_changed effects)
   all_changed_stays [] s holds = holds
   all_changed_stays (effect ∷ effects) s holds =
-      all_changed_stays effects (changed_if effect s) (either_stays (counts s.view effect)
+      all_changed_stays effects (changed_if effect s) (either_stays (counts s.state effect)
       (changed effect s) s (changed_stays effect s holds) holds)
 
   -- ---- a user is taken out
@@ -131,25 +131,25 @@ module _ (test : Sent → Bool) (Holds : List Sent → Type 0) (keeps : IsKeptBe
   taken_out_stays : (nick words : List ℕ) → Stays (taken_out nick words)
   taken_out_stays nick words s holds =
       let left = quit_by nick words s in
-      let clients = left.view.clients in
+      let clients = left.state.clients in
       let told = to_viewer clients (record { viewer = nick; line = error_line words }) in
       keeps.behind left.out (told ++ ends_of nick clients)
       (all-append test told (ends_of nick clients)
       (viewers_stays clients (record { viewer = nick; line = error_line words }))
       (clients_stays clients (λ (c : ℕ × Client). is_client nick c.1)
       (λ (c : ℕ × Client). end_of c.0) (λ c. keeps.closing c.0)))
-      (either_stays (has_user s.view.room nick) (changed (Quit nick words) s) s
+      (either_stays (has_user s.state.room nick) (changed (Quit nick words) s) s
       (changed_stays (Quit nick words) s holds) holds)
 
   -- ---- deeds
 
   -- its effects, and its line on all links
   whole_stays : (arrival : Option ℕ) (deed : Deed) (s : Served) → HoldsAt s
-      → HoldsAt (told_on_all arrival (deed_parts s.view.room s.view.routes deed)
-      (all_changed (effects_of s.view.room deed) s))
+      → HoldsAt (told_on_all arrival (deed_parts s.state.room s.state.routes deed)
+      (all_changed (effects_of s.state.room deed) s))
   whole_stays arrival deed s holds =
-      let effects = effects_of s.view.room deed in
-      all_stays arrival (deed_parts s.view.room s.view.routes deed) (all_changed effects s)
+      let effects = effects_of s.state.room deed in
+      all_stays arrival (deed_parts s.state.room s.state.routes deed) (all_changed effects s)
       (all_changed_stays effects s holds)
 
   deed_stays : (arrival : Option ℕ) (deed : Deed) → Stays (deed_told arrival deed)
@@ -158,18 +158,18 @@ module _ (test : Sent → Bool) (Holds : List Sent → Type 0) (keeps : IsKeptBe
   deed_stays arrival (gains uplink name info) s holds = holds
   deed_stays arrival (loses server name words) s holds =
       let deed = loses server name words in
-      let left = all_changed (effects_of s.view.room deed) s in
-      all_stays arrival (deed_parts s.view.room s.view.routes deed) (forgotten name left)
-      (all_changed_stays (effects_of s.view.room deed) s holds)
+      let left = all_changed (effects_of s.state.room deed) s in
+      all_stays arrival (deed_parts s.state.room s.state.routes deed) (forgotten name left)
+      (all_changed_stays (effects_of s.state.room deed) s holds)
   deed_stays arrival (kills server nick) s holds =
-      all_stays arrival (deed_parts s.view.room s.view.routes (kills server nick))
+      all_stays arrival (deed_parts s.state.room s.state.routes (kills server nick))
       (taken_out nick collision_text s)
       (taken_out_stays nick collision_text s holds)
   deed_stays arrival (brings server channel members) s holds =
       let deed = brings server channel members in
-      let effects = effects_of s.view.room deed in
+      let effects = effects_of s.state.room deed in
       let spelled = titled_view channel s in
-      all_stays arrival (deed_parts s.view.room s.view.routes deed) (all_changed effects spelled)
+      all_stays arrival (deed_parts s.state.room s.state.routes deed) (all_changed effects spelled)
       (all_changed_stays effects spelled holds)
   deed_stays arrival (sets server channel changes) s holds =
       whole_stays arrival (sets server channel changes) s holds
@@ -185,8 +185,8 @@ module _ (test : Sent → Bool) (Holds : List Sent → Type 0) (keeps : IsKeptBe
 
   step_stays : (conn : ℕ) (name : Option (List ℕ)) (act : Act) → Stays (step_told conn name act)
   step_stays conn name (Answer reply) s holds =
-      one_stays (line_to conn (reply_text s.view.routes.name name reply))
-      (keeps.to_client conn (reply_text s.view.routes.name name reply)) s holds
+      one_stays (line_to conn (reply_text s.state.routes.name name reply))
+      (keeps.to_client conn (reply_text s.state.routes.name name reply)) s holds
   step_stays conn name (Raw line) s holds =
       one_stays (line_to conn line.items) (keeps.to_client conn line.items) s holds
   step_stays conn name (Do effect) s holds = effect_stays None effect s holds
@@ -199,7 +199,8 @@ module _ (test : Sent → Bool) (Holds : List Sent → Type 0) (keeps : IsKeptBe
 
   close_stays : (close : Bool) (conn : ℕ) → Stays (closed_told close conn)
   close_stays true conn s holds =
-      one_stays (end_of conn) (keeps.closing conn) (record s { view = unseated conn s.view }) holds
+      one_stays (end_of conn) (keeps.closing conn)
+      (record s { state = unseated conn s.state }) holds
   close_stays false conn s holds = holds
 
   quit_stays : (user : Option (List ℕ)) → Stays (quit_told user)
@@ -211,12 +212,13 @@ module _ (test : Sent → Bool) (Holds : List Sent → Type 0) (keeps : IsKeptBe
   pub told_by_stays : (link : ℕ) (told : Told) → Stays (told_by link told)
   unfolding told_by
   told_by_stays link (a_deed deed) s holds =
-      deed_stays (arrival_of s.view.routes.name link deed) deed s holds
+      deed_stays (arrival_of s.state.routes.name link deed) deed s holds
   told_by_stays link (a_server uplink name distance token info) s holds =
-      let more = record s { view = with_row link uplink name distance token info s.view } in
-      either_stays (is_taken s.view.routes link name token) (gain_told link uplink name info more) s
+      let more = record s { state = with_row link uplink name distance token info s.state } in
+      either_stays (is_taken s.state.routes link name token)
+      (gain_told link uplink name info more) s
       (all_stays (Some link)
-      (deed_parts more.view.room more.view.routes (gains uplink name info)) more holds) holds
+      (deed_parts more.state.room more.state.routes (gains uplink name info)) more holds) holds
 
   pub all_told_stays : (link : ℕ) (told : List Told) → Stays (all_told link told)
   all_told_stays link [] s holds = holds
@@ -225,7 +227,7 @@ module _ (test : Sent → Bool) (Holds : List Sent → Type 0) (keeps : IsKeptBe
 
   pub lost_stays : (link : ℕ) → Stays (link_lost link)
   lost_stays link s holds =
-      deeds_stays (Some link) (lost_behind s.view link (get s.view.ends link)) s holds
+      deeds_stays (Some link) (lost_behind s.state link (get s.state.ends link)) s holds
 
   -- ---- what clients do, where it holds of nothing put out
 
@@ -252,12 +254,12 @@ module _ (test : Sent → Bool) (Holds : List Sent → Type 0) (keeps : IsKeptBe
   message_stays start view conn (Some (Registered nick)) message =
       user_stays start view conn (row view.room.users (key nick)) message
 
-  pub happening_stays : Holds [] → (view : View) (happening : Happening)
-      → HoldsAt (client_told view happening)
+  pub client_event_stays : Holds [] → (view : View) (client_event : ClientEvent)
+      → HoldsAt (client_told view client_event)
   unfolding client_told
-  happening_stays start view (connects conn host) = start
-  happening_stays start view (says conn (Ok message)) =
+  client_event_stays start view (connects conn host) = start
+  client_event_stays start view (says conn (Ok message)) =
       message_stays start view conn (client_of (machine_of view) conn) message
-  happening_stays start view (says conn (Err fault)) = start
-  happening_stays start view (goes conn) = quit_stays
+  client_event_stays start view (says conn (Err fault)) = start
+  client_event_stays start view (goes conn) = quit_stays
       (user_of view.room (client_of (machine_of view) conn)) (in_silence (unseated conn view)) start

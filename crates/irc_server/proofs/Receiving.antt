@@ -5,25 +5,25 @@ use Rattle.std.proofs.lemmas.List.Elements.{filter_map-append}
 use Rattle.irc_server.specs.declared.event.Event.{Event}
 use Rattle.irc_batch.specs.Batches.{Sent}
 use Rattle.irc_server.specs.declared.event.ServerFault.{ServerFault}
-use Rattle.irc_stage.specs.RoomMachine.{RoomMachine}
-use Rattle.irc_stage.specs.View.{View, machine_of}
-use Rattle.irc_stage.specs.Handle.{Happening, handled}
-use Rattle.irc_server.specs.Served.{Occurrence, of_client, served}
-use Rattle.irc_server.specs.Happening.{occurrence_of, Does, IsHandled, takes_it, AreHandled}
+use Rattle.irc_stage.specs.View.{View}
+use Rattle.irc_stage.specs.Handle.{ClientEvent}
+use Rattle.irc_server.specs.Served.{ReadEvent, of_client, served}
+use Rattle.irc_server.specs.ReadEvents.{read_event_of, Does, IsHandled, takes_it, AreHandled}
 use Rattle.irc_server.specs.Owed.{line_to_conn, lines_to, after_all, lines_owed, AllReceive}
 use Rattle.irc_server.specs.Owed.{AreOfClients, Receives}
 
-receives_more : (view after : View) (event : Event) (happening : Happening) (left : List Happening)
+receives_more : (view after : View) (event : Event) (client_event : ClientEvent)
+    (left : List ClientEvent)
     (out out_between : List Sent) (new : Option View)
-    (out_after : List Sent) → occurrence_of event ≡ of_client happening
+    (out_after : List Sent) → read_event_of event ≡ of_client client_event
     → Does view event out after out_between → Receives after left out_between new out_after
-    → Receives view (happening ∷ left) out new out_after
-receives_more view after event happening left out out_between new out_after event_is does later =
-    let put = (served view (of_client happening)).out in
-    let view_is : after ≡ (served view (of_client happening)).view =
-    does.view_is ∙ ap (λ (o : Occurrence). (served view o).view) event_is in
+    → Receives view (client_event ∷ left) out new out_after
+receives_more view after event client_event left out out_between new out_after event_is does later =
+    let put = (served view (of_client client_event)).out in
+    let view_is : after ≡ (served view (of_client client_event)).state =
+    does.view_is ∙ ap (λ (o : ReadEvent). (served view o).state) event_is in
     let out_is : out_between ≡ out ++ put =
-    does.out_is ∙ ap (λ (o : Occurrence). out ++ (served view o).out) event_is in
+    does.out_is ∙ ap (λ (o : ReadEvent). out ++ (served view o).out) event_is in
     record {
       view_is = later.view_is ∙ ap (λ (v : View). Some (after_all v left)) view_is;
       received = λ conn.
@@ -38,28 +38,28 @@ receives_more view after event happening left out out_between new out_after even
 
 -- the first event is handled, and those behind it
 by_between : {view : View} {event : Event} {out out_between : List Sent} {between : Option View}
-    (happening : Happening) (events : List Event) (left : List Happening)
-    (new : Option View) (out_after : List Sent) → occurrence_of event ≡ of_client happening
+    (client_event : ClientEvent) (events : List Event) (left : List ClientEvent)
+    (new : Option View) (out_after : List Sent) → read_event_of event ≡ of_client client_event
     → ((after : View) → AreHandled (Some after) events out_between (Ok tt) new out_after
     → Receives after left out_between new out_after)
     → IsHandled (Some view) event out (Ok tt) between out_between
     → AreHandled between events out_between (Ok tt) new out_after
-    → Receives view (happening ∷ left) out new out_after
-by_between {view = view} {event = event} {out = out} {out_between = out_between} happening events
+    → Receives view (client_event ∷ left) out new out_after
+by_between {view = view} {event = event} {out = out} {out_between = out_between} client_event events
     left new out_after event_is later (takes_it {new = after} none does) more =
-    receives_more view after event happening left out out_between new out_after event_is does
+    receives_more view after event client_event left out out_between new out_after event_is does
     (later after more)
 
-by_first : (view : View) (event : Event) (happening : Happening) (events : List Event)
-    (left : List Happening) (out : List Sent) (new : Option View) (out_after : List Sent)
-    → occurrence_of event ≡ of_client happening → ((after : View) (out_between : List Sent)
+by_first : (view : View) (event : Event) (client_event : ClientEvent) (events : List Event)
+    (left : List ClientEvent) (out : List Sent) (new : Option View) (out_after : List Sent)
+    → read_event_of event ≡ of_client client_event → ((after : View) (out_between : List Sent)
     → AreHandled (Some after) events out_between (Ok tt) new out_after
     → Receives after left out_between new out_after) → AreHandled (Some view) (event ∷ events) out
-    (Ok tt) new out_after → Receives view (happening ∷ left) out new out_after
-by_first view event happening events left out new out_after event_is later (inl stops) =
+    (Ok tt) new out_after → Receives view (client_event ∷ left) out new out_after
+by_first view event client_event events left out new out_after event_is later (inl stops) =
     absurd (let is = stops.result_is in cc)
-by_first view event happening events left out new out_after event_is later (inr goes) =
-    by_between happening events left new out_after event_is
+by_first view event client_event events left out new out_after event_is later (inr goes) =
+    by_between client_event events left new out_after event_is
     (λ after more. later after goes.out_between more) goes.is_handled goes.left_is
 
 head_is : {X : Type 0} (x y : X) (xs ys : List X) → x ∷ xs ≡ y ∷ ys → x ≡ y
@@ -68,17 +68,18 @@ head_is x y xs ys is = cc is
 rest_is : {X : Type 0} (x y : X) (xs ys : List X) → x ∷ xs ≡ y ∷ ys → xs ≡ ys
 rest_is x y xs ys is = cc is
 
-pub receives : (view : View) (events : List Event) (happenings : List Happening) (out : List Sent)
-    (new : Option View) (out_after : List Sent) → AreOfClients events happenings → AreHandled
-    (Some view) events out (Ok tt) new out_after → Receives view happenings out new out_after
+pub receives : (view : View) (events : List Event) (client_events : List ClientEvent)
+    (out : List Sent)
+    (new : Option View) (out_after : List Sent) → AreOfClients events client_events → AreHandled
+    (Some view) events out (Ok tt) new out_after → Receives view client_events out new out_after
 receives view [] [] out new out_after are all = record {
   view_is = all.1;
   received = λ conn. ap (lines_to conn) all.2 ∙ sym (append-nil (lines_to conn out));
 }
-receives view [] (happening ∷ left) out new out_after are all = absurd (cc are)
+receives view [] (client_event ∷ left) out new out_after are all = absurd (cc are)
 receives view (event ∷ events) [] out new out_after are all = absurd (cc are)
-receives view (event ∷ events) (happening ∷ left) out new out_after are all =
-    by_first view event happening events left out new out_after (head_is _ _ _ _ are)
+receives view (event ∷ events) (client_event ∷ left) out new out_after are all =
+    by_first view event client_event events left out new out_after (head_is _ _ _ _ are)
     (λ after out_between more. receives after events left out_between new out_after
     (rest_is _ _ _ _ are) more) all
 
@@ -87,7 +88,7 @@ pub received_by : (result : Result (Unit {0}) ServerFault) (old : Option View)
     → AreHandled old events out result new out_after
     → OnOk result (AllReceive old events out new out_after)
 received_by (Ok done) old events out new out_after all =
-    λ view happenings is are. receives view events happenings out new out_after are
+    λ view client_events is are. receives view events client_events out new out_after are
     (subst (λ (o : Option View). AreHandled o events out (Ok tt) new out_after) is all)
 received_by (Err fault) old events out new out_after all = tt
 

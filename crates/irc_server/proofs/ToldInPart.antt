@@ -38,7 +38,7 @@ pub record IsToldInPart (name : Option (List ℕ)) (conn : ℕ) (want : Decided)
   pub told : List Act
   pub is_only_said : effects_among told ≡ []
   pub want_is : want ≡ record left { steps = told ++ left.steps }
-  pub new_is : new ≡ with_sent (all_said (place_of old.view.routes) name conn told) old
+  pub new_is : new ≡ with_sent (all_said (place_of old.state.routes) name conn told) old
 
 -- the steps of a decision, without its query
 abbrev pub decided_of : Decision → Decided
@@ -55,19 +55,19 @@ only_said room place (Some me) params (Some query) = query_only_answers room pla
 -- steps that only say something put out what they say
 said_first : (conn : ℕ) (name : Option (List ℕ)) (told rest : List Act) (s : Served)
     → effects_among told ≡ [] → steps_told conn name (told ++ rest) s ≡ steps_told conn name rest
-    (record s { out = s.out ++ all_said (place_of s.view.routes) name conn told })
+    (record s { out = s.out ++ all_said (place_of s.state.routes) name conn told })
 said_first conn name [] rest s none =
     ap (λ out. steps_told conn name rest (record s { out = out })) (sym (append-nil s.out))
 said_first conn name (Answer reply ∷ told) rest s none =
     said_first conn name told rest (step_told conn name (Answer reply) s) none
     ∙ ap (λ out. steps_told conn name rest (record s { out = out }))
-    (append_assoc s.out (line_to conn (reply_text s.view.routes.name name reply) ∷ [])
-    (all_said (place_of s.view.routes) name conn told))
+    (append_assoc s.out (line_to conn (reply_text s.state.routes.name name reply) ∷ [])
+    (all_said (place_of s.state.routes) name conn told))
 said_first conn name (Raw line ∷ told) rest s none =
     said_first conn name told rest (step_told conn name (Raw line) s) none
     ∙ ap (λ out. steps_told conn name rest (record s { out = out }))
     (append_assoc s.out (line_to conn line.items ∷ [])
-    (all_said (place_of s.view.routes) name conn told))
+    (all_said (place_of s.state.routes) name conn told))
 said_first conn name (Do effect ∷ told) rest s none = cc none
 
 pub so_left : (IsSo : RoomMachine → Effect → Type 0) (machine : RoomMachine) (told rest : List Act)
@@ -88,7 +88,7 @@ carried_in_part after conn name known acts want left old between acts_are known_
     ∙ ap (λ (s : Served). closed_told left.close conn (steps_told conn name left.steps s))
     part.new_is
     ∙ ap (λ n. closed_told left.close conn (steps_told conn name left.steps
-    (with_sent (all_said (place_of old.view.routes) n conn part.told) old))) known_is
+    (with_sent (all_said (place_of old.state.routes) n conn part.told) old))) known_is
     ∙ ap (closed_told left.close conn)
     (sym (said_first conn name part.told left.steps old part.is_only_said))
     ∙ ap (λ (d : Decided). closed_told d.close conn (steps_told conn name d.steps old))

@@ -36,8 +36,8 @@ use Rattle.irc_stage.specs.Handle.{fresh, user_of, lost_text}
 use Rattle.irc_stage.specs.Loops.Handling.{seated_in}
 use Rattle.irc_server.specs.DeedTold.{link_lost}
 use Rattle.irc_server.specs.LinkServed.{line_served, link_opened}
-use Rattle.irc_server.specs.Happening.{occurrence_of, IsHandled, takes_it, refuses_it}
-use Rattle.irc_server.specs.Happening.{wants_memory, has_failed}
+use Rattle.irc_server.specs.ReadEvents.{read_event_of, IsHandled, takes_it, refuses_it}
+use Rattle.irc_server.specs.ReadEvents.{wants_memory, has_failed}
 use Rattle.irc_server.specs.Loops.Acting.{given_view, nick_of}
 use Rattle.irc_server.specs.Served.{link_there, served, there, fault_of, AreMatched, IsDueAt}
 use Rattle.irc_server.specs.Served.{ServedStaysMatched}
@@ -92,54 +92,54 @@ given_done view conn speaker nick given acts before done speaker_is nick_is acts
 
 pub connected_by : (view : View) (event : Event) (conn conn' : ℕ) (host host' : List ℕ)
     (done : Served) → event ≡ Connect conn host → conn' ≡ conn → host' ≡ host
-    → done ≡ in_silence (seated conn' (fresh host') view) → done ≡ served view (occurrence_of event)
+    → done ≡ in_silence (seated conn' (fresh host') view) → done ≡ served view (read_event_of event)
 unfolding served client_told
 connected_by view event conn conn' host host' done event_is conn_is host_is is =
     is ∙ ap (λ n. in_silence (seated n (fresh host') view)) conn_is
     ∙ ap (λ h. in_silence (seated conn (fresh h) view)) host_is
-    ∙ ap (λ (e : Event). served view (occurrence_of e)) (sym event_is)
+    ∙ ap (λ (e : Event). served view (read_event_of e)) (sym event_is)
 
 pub said_by : (view : View) (event : Event) (conn conn' : ℕ) (line : ArrayVec ℕ) (done : Served)
     → event ≡ TheLine conn line → conn' ≡ conn → done ≡ line_told view conn' (read_of line.items)
-    → done ≡ served view (occurrence_of event)
+    → done ≡ served view (read_event_of event)
 unfolding served client_told
 said_by view event conn conn' line done event_is conn_is is =
     is ∙ ap (λ n. line_told view n (read_of line.items)) conn_is
-    ∙ ap (λ (e : Event). served view (occurrence_of e)) (sym event_is)
+    ∙ ap (λ (e : Event). served view (read_event_of e)) (sym event_is)
 
 pub gone_by : (view : View) (event : Event) (conn conn' : ℕ) (done : Served)
     → event ≡ Gone conn → conn' ≡ conn → done ≡ gone_told view conn'
-    → done ≡ served view (occurrence_of event)
+    → done ≡ served view (read_event_of event)
 unfolding served client_told
 gone_by view event conn conn' done event_is conn_is is =
     is ∙ ap (gone_told view) conn_is
-    ∙ ap (λ (e : Event). served view (occurrence_of e)) (sym event_is)
+    ∙ ap (λ (e : Event). served view (read_event_of e)) (sym event_is)
 
 pub opened_by : (view : View) (event : Event) (link link' : ℕ) (starts starts' : Option (List ℕ))
     (done : Served) → event ≡ LinkUp link starts → link' ≡ link → starts' ≡ starts
-    → done ≡ link_opened view link' starts' → done ≡ served view (occurrence_of event)
+    → done ≡ link_opened view link' starts' → done ≡ served view (read_event_of event)
 unfolding served
 opened_by view event link link' starts starts' done event_is link_is starts_is is =
     is ∙ ap (λ n. link_opened view n starts') link_is ∙ ap (link_opened view link) starts_is
-    ∙ ap (λ (e : Event). served view (occurrence_of e)) (sym event_is)
+    ∙ ap (λ (e : Event). served view (read_event_of e)) (sym event_is)
 
 pub heard_by : (view : View) (event : Event) (link link' : ℕ) (line : ArrayVec ℕ) (bytes : List ℕ)
     (done : Served) → event ≡ LinkLine link line → link' ≡ link → bytes ≡ line.items
     → done ≡ line_served view link' (read_of bytes) (get view.ends link')
-    → done ≡ served view (occurrence_of event)
+    → done ≡ served view (read_event_of event)
 unfolding served
 heard_by view event link link' line bytes done event_is link_is bytes_are is =
     is ∙ ap (λ n. line_served view n (read_of bytes) (get view.ends n)) link_is
     ∙ ap (λ b. line_served view link (read_of b) (get view.ends link)) bytes_are
-    ∙ ap (λ (e : Event). served view (occurrence_of e)) (sym event_is)
+    ∙ ap (λ (e : Event). served view (read_event_of e)) (sym event_is)
 
 pub lost_by : (view : View) (event : Event) (link link' : ℕ) (begun done : Served)
     → event ≡ LinkDown link → link' ≡ link → begun ≡ in_silence view
-    → done ≡ link_lost link' begun → done ≡ served view (occurrence_of event)
+    → done ≡ link_lost link' begun → done ≡ served view (read_event_of event)
 unfolding served
 lost_by view event link link' begun done event_is link_is silent is =
     is ∙ ap (λ n. link_lost n begun) link_is ∙ ap (link_lost link) silent
-    ∙ ap (λ (e : Event). served view (occurrence_of e)) (sym event_is)
+    ∙ ap (λ (e : Event). served view (read_event_of e)) (sym event_is)
 
 -- who a connection is
 
@@ -168,7 +168,7 @@ not_open view event link starts is owed =
     no_end_there (get view.ends link) (ap (fault_of view) (sym is) ∙ owed)
 
 due_by : (view : View) (event : Event) → fault_of view event ≡ None
-    → IsDueAt view (occurrence_of event)
+    → IsDueAt view (read_event_of event)
 due_by view (Connect conn host) owed = nobody_there (client_of (machine_of view) conn) owed
 due_by view (TheLine conn line) owed = tt
 due_by view (Gone conn) owed = tt
@@ -179,10 +179,10 @@ due_by view (LinkDown link) owed = tt
 -- whatever is served, clients and users are matched then
 pub matched_after : ServedStaysMatched → (view : View) (event : Event) (done : Served)
     → AreMatched view → IsWellFormed view.room → fault_of view event ≡ None
-    → done ≡ served view (occurrence_of event) → AreMatched done.view
+    → done ≡ served view (read_event_of event) → AreMatched done.state
 matched_after stays view event done matched well owed is =
-    subst (λ (s : Served). AreMatched s.view) (sym is)
-    (stays view matched well (occurrence_of event) (due_by view event owed))
+    subst (λ (s : Served). AreMatched s.state) (sym is)
+    (stays view matched well (read_event_of event) (due_by view event owed))
 
 -- what comes of each way out of `handle`
 
@@ -215,12 +215,12 @@ ran_out now new view event out out_after (Err fault) now_is owed wants gone same
 
 pub taken : (now new : Option View) (view after : View) (event : Event)
     (done : Served) (out out_after : List Sent) → now ≡ Some view → fault_of view event ≡ None
-    → done ≡ served view (occurrence_of event) → after ≡ done.view → new ≡ Some after
+    → done ≡ served view (read_event_of event) → after ≡ done.state → new ≡ Some after
     → out_after ≡ out ++ done.out → IsHandled now event out (Ok tt) new out_after
 taken now new view after event done out out_after now_is owed is after_is new_is appended =
     subst (λ (v : Option View). IsHandled v event out (Ok tt) new out_after) (sym now_is)
     (subst (λ (v : Option View). IsHandled (Some view) event out (Ok tt) v out_after) (sym new_is)
     (takes_it owed (record {
-      view_is = after_is ∙ ap (λ (s : Served). s.view) is;
+      view_is = after_is ∙ ap (λ (s : Served). s.state) is;
       out_is = appended ∙ ap (λ (s : Served). out ++ s.out) is;
     })))

@@ -20,7 +20,7 @@ use Rattle.irc_batch.specs.declared.close_reason.CloseReason.{CloseReason}
 use Rattle.irc_batch.specs.declared.close_reason.CloseReason.TheVariants as reason
 use Rattle.irc_stage.specs.View.{End, View, password_for}
 use Rattle.irc_server.specs.Heard.{Heard, closes, heard}
-use Rattle.irc_server.specs.Served.{Occurrence, of_client, link_up, link_says, link_down, served}
+use Rattle.irc_server.specs.Served.{ReadEvent, of_client, link_up, link_says, link_down, served}
 
 -- the link that is closed, and why
 abbrev pub closing_of : Sent → Option (ℕ × CloseReason)
@@ -46,13 +46,13 @@ closing_opened view link None = []
 closing_opened view link (Some name) =
     if is_none (password_for view name) then (link, reason.UnknownPeer) ∷ [] else []
 
-abbrev pub closings_due : View → Occurrence → List (ℕ × CloseReason)
-closings_due view (of_client happening) = []
+abbrev pub closings_due : View → ReadEvent → List (ℕ × CloseReason)
+closings_due view (of_client client_event) = []
 closings_due view (link_up link starts) = closing_opened view link starts
 closings_due view (link_says link read) = closing_by_line view link read (get view.ends link)
 closings_due view (link_down link) = []
 
 -- Whatever is served, just these are closed.
 abbrev pub ServedClosesItsOwn : Type 0
-ServedClosesItsOwn = (view : View) (occurrence : Occurrence)
-    → link_closings (served view occurrence).out ≡ closings_due view occurrence
+ServedClosesItsOwn = (view : View) (read_event : ReadEvent)
+    → link_closings (served view read_event).out ≡ closings_due view read_event

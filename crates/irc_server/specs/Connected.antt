@@ -13,7 +13,7 @@ use Rattle.std.specs.List.{list_any}
 use Rattle.irc_batch.specs.Batches.{Sent, end_of, end_of_link}
 use Rattle.irc_stage.specs.Handle.{connects, goes}
 use Rattle.irc_stage.specs.View.{View}
-use Rattle.irc_server.specs.Served.{Occurrence, of_client, link_up, link_down, served}
+use Rattle.irc_server.specs.Served.{ReadEvent, of_client, link_up, link_down, served}
 use Rattle.irc_server.specs.Own.{IsNewLink}
 
 -- ---- who is there
@@ -42,19 +42,19 @@ is_link_ended link outs = list_any (ends_link link) outs
 
 -- ---- who comes and goes
 
-abbrev pub client_comes : ℕ → Occurrence → Bool
+abbrev pub client_comes : ℕ → ReadEvent → Bool
 client_comes conn (of_client (connects new host)) = nat_eq new conn
 client_comes conn other = false
 
-abbrev pub client_goes : ℕ → Occurrence → Bool
+abbrev pub client_goes : ℕ → ReadEvent → Bool
 client_goes conn (of_client (goes gone)) = nat_eq gone conn
 client_goes conn other = false
 
-abbrev pub link_comes : ℕ → Occurrence → Bool
+abbrev pub link_comes : ℕ → ReadEvent → Bool
 link_comes link (link_up new starts) = nat_eq new link
 link_comes link other = false
 
-abbrev pub link_goes : ℕ → Occurrence → Bool
+abbrev pub link_goes : ℕ → ReadEvent → Bool
 link_goes link (link_down lost) = nat_eq lost link
 link_goes link other = false
 
@@ -64,21 +64,21 @@ is_there_after was came left closed = (was || came) && not (left || closed)
 
 -- Just those are there who were there or come, and neither go nor are closed; and nobody else is
 -- closed.
-pub record AreConnectedAfter (view : View) (occurrence : Occurrence) : Type 0 where
-  pub clients : (conn : ℕ) → has_client (served view occurrence).view conn
-      ≡ is_there_after (has_client view conn) (client_comes conn occurrence)
-      (client_goes conn occurrence)
-      (is_client_ended conn (served view occurrence).out)
-  pub links : (link : ℕ) → has_link (served view occurrence).view link
-      ≡ is_there_after (has_link view link) (link_comes link occurrence) (link_goes link occurrence)
-      (is_link_ended link (served view occurrence).out)
-  pub clients_were_there : (conn : ℕ) → is_client_ended conn (served view occurrence).out ≡ true
+pub record AreConnectedAfter (view : View) (read_event : ReadEvent) : Type 0 where
+  pub clients : (conn : ℕ) → has_client (served view read_event).state conn
+      ≡ is_there_after (has_client view conn) (client_comes conn read_event)
+      (client_goes conn read_event)
+      (is_client_ended conn (served view read_event).out)
+  pub links : (link : ℕ) → has_link (served view read_event).state link
+      ≡ is_there_after (has_link view link) (link_comes link read_event) (link_goes link read_event)
+      (is_link_ended link (served view read_event).out)
+  pub clients_were_there : (conn : ℕ) → is_client_ended conn (served view read_event).out ≡ true
       → has_client view conn ≡ true
-  pub links_were_there : (link : ℕ) → is_link_ended link (served view occurrence).out ≡ true
-      → (has_link view link || link_comes link occurrence) ≡ true
+  pub links_were_there : (link : ℕ) → is_link_ended link (served view read_event).out ≡ true
+      → (has_link view link || link_comes link read_event) ≡ true
 
 -- Whatever is served, it is so. A link that is opened is not open yet.
 abbrev pub WhoIsConnected : Type 0
 WhoIsConnected =
-    (view : View) (occurrence : Occurrence) → IsNewLink view occurrence
-    → AreConnectedAfter view occurrence
+    (view : View) (read_event : ReadEvent) → IsNewLink view read_event
+    → AreConnectedAfter view read_event

@@ -38,11 +38,11 @@ use Rattle.irc_stage.specs.Linked.{without_row}
 
 -- a server that is known no more
 abbrev pub forgotten : List ℕ → Served → Served
-forgotten name s = record s { view = without_row name s.view }
+forgotten name s = record s { state = without_row name s.state }
 
 -- a channel that is there is spelled in the greater of two ways, and nobody is shown it
 abbrev pub titled_view : List ℕ → Served → Served
-titled_view channel s = record s { view = with_title channel s.view }
+titled_view channel s = record s { state = with_title channel s.state }
 
 -- What a deed does that came by a link, or is the server's own. Its line is what it is in the view
 -- before: it goes on as it came, also where it does less than it says.
@@ -50,17 +50,17 @@ unfoldable pub deed_told : Option ℕ → Deed → Served → Served
 deed_told arrival (does effect) s = effect_came arrival effect s
 deed_told arrival (gains uplink name info) s = s
 deed_told arrival (loses server name text) s =
-    told_on_all arrival (deed_parts s.view.room s.view.routes (loses server name text))
-    (forgotten name (all_changed (effects_of s.view.room (loses server name text)) s))
+    told_on_all arrival (deed_parts s.state.room s.state.routes (loses server name text))
+    (forgotten name (all_changed (effects_of s.state.room (loses server name text)) s))
 deed_told arrival (kills server nick) s =
-    told_on_all arrival (deed_parts s.view.room s.view.routes (kills server nick))
+    told_on_all arrival (deed_parts s.state.room s.state.routes (kills server nick))
     (taken_out nick collision_text s)
 deed_told arrival (brings server channel members) s =
-    told_on_all arrival (deed_parts s.view.room s.view.routes (brings server channel members))
-    (all_changed (effects_of s.view.room (brings server channel members)) (titled_view channel s))
+    told_on_all arrival (deed_parts s.state.room s.state.routes (brings server channel members))
+    (all_changed (effects_of s.state.room (brings server channel members)) (titled_view channel s))
 deed_told arrival deed s =
-    told_on_all arrival (deed_parts s.view.room s.view.routes deed)
-    (all_changed (effects_of s.view.room deed) s)
+    told_on_all arrival (deed_parts s.state.room s.state.routes deed)
+    (all_changed (effects_of s.state.room deed) s)
 
 -- one after another, each told in the room that those before it have left
 abbrev pub deeds_told : Option ℕ → List Deed → Served → Served
@@ -76,15 +76,15 @@ arrival_of own link deed = Some link
 -- a server more is told of in the routes that have it already
 abbrev pub gain_told : ℕ → (uplink name info : List ℕ) → Served → Served
 gain_told link uplink name info s =
-    told_on_all (Some link) (deed_parts s.view.room s.view.routes (gains uplink name info)) s
+    told_on_all (Some link) (deed_parts s.state.room s.state.routes (gains uplink name info)) s
 
 -- what a line of a link tells, with the numbers of a SERVER line
 unfoldable pub told_by : ℕ → Told → Served → Served
-told_by link (a_deed deed) s = deed_told (arrival_of s.view.routes.name link deed) deed s
+told_by link (a_deed deed) s = deed_told (arrival_of s.state.routes.name link deed) deed s
 told_by link (a_server uplink name distance token info) s =
-    if is_taken s.view.routes link name token
+    if is_taken s.state.routes link name token
     then gain_told link uplink name info
-    (record s { view = with_row link uplink name distance token info s.view })
+    (record s { state = with_row link uplink name distance token info s.state })
     else s
 
 -- one line may tell of several: a new nickname that is held already kills two users
@@ -114,5 +114,5 @@ lost_behind view link (Some end) =
 -- and then it is open no more
 abbrev pub link_lost : ℕ → Served → Served
 link_lost link s =
-    let left = deeds_told (Some link) (lost_behind s.view link (get s.view.ends link)) s in
-    record left { view = unlinked link left.view }
+    let left = deeds_told (Some link) (lost_behind s.state link (get s.state.ends link)) s in
+    record left { state = unlinked link left.state }

@@ -9,6 +9,6 @@ pub mod Laws
 pub mod Lemmas
 pub mod Configuring
 pub mod Served
-pub mod Happening
+pub mod ReadEvents
 pub mod Owed
 pub mod Loops

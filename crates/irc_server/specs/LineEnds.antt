@@ -10,7 +10,7 @@ use Rattle.std.specs.List.{AllByRecursion}
 use Rattle.irc_line.specs.Bytes.{crlf}
 use Rattle.irc_batch.specs.Batches.{Sent, line_on}
 use Rattle.irc_stage.specs.View.{View}
-use Rattle.irc_server.specs.Served.{Occurrence, served}
+use Rattle.irc_server.specs.Served.{ReadEvent, served}
 
 -- a text on a link is its body, all but two bytes, and CR LF; of all else nothing is asked
 abbrev pub EndsInLineEnd : Sent → Type 0
@@ -19,5 +19,5 @@ EndsInLineEnd other = ⊤
 
 -- Whatever is served, each line that is put out on a link is such a text.
 abbrev pub ServedLinesEnd : Type 0
-ServedLinesEnd = (view : View) (occurrence : Occurrence)
-    → AllByRecursion EndsInLineEnd (served view occurrence).out
+ServedLinesEnd = (view : View) (read_event : ReadEvent)
+    → AllByRecursion EndsInLineEnd (served view read_event).out

@@ -16,7 +16,7 @@ use Rattle.irc_server.specs.declared.event.ServerFault.TheVariants.{LinkThere}
 use Rattle.irc_stage.specs.RoomMachine.{client_of}
 use Rattle.irc_stage.specs.View.{End, View, machine_of, IsAlone}
 use Rattle.irc_stage.specs.ClientTold.{client_told}
-use Rattle.irc_stage.specs.Handle.{Happening, handled}
+use Rattle.irc_stage.specs.Handle.{ClientEvent, handled}
 use Rattle.irc_stage.specs.Matched.{IsDue, IsMatched}
 use Rattle.irc_server.specs.DeedTold.{link_lost}
 use Rattle.irc_server.specs.LinkServed.{line_served, link_opened}
@@ -25,16 +25,16 @@ pub use Rattle.irc_stage.specs.EffectTold.{Served, put_back, in_silence}
 -- What happens to a server: something by one of its clients; a link that this end opened to a peer,
 -- or that was opened to it; a line of the server at the other end, as it is read; a link that is
 -- lost.
-pub data Occurrence : Type 0 where
-  of_client : (happening : Happening) → Occurrence
-  link_up : (link : ℕ) (starts : Option (List ℕ)) → Occurrence
-  link_says : (link : ℕ) (read : Result Parsed LineFault) → Occurrence
-  link_down : (link : ℕ) → Occurrence
+pub data ReadEvent : Type 0 where
+  of_client : (client_event : ClientEvent) → ReadEvent
+  link_up : (link : ℕ) (starts : Option (List ℕ)) → ReadEvent
+  link_says : (link : ℕ) (read : Result Parsed LineFault) → ReadEvent
+  link_down : (link : ℕ) → ReadEvent
 
 -- Each is done as a server with links does it: what its clients do in `ClientTold`, what comes by
 -- its links in `LinkServed`.
-unfoldable pub served : View → Occurrence → Served
-served view (of_client happening) = client_told view happening
+unfoldable pub served : View → ReadEvent → Served
+served view (of_client client_event) = client_told view client_event
 served view (link_up link starts) = link_opened view link starts
 served view (link_says link read) = line_served view link read (get view.ends link)
 served view (link_down link) = link_lost link (in_silence view)
@@ -70,16 +70,16 @@ abbrev pub AreMatched : View → Type 0
 AreMatched view = IsMatched (machine_of view)
 
 -- a connection that connects is not there yet
-abbrev pub IsDueAt : View → Occurrence → Type 0
-IsDueAt view (of_client happening) = IsDue (machine_of view) happening
-IsDueAt view occurrence = ⊤
+abbrev pub IsDueAt : View → ReadEvent → Type 0
+IsDueAt view (of_client client_event) = IsDue (machine_of view) client_event
+IsDueAt view read_event = ⊤
 
 -- Whatever is served, they stay so.
 abbrev pub ServedStaysMatched : Type 0
 ServedStaysMatched =
-    (view : View) → AreMatched view → IsWellFormed view.room → (occurrence : Occurrence)
-    → IsDueAt view occurrence
-    → AreMatched (served view occurrence).view
+    (view : View) → AreMatched view → IsWellFormed view.room → (read_event : ReadEvent)
+    → IsDueAt view read_event
+    → AreMatched (served view read_event).state
 
 -- What a server is configured to be, and what it says of itself, is the same at two moments.
 pub record IsSetAlike (old new : View) : Type 0 where
@@ -91,19 +91,20 @@ pub record IsSetAlike (old new : View) : Type 0 where
 -- It is so whatever is served.
 abbrev pub ServedKeepsItsSetting : Type 0
 ServedKeepsItsSetting =
-    (view : View) (occurrence : Occurrence) → IsSetAlike view (served view occurrence).view
+    (view : View) (read_event : ReadEvent) → IsSetAlike view (served view read_event).state
 
--- A server and a room machine say the same of a happening: put back, what the machine has is what
--- the server has; its machine is the machine's; and the same is put out.
-pub record SaysTheSame (view : View) (happening : Happening) : Type 0 where
-  pub whole : served view (of_client happening) ≡ put_back view
-      (handled (machine_of view) happening)
-  pub machine : machine_of (served view (of_client happening)).view
-      ≡ (handled (machine_of view) happening).machine
-  pub out : (served view (of_client happening)).out ≡ (handled (machine_of view) happening).out
-  pub alone : IsAlone (served view (of_client happening)).view
+-- A server and a room machine say the same of what a client does: put back, what the machine has is
+-- what the server has; its machine is the machine's; and the same is put out.
+pub record SaysTheSame (view : View) (client_event : ClientEvent) : Type 0 where
+  pub whole : served view (of_client client_event) ≡ put_back view
+      (handled (machine_of view) client_event)
+  pub state : machine_of (served view (of_client client_event)).state
+      ≡ (handled (machine_of view) client_event).state
+  pub out : (served view (of_client client_event)).out
+      ≡ (handled (machine_of view) client_event).out
+  pub alone : IsAlone (served view (of_client client_event)).state
 
 -- A server without links is one room.
 abbrev pub LoneServerIsOneRoom : Type 0
-LoneServerIsOneRoom = (view : View) (happening : Happening) → IsAlone view
-    → SaysTheSame view happening
+LoneServerIsOneRoom = (view : View) (client_event : ClientEvent) → IsAlone view
+    → SaysTheSame view client_event

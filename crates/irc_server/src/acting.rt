@@ -13,7 +13,7 @@ ghost use Rattle.irc_stage.specs.Handle.{fresh, user_of};
 ghost use Rattle.irc_stage.specs.Loops.Speaking.{AreSpokenAt};
 ghost use Rattle.irc_stage.specs.Loops.Parts.{AreFitAt, IsFreeOf, IsNoUser};
 ghost use Rattle.irc_stage.specs.declared.clients.Client.TheVariants.{Registered};
-ghost use Rattle.irc_server.specs.Happening.{occurrence_of};
+ghost use Rattle.irc_server.specs.ReadEvents.{read_event_of};
 ghost use Rattle.irc_server.specs.Served.{fault_of, link_there, no_link, not_there, served, there};
 ghost use Rattle.irc_server.specs.Loops.Acting.{given_client, given_view, nick_of};
 
@@ -101,7 +101,7 @@ fn on_user_message(
     handling.carry_out(speaker, &decision.steps, decision.close)
 }
 
-/// What a message of a client does. Its connection is looked up here, and nowhere else.
+/// What a message of a client does. Who is on its connection is looked up here.
 fn on_message(stage: Stage, conn: Conn, message: &Message<'_>) -> Result<Handling, AllocError>
     ensures { IfOk result (λ done. done
         ≡ message_told stage conn (get stage.clients conn) (parsed message.now)) }
@@ -191,7 +191,7 @@ fn copied(name: &Option<ServerName>) -> Option<ServerName>
 /// Where memory runs out.
 pub(crate) fn act(stage: Stage, event: &Event) -> Result<Serving, AllocError>
     requires granted { fault_of stage event.now ≡ None }
-    ensures { IfOk result (λ done. done ≡ served stage (occurrence_of event.now)) }
+    ensures { IfOk result (λ done. done ≡ served stage (read_event_of event.now)) }
 {
     server_laws::stays_matched();
     stage.know_serving();

@@ -85,7 +85,7 @@ pub fn keeps_its_setting()
 {}
 
 /// A server without links and the room machine that it is to its clients say the same: put back,
-/// what the machine has after a happening is what the server has, and the same is put out.
+/// what the machine has after what a client does is what the server has, and the same is put out.
 pub fn lone_server_is_one_room()
     ensures { LoneServerIsOneRoom }
 {}

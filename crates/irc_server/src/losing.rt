@@ -33,7 +33,7 @@ pub(crate) fn lose_link(serving: Serving, link: Link) -> Result<Serving, AllocEr
 /// Each server behind a link is lost, if the link counts.
 fn lose_behind(serving: Serving, link: Link) -> Result<Serving, AllocError>
     ensures { IfOk result (λ lost. lost ≡ deeds_told (Some link)
-        (lost_behind serving.view link (get serving.view.ends link)) serving) }
+        (lost_behind serving.state link (get serving.state.ends link)) serving) }
 {
     match far_of(&serving.view(), link) {
         Some(far) => lose_all(serving, link, &far),
@@ -64,7 +64,7 @@ fn copied(name: Option<&ServerName>) -> Option<ServerName>
 /// Each server behind a link is lost.
 fn lose_all(mut serving: Serving, link: Link, far: &ServerName) -> Result<Serving, AllocError>
     ensures { IfOk result (λ lost. lost ≡ deeds_told (Some link)
-        (losses serving.view.routes.name far.now (names_behind serving.view.routes link))
+        (losses serving.state.routes.name far.now (names_behind serving.state.routes link))
         serving) }
 {
     let view = serving.view();

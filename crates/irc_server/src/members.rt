@@ -64,7 +64,7 @@ fn come(
         channel: channel.copy(),
         op: false,
     };
-    let serving = serving.take(link, &join)?;
+    let serving = serving.take_effect(link, &join)?;
     let op = Gift {
         channel,
         nick: &member.nick,
@@ -98,7 +98,7 @@ fn give(serving: Serving, link: Link, gift: Gift<'_>) -> Result<Serving, AllocEr
         return Ok(serving);
     }
     let flag = flag(serving.view().alloc(), gift.channel, gift.letter, gift.nick)?;
-    serving.take(link, &flag)
+    serving.take_effect(link, &flag)
 }
 
 /// What gives a member a flag.

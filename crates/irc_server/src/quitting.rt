@@ -18,7 +18,7 @@ use std::alloc::{AllocError, Global};
 /// Where memory runs out.
 pub(crate) fn quit_all(mut serving: Serving, link: Link, loss: &Loss) -> Result<Serving, AllocError>
     ensures { IfOk result
-        (λ left. left ≡ all_changed (quits_by loss.now serving.view) serving) }
+        (λ left. left ≡ all_changed (quits_by loss.now serving.state) serving) }
 {
     let view = serving.view();
     let nicks = nicks_at(view.alloc(), view.room(), &loss.name)?;
@@ -49,5 +49,5 @@ fn quit(serving: Serving, link: Link, nick: &Nick, text: &Words) -> Result<Servi
         nick: nick.copy(),
         text: text.copy(),
     };
-    serving.take(link, &quit)
+    serving.take_effect(link, &quit)
 }

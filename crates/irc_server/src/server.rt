@@ -3,7 +3,7 @@ ghost use Rattle.std.specs.Prelude.{◌≡◌, false, is_some, OnOk};
 ghost use Rattle.std.specs.FinMap.{get};
 ghost use Rattle.std.specs.Option.{option_and_then, option_copied, option_map, option_map_or};
 ghost use Rattle.irc_server.specs.Configuring.{IsMade};
-ghost use Rattle.irc_server.specs.Happening.{AreHandled, IsHandled};
+ghost use Rattle.irc_server.specs.ReadEvents.{AreHandled, IsHandled};
 ghost use Rattle.irc_server.specs.Owed.{AllReceive};
 ghost use Rattle.irc_server.specs.Loops.Acting.{room_kept, room_of};
 ghost use Rattle.irc_stage.specs.View.{password_for, View};

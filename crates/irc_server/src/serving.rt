@@ -51,7 +51,7 @@ pub(crate) fn open_link(
 /// The two lines with which an end begins, to a peer of this name.
 fn begin(serving: Serving, link: Link, name: &ServerName) -> Result<Serving, AllocError>
     ensures { IfOk result (λ begun. begun
-        ≡ with_sent (on_link link (opening_parts serving.view name.now)) serving) }
+        ≡ with_sent (on_link link (opening_parts serving.state name.now)) serving) }
 {
     let view = serving.view();
     let pass = pass_text(password_to(&view, name));
@@ -102,7 +102,7 @@ fn follow(stage: Stage, link: Link, heard: Heard) -> Result<Serving, AllocError>
 
 /// The server at the other end names itself: it is answered, and told of to the others.
 fn meet(serving: Serving, link: Link, name: ServerName, info: Info) -> Result<Serving, AllocError>
-    requires there { is_some (get serving.view.ends link) ≡ true }
+    requires there { is_some (get serving.state.ends link) ≡ true }
     ensures { IfOk result (λ served. served ≡ met_in link name info serving) }
 {
     let uplink = serving.view().routes().name().copy();
@@ -121,7 +121,7 @@ fn meet(serving: Serving, link: Link, name: ServerName, info: Info) -> Result<Se
 /// tell what their side holds.
 fn answer(serving: Serving, link: Link, name: &ServerName) -> Result<Serving, AllocError>
     ensures { IfOk result (λ told. told
-        ≡ with_sent (on_link link (owes serving.view link name.now)) serving) }
+        ≡ with_sent (on_link link (owes serving.state link name.now)) serving) }
 {
     let view = serving.view();
     let Some(end) = view.end(link) else {
@@ -141,7 +141,7 @@ fn greet(
     name: &ServerName,
 ) -> Result<Serving, AllocError>
     ensures { IfOk result (λ told. told
-        ≡ with_sent (on_link link (greeting_of serving.view is_called name.now)) serving) }
+        ≡ with_sent (on_link link (greeting_of serving.state is_called name.now)) serving) }
 {
     if is_called {
         begin(serving, link, name)

@@ -39,7 +39,7 @@ pub(crate) fn tell_all(
     link: Link,
     deeds: &[Deed],
 ) -> Result<Serving, AllocError>
-    requires met { IsMetEnd (get serving.view.ends link) }
+    requires met { IsMetEnd (get serving.state.ends link) }
     ensures { IfOk result (λ told. told ≡ all_told link (told_of_deeds deeds.now) serving) }
 {
     for deed in deeds {
@@ -51,7 +51,7 @@ pub(crate) fn tell_all(
 /// What a line tells is done.
 #[tactic(auto, unfolding(crate::specs::DeedTold::told_by, crate::specs::DeedTold::deed_told))]
 fn tell(serving: Serving, link: Link, deed: &Deed) -> Result<Serving, AllocError>
-    requires met { IsMetEnd (get serving.view.ends link) }
+    requires met { IsMetEnd (get serving.state.ends link) }
     ensures { IfOk result (λ told. told ≡ told_by link (told_of_deed deed.now) serving) }
 {
     match deed {
@@ -67,7 +67,7 @@ fn tell(serving: Serving, link: Link, deed: &Deed) -> Result<Serving, AllocError
 
 /// A server more is known from now on, and told of to the others.
 pub(crate) fn gain(serving: Serving, link: Link, server: &NewServer) -> Result<Serving, AllocError>
-    requires met { IsMetEnd (get serving.view.ends link) }
+    requires met { IsMetEnd (get serving.state.ends link) }
     ensures { IfOk result (λ told. told ≡ told_by link (server_told server.now) serving) }
 {
     let newcomer = Newcomer {
@@ -158,7 +158,7 @@ fn make(
         channel: channel.copy(),
         changes: ModeChanges::new(changes),
     };
-    serving.take(link, &effect)
+    serving.take_effect(link, &effect)
 }
 
 /// A server sets a channel's topic: it is set where it is greater than the one that is there, and
@@ -174,7 +174,7 @@ fn top(serving: Serving, link: Link, topic: &Topic) -> Result<Serving, AllocErro
 /// A channel's topic is set, where it is greater than the one that is there.
 fn raise_topic(serving: Serving, link: Link, topic: &Topic) -> Result<Serving, AllocError>
     ensures { IfOk result
-        (λ made. made ≡ all_changed (topped_by topic.now serving.view) serving) }
+        (λ made. made ≡ all_changed (topped_by topic.now serving.state) serving) }
 {
     if !is_greater(serving.view().room(), &topic.channel, &topic.text) {
         return Ok(serving);
@@ -184,7 +184,7 @@ fn raise_topic(serving: Serving, link: Link, topic: &Topic) -> Result<Serving, A
         channel: topic.channel.copy(),
         text: topic.text.copy(),
     };
-    serving.take(link, &effect)
+    serving.take_effect(link, &effect)
 }
 
 /// Whether a topic is greater by bytes than that of the channel that is there.

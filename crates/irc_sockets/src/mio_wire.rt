@@ -216,7 +216,7 @@ impl MioWire {
             return None;
         }
         let number = self.admit(stream, true)?;
-        if !self.crowd.note(number, address) {
+        if self.crowd.note(number, address).is_err() {
             self.sockets.remove(number as usize);
             return None;
         }
@@ -310,8 +310,7 @@ impl Wire for MioWire {
     }
 
     fn read(&mut self, conn: u64, buffer: &mut [u8]) -> Result<Got, IoFault> {
-        self.sockets
-            .read(conn as usize, buffer, self.round.arrivals)
+        self.sockets.read(conn as usize, buffer, self.round.comers)
     }
 
     fn write(&mut self, conn: u64, bytes: &[u8], behind: usize) -> Result<usize, IoFault> {

@@ -4,7 +4,7 @@ ghost use Rattle.irc_outbox.specs.Calls.{FitsIn};
 ghost use Rattle.irc_sockets.specs.Answers.{unread_as, unwritten_as};
 
 use irc_outbox::{Got, IoFault, Ready};
-use irc_turns::{Reading, Report, Round, Talker, Talkers, Told};
+use irc_turns::{Readiness, Reading, Report, Round, Talker, Talkers};
 use mio::event::Event;
 use mio::net::TcpStream;
 use std::alloc::Global;
@@ -30,7 +30,7 @@ impl Sockets {
     /// Takes the socket of a client or of a link in, and gives it a number. Where memory runs out
     /// it is closed.
     pub fn add(&mut self, stream: TcpStream, is_client: bool) -> Option<usize> {
-        let number = self.talkers.add(is_client)?;
+        let number = self.talkers.add(is_client).ok()?;
         if self.put(number, stream).is_none() {
             self.talkers.remove(number);
             return None;
@@ -66,7 +66,7 @@ impl Sockets {
     /// Takes in what the system tells of a socket, and whether somebody has come by it who was not
     /// waiting.
     pub fn note(&mut self, number: usize, event: &Event) -> bool {
-        let told = Told {
+        let told = Readiness {
             is_readable: event.is_readable(),
             is_over: event.is_read_closed() || event.is_error(),
             has_room: event.is_writable() || event.is_error(),
@@ -86,13 +86,13 @@ impl Sockets {
     ///
     /// # Errors
     /// Where the socket failed, or is none.
-    pub fn read(&mut self, number: usize, buffer: &mut [u8], arrivals: u64) -> Result<Got, IoFault>
+    pub fn read(&mut self, number: usize, buffer: &mut [u8], comers: u64) -> Result<Got, IoFault>
         ensures { FitsIn result (length buffer.old) }
     {
         let Some(talker) = self.talkers.at(number) else {
             return Err(IoFault::Failed);
         };
-        let got = match talker.begin_read(buffer, arrivals) {
+        let got = match talker.begin_read(buffer, comers) {
             Reading::Given(count) => Ok(Got::Bytes(count)),
             Reading::Anew(lines) => match self.by_number.get_mut(number) {
                 Some(Some(stream)) => read_anew(stream, talker, buffer, lines),

@@ -10,8 +10,7 @@ use Rattle.irc_names.specs.Fold.{key}
 use Rattle.irc_names.specs.Tables.{Table, fold_cmp, row}
 use Rattle.irc_users.specs.declared.user.User.{User as Person}
 use Rattle.irc_room.specs.effect.Effect.{Effect}
-use Rattle.irc_room.specs.effect.Effect.TheVariants.{AddUser, Rename, Quit, Join, Part, Kick}
-use Rattle.irc_room.specs.effect.Effect.TheVariants.{ChangeModes, SetTopic, Say, Invite, UserMode}
+use Rattle.irc_room.specs.effect.Effect.TheVariants.{Say}
 use Rattle.irc_room.specs.effect.Target.{Target}
 use Rattle.irc_room.specs.effect.Target.TheVariants.{User, Channel}
 use Rattle.irc_room.specs.After.{after}
@@ -52,16 +51,7 @@ said_is : {A : Type 0} (IsFor : Target → Type 0) (effect : Effect) → IsSaid 
     → ((by : List ℕ) (notice : Bool) (target : Target) (words : ArrayVec ℕ)
     → effect ≡ Say by notice target words → IsFor target → A) → A
 said_is IsFor (Say by notice target words) said gives = gives by notice target words refl said
-said_is IsFor (AddUser user) said gives = absurd said
-said_is IsFor (Rename nick new) said gives = absurd said
-said_is IsFor (Quit nick text) said gives = absurd said
-said_is IsFor (Join nick channel op) said gives = absurd said
-said_is IsFor (Part nick channel text) said gives = absurd said
-said_is IsFor (Kick by channel nick text) said gives = absurd said
-said_is IsFor (ChangeModes by channel changes) said gives = absurd said
-said_is IsFor (SetTopic by channel text) said gives = absurd said
-said_is IsFor (Invite by nick channel) said gives = absurd said
-said_is IsFor (UserMode nick invisible) said gives = absurd said
+said_is IsFor other said gives = absurd said
 
 module _ (machine : RoomMachine) (by_nick : Table ℕ) (index : IsIndex machine.clients by_nick)
     (well : IsWellFormed machine.room) (effect : Effect) where
@@ -147,11 +137,11 @@ module _ (machine : RoomMachine) (by_nick : Table ℕ) (index : IsIndex machine.
       (key viewer.nick) ≡ true → row by_nick (key viewer.nick) ≡ Some conn
       → viewer.home ≡ machine.place.name → shown_line machine.room effect viewer ≡ line)
       → (conns : List ℕ) → conns ≡ hearers machine.room by_nick effect
-      → (out : List Sent) → record { machine = machine; out = out ++ sent line conns }
-      ≡ with_effect effect (record { machine = machine; out = out })
+      → (out : List Sent) → record { state = machine; out = out ++ sent line conns }
+      ≡ with_effect effect (record { state = machine; out = out })
   said_out IsFor said fit line shows conns are out =
-      ap (λ m. record { machine = m; out = out ++ sent line conns }) (sym (nothing_else IsFor said))
-      ∙ ap (λ l. record { machine = machine_after machine effect; out = out ++ l })
+      ap (λ m. record { state = m; out = out ++ sent line conns }) (sym (nothing_else IsFor said))
+      ∙ ap (λ l. record { state = machine_after machine effect; out = out ++ l })
       (ap (sent line) are
       ∙ sym (heard_out machine.room machine.clients by_nick index effect machine.place.name
       fit.at_home line
@@ -217,30 +207,30 @@ module _ (old : Parts) (effect : Effect) (kept : Kept)
       → (out out_after : List Sent) → out_after
       ≡ out ++ flat_map (to_viewer (clients_of old.clients)) (seen old.room.room effect)
       → is_elsewhere (view_of old) effect ≡ false → record {
-        view = record (view_of old) { clients = clients; room = kept.room };
+        state = record (view_of old) { clients = clients; room = kept.room };
         out = out_after;
       } ≡ changed effect (served_at old out)
   changed_by clients clients_are out out_after out_is here =
       ap (λ (k : Kept). record {
-        view = record (view_of old) { clients = clients; room = k.room };
+        state = record (view_of old) { clients = clients; room = k.room };
         out = out_after;
       }) kept_is
       ∙ ap (λ (cs : Clients). record {
-        view = record (view_of old) {
+        state = record (view_of old) {
           clients = cs;
           room = after old.room.room effect;
         };
         out = out_after;
       }) clients_are
       ∙ ap (λ o. record {
-        view = record (view_of old) {
+        state = record (view_of old) {
           clients = clients_after effect (clients_of old.clients);
           room = after old.room.room effect;
         };
         out = o;
       }) out_is
       ∙ ap (λ b. record {
-        view = record (view_of old) {
+        state = record (view_of old) {
           clients = clients_after effect (clients_of old.clients);
           room = if b then old.room.room else after old.room.room effect;
         };
@@ -252,15 +242,14 @@ module _ (old : Parts) (effect : Effect) (kept : Kept)
   pub ready_after : IsReady old → IsSound kept → (clients : ClientTable) → IsIndexed clients
       → clients.by_nick ≡ index_after effect old.clients.by_nick → (listeners : Listeners)
       → AreSo listeners.lists (after old.room.room effect) (index_after effect old.clients.by_nick)
-      → (ways : Ways) → IsRightIn ways kept.room old.routes → (line : ArrayVec ℕ)
+      → (ways : Ways) → IsRightIn ways kept.room old.routes
       → IsReady (record old {
         clients = clients;
         room = kept;
         listeners = listeners;
         ways = ways;
-        line = line;
       })
-  ready_after ready sound clients indexed by_nick listeners so ways right line = record {
+  ready_after ready sound clients indexed by_nick listeners so ways right = record {
     own_is = ap (λ (k : Kept). k.own) kept_is ∙ ready.own_is;
     sound = sound;
     indexed = indexed;

@@ -22,46 +22,46 @@ use Rattle.irc_stage.specs.Loops.Parts.{served_at, IsIndex, IsIndexed}
 use Rattle.irc_stage.proofs.Showings.{all_kept, indexed, no_ends, not_indexed, one_end, one_left}
 use Rattle.irc_commands.specs.Closing.{error_line}
 
-module _ (s : Served) (by_nick : Table ℕ) (index : IsIndex s.view.clients by_nick)
+module _ (s : Served) (by_nick : Table ℕ) (index : IsIndex s.state.clients by_nick)
     (nick text : List ℕ) where
   abbrev lines_of : List Sent
-  lines_of = to_viewer s.view.clients (record { viewer = nick; line = error_line text })
-      ++ ends_of nick s.view.clients
+  lines_of = to_viewer s.state.clients (record { viewer = nick; line = error_line text })
+      ++ ends_of nick s.state.clients
 
   pub ended_nobody : row by_nick (key nick) ≡ None → s ≡ client_ended nick text s
   ended_nobody none =
-      ap (λ o. record { view = s.view; out = o }) (sym (append-nil s.out))
-      ∙ ap (λ lines. record { view = s.view; out = s.out ++ (lines ++ []) }) (sym (not_indexed
-      s.view.clients by_nick index (record { viewer = nick; line = error_line text }) none))
+      ap (λ o. record { state = s.state; out = o }) (sym (append-nil s.out))
+      ∙ ap (λ lines. record { state = s.state; out = s.out ++ (lines ++ []) }) (sym (not_indexed
+      s.state.clients by_nick index (record { viewer = nick; line = error_line text }) none))
       ∙ ap (λ ends. record {
-        view = s.view;
-        out = s.out ++ (to_viewer s.view.clients
+        state = s.state;
+        out = s.out ++ (to_viewer s.state.clients
             (record { viewer = nick; line = error_line text }) ++ ends);
       })
-      (sym (no_ends s.view.clients by_nick index nick none))
+      (sym (no_ends s.state.clients by_nick index nick none))
       ∙ ap (λ (cs : Clients). record {
-        view = record s.view { clients = cs };
+        state = record s.state { clients = cs };
         out = s.out ++ lines_of;
-      }) (sym (all_kept s.view.clients by_nick index nick none))
+      }) (sym (all_kept s.state.clients by_nick index nick none))
 
   pub ended_by : (conn : ℕ) → row by_nick (key nick) ≡ Some conn
       → record {
-        view = record s.view { clients = remove s.view.clients conn };
+        state = record s.state { clients = remove s.state.clients conn };
         out = (s.out
             ++ line_to conn (error_line text) ∷ []) ++ end_of conn ∷ [];
       } ≡ client_ended nick text s
   ended_by conn is =
-      ap (λ o. record { view = record s.view { clients = remove s.view.clients conn }; out = o })
+      ap (λ o. record { state = record s.state { clients = remove s.state.clients conn }; out = o })
       (append_assoc s.out (line_to conn (error_line text) ∷ []) (end_of conn ∷ [])
-      ∙ ap (λ lines. s.out ++ (lines ++ end_of conn ∷ [])) (sym (indexed s.view.clients by_nick
+      ∙ ap (λ lines. s.out ++ (lines ++ end_of conn ∷ [])) (sym (indexed s.state.clients by_nick
       index (record { viewer = nick; line = error_line text }) conn is))
-      ∙ ap (λ ends. s.out ++ (to_viewer s.view.clients
+      ∙ ap (λ ends. s.out ++ (to_viewer s.state.clients
       (record { viewer = nick; line = error_line text }) ++ ends))
-      (sym (one_end s.view.clients by_nick index nick conn is)))
+      (sym (one_end s.state.clients by_nick index nick conn is)))
       ∙ ap (λ (cs : Clients). record {
-        view = record s.view { clients = cs };
+        state = record s.state { clients = cs };
         out = s.out ++ lines_of;
-      }) (one_left s.view.clients by_nick index nick conn is)
+      }) (one_left s.state.clients by_nick index nick conn is)
 
 -- the code: its line, its end, and then it is taken out
 pub ended_one : (old : Parts) → IsIndexed old.clients → (nick text : List ℕ) (conn : ℕ)

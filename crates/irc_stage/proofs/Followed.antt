@@ -3,8 +3,7 @@ use Rattle.std.proofs.Common.{◌≡◌, ℕ, Option, Some, None, refl, sym, ap,
 use Rattle.irc_names.specs.Fold.{key}
 use Rattle.irc_names.specs.Tables.{Table, row}
 use Rattle.irc_room.specs.effect.Effect.{Effect}
-use Rattle.irc_room.specs.effect.Effect.TheVariants.{AddUser, Rename, Quit, Join, Part, Kick}
-use Rattle.irc_room.specs.effect.Effect.TheVariants.{ChangeModes, SetTopic, Say, Invite, UserMode}
+use Rattle.irc_room.specs.effect.Effect.TheVariants.{Rename}
 use Rattle.irc_room.specs.After.{after}
 use Rattle.irc_room.specs.Applying.{Kept}
 use Rattle.irc_room.specs.Room.{Room}
@@ -59,13 +58,4 @@ brings_none clients by_nick index (Rename nick new) apart =
         named_is (key new) _ (index.there (key new) conn at) (λ name is named.
         let found = index.found conn name is in
         let folds = ap (row by_nick) (apart conn name is named) in cc)
-brings_none clients by_nick index (AddUser user) apart = tt
-brings_none clients by_nick index (ChangeModes by channel changes) apart = tt
-brings_none clients by_nick index (SetTopic by channel text) apart = tt
-brings_none clients by_nick index (Say by notice target text) apart = tt
-brings_none clients by_nick index (Invite by nick channel) apart = tt
-brings_none clients by_nick index (UserMode nick invisible) apart = tt
-brings_none clients by_nick index (Quit nick text) apart = tt
-brings_none clients by_nick index (Join nick channel op) apart = tt
-brings_none clients by_nick index (Part nick channel text) apart = tt
-brings_none clients by_nick index (Kick by channel nick text) apart = tt
+brings_none clients by_nick index other apart = tt

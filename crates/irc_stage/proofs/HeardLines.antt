@@ -11,8 +11,7 @@ use Rattle.irc_users.specs.declared.user.User.{User as Person}
 use Rattle.irc_channels.specs.declared.channel.Channel.{Channel as Place}
 use Rattle.irc_channels.specs.Channels.{has_member}
 use Rattle.irc_room.specs.effect.Effect.{Effect}
-use Rattle.irc_room.specs.effect.Effect.TheVariants.{AddUser, Rename, Quit, Join, Part, Kick}
-use Rattle.irc_room.specs.effect.Effect.TheVariants.{ChangeModes, SetTopic, Say, Invite, UserMode}
+use Rattle.irc_room.specs.effect.Effect.TheVariants.{Rename, Quit, Say}
 use Rattle.irc_room.specs.effect.Target.TheVariants.{User, Channel}
 use Rattle.irc_room.specs.Effects.{is_idle}
 use Rattle.irc_room.specs.Room.{Room, IsWellFormed}
@@ -73,20 +72,13 @@ beside_shares room nick viewer =
 
 pub sees_so : (room : Room) (effect : Effect) (viewer : List ℕ)
     → sees_fold room effect (key viewer) ≡ sees room effect viewer
-sees_so room (AddUser user) viewer = refl
 sees_so room (Rename nick new) viewer =
     ap (λ b. same nick viewer || b) (beside_shares room nick viewer)
 sees_so room (Quit nick text) viewer =
     ap (λ b. not (same nick viewer) && b) (beside_shares room nick viewer)
-sees_so room (Join nick channel op) viewer = refl
-sees_so room (Part nick channel text) viewer = refl
-sees_so room (Kick by channel nick text) viewer = refl
-sees_so room (ChangeModes by channel changes) viewer = refl
-sees_so room (SetTopic by channel text) viewer = refl
 sees_so room (Say by notice (User nick) text) viewer = refl
 sees_so room (Say by notice (Channel channel) text) viewer = refl
-sees_so room (Invite by nick channel) viewer = refl
-sees_so room (UserMode nick invisible) viewer = refl
+sees_so room other viewer = refl
 
 -- ---- what is shown
 

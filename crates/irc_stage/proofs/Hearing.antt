@@ -14,17 +14,18 @@ use Rattle.irc_names.specs.TableLaws.{same_fold, same_fold-refl}
 use Rattle.irc_batch.specs.Batches.{Batch, batch_of, is_number, put_out_all, to_others}
 use Rattle.irc_tables.specs.declared.table.Row.{Row}
 use Rattle.irc_users.specs.declared.user.User.{User}
+use Rattle.irc_users.specs.declared.user_change.UserChange.{UserChange}
+use Rattle.irc_users.specs.UserTable.{is_shown}
 use Rattle.irc_channels.specs.declared.channel.Channel.{Channel}
 use Rattle.irc_channels.specs.Channels.{has_member}
 use Rattle.irc_room.specs.effect.Effect.{Effect}
-use Rattle.irc_room.specs.effect.Effect.TheVariants.{AddUser, Rename, Quit, Join, Part, Kick}
-use Rattle.irc_room.specs.effect.Effect.TheVariants.{ChangeModes, SetTopic, Say, Invite, UserMode}
+use Rattle.irc_room.specs.effect.Effect.TheVariants.{AddUser, Rename, Quit, Join, ChangeUser}
 use Rattle.irc_room.specs.After.{after}
 use Rattle.irc_room.specs.Effects.{has_user}
 use Rattle.irc_room.specs.Readers.{names_of}
 use Rattle.irc_room.specs.Room.{Room, IsWellFormed}
 use Rattle.irc_stage.specs.RoomMachine.{Clients}
-use Rattle.irc_stage.specs.Loops.Hearing.{conns_who, hearers, is_beside, is_nick_of}
+use Rattle.irc_stage.specs.Loops.Hearing.{conns_if, conns_who, hearers, is_beside, is_nick_of}
 use Rattle.irc_stage.specs.Loops.Hearing.{others_of, to_each, told_to, IsUnseen}
 use Rattle.irc_stage.specs.Loops.Hearing.{SendsTo}
 use Rattle.irc_stage.specs.Loops.Listening.{Lists, conn_as, conns_at, conns_in}
@@ -320,21 +321,25 @@ nobody : (users : List User) → filter (λ (user : User). false) users ≡ []
 nobody [] = refl
 nobody (user ∷ users) = nobody users
 
+-- and a user alone what it changes of itself, where that is shown
+pub itself_heard : (room : Room) → IsWellFormed room → (by_nick : Table ℕ) (nick : List ℕ)
+    (change : UserChange) → has_user room nick ≡ true
+    → conns_if (is_shown change) (conn_as by_nick nick)
+    ≡ hearers room by_nick (ChangeUser nick change)
+itself_heard room well by_nick nick change there = by (is_shown change)
+  where
+    by : (shown : Bool) → conns_if shown (conn_as by_nick nick)
+        ≡ conns_who room by_nick (λ q. shown && is_nick_of nick q)
+    by true = one_heard room well by_nick nick there
+    by false = ap (λ users. conns_of by_nick (map (λ (user : User). user.nick) users))
+        (sym (nobody (values room.users)))
+
 pub unseen : (room : Room) (by_nick : Table ℕ) (effect : Effect) → IsUnseen effect
     → (line : List ℕ) (out : Batch) → SendsTo line (hearers room by_nick effect) out out
 unseen room by_nick (AddUser user) none line out =
     ap (λ users. told_to line (conns_of by_nick (map (λ (user : User). user.nick) users)) out)
     (sym (nobody (values room.users)))
-unseen room by_nick (Rename nick new) none line out = absurd none
-unseen room by_nick (Quit nick text) none line out = absurd none
-unseen room by_nick (Join nick channel op) none line out = absurd none
-unseen room by_nick (Part nick channel text) none line out = absurd none
-unseen room by_nick (Kick by channel nick text) none line out = absurd none
-unseen room by_nick (ChangeModes by channel changes) none line out = absurd none
-unseen room by_nick (SetTopic by channel text) none line out = absurd none
-unseen room by_nick (Say by notice target text) none line out = absurd none
-unseen room by_nick (Invite by nick channel) none line out = absurd none
-unseen room by_nick (UserMode nick invisible) none line out = absurd none
+unseen room by_nick other none line out = absurd none
 
 -- ---- who quits is not told of it
 

@@ -16,8 +16,7 @@ use Rattle.irc_tables.specs.Lemmas.OrderedEntries.{above-is, find-above}
 use Rattle.irc_channels.specs.Channels.{has_member}
 use Rattle.irc_modes.specs.Modes.{is_nil}
 use Rattle.irc_room.specs.effect.Effect.{Effect}
-use Rattle.irc_room.specs.effect.Effect.TheVariants.{AddUser, Rename, Quit, Join, Part, Kick}
-use Rattle.irc_room.specs.effect.Effect.TheVariants.{ChangeModes, SetTopic, Say, Invite, UserMode}
+use Rattle.irc_room.specs.effect.Effect.TheVariants.{Rename, Quit, Join, Part, Kick}
 use Rattle.irc_room.specs.After.{after, titled_by}
 use Rattle.irc_room.specs.Effects.{IsPossible}
 use Rattle.irc_room.specs.Room.{Room, IsWellFormed}
@@ -442,23 +441,12 @@ stayed_so lists room by_nick effect unmoved so =
 pub unmoved_so : (lists : Lists) (room : Room) (by_nick : Table ℕ) (effect : Effect)
     → IsNoMove effect → AreSo lists room by_nick
     → AreSo lists (after room effect) (index_after effect by_nick)
-unmoved_so lists room by_nick (AddUser user) unmoved so =
-    stayed_so lists room by_nick (AddUser user) unmoved so
-unmoved_so lists room by_nick (ChangeModes by channel changes) unmoved so =
-    stayed_so lists room by_nick (ChangeModes by channel changes) unmoved so
-unmoved_so lists room by_nick (SetTopic by channel text) unmoved so =
-    stayed_so lists room by_nick (SetTopic by channel text) unmoved so
-unmoved_so lists room by_nick (Say by notice target text) unmoved so =
-    stayed_so lists room by_nick (Say by notice target text) unmoved so
-unmoved_so lists room by_nick (Invite by nick channel) unmoved so =
-    stayed_so lists room by_nick (Invite by nick channel) unmoved so
-unmoved_so lists room by_nick (UserMode nick invisible) unmoved so =
-    stayed_so lists room by_nick (UserMode nick invisible) unmoved so
 unmoved_so lists room by_nick (Rename nick new) unmoved so = absurd unmoved
 unmoved_so lists room by_nick (Quit nick text) unmoved so = absurd unmoved
 unmoved_so lists room by_nick (Join nick channel op) unmoved so = absurd unmoved
 unmoved_so lists room by_nick (Part nick channel text) unmoved so = absurd unmoved
 unmoved_so lists room by_nick (Kick by channel nick text) unmoved so = absurd unmoved
+unmoved_so lists room by_nick other unmoved so = stayed_so lists room by_nick other unmoved so
 
 -- by an effect that is another
 pub at_effect : (lists : Lists) (room : Room) (by_nick : Table ℕ) (effect other : Effect)

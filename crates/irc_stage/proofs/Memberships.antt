@@ -13,7 +13,7 @@ use Rattle.irc_channels.specs.Channels.{renamed, respelled, invited_too, with_to
 use Rattle.irc_channels.specs.Channels.{all_changed}
 use Rattle.irc_room.specs.effect.Effect.{Effect}
 use Rattle.irc_room.specs.effect.Effect.TheVariants.{AddUser, Rename, Quit, Join, Part, Kick}
-use Rattle.irc_room.specs.effect.Effect.TheVariants.{ChangeModes, SetTopic, Say, Invite, UserMode}
+use Rattle.irc_room.specs.effect.Effect.TheVariants.{ChangeModes, SetTopic, Say, Invite, ChangeUser}
 use Rattle.irc_room.specs.After.{after, titled_by}
 use Rattle.irc_room.specs.Effects.{IsPossible}
 use Rattle.irc_room.specs.Room.{Room, IsWellFormed}
@@ -168,12 +168,8 @@ stays room (SetTopic by channel text) unmoved n c =
 stays room (Say by notice target text) unmoved n c = refl
 stays room (Invite by nick channel) unmoved n c =
     said_kept (key channel) (invited_too (key nick)) (λ n channel. refl) room.channels n c
-stays room (UserMode nick invisible) unmoved n c = refl
-stays room (Rename nick new) unmoved n c = absurd unmoved
-stays room (Quit nick text) unmoved n c = absurd unmoved
-stays room (Join nick channel op) unmoved n c = absurd unmoved
-stays room (Part nick channel text) unmoved n c = absurd unmoved
-stays room (Kick by channel nick text) unmoved n c = absurd unmoved
+stays room (ChangeUser nick change) unmoved n c = refl
+stays room other unmoved n c = absurd unmoved
 
 -- another spelling of a channel's name
 pub titles : (room : Room) (channel : List ℕ) (n c : List ℕ)

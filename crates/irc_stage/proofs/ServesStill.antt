@@ -18,7 +18,7 @@ pub serves_by : (new : Parts) (out : List Sent) (s : Served) → Holds s → IsR
     → served_at new out ≡ s → IsServing new
 serves_by new out s holds ready is = record {
   ready = ready;
-  matched = subst (λ (t : Served). IsMatched (machine_of t.view)) (sym is) holds.matched;
+  matched = subst (λ (t : Served). IsMatched (machine_of t.state)) (sym is) holds.matched;
 }
 
 pub serves_on_ok : {E : Type 0} (result : Result (Unit {0}) E) (new : Parts) (out : List Sent)

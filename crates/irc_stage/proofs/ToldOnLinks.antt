@@ -10,8 +10,7 @@ use Rattle.arrayvec.specs.ArrayVec.{ArrayVec}
 use Rattle.irc_batch.specs.Batches.{Sent}
 use Rattle.irc_stage.specs.Ways.{told_homes, ways, AreEnds, IsMetEnd}
 use Rattle.irc_room.specs.effect.Effect.{Effect}
-use Rattle.irc_room.specs.effect.Effect.TheVariants.{AddUser, Rename, Quit, Join, Part, Kick}
-use Rattle.irc_room.specs.effect.Effect.TheVariants.{ChangeModes, SetTopic, Say, Invite, UserMode}
+use Rattle.irc_room.specs.effect.Effect.TheVariants.{Invite}
 use Rattle.irc_room.specs.After.{after}
 use Rattle.irc_room.specs.Room.{Room}
 use Rattle.irc_room.specs.Seen.{seen}
@@ -57,27 +56,18 @@ on_none ends known met none room arrival effect =
 
 -- An effect that is elsewhere's changes nothing here.
 pub elsewhere_stays : (view : View) (effect : Effect) → is_elsewhere view effect ≡ true
-    → (out : List Sent) → record { view = view; out = out }
-    ≡ changed effect (record { view = view; out = out })
+    → (out : List Sent) → record { state = view; out = out }
+    ≡ changed effect (record { state = view; out = out })
 elsewhere_stays view (Invite who nick channel) is out =
-    ap (λ o. record { view = view; out = o }) (sym (append-nil out))
+    ap (λ o. record { state = view; out = o }) (sym (append-nil out))
     ∙ ap (λ b. record {
-      view = record view {
+      state = record view {
         room = if b then view.room else after view.room (Invite who nick channel);
       };
       out = out ++ (if b then []
           else flat_map (to_viewer view.clients) (seen view.room (Invite who nick channel)));
     }) (sym is)
-elsewhere_stays view (AddUser user) is out = cc is
-elsewhere_stays view (Rename nick new) is out = cc is
-elsewhere_stays view (Quit nick text) is out = cc is
-elsewhere_stays view (Join nick channel op) is out = cc is
-elsewhere_stays view (Part nick channel text) is out = cc is
-elsewhere_stays view (Kick by channel nick text) is out = cc is
-elsewhere_stays view (ChangeModes by channel changes) is out = cc is
-elsewhere_stays view (SetTopic by channel text) is out = cc is
-elsewhere_stays view (Say by notice target text) is out = cc is
-elsewhere_stays view (UserMode nick invisible) is out = cc is
+elsewhere_stays view other is out = cc is
 
 -- what was put out, and then a line on links
 pub told_behind : (s t : Served) → s ≡ t → (lines told : List Sent) → lines ≡ told
@@ -85,13 +75,12 @@ pub told_behind : (s t : Served) → s ≡ t → (lines told : List Sent) → li
 told_behind s t is lines told are out out_is =
     ap (λ o. record s { out = o }) (out_is ∙ ap (λ l. s.out ++ l) are) ∙ ap (with_sent told) is
 
--- the line at hand is that of an effect still, where neither it nor its links have changed
-pub still_at_hand : (new old : Ways) → new.links ≡ old.links → new.line ≡ old.line
-    → (told : List Sent) → lines_on old.links.items old.line.items ≡ told
-    → lines_on new.links.items new.line.items ≡ told
+-- the line at hand is that of an effect still, where its links have not changed
+pub still_at_hand : (new old : Ways) → new.links ≡ old.links → (line : ArrayVec ℕ)
+    → (told : List Sent) → lines_on old.links.items line.items ≡ told
+    → lines_on new.links.items line.items ≡ told
 still_at_hand new old links line told is =
-    ap (λ (ls : Vec ℕ). lines_on ls.items new.line.items) links
-    ∙ ap (λ (text : ArrayVec ℕ). lines_on old.links.items text.items) line ∙ is
+    ap (λ (ls : Vec ℕ). lines_on ls.items line.items) links ∙ is
 
 -- an effect that came by a link is no client's
 pub spoken_by_link : (origin : Origin) (link : ℕ) → arrival_of origin ≡ Some link

@@ -22,14 +22,15 @@ use Rattle.irc_stage.specs.declared.clients.Client.{Client}
 use Rattle.irc_stage.specs.declared.clients.Client.TheVariants.{Registering, Registered}
 use Rattle.irc_stage.specs.RoomMachine.{client_of}
 use Rattle.irc_stage.specs.View.{View, machine_of}
-use Rattle.irc_stage.specs.Handle.{Happening, connects, says, goes, client_after, fresh, lost_text}
+use Rattle.irc_stage.specs.Handle.{ClientEvent, connects, says, goes, client_after, fresh}
+use Rattle.irc_stage.specs.Handle.{lost_text}
 use Rattle.irc_stage.specs.Handle.{user_of}
 use Rattle.irc_stage.specs.EffectTold.{Served, effect_told, in_silence, with_sent}
 
 -- One step: an answer and a line go to the client itself. Replies are sent to this name.
 abbrev pub step_told : ℕ → Option (List ℕ) → Act → Served → Served
 step_told conn name (Answer reply) s =
-    with_sent (line_to conn (reply_text s.view.routes.name name reply) ∷ []) s
+    with_sent (line_to conn (reply_text s.state.routes.name name reply) ∷ []) s
 step_told conn name (Raw line) s = with_sent (line_to conn line.items ∷ []) s
 step_told conn name (Do effect) s = effect_told None effect s
 
@@ -47,7 +48,7 @@ unseated conn view = record view { clients = remove view.clients conn }
 
 -- a client that is closed is one no more
 abbrev pub closed_told : Bool → ℕ → Served → Served
-closed_told true conn s = with_sent (end_of conn ∷ []) (record s { view = unseated conn s.view })
+closed_told true conn s = with_sent (end_of conn ∷ []) (record s { state = unseated conn s.state })
 closed_told false conn s = s
 
 -- the steps are done in order, and only then is a client closed that is to be
@@ -93,7 +94,7 @@ gone_told view conn = quit_told (user_of view.room (client_of (machine_of view) 
     (in_silence (unseated conn view))
 
 -- what a server does when something happens to one of its clients
-unfoldable pub client_told : View → Happening → Served
+unfoldable pub client_told : View → ClientEvent → Served
 client_told view (connects conn host) = in_silence (seated conn (fresh host) view)
 client_told view (says conn read) = line_told view conn read
 client_told view (goes conn) = gone_told view conn

@@ -31,26 +31,25 @@ use Rattle.irc_link_writer.specs.Written.{wire}
 use Rattle.irc_stage.specs.declared.clients.Client.{Client}
 use Rattle.irc_stage.specs.RoomMachine.{Clients}
 use Rattle.irc_stage.specs.View.{View, machine_of}
-use Rattle.irc_stage.specs.Handle.{Handled, clients_after, is_client, to_viewer}
+use Rattle.irc_stage.specs.Handle.{WithOutput, Handled, clients_after, is_client, to_viewer}
 use Rattle.irc_stage.specs.Matched.{is_user_here}
 use Rattle.irc_stage.specs.Ways.{ways}
 use Rattle.irc_commands.specs.Closing.{error_line}
 
 -- a server, and what it has put out, in order
-pub record Served : Type 0 where
-  pub view : View
-  pub out : List Sent
+abbrev pub Served : Type 0
+Served = WithOutput View
 
 -- nothing is put out
 abbrev pub in_silence : View → Served
-in_silence view = record { view = view; out = [] }
+in_silence view = record { state = view; out = [] }
 
 -- a view whose clients and room are those that its machine has then
 abbrev pub put_back : View → Handled → Served
 put_back view h = record {
-  view = record view {
-    clients = h.machine.clients;
-    room = h.machine.room;
+  state = record view {
+    clients = h.state.clients;
+    room = h.state.room;
   };
   out = h.out;
 }
@@ -88,13 +87,14 @@ shown_at view effect = if is_elsewhere view effect then []
     else flat_map (to_viewer view.clients) (seen view.room effect)
 
 abbrev pub changed : Effect → Served → Served
-changed effect s = record { view = view_after s.view effect; out = s.out ++ shown_at s.view effect }
+changed effect s =
+    record { state = view_after s.state effect; out = s.out ++ shown_at s.state effect }
 
 -- An effect that came by a link, or from a client of the server: it changes the room and is shown,
 -- and then goes on, as it is written in the room before.
 abbrev pub effect_told : Option ℕ → Effect → Served → Served
-effect_told arrival effect s = with_sent (on_links (ways_at s.view arrival effect)
-    (wire s.view.room s.view.routes effect)) (changed effect s)
+effect_told arrival effect s = with_sent (on_links (ways_at s.state arrival effect)
+    (wire s.state.room s.state.routes effect)) (changed effect s)
 
 -- ---- what links tell
 
@@ -113,12 +113,12 @@ counts view effect =
 
 -- it is left out, and not passed on, where it does not count
 abbrev pub effect_came : Option ℕ → Effect → Served → Served
-effect_came arrival effect s = if counts s.view effect then effect_told arrival effect s else s
+effect_came arrival effect s = if counts s.state effect then effect_told arrival effect s else s
 
 -- effects that are not passed on one by one, each left out where it does not count in the room as
 -- those before it have left it
 abbrev pub changed_if : Effect → Served → Served
-changed_if effect s = if counts s.view effect then changed effect s else s
+changed_if effect s = if counts s.state effect then changed effect s else s
 
 abbrev pub all_changed : List Effect → Served → Served
 all_changed [] s = s
@@ -128,7 +128,7 @@ all_changed (effect ∷ effects) s = all_changed effects (changed_if effect s)
 
 -- the user of a nickname quits, if there is one
 abbrev pub quit_by : List ℕ → List ℕ → Served → Served
-quit_by nick text s = if has_user s.view.room nick then changed (Quit nick text) s else s
+quit_by nick text s = if has_user s.state.room nick then changed (Quit nick text) s else s
 
 -- the end of each client that is this user
 abbrev pub ends_of : List ℕ → Clients → List Sent
@@ -143,9 +143,10 @@ is_another clients nick conn =
 -- the client that is this user, if it is one of the server's, is told why, and closed
 abbrev pub client_ended : List ℕ → List ℕ → Served → Served
 client_ended nick text s = record {
-  view = record s.view { clients = retain_keys s.view.clients (is_another s.view.clients nick) };
-  out = s.out ++ (to_viewer s.view.clients (record { viewer = nick; line = error_line text })
-      ++ ends_of nick s.view.clients);
+  state =
+      record s.state { clients = retain_keys s.state.clients (is_another s.state.clients nick) };
+  out = s.out ++ (to_viewer s.state.clients (record { viewer = nick; line = error_line text })
+      ++ ends_of nick s.state.clients);
 }
 
 -- a user is killed: the others see it quit, and its own client is told why and closed

@@ -1,4 +1,5 @@
--- What one happening does to a room machine: the machine after it, and what is put out, in order.
+-- What one event of a client does to a room machine: the machine after it, and what is put out, in
+-- order.
 use Rattle.std.specs.Prelude.{ℕ, Bool, true, false, Option, Some, None, Result, Ok, Err, List, []}
 use Rattle.std.specs.Prelude.{◌∷◌, ◌++◌, codes, if◌then◌else◌}
 use Rattle.std.specs.List.{flat_map, filter_map}
@@ -27,15 +28,18 @@ use Rattle.irc_stage.specs.RoomMachine.{Clients, RoomMachine, client_of, with_cl
 use Rattle.irc_stage.specs.RoomMachine.{without_client, each_client}
 
 -- what happens to it; of a line, what it is read as
-pub data Happening : Type 0 where
-  connects : (conn : ℕ) (host : List ℕ) → Happening
-  says : (conn : ℕ) (read : Result Parsed LineFault) → Happening
-  goes : (conn : ℕ) → Happening
+pub data ClientEvent : Type 0 where
+  connects : (conn : ℕ) (host : List ℕ) → ClientEvent
+  says : (conn : ℕ) (read : Result Parsed LineFault) → ClientEvent
+  goes : (conn : ℕ) → ClientEvent
 
--- what has become of the machine, and what is put out to clients, in order
-pub record Handled : Type 0 where
-  pub machine : RoomMachine
+-- what has become of a machine, or of a server, and what is put out by that, in order
+pub record WithOutput (State : Type 0) : Type 0 where
+  pub state : State
   pub out : List Sent
+
+abbrev pub Handled : Type 0
+Handled = WithOutput RoomMachine
 
 -- whether a client is the user with a nickname
 abbrev pub is_client : List ℕ → Client → Bool
@@ -67,8 +71,8 @@ machine_after machine effect = record machine {
 -- An effect changes the room, and is shown to the viewers that are clients of this server.
 abbrev pub with_effect : Effect → Handled → Handled
 with_effect effect before = record {
-  machine = machine_after before.machine effect;
-  out = before.out ++ flat_map (to_viewer before.machine.clients) (seen before.machine.room effect);
+  state = machine_after before.state effect;
+  out = before.out ++ flat_map (to_viewer before.state.clients) (seen before.state.room effect);
 }
 
 -- One step: an answer and a line go to the client itself. Replies are sent to this name.
@@ -76,7 +80,7 @@ abbrev pub stepped : ℕ → Option (List ℕ) → Act → Handled → Handled
 stepped conn name (Answer reply) before =
     record before {
       out = before.out
-          ++ line_to conn (reply_text before.machine.place.name name reply) ∷ [];
+          ++ line_to conn (reply_text before.state.place.name name reply) ∷ [];
     }
 stepped conn name (Raw line) before =
     record before { out = before.out ++ line_to conn line.items ∷ [] }
@@ -90,12 +94,12 @@ all_stepped conn name (act ∷ acts) before =
 
 -- nothing is put out yet
 abbrev pub unchanged : RoomMachine → Handled
-unchanged machine = record { machine = machine; out = [] }
+unchanged machine = record { state = machine; out = [] }
 
 -- a client that is closed is one no more
 abbrev pub closing : Bool → ℕ → Handled → Handled
 closing true conn before =
-    record { machine = without_client before.machine conn; out = before.out ++ end_of conn ∷ [] }
+    record { state = without_client before.state conn; out = before.out ++ end_of conn ∷ [] }
 closing false conn before = before
 
 -- the steps are done in order, and only then is a client closed that is to be
@@ -161,7 +165,7 @@ gone machine conn client =
 abbrev pub fresh : List ℕ → Client
 fresh host = Registering (record { nick = None; user = None; real = []; host = host })
 
-unfoldable pub handled : RoomMachine → Happening → Handled
+unfoldable pub handled : RoomMachine → ClientEvent → Handled
 handled machine (connects conn host) = unchanged (with_client machine conn (fresh host))
 handled machine (says conn read) = read_as machine conn read
 handled machine (goes conn) = gone machine conn (client_of machine conn)

@@ -65,4 +65,4 @@ with_title channel view = record view { room = titled_by channel view.room }
 
 -- a line on every link that counts, but for the one by which it came
 abbrev pub told_on_all : Option ℕ → Written → Served → Served
-told_on_all arrival parts s = with_sent (on_links (but arrival (met_links s.view.ends)) parts) s
+told_on_all arrival parts s = with_sent (on_links (but arrival (met_links s.state.ends)) parts) s

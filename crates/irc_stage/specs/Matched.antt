@@ -12,7 +12,7 @@ use Rattle.irc_room.specs.Room.{IsWellFormed}
 use Rattle.irc_stage.specs.declared.clients.Client.{Client}
 use Rattle.irc_stage.specs.declared.clients.Client.TheVariants.{Registering, Registered}
 use Rattle.irc_stage.specs.RoomMachine.{Clients, RoomMachine, client_of}
-use Rattle.irc_stage.specs.Handle.{Happening, connects, handled}
+use Rattle.irc_stage.specs.Handle.{ClientEvent, connects, handled}
 
 -- whether there is a user of this nickname in the room, whose home is this server
 abbrev pub is_user_here : RoomMachine → List ℕ → Bool
@@ -42,12 +42,12 @@ pub record IsMatched (machine : RoomMachine) : Type 0 where
       → user.home ≡ machine.place.name → has_client machine.clients fold ≡ true
 
 -- a connection that connects is not there yet
-abbrev pub IsDue : RoomMachine → Happening → Type 0
+abbrev pub IsDue : RoomMachine → ClientEvent → Type 0
 IsDue machine (connects conn host) = client_of machine conn ≡ None
-IsDue machine happening = ⊤
+IsDue machine client_event = ⊤
 
 -- Whatever happens, clients and users stay matched.
 abbrev pub StaysMatched : Type 0
 StaysMatched = (machine : RoomMachine) → IsMatched machine
-    → IsWellFormed machine.room → (happening : Happening) → IsDue machine happening
-    → IsMatched (handled machine happening).machine
+    → IsWellFormed machine.room → (client_event : ClientEvent) → IsDue machine client_event
+    → IsMatched (handled machine client_event).state

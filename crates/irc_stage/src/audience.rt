@@ -6,11 +6,12 @@ ghost use Rattle.std.specs.List.{list_any};
 ghost use Rattle.irc_batch.specs.Batches.{is_number, put_out_all, to_others};
 ghost use Rattle.irc_names.specs.Fold.{key};
 ghost use Rattle.irc_names.specs.Tables.{Table};
+ghost use Rattle.irc_users.specs.UserTable.{is_shown};
 ghost use Rattle.irc_room.specs.After.{after};
 ghost use Rattle.irc_room.specs.Effects.{has_user, is_idle, IsPossible};
 ghost use Rattle.irc_room.specs.effect.Effect.TheVariants.{Rename};
 ghost use Rattle.irc_stage.specs.Loops.Around.{IsNamedIn};
-ghost use Rattle.irc_stage.specs.Loops.Hearing.{conns_who, hearers, is_beside, others_of};
+ghost use Rattle.irc_stage.specs.Loops.Hearing.{conns_if, conns_who, hearers, is_beside, others_of};
 ghost use Rattle.irc_stage.specs.Loops.Hearing.{IsLineOf, IsToldFirst, IsUnsaid, SendsTo};
 ghost use Rattle.irc_stage.specs.Loops.Listening.{conn_as, conns_at, index_after, AreSo};
 ghost use Rattle.irc_stage.specs.Loops.Listening.{BringsNone};
@@ -27,6 +28,7 @@ use irc_line::Text;
 use irc_names::Nick;
 use irc_room::{Effect, Room, is_idle};
 use irc_tables::Row;
+use irc_users::UserChange;
 use std::alloc::{AllocError, Global};
 
 /// Writes the line that an effect shows, and tells whether it shows one: an effect that does
@@ -108,7 +110,7 @@ impl Listeners {
             Effect::ChangeModes { channel, .. } => self.tell(channel.as_bytes(), None, line, out),
             Effect::SetTopic { channel, .. } => self.tell(channel.as_bytes(), None, line, out),
             Effect::Invite { nick, .. } => tell_one(clients, nick, line, out),
-            Effect::UserMode { nick, .. } => tell_one(clients, nick, line, out),
+            Effect::ChangeUser { nick, change } => tell_itself(clients, nick, change, line, out),
             _ => Ok(()),
         }
     }
@@ -204,6 +206,24 @@ fn tell_one(
         Some(conn) => out.put(conn.number(), line),
         None => Ok(()),
     }
+}
+
+/// Puts out the line of a change of a user's own to that user, where it is told of it and is a
+/// client.
+fn tell_itself(
+    clients: &ClientTable,
+    nick: &Nick,
+    change: &UserChange,
+    line: &Text,
+    out: &mut Batch,
+) -> Result<(), AllocError>
+    ensures { OnOk result (SendsTo line.now.items
+        (conns_if (is_shown change.now) (conn_as clients.now.by_nick nick.now)) out.old out.new) }
+{
+    if !change.is_shown() {
+        return Ok(());
+    }
+    tell_one(clients, nick, line, out)
 }
 
 /// Puts out a line to each of these connections in turn, but for one. Where there is no other it

@@ -61,14 +61,14 @@ impl Model for Handling {
 impl Handling {
     /// What it is now.
     pub fn view(&self) -> View<'_>
-        ensures { result ≡ self.now.view }
+        ensures { result ≡ self.now.state }
     {
         View::of(&self.parts)
     }
 
     /// Its clients and its users are matched again.
     pub fn settle(self) -> Serving
-        requires matched { IsMatched (machine_of self.view) }
+        requires matched { IsMatched (machine_of self.state) }
         ensures { result ≡ self }
     {
         Serving {
@@ -82,8 +82,8 @@ impl Handling {
     /// # Errors
     /// Where memory runs out.
     pub fn seat(mut self, conn: Conn, client: Client) -> Result<Self, AllocError>
-        requires no_user { IsNoUser (client_of (machine_of self.view) conn) }
-        requires free { IsFreeOf client self.view.clients }
+        requires no_user { IsNoUser (client_of (machine_of self.state) conn) }
+        requires free { IsFreeOf client self.state.clients }
         ensures { IfOk result (λ seated. seated ≡ seated_in conn client self) }
     {
         self.parts.listeners.seat(&self.parts.room, conn, &client)?;
@@ -106,8 +106,8 @@ impl Handling {
     /// # Errors
     /// Where memory runs out.
     pub fn apply(mut self, origin: Origin<'_>, effect: &Effect) -> Result<Self, AllocError>
-        requires fit { IsFit (machine_of self.view) effect.now }
-        requires spoken { IsSpoken origin (machine_of self.view) effect.now }
+        requires fit { IsFit (machine_of self.state) effect.now }
+        requires spoken { IsSpoken origin (machine_of self.state) effect.now }
         ensures { IfOk result
             (λ told. told ≡ effect_told (arrival_of origin.entry) effect.now self) }
     {
@@ -120,7 +120,7 @@ impl Handling {
     /// # Errors
     /// Where memory runs out.
     pub(crate) fn quit(mut self, nick: &Nick, text: &Words) -> Result<Self, AllocError>
-        requires matched { IsMatched (machine_of self.view) }
+        requires matched { IsMatched (machine_of self.state) }
         ensures { IfOk result (λ left. left ≡ quit_by nick.now text.now self) }
     {
         if self.parts.room.user(nick.as_bytes()).is_none() {
@@ -151,8 +151,8 @@ impl Handling {
 
     /// One step of a decision of a client.
     fn step(mut self, speaker: Speaker<'_>, act: &Act) -> Result<Self, AllocError>
-        requires fit { AreFitAt self.view (act.now ∷ []) }
-        requires spoken { AreSpokenAt speaker.conn self.view (act.now ∷ []) }
+        requires fit { AreFitAt self.state (act.now ∷ []) }
+        requires spoken { AreSpokenAt speaker.conn self.state (act.now ∷ []) }
         ensures { IfOk result (λ done. done
             ≡ step_told speaker.entry.conn (optional_now speaker.entry.nick) act.now self) }
     {
@@ -172,8 +172,8 @@ impl Handling {
 
     /// The steps of a decision of a client, one after another.
     fn take_steps(mut self, speaker: Speaker<'_>, steps: &[Act]) -> Result<Self, AllocError>
-        requires fit { AreFitAt self.view steps.now }
-        requires spoken { AreSpokenAt speaker.conn self.view steps.now }
+        requires fit { AreFitAt self.state steps.now }
+        requires spoken { AreSpokenAt speaker.conn self.state steps.now }
         ensures { IfOk result (λ done. done
             ≡ steps_told speaker.entry.conn (optional_now speaker.entry.nick) steps.now self) }
     {
@@ -194,8 +194,8 @@ impl Handling {
         steps: &[Act],
         close: bool,
     ) -> Result<Self, AllocError>
-        requires fit { AreFitAt self.view steps.now }
-        requires spoken { AreSpokenAt speaker.conn self.view steps.now }
+        requires fit { AreFitAt self.state steps.now }
+        requires spoken { AreSpokenAt speaker.conn self.state steps.now }
         ensures { IfOk result (λ done. done ≡ closed_told close speaker.entry.conn
             (steps_told speaker.entry.conn (optional_now speaker.entry.nick) steps.now self)) }
     {

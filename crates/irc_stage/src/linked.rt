@@ -100,21 +100,28 @@ impl Parts {
             return Ok(());
         }
         let origin = Origin::link(link);
-        self.ways.ready(around, Some(link), effect)?;
+        let mut line = Text::new();
+        self.ways.ready(around, Some(link), effect, &mut line)?;
         if is_elsewhere(around, effect) {
-            return self.ways.tell(out);
+            return self.ways.tell(&line, out);
         }
+        let mut shown = Text::new();
         self.listeners
-            .hear(around, origin, effect, &mut self.line, out)?;
+            .hear(around, origin, effect, &mut shown, out)?;
         settle(&mut self.room, &mut self.clients, &mut self.ways, effect)?;
-        self.ways.tell(out)
+        self.ways.tell(&line, out)
     }
 
     /// An effect comes by a link, and is not told on by itself: where it counts.
     ///
     /// # Errors
     /// Where memory runs out.
-    pub fn take(&mut self, link: Link, effect: &Effect, out: &mut Batch) -> Result<(), AllocError>
+    pub fn take_effect(
+        &mut self,
+        link: Link,
+        effect: &Effect,
+        out: &mut Batch,
+    ) -> Result<(), AllocError>
         requires serving { IsServing self.old }
         ensures ok { OnOk result (ChangesIf effect.now self.old out.old self.new out.new) }
         ensures serving { OnOk result (IsServing self.new) }
@@ -133,8 +140,9 @@ impl Parts {
             return Ok(());
         }
         let origin = Origin::link(link);
+        let mut shown = Text::new();
         self.listeners
-            .hear(around, origin, effect, &mut self.line, out)?;
+            .hear(around, origin, effect, &mut shown, out)?;
         settle(&mut self.room, &mut self.clients, &mut self.ways, effect)?;
         Ok(())
     }

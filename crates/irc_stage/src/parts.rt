@@ -57,8 +57,6 @@ pub struct Parts {
     pub(crate) listeners: Listeners,
     /// The links on which the line at hand goes.
     pub(crate) ways: Ways,
-    /// The line of the effect at hand.
-    pub(crate) line: Text,
     /// Where it takes memory from.
     pub(crate) alloc: Global,
 }
@@ -73,7 +71,6 @@ fn happen(room: &mut Room, ways: &mut Ways, effect: &Effect) -> Result<(), Alloc
     ensures sound { OnOk result (IsSound room.new) }
     ensures nothing { OnOk result (KnowsNothing ways.new) }
     ensures at_hand { OnOk result (ways.new.links ≡ ways.old.links) }
-    ensures same_line { OnOk result (ways.new.line ≡ ways.old.line) }
 {
     ways.forget();
     laws::after_is_well_formed();
@@ -119,7 +116,6 @@ pub(crate) fn settle(
         (clients.new.by_nick ≡ index_after effect.now clients.old.by_nick) }
     ensures right { OnOk result (StaysRight ways.old room.old.room ways.new room.new.room) }
     ensures at_hand { OnOk result (ways.new.links ≡ ways.old.links) }
-    ensures same_line { OnOk result (ways.new.line ≡ ways.old.line) }
 {
     match effect {
         Effect::Say { .. } => Ok(()),
@@ -157,7 +153,6 @@ impl Parts {
             room,
             listeners: Listeners::new(alloc),
             ways: Ways::new(alloc),
-            line: Text::new(),
             alloc,
         }
     }
@@ -235,14 +230,17 @@ impl Parts {
             clients: &self.clients,
             named: self.room.named(effect),
         };
-        self.ways.ready(around, origin.arrival(), effect)?;
+        let mut line = Text::new();
+        self.ways
+            .ready(around, origin.arrival(), effect, &mut line)?;
         if is_elsewhere(around, effect) {
-            return self.ways.tell(out);
+            return self.ways.tell(&line, out);
         }
+        let mut shown = Text::new();
         self.listeners
-            .hear(around, origin, effect, &mut self.line, out)?;
+            .hear(around, origin, effect, &mut shown, out)?;
         settle(&mut self.room, &mut self.clients, &mut self.ways, effect)?;
-        self.ways.tell(out)
+        self.ways.tell(&line, out)
     }
 
     /// An effect changes the room, and is shown to its viewers. An invitation of another server's
@@ -269,8 +267,9 @@ impl Parts {
         if is_elsewhere(around, effect) {
             return Ok(());
         }
+        let mut shown = Text::new();
         self.listeners
-            .hear(around, origin, effect, &mut self.line, out)?;
+            .hear(around, origin, effect, &mut shown, out)?;
         settle(&mut self.room, &mut self.clients, &mut self.ways, effect)?;
         Ok(())
     }

@@ -58,7 +58,7 @@ impl Model for Serving {
 impl Serving {
     /// What it is now.
     pub fn view(&self) -> View<'_>
-        ensures { result ≡ self.now.view }
+        ensures { result ≡ self.now.state }
     {
         View::of(&self.parts)
     }
@@ -78,9 +78,9 @@ impl Serving {
     /// # Errors
     /// Where memory runs out.
     pub fn open_link(mut self, link: Link, starts: Option<ServerName>) -> Result<Self, AllocError>
-        requires new { get self.view.ends link ≡ None }
+        requires new { get self.state.ends link ≡ None }
         ensures { IfOk result
-            (λ opened. opened ≡ where_it_is (with_end link starts self.view) self) }
+            (λ opened. opened ≡ where_it_is (with_end link starts self.state) self) }
     {
         put_end(&mut self.parts.ends, link, LinkEnd::new(starts))?;
         Ok(self)
@@ -88,7 +88,7 @@ impl Serving {
 
     /// The server at the other end of a link has given this password.
     pub fn take_password(mut self, link: Link, password: Password) -> Self
-        ensures { result ≡ where_it_is (with_password link password self.view) self }
+        ensures { result ≡ where_it_is (with_password link password self.state) self }
     {
         self.parts.take_password(link, password);
         self
@@ -96,7 +96,7 @@ impl Serving {
 
     /// The server at the other end of a link has named itself: from now on the link counts.
     pub fn meet(mut self, link: Link, name: ServerName) -> Self
-        ensures { result ≡ where_it_is (with_far link name self.view) self }
+        ensures { result ≡ where_it_is (with_far link name self.state) self }
     {
         self.parts.meet(link, name);
         self
@@ -104,7 +104,7 @@ impl Serving {
 
     /// A link is open no more, and nobody is known behind it.
     pub fn unlink(mut self, link: Link) -> Self
-        ensures { result ≡ where_it_is (unlinked link self.view) self }
+        ensures { result ≡ where_it_is (unlinked link self.state) self }
     {
         self.parts.ways.forget();
         self.parts.routes.lose(link.number());
@@ -118,7 +118,7 @@ impl Serving {
     /// # Errors
     /// Where memory runs out.
     pub fn add_server(mut self, newcomer: Newcomer<'_>) -> Result<(Self, bool), AllocError>
-        requires met { IsMetEnd (get self.view.ends newcomer.link) }
+        requires met { IsMetEnd (get self.state.ends newcomer.link) }
         ensures { IfOk result (λ gained. IsGained newcomer.entry self gained.1 gained.0) }
     {
         let link = newcomer.link.number();
@@ -142,7 +142,7 @@ impl Serving {
 
     /// A server is known no more.
     pub fn remove_server(mut self, name: &ServerName) -> Self
-        ensures { result ≡ where_it_is (without_row name.now self.view) self }
+        ensures { result ≡ where_it_is (without_row name.now self.state) self }
     {
         self.parts.ways.forget();
         self.parts.routes.remove(name.as_bytes());
@@ -153,7 +153,7 @@ impl Serving {
     /// bytes. Nobody is shown it, and behind which links somebody listens is to be found anew. A
     /// channel that is not there stays so: its first member makes it.
     pub fn respell(mut self, channel: &ChannelName) -> Self
-        ensures { result ≡ where_it_is (with_title channel.now self.view) self }
+        ensures { result ≡ where_it_is (with_title channel.now self.state) self }
     {
         self.parts.ways.forget();
         let _ = self.parts.room.respell(channel);
@@ -209,10 +209,10 @@ impl Serving {
     ///
     /// # Errors
     /// Where memory runs out.
-    pub fn take(mut self, link: Link, effect: &Effect) -> Result<Self, AllocError>
+    pub fn take_effect(mut self, link: Link, effect: &Effect) -> Result<Self, AllocError>
         ensures { IfOk result (λ taken. taken ≡ changed_if effect.now self) }
     {
-        self.parts.take(link, effect, &mut self.out)?;
+        self.parts.take_effect(link, effect, &mut self.out)?;
         Ok(self)
     }
 

@@ -86,7 +86,7 @@ impl Serving {
     /// # Errors
     /// Where memory runs out; nothing is appended then.
     pub fn end(mut self, out: &mut Batch) -> Result<Stage, AllocError>
-        ensures stage { IfOk result (λ stage. stage ≡ self.view) }
+        ensures stage { IfOk result (λ stage. stage ≡ self.state) }
         ensures appended { OnOk result (out.new.outs ≡ out.old.outs ++ self.out) }
         ensures refused { OnErr result (out.new.outs ≡ out.old.outs) }
     {

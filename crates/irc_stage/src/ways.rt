@@ -41,8 +41,6 @@ pub struct Around<'a> {
 pub struct Ways {
     /// Those of the line at hand, by number.
     pub links: Vec<Link, Global>,
-    /// The line at hand, of an effect.
-    pub line: Text,
     /// The links behind which the channel has members that something was said in last.
     branches: Branches,
 }
@@ -54,7 +52,6 @@ impl Ways {
     {
         Ways {
             links: Vec::new(alloc),
-            line: Text::new(),
             branches: Branches::new(alloc),
         }
     }
@@ -63,7 +60,6 @@ impl Ways {
     pub fn forget(&mut self)
         ensures forgotten { KnowsNothing self.new }
         ensures same { self.new.links ≡ self.old.links }
-        ensures same_line { self.new.line ≡ self.old.line }
     {
         self.branches.clear();
     }
@@ -94,11 +90,13 @@ impl Ways {
         around: Around<'_>,
         arrival: Option<Link>,
         effect: &Effect,
+        line: &mut Text,
     ) -> Result<(), AllocError>
         requires right { IsRight self.old around }
         requires named { IsNamedIn around effect.now }
         requires met { AreEndsIn around }
-        ensures at_hand { OnOk result (IsAtHand around.entry arrival effect.now self.new) }
+        ensures at_hand { OnOk result
+            (IsAtHand around.entry arrival effect.now self.new.links line.new) }
         ensures so { OnOk result (IsRight self.new around.entry) }
     {
         self.links.clear();
@@ -109,19 +107,19 @@ impl Ways {
         if self.links.is_empty() {
             return Ok(());
         }
-        self.line = effect_text(effect, around.named, around.room, around.routes);
+        *line = effect_text(effect, around.named, around.room, around.routes);
         Ok(())
     }
 
-    /// The line at hand goes on the links of it.
+    /// The line at hand goes on its links.
     ///
     /// # Errors
     /// Where memory runs out.
-    pub(crate) fn tell(&self, out: &mut Batch) -> Result<(), AllocError>
+    pub(crate) fn tell(&self, line: &Text, out: &mut Batch) -> Result<(), AllocError>
         ensures { OnOk result (out.new.outs
-            ≡ out.old.outs ++ lines_on self.now.links.items self.now.line.items) }
+            ≡ out.old.outs ++ lines_on self.now.links.items line.now.items) }
     {
-        send_on_all(&self.line, self.links.as_slice(), out)
+        send_on_all(line, self.links.as_slice(), out)
     }
 
     /// Finds the links on which an effect is told, but for the one by which it came.

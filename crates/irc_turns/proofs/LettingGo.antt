@@ -10,7 +10,7 @@ use Rattle.slab.specs.Slab.{Slab, get, with_value}
 use Rattle.slab.proofs.SlabLemmas.{Updates-with_value}
 use Rattle.std.specs.Option.{IsSome}
 use Rattle.irc_turns.specs.HeldBack.{HeldBack, held_still, held_at}
-use Rattle.irc_turns.specs.declared.holding.Held.{Held}
+use Rattle.irc_turns.specs.declared.holding.HeldClient.{HeldClient}
 use Rattle.irc_turns.specs.declared.talker.Talker.{Talker}
 use Rattle.irc_turns.specs.Numbered.{NumberedTalkers, talker_at, talker_changed_if}
 use Rattle.irc_turns.specs.Numbered.{talker_changed_at, only, tried_again, asked_again, is_full_one}
@@ -19,7 +19,7 @@ use Rattle.irc_turns.specs.Talking.{held_no_more}
 
 -- ---- those before the place from which one was taken stay
 
-pub before_place : (xs : List Held) (i k : ℕ) (last d : Held) → k < i → i < length xs
+pub before_place : (xs : List HeldClient) (i k : ℕ) (last d : HeldClient) → k < i → i < length xs
     → get_or (swap_remove xs i last) k d ≡ get_or xs k d
 before_place xs i k last d before within =
     get_or-take (length xs - 1) _ k d (omega arith) ∙ get_or-set_other xs i k _ d (apart k i before)
@@ -30,7 +30,7 @@ before_place xs i k last d before within =
 -- ---- who is due
 
 -- whose time is not over, by a talker that takes bytes
-takes_bytes : (passed : ℕ) (talkers : NumberedTalkers) (held : Held) (by : ℕ) (b : Bool)
+takes_bytes : (passed : ℕ) (talkers : NumberedTalkers) (held : HeldClient) (by : ℕ) (b : Bool)
     → cond b (Some held.by) None ≡ Some by → is_full_one (talker_at talkers by) ≡ false
     → not (b && is_full_one (talker_at talkers held.by)) ≡ true
 takes_bytes passed talkers held by true one free = ap (λ o. not (is_full_of o)) one ∙ ap not free
@@ -40,26 +40,27 @@ takes_bytes passed talkers held by true one free = ap (λ o. not (is_full_of o))
     is_full_of (Some number) = is_full_one (talker_at talkers number)
 takes_bytes passed talkers held by false one free = refl
 
-pub due_by_room : (talkers : NumberedTalkers) (place by : ℕ) (held : Held)
+pub due_by_room : (talkers : NumberedTalkers) (place by : ℕ) (held : HeldClient)
     → slice_get talkers.holding.held place ≡ Some held → held_at talkers.holding place ≡ Some by
     → is_full_one (talker_at talkers by) ≡ false → is_due talkers held ≡ true
 due_by_room talkers place by held there one free =
-    takes_bytes talkers.holding.passed talkers held by (nat_lt talkers.holding.passed held.until)
-    (sym (ap (held_still talkers.holding.passed) there) ∙ one) free
+    takes_bytes talkers.holding.rounds_passed talkers held by
+    (nat_lt talkers.holding.rounds_passed held.until)
+    (sym (ap (held_still talkers.holding.rounds_passed) there) ∙ one) free
 
-over : (talkers : NumberedTalkers) (held : Held) (b : Bool) → cond b (Some held.by) None ≡ None
-    → not (b && is_full_one (talker_at talkers held.by)) ≡ true
+over : (talkers : NumberedTalkers) (held : HeldClient) (b : Bool)
+    → cond b (Some held.by) None ≡ None → not (b && is_full_one (talker_at talkers held.by)) ≡ true
 over talkers held true none = cc none
 over talkers held false none = refl
 
-pub due_by_time : (talkers : NumberedTalkers) (place : ℕ) (held : Held)
+pub due_by_time : (talkers : NumberedTalkers) (place : ℕ) (held : HeldClient)
     → slice_get talkers.holding.held place ≡ Some held → held_at talkers.holding place ≡ None
     → is_due talkers held ≡ true
 due_by_time talkers place held there none =
-    over talkers held (nat_lt talkers.holding.passed held.until)
-    (sym (ap (held_still talkers.holding.passed) there) ∙ none)
+    over talkers held (nat_lt talkers.holding.rounds_passed held.until)
+    (sym (ap (held_still talkers.holding.rounds_passed) there) ∙ none)
 
-in_time : (old : NumberedTalkers) (held : Held) (by : ℕ) (b : Bool)
+in_time : (old : NumberedTalkers) (held : HeldClient) (by : ℕ) (b : Bool)
     → cond b (Some held.by) None ≡ Some by → is_full_one (talker_at old by) ≡ true
     → not (b && is_full_one (talker_at old held.by)) ≡ false
 in_time old held by true one full = ap (λ o. not (is_full_of o)) one ∙ ap not full
@@ -70,16 +71,17 @@ in_time old held by true one full = ap (λ o. not (is_full_of o)) one ∙ ap not
 in_time old held by false one full = cc one
 
 -- whoever is held still was not due before, since no talker has become full
-pub not_due : (old talkers : NumberedTalkers) (place by : ℕ) (d : Held)
+pub not_due : (old talkers : NumberedTalkers) (place by : ℕ) (d : HeldClient)
     → place < length talkers.holding.held → held_at talkers.holding place ≡ Some by → is_full_one
     (talker_at talkers by) ≡ true → ((number : ℕ) → is_full_one (talker_at talkers number) ≡ true
-    → is_full_one (talker_at old number) ≡ true) → talkers.holding.passed ≡ old.holding.passed
+    → is_full_one (talker_at old number) ≡ true)
+    → talkers.holding.rounds_passed ≡ old.holding.rounds_passed
     → is_due old (get_or talkers.holding.held place d) ≡ false
 not_due old talkers place by d within one full fuller passed =
     let held = get_or talkers.holding.held place d in
-    in_time old held by (nat_lt old.holding.passed held.until)
+    in_time old held by (nat_lt old.holding.rounds_passed held.until)
     (ap (λ p. cond (nat_lt p held.until) (Some held.by) None) (sym passed)
-    ∙ sym (ap (held_still talkers.holding.passed)
+    ∙ sym (ap (held_still talkers.holding.rounds_passed)
     (slice_get-get_or talkers.holding.held place d within)) ∙ one)
     (fuller by full)
 
@@ -120,15 +122,17 @@ fuller between after new by who tried asked n full =
 
 -- ---- one is let go
 
-holding_is : (h : HeldBack) (held : List Held) (passed : ℕ) → h.held ≡ held → h.passed ≡ passed
-    → h ≡ record { held = held; passed = passed }
+holding_is : (h : HeldBack) (held : List HeldClient) (passed : ℕ) → h.held ≡ held
+    → h.rounds_passed ≡ passed → h ≡ record { held = held; rounds_passed = passed }
 holding_is h held passed same_held same_passed =
-    ap (λ xs. record { held = xs; passed = h.passed }) same_held
-    ∙ ap (λ p. record { held = held; passed = p }) same_passed
+    ap (λ xs. record { held = xs; rounds_passed = h.rounds_passed }) same_held
+    ∙ ap (λ p. record { held = held; rounds_passed = p }) same_passed
 
-pub gone : (between after new : NumberedTalkers) (holding : HeldBack) (place : ℕ) (held : Held)
-    → slice_get between.holding.held place ≡ Some held → is_due between held ≡ true → holding.held
-    ≡ swap_remove between.holding.held place held → holding.passed ≡ between.holding.passed
+pub gone : (between after new : NumberedTalkers) (holding : HeldBack) (place : ℕ)
+    (held : HeldClient) → slice_get between.holding.held place ≡ Some held
+    → is_due between held ≡ true → holding.held
+    ≡ swap_remove between.holding.held place held
+    → holding.rounds_passed ≡ between.holding.rounds_passed
     → after ≡ only tried_again held.by (record between { holding = holding })
     → new ≡ asked_again held.who after → LetsOneGo between new place held
 gone between after new holding place held there due left passed tried asked = record {

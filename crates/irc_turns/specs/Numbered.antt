@@ -5,13 +5,13 @@ use Rattle.std.specs.List.{slice_get, swap_remove}
 use Rattle.slab.specs.Slab.{Slab, get, with_value, Updates}
 use Rattle.irc_turns.specs.declared.round.Round.{Round}
 use Rattle.irc_turns.specs.Rounds.{wait_more, more_noted}
-use Rattle.irc_turns.specs.declared.talker.Mark.{Mark}
+use Rattle.irc_turns.specs.declared.talker.TalkerMark.{TalkerMark}
 use Rattle.irc_turns.specs.declared.talker.Talker.{Talker}
-use Rattle.irc_turns.specs.declared.talker.Told.{Told}
+use Rattle.irc_turns.specs.declared.talker.Readiness.{Readiness}
 use Rattle.irc_turns.specs.declared.talkers.Report.{Report}
 use Rattle.irc_turns.specs.declared.talkers.Report.TheVariants as report
 use Rattle.irc_turns.specs.HeldBack.{HeldBack, held_too}
-use Rattle.irc_turns.specs.declared.holding.Held.{Held}
+use Rattle.irc_turns.specs.declared.holding.HeldClient.{HeldClient}
 use Rattle.irc_turns.specs.Queues.{stands_in, queued_behind, is_first}
 use Rattle.irc_turns.specs.Talking.{new_talker, is_asked, is_stuck, may_take_more, is_put_off}
 use Rattle.irc_turns.specs.Talking.{written, takes_again, told_so, turn_over, held_back}
@@ -61,21 +61,21 @@ abbrev pub tried_again : Talker → Talker
 tried_again talker = record talker { is_full = false }
 
 -- what the system tells has it reported, where it takes bytes again, or has something to say
-abbrev pub is_told : Told → Option Talker → Bool
+abbrev pub is_told : Readiness → Option Talker → Bool
 is_told told None = false
 is_told told (Some talker) = takes_again talker told || is_asked (told_so talker told)
 
 -- the queue then
-abbrev pub queue_told : Told → ℕ → NumberedTalkers → List ℕ
+abbrev pub queue_told : Readiness → ℕ → NumberedTalkers → List ℕ
 queue_told told number talkers =
     queued_if (is_told told (talker_at talkers number)) number talkers.queue
 
-abbrev pub is_asked_behind : Told → Option Talker → Bool
+abbrev pub is_asked_behind : Readiness → Option Talker → Bool
 is_asked_behind told None = false
 is_asked_behind told (Some talker) = is_asked (told_so talker told)
 
 -- somebody has come by it who was not waiting
-abbrev pub has_come : Told → ℕ → NumberedTalkers → Bool
+abbrev pub has_come : Readiness → ℕ → NumberedTalkers → Bool
 has_come told number talkers =
     is_asked_behind told (talker_at talkers number) && not (stands_in number talkers.queue)
 
@@ -132,15 +132,15 @@ round_behind number all taken round (Some talker) =
 
 -- ---- marks
 
-abbrev pub mark_if : ℕ → Option Talker → Option Mark
+abbrev pub mark_if : ℕ → Option Talker → Option TalkerMark
 mark_if number None = None
 mark_if number (Some talker) = Some (record { number = number; serial = talker.serial })
 
 -- what tells a talker from each other that there is or was
-abbrev pub talker_mark : NumberedTalkers → ℕ → Option Mark
+abbrev pub talker_mark : NumberedTalkers → ℕ → Option TalkerMark
 talker_mark talkers number = mark_if number (talker_at talkers number)
 
-abbrev pub mark_of_one : NumberedTalkers → Option ℕ → Option Mark
+abbrev pub mark_of_one : NumberedTalkers → Option ℕ → Option TalkerMark
 mark_of_one talkers None = None
 mark_of_one talkers (Some number) = talker_mark talkers number
 
@@ -158,11 +158,11 @@ turn_ended round (Some reader) talkers =
 -- ---- who is held back
 
 -- a talker that has this mark takes no bytes
-abbrev pub is_full_yet : Mark → Option Talker → Bool
+abbrev pub is_full_yet : TalkerMark → Option Talker → Bool
 is_full_yet mark None = false
 is_full_yet mark (Some talker) = talker.is_full && nat_eq talker.serial mark.serial
 
-abbrev pub filled_by_mark : NumberedTalkers → Talker → Option Mark → Option ℕ
+abbrev pub filled_by_mark : NumberedTalkers → Talker → Option TalkerMark → Option ℕ
 filled_by_mark talkers talker None = None
 filled_by_mark talkers talker (Some mark) =
     if is_full_yet mark (talker_at talkers mark.number) && (is_asked talker && not talker.was_held)
@@ -229,22 +229,22 @@ ReportsFirst old new round result round_after = ReportsOf old.queue old new roun
 -- ---- who is let go
 
 -- the time is over, or the talker takes bytes again or is gone
-abbrev pub is_due : NumberedTalkers → Held → Bool
+abbrev pub is_due : NumberedTalkers → HeldClient → Bool
 is_due talkers held =
-    not (nat_lt talkers.holding.passed held.until && is_full_one (talker_at talkers held.by))
+    not (nat_lt talkers.holding.rounds_passed held.until && is_full_one (talker_at talkers held.by))
 
 -- the last takes the place of who is let go
-abbrev pub let_go_at : ℕ → Held → HeldBack → HeldBack
+abbrev pub let_go_at : ℕ → HeldClient → HeldBack → HeldBack
 let_go_at place held holding = record holding { held = swap_remove holding.held place held }
 
 -- the talker that was full is tried again, and who was held is reported, if it has something to say
-abbrev pub let_go_one : ℕ → Held → NumberedTalkers → NumberedTalkers
+abbrev pub let_go_one : ℕ → HeldClient → NumberedTalkers → NumberedTalkers
 let_go_one place held talkers =
     record (asked_again held.who (only tried_again held.by talkers))
     { holding = let_go_at place held talkers.holding }
 
 -- whoever is held at a place, and is due, is let go
-pub record LetsOneGo (old new : NumberedTalkers) (place : ℕ) (held : Held) : Type 0 where
+pub record LetsOneGo (old new : NumberedTalkers) (place : ℕ) (held : HeldClient) : Type 0 where
   pub there : slice_get old.holding.held place ≡ Some held
   pub due : is_due old held ≡ true
   pub left : new ≡ let_go_one place held old
@@ -252,5 +252,5 @@ pub record LetsOneGo (old new : NumberedTalkers) (place : ℕ) (held : Held) : T
 -- some are let go, one after another
 pub data LetsGo (old : NumberedTalkers) : NumberedTalkers → Type 0 where
   nobody : LetsGo old old
-  one_more : (between new : NumberedTalkers) (place : ℕ) (held : Held) → LetsGo old between
+  one_more : (between new : NumberedTalkers) (place : ℕ) (held : HeldClient) → LetsGo old between
       → LetsOneGo between new place held → LetsGo old new

@@ -8,7 +8,7 @@ abbrev pub no_round : Round
 no_round = record {
   left = 0;
   is_quiet = false;
-  arrivals = 0;
+  comers = 0;
   turn = 64;
   reader = None;
   may_wait = false;
@@ -18,9 +18,9 @@ no_round = record {
   has_more = false;
 }
 
--- how often somebody has come, once somebody has: a count that begins anew behind 2 ^ 64 - 1
-abbrev pub arrivals_after : ℕ → ℕ
-arrivals_after arrivals = (arrivals + 1) % 18446744073709551616
+-- one more is counted, by a count that begins anew behind 2 ^ 64 - 1
+abbrev pub count_after : ℕ → ℕ
+count_after count = (count + 1) % 18446744073709551616
 
 -- a round begins, with so many sockets: it is quiet where nobody has come
 abbrev pub round_begun : Round → ℕ → Bool → Round
@@ -28,8 +28,8 @@ round_begun round left has_come =
     record round {
       left = left;
       is_quiet = not has_come;
-      arrivals = if has_come
-          then arrivals_after round.arrivals else round.arrivals;
+      comers = if has_come
+          then count_after round.comers else round.comers;
     }
 
 -- a sum of which no more is told than that it is as large as a number can be

@@ -7,11 +7,11 @@ use Rattle.irc_turns.specs.Fronts.{GivesLines, IsFront}
 use Rattle.irc_turns.specs.Gathering.{nothing_waits, much_for, waits_behind}
 use Rattle.irc_turns.specs.Gathering.{is_put_off as waits_for_more}
 use Rattle.irc_turns.specs.Pacing.{at_first, at_rest, at_turn, behind_turn, paced_lines}
-use Rattle.irc_turns.specs.declared.talker.Mark.{Mark}
+use Rattle.irc_turns.specs.declared.talker.TalkerMark.{TalkerMark}
 use Rattle.irc_turns.specs.declared.talker.Reading.{Reading}
 use Rattle.irc_turns.specs.declared.talker.Reading.TheVariants as reading
 use Rattle.irc_turns.specs.declared.talker.Talker.{Talker}
-use Rattle.irc_turns.specs.declared.talker.Told.{Told}
+use Rattle.irc_turns.specs.declared.talker.Readiness.{Readiness}
 
 -- one of which the system has told nothing yet
 abbrev pub new_talker : Bool → ℕ → Talker
@@ -49,14 +49,14 @@ is_stuck talker = talker.is_full && nat_lt (much_for talker.is_client) talker.wa
 -- ---- what the system tells of it
 
 -- its socket took no bytes, and does again; or it has failed, which the next write shows
-abbrev pub takes_again : Talker → Told → Bool
+abbrev pub takes_again : Talker → Readiness → Bool
 takes_again talker told = talker.is_full && told.has_room
 
 -- bytes may be there to read, or their end, until a read shows that none are
-abbrev pub may_have_more : Talker → Told → Bool
+abbrev pub may_have_more : Talker → Readiness → Bool
 may_have_more talker told = talker.may_have_more || (told.is_readable || told.is_over)
 
-abbrev pub told_so : Talker → Told → Talker
+abbrev pub told_so : Talker → Readiness → Talker
 told_so talker told = record talker {
   is_ending = talker.is_ending || told.is_over;
   may_have_more = may_have_more talker told;
@@ -68,7 +68,7 @@ told_so talker told = record talker {
 
 -- its pace goes by the turn where something of it is left; whom it has filled is known until its
 -- next turn
-abbrev pub turn_over : Talker → ℕ → ℕ → Option Mark → Talker
+abbrev pub turn_over : Talker → ℕ → ℕ → Option TalkerMark → Talker
 turn_over talker answered shown filled = record talker {
   pace =
       if nat_eq 0 (length talker.rest) then talker.pace else behind_turn talker.pace answered shown;
@@ -85,29 +85,29 @@ held_no_more talker = record talker { was_held = talker.is_held; is_held = false
 
 -- one begins, where somebody has come so often
 abbrev pub read_begun : ℕ → Talker → Talker
-read_begun arrivals talker = record talker { pace = at_turn talker.pace arrivals }
+read_begun comers talker = record talker { pace = at_turn talker.pace comers }
 
 -- of what was left of the last read so many lines are given, as far as the buffer has room
-pub record GivesRest (arrivals : ℕ) (old : Talker) (buffer : List ℕ) (count : ℕ) (new : Talker)
+pub record GivesRest (comers : ℕ) (old : Talker) (buffer : List ℕ) (count : ℕ) (new : Talker)
     (filled : List ℕ) : Type 0 where
   pub some : nat_eq 0 (length old.rest) ≡ false
-  pub lines : GivesLines (paced_lines old.pace arrivals) (length buffer) old.rest count
+  pub lines : GivesLines (paced_lines old.pace comers) (length buffer) old.rest count
   pub given : filled ≡ take count old.rest ++ drop count buffer
-  pub left : new ≡ record (read_begun arrivals old) { rest = drop count old.rest }
+  pub left : new ≡ record (read_begun comers old) { rest = drop count old.rest }
 
 -- nothing was left, so the system is asked, and so many lines are for this turn
-pub record AsksAnew (arrivals : ℕ) (old : Talker) (buffer : List ℕ) (lines : ℕ) (new : Talker)
+pub record AsksAnew (comers : ℕ) (old : Talker) (buffer : List ℕ) (lines : ℕ) (new : Talker)
     (filled : List ℕ) : Type 0 where
   pub none : nat_eq 0 (length old.rest) ≡ true
-  pub lines_are : lines ≡ paced_lines old.pace arrivals
-  pub begun : new ≡ read_begun arrivals old
+  pub lines_are : lines ≡ paced_lines old.pace comers
+  pub begun : new ≡ read_begun comers old
   pub same : filled ≡ buffer
 
 abbrev pub BeginsRead : ℕ → Talker → List ℕ → Reading → Talker → List ℕ → Type 0
-BeginsRead arrivals old buffer (reading.Given count) new filled =
-    GivesRest arrivals old buffer count new filled
-BeginsRead arrivals old buffer (reading.Anew lines) new filled =
-    AsksAnew arrivals old buffer lines new filled
+BeginsRead comers old buffer (reading.Given count) new filled =
+    GivesRest comers old buffer count new filled
+BeginsRead comers old buffer (reading.Anew lines) new filled =
+    AsksAnew comers old buffer lines new filled
 
 abbrev pub IsWithin : Reading → ℕ → Type 0
 IsWithin (reading.Given count) room = count ≤ room

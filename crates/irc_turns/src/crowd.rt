@@ -1,8 +1,8 @@
 //! How many connections are open from one address.
-ghost use Rattle.std.specs.Prelude.{◌≡◌, true, false};
+ghost use Rattle.std.specs.Prelude.{◌≡◌, OnOk, OnErr};
 ghost use Rattle.irc_turns.specs.Crowds.{address_number, open_from};
 
-use std::alloc::Global;
+use std::alloc::{AllocError, Global};
 use std::marker::Model;
 use std::net::IpAddr;
 
@@ -63,17 +63,22 @@ impl Crowd {
             .count()
     }
 
-    /// A connection from an address is open, under a number. Without a limit it is not noted. Tells
-    /// whether there was memory for it.
-    pub fn note(&mut self, number: u64, address: IpAddr) -> bool
-        ensures noted { result ≡ true → self.new ≡ one_more_open number address self.old }
-        ensures none { result ≡ false → self.new ≡ self.old }
+    /// A connection from an address is open, under a number. Without a limit it is not noted.
+    ///
+    /// # Errors
+    /// Where memory runs out.
+    pub fn note(&mut self, number: u64, address: IpAddr) -> Result<(), AllocError>
+        ensures noted { OnOk result (self.new ≡ one_more_open number address self.old) }
+        ensures none { OnErr result (self.new ≡ self.old) }
     {
         if self.most.is_none() {
-            return true;
+            return Ok(());
         }
         let address = number_of(address);
-        self.comers.push(Comer { number, address }).is_ok()
+        match self.comers.push(Comer { number, address }) {
+            Ok(()) => Ok(()),
+            Err(_) => Err(AllocError),
+        }
     }
 
     /// The connection under a number is open no more.

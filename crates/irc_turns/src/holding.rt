@@ -1,31 +1,34 @@
 //! Who is held back, and for how long.
-ghost use Rattle.std.specs.Prelude.{◌≡◌, ◌<◌, true, false, nat_eq, length, Some};
+ghost use Rattle.std.specs.Prelude.{◌≡◌, ◌<◌, nat_eq, length, Some, OnOk, OnErr};
 ghost use Rattle.std.specs.List.{slice_get, swap_remove};
 
-use std::alloc::Global;
+use std::alloc::{AllocError, Global};
 use std::marker::Model;
 
-/// For how many milliseconds somebody is held back at most.
-const LONGEST: u64 = 250;
+/// For how many milliseconds somebody is held back at most. A round counts as one at least, so it
+/// is for as many rounds at most.
+const LONGEST_MS: u64 = 250;
 
-/// A client that is held back, and the socket that is to take bytes before it is read again.
+/// A client that is held back, and the socket that is to take bytes before it is read again. Both
+/// are bare numbers, which are used again: so a client may wait for a socket that is another's by
+/// then. That is over behind so many rounds as `LONGEST_MS` says.
 #[derive(Drop)]
-pub struct Held {
+pub(crate) struct HeldClient {
     /// The client.
     pub who: usize,
     /// Whose socket is full.
     pub by: usize,
-    /// When it is read again in any case.
+    /// Behind how many rounds it is read again in any case.
     pub until: u64,
 }
 
 /// Who is held back.
 #[derive(Drop)]
-pub struct Holding {
-    held: Vec<Held, Global>,
-    /// How many milliseconds have passed, as far as is known: a wait that nothing has ended has
-    /// lasted as long as it was to, and of each other round no more is known than that it was one.
-    passed: u64,
+pub(crate) struct Holding {
+    held: Vec<HeldClient, Global>,
+    /// How many rounds have passed. One whose wait nothing has ended counts as many times as the
+    /// wait was to last milliseconds; of each other no more is known than that it was one.
+    rounds_passed: u64,
 }
 
 impl Model for Holding {
@@ -33,7 +36,7 @@ impl Model for Holding {
 
     ghost Value = { HeldBack };
 
-    ghost view = { λ holding. record { held = holding.held.items; passed = holding.passed } };
+    ghost view = { λ holding. record { held = holding.held.items; rounds_passed = holding.rounds_passed } };
 }
 
 impl Holding {
@@ -45,7 +48,7 @@ impl Holding {
     {
         Holding {
             held: Vec::new(alloc),
-            passed: 0,
+            rounds_passed: 0,
         }
     }
 
@@ -67,16 +70,22 @@ impl Holding {
     pub fn pass(&mut self, waited: u64)
         ensures { self.new ≡ round_passed self.old waited }
     {
-        self.passed = self.passed.saturating_add(waited.max(1));
+        self.rounds_passed = self.rounds_passed.saturating_add(waited.max(1));
     }
 
-    /// Holds a client back. Where there is no memory for that, it is not held.
-    pub fn hold(&mut self, who: usize, by: usize) -> bool
-        ensures held { result ≡ true → self.new ≡ held_too self.old who by }
-        ensures none { result ≡ false → self.new ≡ self.old }
+    /// Holds a client back.
+    ///
+    /// # Errors
+    /// Where memory runs out: then it is not held.
+    pub fn hold(&mut self, who: usize, by: usize) -> Result<(), AllocError>
+        ensures held { OnOk result (self.new ≡ held_too self.old who by) }
+        ensures none { OnErr result (self.new ≡ self.old) }
     {
-        let until = self.passed.saturating_add(LONGEST);
-        self.held.push(Held { who, by, until }).is_ok()
+        let until = self.rounds_passed.saturating_add(LONGEST_MS);
+        match self.held.push(HeldClient { who, by, until }) {
+            Ok(()) => Ok(()),
+            Err(_) => Err(AllocError),
+        }
     }
 
     /// By whom the client at a place is held, if its time is not over.
@@ -84,7 +93,7 @@ impl Holding {
         ensures { result ≡ held_at self.now place }
     {
         let held = self.held.get(place)?;
-        if held.until > self.passed {
+        if held.until > self.rounds_passed {
             Some(held.by)
         } else {
             None
@@ -92,11 +101,11 @@ impl Holding {
     }
 
     /// Lets the client at a place go.
-    pub fn let_go(&mut self, place: usize) -> Held
+    pub fn let_go(&mut self, place: usize) -> HeldClient
         requires { place < length self.old.held }
         ensures who { slice_get self.old.held place ≡ Some result }
         ensures others { self.new.held ≡ swap_remove self.old.held place result }
-        ensures passed { self.new.passed ≡ self.old.passed }
+        ensures passed { self.new.rounds_passed ≡ self.old.rounds_passed }
     {
         self.held.swap_remove(place)
     }

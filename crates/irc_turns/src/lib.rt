@@ -20,14 +20,9 @@ mod waits;
 
 pub use arrivals::Arrivals;
 pub use crowd::Crowd;
-pub use holding::{Held, Holding};
-pub use pace::Pace;
-pub use rest::{Rest, front_of};
 pub use retries::Retries;
-pub use retry::Retry;
 pub use round::Round;
 pub use spread::{name_spread, spread_on};
-pub use talker::{Mark, Reading, Talker, Told};
+pub use talker::{Readiness, Reading, Talker};
 pub use talkers::{Report, Talkers};
-pub use waiting::Waiting;
-pub use waits::{wait_behind, wait_for};
+pub use waits::wait_for;

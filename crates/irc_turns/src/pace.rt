@@ -11,30 +11,30 @@ ghost use Rattle.irc_turns.specs.Pacing.{behind_turn};
 use std::marker::Model;
 
 /// How many lines a turn takes of one who has sent nothing that is left.
-const FIRST: usize = 2;
+const FIRST_LINES: usize = 2;
 
 /// How many it takes at most.
-const MOST: usize = 32;
+const MOST_LINES: usize = 32;
 
 /// Behind how many turns in which nobody came a turn takes twice as many.
 const QUIET_TURNS: usize = 32;
 
 /// So many bytes for a line show that a turn's time goes into what it puts out: the next one takes
 /// twice as many at once.
-const SHOWN: usize = 512;
+const SHOWN_BYTES: usize = 512;
 
 /// Who is answered so many bytes in a turn is asked line by line, so that they can be taken before
 /// the next are made.
-const ANSWERED: usize = 4096;
+const ANSWERED_BYTES: usize = 4096;
 
 /// How many lines of a client one turn takes.
 #[derive(Drop)]
-pub struct Pace {
+pub(crate) struct Pace {
     lines: usize,
     /// How many turns have taken so many.
     turns: usize,
     /// How often somebody had come by then.
-    arrivals: u64,
+    comers: u64,
     /// Whether nothing of it is left.
     is_idle: bool,
 }
@@ -44,7 +44,7 @@ impl Model for Pace {
 
     ghost Value = { Paced };
 
-    ghost view = { λ p. paced p.lines p.turns p.arrivals p.is_idle };
+    ghost view = { λ p. paced p.lines p.turns p.comers p.is_idle };
 }
 
 impl Pace {
@@ -53,9 +53,9 @@ impl Pace {
         ensures { result ≡ at_first }
     {
         Pace {
-            lines: FIRST,
+            lines: FIRST_LINES,
             turns: 0,
-            arrivals: 0,
+            comers: 0,
             is_idle: true,
         }
     }
@@ -69,18 +69,18 @@ impl Pace {
 
     /// How many lines the turn at hand takes, where somebody has come so often so far: just one,
     /// where somebody has come since the last.
-    pub fn lines(&mut self, arrivals: u64) -> usize
-        ensures lines { result ≡ paced_lines self.old arrivals }
-        ensures turn { self.new ≡ at_turn self.old arrivals }
+    pub fn lines(&mut self, comers: u64) -> usize
+        ensures lines { result ≡ paced_lines self.old comers }
+        ensures turn { self.new ≡ at_turn self.old comers }
     {
         if self.is_idle {
-            self.lines = FIRST;
+            self.lines = FIRST_LINES;
             self.turns = 0;
-        } else if self.arrivals != arrivals {
+        } else if self.comers != comers {
             self.slow();
         }
         self.is_idle = false;
-        self.arrivals = arrivals;
+        self.comers = comers;
         self.lines
     }
 
@@ -90,10 +90,10 @@ impl Pace {
         ensures { self.new ≡ behind_turn self.old answered shown }
     {
         self.turns = self.turns.saturating_add(1);
-        if answered >= ANSWERED {
+        if answered >= ANSWERED_BYTES {
             self.slow();
-        } else if self.turns >= QUIET_TURNS || shown / SHOWN >= self.lines {
-            self.lines = self.lines.saturating_mul(2).min(MOST);
+        } else if self.turns >= QUIET_TURNS || shown / SHOWN_BYTES >= self.lines {
+            self.lines = self.lines.saturating_mul(2).min(MOST_LINES);
             self.turns = 0;
         }
     }

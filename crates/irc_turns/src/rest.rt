@@ -1,18 +1,18 @@
 //! Bytes that were read and wait for their turn.
-ghost use Rattle.std.specs.Prelude.{◌≡◌, ◌-◌, ◌≤◌, ◌++◌, true, false, nat_eq, [], take, drop};
-ghost use Rattle.std.specs.Prelude.{length};
+ghost use Rattle.std.specs.Prelude.{◌≡◌, ◌-◌, ◌≤◌, ◌++◌, nat_eq, [], take, drop, length};
+ghost use Rattle.std.specs.Prelude.{OnOk, OnErr};
 ghost use Rattle.std.specs.List.{prefix_len};
 ghost use Rattle.irc_line.specs.Bytes.{is_line_end};
 ghost use Rattle.irc_line.specs.Framed.{found_in};
 ghost use Rattle.irc_turns.specs.Fronts.{EndsLines, GivesLines, IsFront};
 
 use irc_line::{Framer, Line, laws};
-use std::alloc::Global;
+use std::alloc::{AllocError, Global};
 use std::marker::Model;
 
 /// Bytes that were read of a socket, and were not given on yet.
 #[derive(Drop)]
-pub struct Rest {
+pub(crate) struct Rest {
     bytes: Vec<u8, Global>,
     /// How many of them were given on.
     given: usize,
@@ -47,14 +47,17 @@ impl Rest {
         self.given >= self.bytes.len()
     }
 
-    /// Keeps bytes, in place of what there was. Where there is no memory for them, nothing is kept.
-    pub fn keep(&mut self, bytes: &[u8]) -> bool
-        ensures kept { result ≡ true → self.new ≡ bytes.now }
-        ensures none { result ≡ false → self.new ≡ [] }
+    /// Keeps bytes, in place of what there was.
+    ///
+    /// # Errors
+    /// Where memory runs out: then nothing is kept.
+    pub fn keep(&mut self, bytes: &[u8]) -> Result<(), AllocError>
+        ensures kept { OnOk result (self.new ≡ bytes.now) }
+        ensures none { OnErr result (self.new ≡ []) }
     {
         self.given = 0;
         self.bytes.clear();
-        self.bytes.extend_from_slice(bytes).is_ok()
+        self.bytes.extend_from_slice(bytes)
     }
 
     /// Gives so many lines on, as far as they fit, to the front of a buffer, and tells how many
@@ -95,7 +98,7 @@ impl Rest {
 /// How many bytes at the front are so many lines, or one, or all where they are fewer. Lines are
 /// those of the protocol: a CR and an LF end one each, and where no byte, or a NUL, stands before
 /// that it counts for nothing. All line ends behind the last line are of it.
-pub fn front_of(bytes: &[u8], lines: usize) -> usize
+pub(crate) fn front_of(bytes: &[u8], lines: usize) -> usize
     ensures { IsFront lines bytes.now result }
 {
     laws::pieces_complete_the_same();

@@ -3,7 +3,7 @@ ghost use Rattle.std.specs.Prelude.{◌≡◌, ◌++◌, ◌∷◌, [], ◌&&◌
 ghost use Rattle.std.specs.Prelude.{OnOk, is_some};
 ghost use Rattle.std.specs.List.{list_any, position, slice_get};
 ghost use Rattle.irc_turns.specs.Retries.{milliseconds};
-ghost use Rattle.irc_turns.specs.Rounds.{arrivals_after};
+ghost use Rattle.irc_turns.specs.Rounds.{count_after};
 ghost use Rattle.irc_turns.specs.Spreads.{spread_on};
 ghost use Rattle.irc_turns.specs.Waits.{wait_behind};
 
@@ -14,7 +14,7 @@ use std::alloc::{AllocError, Global};
 
 /// How many milliseconds are between two calls that are made again at least: the one is to be
 /// known, with all that are behind it, before the next is judged.
-const APART: u64 = 1000;
+const APART_MS: u64 = 1000;
 
 /// The servers that are called, by their places.
 #[derive(Drop)]
@@ -90,7 +90,7 @@ impl Retries {
 
     /// A server has connected.
     pub fn come(&mut self)
-        ensures { self.new ≡ record self.old { comers = arrivals_after self.old.comers } }
+        ensures { self.new ≡ record self.old { comers = count_after self.old.comers } }
     {
         self.comers = self.comers.wrapping_add(1);
     }
@@ -172,7 +172,7 @@ impl Retries {
         ensures { result ≡ is_apart self.now.called_at self.now.passed }
     {
         match self.called_at {
-            Some(called_at) => self.passed.saturating_sub(called_at) >= APART,
+            Some(called_at) => self.passed.saturating_sub(called_at) >= APART_MS,
             None => true,
         }
     }

@@ -2,7 +2,8 @@
 ghost use Rattle.std.specs.Prelude.{◌≡◌};
 
 /// The number of the first turn: at turn 0 somebody was told something last to whom nothing was
-/// said yet, and that is long ago.
+/// said yet. That is long ago, since it is beyond the patience of a write (`PATIENCE_TURNS` of
+/// waiting.rt).
 const FIRST_TURN: u64 = 64;
 
 /// A round: each socket that was ready as it began is reported once. And the turn at hand: what was
@@ -14,8 +15,8 @@ pub struct Round {
     /// Whether nobody had come as it began: then those who are served have only more of the same to
     /// say.
     pub is_quiet: bool,
-    /// How often somebody has come so far.
-    pub arrivals: u64,
+    /// How often anybody has come so far, or had something new to say.
+    pub comers: u64,
     /// Which turn this is.
     pub turn: u64,
     /// The client that is read in it.
@@ -44,7 +45,7 @@ impl Round {
         Round {
             left: 0,
             is_quiet: false,
-            arrivals: 0,
+            comers: 0,
             turn: FIRST_TURN,
             reader: None,
             may_wait: false,
@@ -62,7 +63,7 @@ impl Round {
         self.left = left;
         self.is_quiet = !has_arrived;
         if has_arrived {
-            self.arrivals = self.arrivals.wrapping_add(1);
+            self.comers = self.comers.wrapping_add(1);
         }
     }
 

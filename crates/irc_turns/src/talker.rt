@@ -4,19 +4,19 @@ ghost use Rattle.std.specs.Prelude.{◌≡◌, ◌≤◌, length};
 
 use crate::pace::Pace;
 use crate::rest::{Rest, front_of};
-use crate::waiting::Waiting;
+use crate::waiting::WaitingWrite;
 use std::alloc::Global;
 
 /// What tells a talker from each other: numbers are used again.
 #[derive(Clone, Copy, Drop)]
-pub struct Mark {
+pub(crate) struct TalkerMark {
     pub number: usize,
     pub serial: u64,
 }
 
 /// What the system tells of a socket.
 #[derive(Clone, Copy, Drop)]
-pub struct Told {
+pub struct Readiness {
     /// Bytes may be there to read.
     pub is_readable: bool,
     /// No more bytes come behind those that are there.
@@ -59,9 +59,9 @@ pub struct Talker {
     /// What was read and is left.
     rest: Rest,
     pace: Pace,
-    pub waiting: Waiting,
+    pub(crate) waiting: WaitingWrite,
     /// Somebody whose outbox it has filled in its last turn.
-    pub fills: Option<Mark>,
+    pub(crate) fills: Option<TalkerMark>,
 }
 
 impl Talker {
@@ -87,13 +87,13 @@ impl Talker {
             may_have_more: false,
             rest: Rest::new(alloc),
             pace: Pace::new(),
-            waiting: Waiting::new(),
+            waiting: WaitingWrite::new(),
             fills: None,
         }
     }
 
     /// Takes in what the system tells, and whether its socket takes bytes again.
-    pub fn note(&mut self, told: Told) -> bool
+    pub fn note(&mut self, told: Readiness) -> bool
         ensures again { result ≡ takes_again self.old told }
         ensures told { self.new ≡ told_so self.old told }
     {
@@ -132,11 +132,11 @@ impl Talker {
 
     /// A read begins, where somebody has come so often so far: what was left of the last one is
     /// given, or the system is to be asked.
-    pub fn begin_read(&mut self, buffer: &mut [u8], arrivals: u64) -> Reading
-        ensures begun { BeginsRead arrivals self.old buffer.old result self.new buffer.new }
+    pub fn begin_read(&mut self, buffer: &mut [u8], comers: u64) -> Reading
+        ensures begun { BeginsRead comers self.old buffer.old result self.new buffer.new }
         ensures within { IsWithin result (length buffer.old) }
     {
-        let lines = self.pace.lines(arrivals);
+        let lines = self.pace.lines(comers);
         if self.rest.is_empty() {
             Reading::Anew(lines)
         } else {
@@ -153,7 +153,7 @@ impl Talker {
     {
         self.may_have_more = self.is_ending || is_whole;
         let front = self.turn_front(read, lines);
-        if self.rest.keep(&read[front..]) {
+        if self.rest.keep(&read[front..]).is_ok() {
             front
         } else {
             read.len()
@@ -192,7 +192,7 @@ impl Talker {
 
     /// A turn is over in which it was read, was answered so many bytes, and had so many put out to
     /// others; and has added to a full outbox, or has not.
-    pub fn end_turn(&mut self, answered: usize, shown: usize, filled: Option<Mark>)
+    pub(crate) fn end_turn(&mut self, answered: usize, shown: usize, filled: Option<TalkerMark>)
         ensures { self.new ≡ turn_over self.old answered shown filled }
     {
         if !self.rest.is_empty() {

@@ -1,11 +1,11 @@
 //! Those who talk to the server, by their numbers, and which of them are to be reported.
-ghost use Rattle.std.specs.Prelude.{◌≡◌, ℕ, false, length, drop, [], None, IfSome, IfNone, IsSome};
-ghost use Rattle.std.specs.Prelude.{nat_eq};
+ghost use Rattle.std.specs.Prelude.{◌≡◌, ℕ, false, length, drop, [], None, IsSome, IfOk};
+ghost use Rattle.std.specs.Prelude.{nat_eq, OnOk, OnErr};
 ghost use Rattle.std.specs.List.{All};
 ghost use Rattle.std.specs.Option.{option_copied_mut};
 ghost use Rattle.slab.specs.Slab.{Updates, SameValues};
 ghost use Rattle.irc_turns.specs.HeldBack.{nobody_held, round_passed};
-ghost use Rattle.irc_turns.specs.Rounds.{arrivals_after};
+ghost use Rattle.irc_turns.specs.Rounds.{count_after};
 ghost use Rattle.irc_turns.specs.Queues.{queue_without, queued_behind, turned_queue};
 ghost use Rattle.irc_turns.specs.Talking.{written, told_so};
 ghost use Rattle.irc_turns.specs.Numbered.{talker_at, SameButQueue, IsTalkerAdded, only};
@@ -17,9 +17,9 @@ ghost use Rattle.irc_turns.specs.Numbered.{filled_by, IsHeldBy, ReportsFirst, Le
 use crate::holding::Holding;
 use crate::queue::Queue;
 use crate::round::Round;
-use crate::talker::{Mark, Talker, Told};
+use crate::talker::{Readiness, Talker, TalkerMark};
 use slab::Slab;
-use std::alloc::Global;
+use std::alloc::{AllocError, Global};
 use std::marker::Model;
 
 /// What is told of one that was in the queue.
@@ -84,23 +84,26 @@ impl Talkers {
         self.queue.len()
     }
 
-    /// Takes a client or a link in, and gives it a number, if there is memory for it.
-    pub fn add(&mut self, is_client: bool) -> Option<usize>
-        ensures free { IfSome result (λ number. talker_at self.old number ≡ None) }
-        ensures serial { IfSome result (λ number. self.new.count ≡ arrivals_after self.old.count) }
-        ensures added { IfSome result (IsTalkerAdded is_client self.old self.new) }
-        ensures none { IfNone result (SameValues self.old.by_number self.new.by_number) }
+    /// Takes a client or a link in, and gives it a number.
+    ///
+    /// # Errors
+    /// Where memory runs out.
+    pub fn add(&mut self, is_client: bool) -> Result<usize, AllocError>
+        ensures free { IfOk result (λ number. talker_at self.old number ≡ None) }
+        ensures serial { OnOk result (self.new.count ≡ count_after self.old.count) }
+        ensures added { IfOk result (IsTalkerAdded is_client self.old self.new) }
+        ensures none { OnErr result (SameValues self.old.by_number self.new.by_number) }
         ensures queue { self.new.queue ≡ self.old.queue }
         ensures held { self.new.holding ≡ self.old.holding }
     {
-        self.by_number.reserve(1).ok()?;
-        self.queue.make_room(self.by_number.capacity()).ok()?;
+        self.by_number.reserve(1)?;
+        self.queue.make_room(self.by_number.capacity())?;
         self.count = self.count.wrapping_add(1);
         let talker = Talker::new(self.alloc, is_client, self.count);
         let number = self.by_number.insert_reserved(talker);
         // tells that no number is above the capacity, for which the queue has room
         let _places = self.by_number.capacity();
-        Some(number)
+        Ok(number)
     }
 
     /// The one under a number.
@@ -123,7 +126,7 @@ impl Talkers {
 
     /// Takes in what the system tells of a socket, and whether somebody has come by it who was not
     /// waiting.
-    pub fn note(&mut self, number: usize, told: Told) -> bool
+    pub fn note(&mut self, number: usize, told: Readiness) -> bool
         ensures come { result ≡ has_come told number self.old }
         ensures queue { self.new.queue ≡ queue_told told number self.old }
         ensures others { SameButQueue
@@ -231,7 +234,7 @@ impl Talkers {
     }
 
     /// What tells somebody from each other talker, if there is one.
-    fn mark_of(&self, number: Option<usize>) -> Option<Mark>
+    fn mark_of(&self, number: Option<usize>) -> Option<TalkerMark>
         ensures { result ≡ mark_of_one self.now number }
     {
         match number {
@@ -241,11 +244,11 @@ impl Talkers {
     }
 
     /// What tells a talker from each other, also from one that gets its number later.
-    fn mark(&self, number: usize) -> Option<Mark>
+    fn mark(&self, number: usize) -> Option<TalkerMark>
         ensures { result ≡ talker_mark self.now number }
     {
         let serial = self.by_number.get(number)?.serial;
-        Some(Mark { number, serial })
+        Some(TalkerMark { number, serial })
     }
 
     /// Holds a client back that has filled somebody's outbox, if that one's socket is full; but one
@@ -254,7 +257,7 @@ impl Talkers {
         ensures { IsHeldBy (filled_by self.old number) number self.old self.new }
     {
         if let Some(by) = self.filled_by(number)
-            && self.holding.hold(number, by)
+            && self.holding.hold(number, by).is_ok()
             && let Some(talker) = self.by_number.get_mut(number)
         {
             talker.hold();

@@ -5,25 +5,25 @@ ghost use Rattle.irc_turns.specs.Gathering.{nothing_waits, is_put_off, much_for,
 use std::marker::Model;
 
 /// So many bytes are written at once, so that nobody's outbox fills by the wait.
-const MANY: usize = 4096;
+const MANY_BYTES: usize = 4096;
 
 /// So much waits for a client where whoever adds to it is held back: a quarter of the smallest
 /// outbox that is any use.
-const MUCH: usize = 8192;
+const MUCH_BYTES: usize = 8192;
 
 /// So much waits for a link where whoever adds to it is held back. A link takes what all who are
 /// behind it are told, and the bursts of others.
-const MUCH_OF_LINK: usize = 262_144;
+const MUCH_OF_LINK_BYTES: usize = 262_144;
 
 /// How many turns without anything new a write waits at most: as many as cost no more than it does.
-const PATIENCE: u64 = 16;
+const PATIENCE_TURNS: u64 = 16;
 
 /// How many turns a write waits at most.
-const LONGEST: u64 = 64;
+const LONGEST_TURNS: u64 = 64;
 
 /// What waits for a socket.
 #[derive(Drop)]
-pub struct Waiting {
+pub(crate) struct WaitingWrite {
     /// How many bytes did behind the last turn.
     bytes: usize,
     /// The last turn in which there were more.
@@ -32,7 +32,7 @@ pub struct Waiting {
     since: u64,
 }
 
-impl Model for Waiting {
+impl Model for WaitingWrite {
     ghost use Rattle.irc_turns.specs.Gathering.{Gathered, gathered};
 
     ghost Value = { Gathered };
@@ -40,12 +40,12 @@ impl Model for Waiting {
     ghost view = { λ w. gathered w.bytes w.grown_at w.since };
 }
 
-impl Waiting {
+impl WaitingWrite {
     /// Nothing waits.
     pub fn new() -> Self
         ensures { result ≡ nothing_waits }
     {
-        Waiting {
+        WaitingWrite {
             bytes: 0,
             grown_at: 0,
             since: 0,
@@ -71,9 +71,9 @@ impl Waiting {
         ensures { result ≡ nat_lt (much_for is_client) self.now.bytes }
     {
         if is_client {
-            self.bytes > MUCH
+            self.bytes > MUCH_BYTES
         } else {
-            self.bytes > MUCH_OF_LINK
+            self.bytes > MUCH_OF_LINK_BYTES
         }
     }
 
@@ -81,9 +81,9 @@ impl Waiting {
     pub fn is_put_off(&self, turn: u64, bytes: usize) -> bool
         ensures { result ≡ is_put_off self.now turn bytes }
     {
-        bytes < MANY
-            && turn.saturating_sub(self.grown_at) <= PATIENCE
-            && (self.bytes == 0 || turn.saturating_sub(self.since) < LONGEST)
+        bytes < MANY_BYTES
+            && turn.saturating_sub(self.grown_at) <= PATIENCE_TURNS
+            && (self.bytes == 0 || turn.saturating_sub(self.since) < LONGEST_TURNS)
     }
 
     /// So many bytes wait behind this turn, of those there were in it.

@@ -1,6 +1,6 @@
 -- The users of a room by nickname: a finite map whose keys are the folds of the nicknames (RFC 2812
 -- sections 1.2.1 and 2.2). Beside it their numbers.
-use Rattle.std.specs.Prelude.{ℕ, Bool, not, ◌&&◌, ◌||◌, List, nat_eq, is_some, is_none}
+use Rattle.std.specs.Prelude.{ℕ, Bool, true, not, ◌&&◌, ◌||◌, List, nat_eq, is_some, is_none}
 use Rattle.std.specs.Prelude.{if◌then◌else◌, refl, Option, Some, None, Result, Ok, Err, IfOk, ◌≡◌}
 use Rattle.std.specs.Prelude.{◌≢◌, map}
 use Rattle.std.specs.Borrow.{Bor}
@@ -17,6 +17,8 @@ use Rattle.irc_tables.specs.TableChanges.{with_value}
 use Rattle.irc_users.specs.declared.fault.RenameFault.{RenameFault}
 use Rattle.irc_users.specs.declared.fault.RenameFault.TheVariants.{Taken, NoSuchUser, Memory}
 use Rattle.irc_users.specs.declared.user.User.{User}
+use Rattle.irc_users.specs.declared.user_change.UserChange.{UserChange}
+use Rattle.irc_users.specs.declared.user_change.UserChange.TheVariants.{Invisible}
 
 -- a user is stored as its fields
 abbrev pub user_code : Coded User
@@ -72,6 +74,18 @@ OthersKeep nick before after = (fold : List ℕ) → fold ≢ key nick → row a
 -- the user under another nickname
 abbrev pub with_nick : List ℕ → User → User
 with_nick nick user = record user { nick = nick }
+
+-- whether mode i is set after a change
+abbrev pub invisible_with : UserChange → Bool → Bool
+invisible_with (Invisible invisible) was = invisible
+
+-- the user after a change of its own
+abbrev pub with_change : UserChange → User → User
+with_change change user = record user { invisible = invisible_with change user.invisible }
+
+-- whether a user is told of a change of its own by a line (RFC 2812 section 3.1.5)
+abbrev pub is_shown : UserChange → Bool
+is_shown (Invisible invisible) = true
 
 -- the user with mode i, or without it
 abbrev pub with_invisible : Bool → User → User

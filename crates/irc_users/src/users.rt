@@ -10,13 +10,14 @@ ghost use Rattle.irc_tables.specs.TableChanges.{tried_at, with_value, without};
 ghost use Rattle.irc_users.specs.UserTable.{HasNumber, IsNumbered, OthersKeep, FindsUsers};
 ghost use Rattle.irc_users.specs.UserTable.{RenamesUnless, has_nick, is_home, is_found_by};
 ghost use Rattle.irc_users.specs.UserTable.{is_taken, moved_to, number_moved, rename_fault};
-ghost use Rattle.irc_users.specs.UserTable.{spelling_of, with_invisible, with_user};
+ghost use Rattle.irc_users.specs.UserTable.{spelling_of, with_change, with_invisible, with_user};
 ghost use Rattle.irc_users.specs.declared.user.User.{User};
 ghost use Rattle.irc_users.specs.Rosters.{AreKept, IsRoster, boxed, head, numbers_in, sitter};
 ghost use Rattle.irc_users.specs.Rosters.{users_in};
 
 use crate::fault::{RenameFault, UsersFault};
 use crate::user::User;
+use crate::user_change::UserChange;
 use irc_names::{Nick, ServerName};
 use irc_tables::NameMap;
 use slab::Slab;
@@ -154,15 +155,19 @@ impl Users {
         Ok(())
     }
 
-    /// Sets whether the user with a nickname has mode i; where there is no such user, nothing
-    /// changes (RFC 2812 section 3.1.5).
+    /// The user with a nickname changes what it has set of itself; where there is no such user,
+    /// nothing changes (RFC 2812 section 3.1.5).
     /// No number changes. It takes no memory.
-    pub fn set_invisible(&mut self, nick: &Nick, invisible: bool)
+    pub fn change(&mut self, nick: &Nick, change: &UserChange)
         ensures users { self.new.users ≡ tried_at nick.now
-            (with_invisible invisible) self.old.users }
+            (with_change change.now) self.old.users }
         ensures numbers { self.new.numbers ≡ self.old.numbers }
     {
-        set_mode(&mut self.seats, &mut self.heads, nick, invisible);
+        match change {
+            UserChange::Invisible(invisible) => {
+                set_mode(&mut self.seats, &mut self.heads, nick, *invisible);
+            }
+        }
     }
 
     /// Takes out the user with a nickname, if there is one. No other user's number changes.

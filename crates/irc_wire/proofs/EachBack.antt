@@ -11,8 +11,8 @@ use Rattle.irc_modes.specs.declared.modes.ModeChange.{ModeChange}
 use Rattle.irc_modes.specs.ModeWritten.{changes_written}
 use Rattle.irc_modes.specs.Readable.{AreReadable, is_worded}
 use Rattle.irc_room.specs.effect.By.TheVariants as by
-use Rattle.irc_room.specs.effect.Effect.TheVariants.{AddUser, Rename, Quit, Join, Part, Kick}
-use Rattle.irc_room.specs.effect.Effect.TheVariants.{ChangeModes, SetTopic, Say, Invite, UserMode}
+use Rattle.irc_room.specs.effect.Effect.TheVariants.{AddUser}
+use Rattle.irc_room.specs.effect.Effect.TheVariants.{ChangeModes}
 use Rattle.irc_room.specs.Laws.{NamesAreLineWords}
 use Rattle.irc_room.specs.Room.{Room}
 use Rattle.irc_room.specs.Seen.{changes_words, stored_channel, stored_nick}
@@ -184,21 +184,5 @@ each_is_read_back below room known other others link
     modes_back below room known other others link nick channel changes is
 each_is_read_back below room known other others link
     (ChangeModes by.Home channel changes) is agrees = absurd is.sendable
-each_is_read_back below room known other others link (Rename nick new) is agrees =
-    below.others room known other others link (Rename nick new) tt is
-each_is_read_back below room known other others link (Quit nick text) is agrees =
-    below.others room known other others link (Quit nick text) tt is
-each_is_read_back below room known other others link (Join nick channel op) is agrees =
-    below.others room known other others link (Join nick channel op) tt is
-each_is_read_back below room known other others link (Part nick channel text) is agrees =
-    below.others room known other others link (Part nick channel text) tt is
-each_is_read_back below room known other others link (Kick by channel nick text) is agrees =
-    below.others room known other others link (Kick by channel nick text) tt is
-each_is_read_back below room known other others link (SetTopic by channel text) is agrees =
-    below.others room known other others link (SetTopic by channel text) tt is
-each_is_read_back below room known other others link (Say by notice to text) is agrees =
-    below.others room known other others link (Say by notice to text) tt is
-each_is_read_back below room known other others link (Invite by nick channel) is agrees =
-    below.others room known other others link (Invite by nick channel) tt is
-each_is_read_back below room known other others link (UserMode nick invisible) is agrees =
-    below.others room known other others link (UserMode nick invisible) tt is
+each_is_read_back below room known other others link effect is agrees =
+    below.others room known other others link effect tt is

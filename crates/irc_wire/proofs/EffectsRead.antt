@@ -3,20 +3,23 @@ use Rattle.std.proofs.Common.{◌≡◌, ℕ, ◌≤◌, Bool, true, false, not,
 use Rattle.std.proofs.Common.{if◌then◌else◌, Option, Some, None, Ok, List, [], ◌∷◌, codes, length}
 use Rattle.std.proofs.Common.{refl, ◌∙◌, ap, le-leb}
 use Rattle.std.specs.List.{list_all}
-use Rattle.std.specs.Option.{option_map_or}
+use Rattle.std.specs.Option.{option_map_or, IfSome}
 use Rattle.arrayvec.specs.ArrayVec.{ArrayVec}
 use Rattle.irc_line.specs.Limits.{max_line}
 use Rattle.irc_line.specs.Messages.{message_of}
 use Rattle.irc_names.specs.FoldLaws.{same-tells}
 use Rattle.irc_names.specs.Limits.{max_words}
 use Rattle.irc_names.specs.Names.{IsNick, IsChannel, fits, is_nick, is_channel, is_server}
+use Rattle.irc_users.specs.declared.user_change.UserChange.{UserChange}
+use Rattle.irc_users.specs.declared.user_change.UserChange.TheVariants.{Invisible}
 use Rattle.irc_room.specs.effect.By.TheVariants as by
 use Rattle.irc_room.specs.effect.Effect.{Effect}
 use Rattle.irc_room.specs.effect.Effect.TheVariants.{ChangeModes, Rename, Quit, Join, Part, Kick}
-use Rattle.irc_room.specs.effect.Effect.TheVariants.{SetTopic, Say, Invite, UserMode}
+use Rattle.irc_room.specs.effect.Effect.TheVariants.{SetTopic, Say, Invite, ChangeUser}
 use Rattle.irc_room.specs.effect.Target.{Target}
 use Rattle.irc_room.specs.effect.Target.TheVariants as target
 use Rattle.irc_room.specs.Effects.{needs_users}
+use Rattle.irc_room.specs.Limits.{IsChangeWithin}
 use Rattle.irc_room.specs.Sendable.{target_word}
 use Rattle.irc_link_reader.specs.Means.{first_fault, if_there, of_user, of_either, change_of}
 use Rattle.irc_link_reader.specs.Means.{is_itself_or_none, mode_line, user_mode_line, read_by}
@@ -25,7 +28,7 @@ use Rattle.irc_wire.specs.ReadBack.{is_user_far}
 use Rattle.irc_link_reader.specs.Reader.{Reader, may_come}
 use Rattle.irc_link_words.specs.Words.{with_i, without_i, marked, is_marked, is_for_channel}
 use Rattle.irc_link_words.specs.Words.{target_of, are_changes, are_members_named, changes_of}
-use Rattle.irc_link_writer.specs.Written.{from}
+use Rattle.irc_link_writer.specs.Written.{from, wire_change}
 use Rattle.irc_wire.specs.Lemmas.NameKinds.{nick-no_server, nick-for_user, channel-for_channel}
 use Rattle.irc_wire.specs.Lemmas.NameKinds.{marked-told, marked-name}
 
@@ -185,18 +188,28 @@ for_user reader name nick words named =
     (λ doer. ChangeModes doer nick (changes_of words))
     else user_mode_line reader name nick words) (nick-for_user nick named)
 
-pub user_mode_read : (reader : Reader) (nick : List ℕ) (invisible : Bool)
-    → IsExpected reader nick (UserMode nick invisible) → read_by reader (message_of
+user_mode_read : (reader : Reader) (nick : List ℕ) (invisible : Bool)
+    → IsExpected reader nick (ChangeUser nick (Invisible invisible)) → read_by reader (message_of
     (from nick (codes "MODE") (nick ∷ (if invisible then with_i else without_i) ∷ []) None))
-    ≡ Ok (UserMode nick invisible ∷ [])
+    ≡ Ok (ChangeUser nick (Invisible invisible) ∷ [])
 user_mode_read reader nick true is =
     ap first_fault (for_user reader nick nick (with_i ∷ []) is.named)
-    ∙ user_read reader nick (is_itself_or_none nick nick) (is_nick nick) (UserMode nick true) is
-    (itself nick) is.named
+    ∙ user_read reader nick (is_itself_or_none nick nick) (is_nick nick)
+    (ChangeUser nick (Invisible true)) is (itself nick) is.named
 user_mode_read reader nick false is =
     ap first_fault (for_user reader nick nick (without_i ∷ []) is.named)
-    ∙ user_read reader nick (is_itself_or_none nick nick) (is_nick nick) (UserMode nick false) is
-    (itself nick) is.named
+    ∙ user_read reader nick (is_itself_or_none nick nick) (is_nick nick)
+    (ChangeUser nick (Invisible false)) is (itself nick) is.named
+
+-- the line of what a user changes of itself comes from it, and is read as that
+pub change_from : (P : List ℕ → Type 0) (nick : List ℕ) (change : UserChange)
+    → IfSome (message_of (wire_change nick change)).prefix P → P nick
+change_from P nick (Invisible invisible) so = so
+
+pub change_read : (reader : Reader) (nick : List ℕ) (change : UserChange)
+    → IsExpected reader nick (ChangeUser nick change) → IsChangeWithin change
+    → read_by reader (message_of (wire_change nick change)) ≡ Ok (ChangeUser nick change ∷ [])
+change_read reader nick (Invisible invisible) is keeps = user_mode_read reader nick invisible is
 
 -- a text, for a user or for a channel
 pub text_read : (reader : Reader) (nick : List ℕ) (notice : Bool) (to : Target) (text : ArrayVec ℕ)

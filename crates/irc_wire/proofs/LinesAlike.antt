@@ -10,7 +10,7 @@ use Rattle.irc_channels.specs.declared.channel.Channel.{Channel}
 use Rattle.irc_room.specs.effect.By.{By}
 use Rattle.irc_room.specs.effect.By.TheVariants as by
 use Rattle.irc_room.specs.effect.Effect.TheVariants.{AddUser, Rename, Quit, Join, Part, Kick}
-use Rattle.irc_room.specs.effect.Effect.TheVariants.{ChangeModes, SetTopic, Say, Invite, UserMode}
+use Rattle.irc_room.specs.effect.Effect.TheVariants.{ChangeModes, SetTopic, Say, Invite, ChangeUser}
 use Rattle.irc_room.specs.effect.Target.{Target}
 use Rattle.irc_room.specs.effect.Target.TheVariants as target
 use Rattle.irc_room.specs.Invitations.{of_home}
@@ -21,8 +21,8 @@ use Rattle.irc_room.specs.Seen.{changes_words, stored_channel, stored_nick, targ
 use Rattle.irc_routes.specs.Known.{Known, distance_of, token_in}
 use Rattle.irc_link_reader.specs.Means.{read_by}
 use Rattle.irc_link_reader.specs.Reader.{Reader, some_behind_link, is_behind_link, reader_of}
-use Rattle.irc_link_words.specs.Words.{marked, with_i, without_i}
-use Rattle.irc_link_writer.specs.Written.{by_name, from}
+use Rattle.irc_link_words.specs.Words.{marked}
+use Rattle.irc_link_writer.specs.Written.{by_name, from, wire_change}
 use Rattle.irc_wire.specs.OtherInvitations.{AlikeMeanAlike, AlikeWriteAlike, ReadAtHome}
 use Rattle.irc_wire.specs.OtherInvitations.{WrittenAtHome}
 
@@ -119,9 +119,8 @@ alike_write_alike room other known (Say doer notice to text) alike =
 alike_write_alike room other known (Invite doer nick channel) alike =
     λ i. from (nick_alike room other alike doer i) (codes "INVITE")
     (nick_alike room other alike nick i ∷ channel_alike room other alike channel i ∷ []) None
-alike_write_alike room other known (UserMode nick invisible) alike =
-    λ i. from (nick_alike room other alike nick i) (codes "MODE")
-    (nick_alike room other alike nick i ∷ (if invisible then with_i else without_i) ∷ []) None
+alike_write_alike room other known (ChangeUser nick change) alike =
+    λ i. wire_change (nick_alike room other alike nick i) change
 
 pub alike_mean_alike : AlikeMeanAlike
 alike_mean_alike room other known link message alike =

@@ -12,7 +12,7 @@ use Rattle.irc_users.specs.declared.user.User.{User}
 use Rattle.irc_room.specs.effect.By.TheVariants as by
 use Rattle.irc_room.specs.effect.Effect.{Effect}
 use Rattle.irc_room.specs.effect.Effect.TheVariants.{AddUser, Rename, Quit, Join, Part, Kick}
-use Rattle.irc_room.specs.effect.Effect.TheVariants.{ChangeModes, SetTopic, Say, Invite, UserMode}
+use Rattle.irc_room.specs.effect.Effect.TheVariants.{ChangeModes, SetTopic, Say, Invite, ChangeUser}
 use Rattle.irc_room.specs.effect.Target.{Target}
 use Rattle.irc_room.specs.effect.Target.TheVariants as target
 use Rattle.irc_room.specs.Limits.{IsWithinLimits}
@@ -23,11 +23,11 @@ use Rattle.irc_routes.specs.Known.{Known}
 use Rattle.irc_link_reader.specs.Means.{read_by}
 use Rattle.irc_wire.specs.ReadBack.{IsPlainEffect, IsReadable, is_user_far}
 use Rattle.irc_link_reader.specs.Reader.{Reader}
-use Rattle.irc_link_words.specs.Words.{with_i, without_i, marked}
-use Rattle.irc_link_writer.specs.Written.{from, wire}
+use Rattle.irc_link_words.specs.Words.{marked}
+use Rattle.irc_link_writer.specs.Written.{from, wire, wire_change}
 use Rattle.irc_wire.proofs.EffectsRead.{IsExpected, IsTarget, invite_read, join_read, kick_read}
 use Rattle.irc_wire.proofs.EffectsRead.{part_read, quit_read, rename_read, text_read, topic_read}
-use Rattle.irc_wire.proofs.EffectsRead.{user_mode_read}
+use Rattle.irc_wire.proofs.EffectsRead.{change_read, change_from}
 use Rattle.irc_wire.specs.Lemmas.StoredNames.{IsKeptAs, nick_kept, channel_kept, channel_there}
 
 -- whom the line is from, as stored
@@ -163,9 +163,10 @@ meant_back room known reader (Invite by nick channel) plain is =
     name.as_is
     ∙ invite_read reader by nick channel (expected room known reader
     (Invite by nick channel) by is doer is.doer_far) other.kept name.kept
-meant_back room known reader (UserMode nick invisible) plain is =
-    let doer = nick_kept room nick is.room_within is.sendable in
-    ap (λ n. read_by reader (message_of (from n (codes "MODE")
-    (n ∷ (if invisible then with_i else without_i) ∷ []) None))) doer.as_is
-    ∙ user_mode_read reader nick invisible
-    (expected room known reader (UserMode nick invisible) nick is doer is.doer_far)
+meant_back room known reader (ChangeUser nick change) plain is =
+    let doer = nick_kept room nick is.room_within is.sendable.nick_stored in
+    ap (λ n. read_by reader (message_of (wire_change n change))) doer.as_is
+    ∙ change_read reader nick change
+    (expected room known reader (ChangeUser nick change) nick is doer
+    (change_from (λ n. is_user_far reader n ≡ true) (stored_nick room nick) change is.doer_far))
+    is.sendable.keeps

@@ -18,8 +18,8 @@ use Rattle.irc_modes.specs.declared.modes.ModeChange.{ModeChange}
 use Rattle.irc_modes.specs.ModeWritten.{changes_written, letters_text}
 use Rattle.irc_modes.specs.Readable.{AreReadable}
 use Rattle.irc_room.specs.effect.By.TheVariants as by
-use Rattle.irc_room.specs.effect.Effect.TheVariants.{AddUser, Rename, Quit, Join, Part, Kick}
-use Rattle.irc_room.specs.effect.Effect.TheVariants.{ChangeModes, SetTopic, Say, Invite, UserMode}
+use Rattle.irc_room.specs.effect.Effect.TheVariants.{AddUser}
+use Rattle.irc_room.specs.effect.Effect.TheVariants.{ChangeModes, SetTopic}
 use Rattle.irc_room.specs.Laws.{IsWhole, NamedIsWholeToo, NamesAreLineWords, SentFitsItsLine}
 use Rattle.irc_room.specs.Limits.{IsWithinLimits}
 use Rattle.irc_room.specs.Room.{Room}
@@ -204,25 +204,8 @@ told_fits_its_line fits shorter names room known
     by_nickname shorter room nick (codes "MODE")
     (stored_channel room channel ∷ changes_words room changes) None told.by_stored
     (fits room (ChangeModes (by.User nick) channel changes) viewer within told)
-told_fits_its_line fits shorter names room known
-    (SetTopic (by.User nick) channel text) within told =
-    wire_whole fits shorter room known (SetTopic (by.User nick) channel text) tt within told
-told_fits_its_line fits shorter names room known (Rename nick new) within told =
-    wire_whole fits shorter room known (Rename nick new) tt within told
-told_fits_its_line fits shorter names room known (Quit nick text) within told =
-    wire_whole fits shorter room known (Quit nick text) tt within told
-told_fits_its_line fits shorter names room known (Join nick channel op) within told =
-    wire_whole fits shorter room known (Join nick channel op) tt within told
-told_fits_its_line fits shorter names room known (Part nick channel text) within told =
-    wire_whole fits shorter room known (Part nick channel text) tt within told
-told_fits_its_line fits shorter names room known (Kick by channel nick text) within told =
-    wire_whole fits shorter room known (Kick by channel nick text) tt within told
-told_fits_its_line fits shorter names room known (Say by notice to text) within told =
-    wire_whole fits shorter room known (Say by notice to text) tt within told
-told_fits_its_line fits shorter names room known (Invite by nick channel) within told =
-    wire_whole fits shorter room known (Invite by nick channel) tt within told
-told_fits_its_line fits shorter names room known (UserMode nick invisible) within told =
-    wire_whole fits shorter room known (UserMode nick invisible) tt within told
+told_fits_its_line fits shorter names room known other within told =
+    wire_whole fits shorter room known other tt within told
 
 -- what fits is written whole
 pub told_is_whole : SentFitsItsLine → NamedIsWholeToo → NamesAreLineWords → ToldIsWhole

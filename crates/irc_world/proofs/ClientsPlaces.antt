@@ -15,7 +15,7 @@ use Rattle.irc_relay.specs.Links.{linked as are_linked}
 use Rattle.irc_relay.specs.Lemmas.TellingNames.{same_when}
 use Rattle.irc_room.specs.Invitations.{HomeIsWellFormed}
 use Rattle.irc_room.specs.Lemmas.Rows.{same_some}
-use Rattle.irc_stage.specs.Handle.{Happening, says, goes}
+use Rattle.irc_stage.specs.Handle.{ClientEvent, says, goes}
 use Rattle.irc_world.specs.World.{Setting, World, is_server, home_in, home_of, machine_at}
 use Rattle.irc_world.specs.Stepping.{connect, line, gone, link, cut}
 use Rattle.irc_world.specs.Refused.{refused, no_such_server, not_linked}
@@ -75,15 +75,15 @@ module _ (setting : Setting) (world : World) (sound : IsSound (setting ∷ []) w
   no_links : world.links ≡ []
   no_links = one_server_has_no_link setting world sound
 
-  nobody_told : (client : ℕ) (happening : Happening)
-      → most_of_client (setting ∷ []) world (home_of world client) happening ≡ 0
-  nobody_told client happening = by (home_of world client) refl
+  nobody_told : (client : ℕ) (client_event : ClientEvent)
+      → most_of_client (setting ∷ []) world (home_of world client) client_event ≡ 0
+  nobody_told client client_event = by (home_of world client) refl
     where
       by : (o : Option Name) → home_of world client ≡ o
-          → most_of_client (setting ∷ []) world o happening ≡ 0
+          → most_of_client (setting ∷ []) world o client_event ≡ 0
       by None is = refl
       by (Some home) is =
-          let effects = length (effects_at (machine_at (setting ∷ []) world home) happening) in
+          let effects = length (effects_at (machine_at (setting ∷ []) world home) client_event) in
           let here = sym (one_name setting home (sound.homes_known client home is)) in
           let alone = ap (λ links. part_size (setting ∷ []) links home) no_links
           ∙ ap (part_size (setting ∷ []) []) here ∙ one_in_part setting in

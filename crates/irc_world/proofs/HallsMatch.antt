@@ -21,7 +21,7 @@ use Rattle.irc_merge.specs.Split.{split}
 use Rattle.irc_stage.specs.declared.clients.Client.{Client}
 use Rattle.irc_stage.specs.declared.clients.Client.TheVariants.{Registering, Registered}
 use Rattle.irc_stage.specs.RoomMachine.{Clients}
-use Rattle.irc_stage.specs.Handle.{Happening, connects, says, goes, handled}
+use Rattle.irc_stage.specs.Handle.{ClientEvent, connects, says, goes, handled}
 use Rattle.irc_world.specs.World.{Setting, Hall, World, new_world, home_in, home_of, machine_at}
 use Rattle.irc_world.specs.World.{with_hall}
 use Rattle.irc_world.specs.Stepping.{Item, connect, line, gone, link, cut, step, still as unmoved}
@@ -98,21 +98,21 @@ module _ (decided_possible : DecidedIsPossible) (stays : WhoStaysIsUser) (closes
     (registering_possible : RegisteringIsPossible)
     (added : RegisteredIsAdded) (unchanging : UnregisteredChangesNothing) (kept : RegisteredStays)
     (settings : List Setting) where
-  machine_keeps : (world : World) (home : Name) (happening : Happening) → IsWellFormed
-      (world.hall home).room → IsDue (home_of world) (machine_at settings world home) happening
-      → ClientsAreUsers world → ClientsAreUsers (by_machine settings world home happening).world
-  machine_keeps world home happening well due all s =
+  machine_keeps : (world : World) (home : Name) (client_event : ClientEvent) → IsWellFormed
+      (world.hall home).room → IsDue (home_of world) (machine_at settings world home) client_event
+      → ClientsAreUsers world → ClientsAreUsers (by_machine settings world home client_event).world
+  machine_keeps world home client_event well due all s =
       hall_with (MatchedHall world.homes) home s hall world
       (λ _. handled_matched (home_of world) decided_possible stays closes registering_possible added
       unchanging kept (machine_at settings world home)
       (all home) well
-      happening due)
+      client_event due)
       (λ _. all s)
     where
       hall : Hall
       hall = record {
-        clients = (handled (machine_at settings world home) happening).machine.clients;
-        room = (handled (machine_at settings world home) happening).machine.room;
+        clients = (handled (machine_at settings world home) client_event).state.clients;
+        room = (handled (machine_at settings world home) client_event).state.room;
       }
 
   connect_keeps : (world : World) (server : Name) (host : List ℕ)
@@ -132,17 +132,18 @@ module _ (decided_possible : DecidedIsPossible) (stays : WhoStaysIsUser) (closes
           let at_home = sound.clients_home server (suc (length world.homes)) (ap is_some is) in
           absurd (let none = sym (past_end world.homes) ∙ at_home.is_home in cc none)
 
-  client_keeps : (world : World) (client : ℕ) (happening : Happening)
-      → ((home : Name) → home_of world client ≡ Some home
-      → IsDue (home_of world) (machine_at settings world home) happening) → IsSound settings world
-      → ClientsAreUsers world → ClientsAreUsers (by_client settings world client happening).world
-  client_keeps world client happening due sound all = by (home_of world client) refl
+  client_keeps : (world : World) (client : ℕ) (client_event : ClientEvent)
+      → ((home : Name) → home_of world client ≡ Some home → IsDue (home_of world)
+      (machine_at settings world home) client_event) → IsSound settings world
+      → ClientsAreUsers world → ClientsAreUsers (by_client settings world client client_event).world
+  client_keeps world client client_event due sound all = by (home_of world client) refl
     where
       by : (o : Option Name) → home_of world client ≡ o → ClientsAreUsers
-          (option_map_or (λ home. by_machine settings world home happening) o (unmoved world)).world
+          (option_map_or (λ home. by_machine settings world home client_event) o
+          (unmoved world)).world
       by None is = all
       by (Some home) is =
-          machine_keeps world home happening (sound.well_formed home) (due home is) all
+          machine_keeps world home client_event (sound.well_formed home) (due home is) all
 
 -- ---- two parts are linked
 

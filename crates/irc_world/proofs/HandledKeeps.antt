@@ -9,8 +9,7 @@ use Rattle.irc_names.specs.Tables.{row}
 use Rattle.irc_line.specs.Messages.{Parsed}
 use Rattle.irc_users.specs.declared.user.User.{User}
 use Rattle.irc_room.specs.effect.Effect.{Effect}
-use Rattle.irc_room.specs.effect.Effect.TheVariants.{AddUser, Rename, Quit, Join, Part, Kick}
-use Rattle.irc_room.specs.effect.Effect.TheVariants.{ChangeModes, SetTopic, Say, Invite, UserMode}
+use Rattle.irc_room.specs.effect.Effect.TheVariants.{Rename, Quit}
 use Rattle.irc_room.specs.Room.{IsWellFormed}
 use Rattle.irc_room.specs.Effects.{IsPossible}
 use Rattle.irc_room.specs.Lemmas.WellFormedLaw.{after_is_well_formed}
@@ -24,7 +23,7 @@ use Rattle.irc_stage.specs.declared.clients.Client.{Client}
 use Rattle.irc_stage.specs.declared.clients.Client.TheVariants.{Registering, Registered}
 use Rattle.irc_stage.specs.RoomMachine.{Clients, RoomMachine, client_of, with_client}
 use Rattle.irc_stage.specs.RoomMachine.{without_client}
-use Rattle.irc_stage.specs.Handle.{Happening, connects, says, goes, Handled, handled, renamed_in}
+use Rattle.irc_stage.specs.Handle.{ClientEvent, connects, says, goes, Handled, handled, renamed_in}
 use Rattle.irc_stage.specs.Handle.{clients_after, with_effect, stepped, all_stepped, unchanged}
 use Rattle.irc_stage.specs.Handle.{closing, client_after, fresh, user_decided, said_by, user_of}
 use Rattle.irc_stage.specs.Handle.{quits, lost_text}
@@ -38,7 +37,7 @@ pub record Keeps (start : RoomMachine) (May : ℕ → Type 0) (now : RoomMachine
   pub clients : (conn : ℕ) → is_some (get now.clients conn) ≡ true → May conn
 
 -- who connects may be there
-abbrev pub Comes : (ℕ → Type 0) → Happening → Type 0
+abbrev pub Comes : (ℕ → Type 0) → ClientEvent → Type 0
 Comes May (connects conn host) = May conn
 Comes May (says conn read) = ⊤
 Comes May (goes conn) = ⊤
@@ -49,37 +48,28 @@ mapped change (Some client) = refl
 
 same_clients_there : (effect : Effect) (clients : Clients) (conn : ℕ)
     → is_some (get (clients_after effect clients) conn) ≡ is_some (get clients conn)
-same_clients_there (AddUser user) clients conn = refl
 same_clients_there (Rename nick new) clients conn =
     ap is_some (get-each (renamed_in nick new) clients conn)
     ∙ mapped (renamed_in nick new) (get clients conn)
-same_clients_there (Quit nick reason) clients conn = refl
-same_clients_there (Join nick channel op) clients conn = refl
-same_clients_there (Part nick channel reason) clients conn = refl
-same_clients_there (Kick by channel nick reason) clients conn = refl
-same_clients_there (ChangeModes by channel changes) clients conn = refl
-same_clients_there (SetTopic by channel topic) clients conn = refl
-same_clients_there (Say by notice target words) clients conn = refl
-same_clients_there (Invite by nick channel) clients conn = refl
-same_clients_there (UserMode nick invisible) clients conn = refl
+same_clients_there other clients conn = refl
 
 was_there : (b : Bool) (o : Option Client) → is_some (cond b None o) ≡ true → is_some o ≡ true
 was_there true o there = absurd (cc there)
 was_there false o there = there
 
 module _ (start : RoomMachine) (May : ℕ → Type 0) where
-  effect_keeps : (effect : Effect) (before : Handled) → Keeps start May before.machine
-      → IsPossible before.machine.room effect → Keeps start May (with_effect effect before).machine
+  effect_keeps : (effect : Effect) (before : Handled) → Keeps start May before.state
+      → IsPossible before.state.room effect → Keeps start May (with_effect effect before).state
   effect_keeps effect before keeps possible = record {
     place = keeps.place;
-    well = after_is_well_formed before.machine.room effect keeps.well possible;
+    well = after_is_well_formed before.state.room effect keeps.well possible;
     clients = λ conn there. keeps.clients conn
-        (sym (same_clients_there effect before.machine.clients conn) ∙ there);
+        (sym (same_clients_there effect before.state.clients conn) ∙ there);
   }
 
   steps_keep : (conn : ℕ) (name : Option (List ℕ)) (acts : List Act) (before : Handled)
-      → Keeps start May before.machine → ArePossible before.machine.room acts
-      → Keeps start May (all_stepped conn name acts before).machine
+      → Keeps start May before.state → ArePossible before.state.room acts
+      → Keeps start May (all_stepped conn name acts before).state
   steps_keep conn name [] before keeps possible = keeps
   steps_keep conn name (Answer reply ∷ acts) before keeps possible =
       steps_keep conn name acts (stepped conn name (Answer reply) before) keeps possible
@@ -113,14 +103,14 @@ module _ (start : RoomMachine) (May : ℕ → Type 0) where
       by q true one there = subst May (sym (one_number q conn one)) may
       by q false two there = keeps.clients q there
 
-  close_keeps : (close : Bool) (conn : ℕ) (before : Handled) → Keeps start May before.machine
-      → Keeps start May (closing close conn before).machine
-  close_keeps true conn before keeps = leaving_keeps conn before.machine keeps
+  close_keeps : (close : Bool) (conn : ℕ) (before : Handled) → Keeps start May before.state
+      → Keeps start May (closing close conn before).state
+  close_keeps true conn before keeps = leaving_keeps conn before.state keeps
   close_keeps false conn before keeps = keeps
 
-  quits_keep : (nick : Option (List ℕ)) (before : Handled) → Keeps start May before.machine
-      → ((name : List ℕ) → nick ≡ Some name → IsPossible before.machine.room (Quit name lost_text))
-      → Keeps start May (quits nick before).machine
+  quits_keep : (nick : Option (List ℕ)) (before : Handled) → Keeps start May before.state
+      → ((name : List ℕ) → nick ≡ Some name → IsPossible before.state.room (Quit name lost_text))
+      → Keeps start May (quits nick before).state
   quits_keep None before keeps possible = keeps
   quits_keep (Some nick) before keeps possible =
       effect_keeps (Quit nick lost_text) before keeps (possible nick refl)
@@ -128,7 +118,7 @@ module _ (start : RoomMachine) (May : ℕ → Type 0) where
   module _ (decided_possible : DecidedIsPossible) (registering_possible : RegisteringIsPossible)
       (keeps : Keeps start May start) where
     user_keeps : (conn : ℕ) (o : Option User) (message : Parsed)
-        → Keeps start May (user_decided start conn o message).machine
+        → Keeps start May (user_decided start conn o message).state
     user_keeps conn None message = keeps
     user_keeps conn (Some user) message =
         close_keeps (decide start.room start.place user.nick message).close conn
@@ -139,7 +129,7 @@ module _ (start : RoomMachine) (May : ℕ → Type 0) where
         (decided_possible start.room start.place user.nick message keeps.well))
 
     said_keeps : (conn : ℕ) (o : Option Client) (message : Parsed) → client_of start conn ≡ o
-        → Keeps start May (said_by start conn o message).machine
+        → Keeps start May (said_by start conn o message).state
     said_keeps conn None message is = keeps
     said_keeps conn (Some (Registering pending)) message is =
         let given = register start.room start.place pending message in
@@ -153,8 +143,8 @@ module _ (start : RoomMachine) (May : ℕ → Type 0) where
     said_keeps conn (Some (Registered nick)) message is =
         user_keeps conn (row start.room.users (key nick)) message
 
-    pub handled_keeps : (happening : Happening) → Comes May happening
-        → Keeps start May (handled start happening).machine
+    pub handled_keeps : (client_event : ClientEvent) → Comes May client_event
+        → Keeps start May (handled start client_event).state
     unfolding handled
     handled_keeps (connects conn host) may = coming_keeps conn (fresh host) start may keeps
     handled_keeps (says conn (Err fault)) may = keeps

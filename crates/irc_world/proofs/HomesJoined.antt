@@ -15,7 +15,7 @@ use Rattle.irc_relay.specs.Links.{AreLinked, IsMade, still, parted, turned}
 use Rattle.irc_relay.specs.Laws.{TestsTell, LinkBetweenParts, LinkTakenOut, JoinedOverLink}
 use Rattle.irc_merge.specs.Laws.{MergeHasNothingNew, SplitHasNothingNew}
 use Rattle.irc_merge.specs.Split.{split}
-use Rattle.irc_stage.specs.Handle.{Happening, connects, says, goes, handled}
+use Rattle.irc_stage.specs.Handle.{ClientEvent, connects, says, goes, handled}
 use Rattle.irc_world.specs.World.{Setting, Hall, World, new_world, setting_of, is_server}
 use Rattle.irc_world.specs.World.{servers_where, home_of, machine_at, with_hall}
 use Rattle.irc_world.specs.Stepping.{Item, connect, line, gone, link, cut, step, still as unmoved}
@@ -116,13 +116,14 @@ module _ (tests : TestsTell) where
   passing links s t = (tests links s t t).1.1
 
   module _ (brings : ClientsBringOwnUsers) (settings : List Setting) where
-    machine_joined : (world : World) (home : Name) (happening : Happening) → HomesAreJoined world
-        → HomesAreJoined (by_machine settings world home happening).world
-    machine_joined world home happening all s =
+    machine_joined : (world : World) (home : Name) (client_event : ClientEvent)
+        → HomesAreJoined world → HomesAreJoined (by_machine settings world home client_event).world
+    machine_joined world home client_event all s =
         hall_with (λ h. HomesPass (λ other. joined world.links other s) h.room) home s hall world
         (λ here fold user is.
         ap (same (part world.links user.home)) here
-        ∙ brings (machine_at settings world home) happening (λ other. joined world.links other home)
+        ∙ brings (machine_at settings world home) client_event
+        (λ other. joined world.links other home)
         (all home)
         (ap (λ name. joined world.links name home) (named settings settings world.links home)
         ∙ passing world.links home home refl) fold user is)
@@ -130,18 +131,18 @@ module _ (tests : TestsTell) where
       where
         hall : Hall
         hall = record {
-          clients = (handled (machine_at settings world home) happening).machine.clients;
-          room = (handled (machine_at settings world home) happening).machine.room;
+          clients = (handled (machine_at settings world home) client_event).state.clients;
+          room = (handled (machine_at settings world home) client_event).state.room;
         }
 
-    client_joined : (world : World) (client : ℕ) (happening : Happening) → HomesAreJoined world
-        → HomesAreJoined (by_client settings world client happening).world
-    client_joined world client happening all = by (home_of world client)
+    client_joined : (world : World) (client : ℕ) (client_event : ClientEvent) → HomesAreJoined world
+        → HomesAreJoined (by_client settings world client client_event).world
+    client_joined world client client_event all = by (home_of world client)
       where
         by : (o : Option Name) → HomesAreJoined (option_map_or
-            (λ home. by_machine settings world home happening) o (unmoved world)).world
+            (λ home. by_machine settings world home client_event) o (unmoved world)).world
         by None = all
-        by (Some home) = machine_joined world home happening all
+        by (Some home) = machine_joined world home client_event all
 
   link_joined : LinkBetweenParts → MergeHasNothingNew → (settings : List Setting) (world : World)
       (near far : Name) → IsSound settings world → LinkIsTaken settings world near far

@@ -11,7 +11,7 @@ use Rattle.irc_relay.specs.Links.{Name, Link, same, links_without}
 use Rattle.irc_relay.specs.Lemmas.TellingNames.{Telling, alike, unlike, tell}
 use Rattle.irc_merge.specs.Laws.{MergeHasNothingNew, SplitHasNothingNew}
 use Rattle.irc_routes.specs.Place.{alone}
-use Rattle.irc_stage.specs.Handle.{Happening, connects, says, goes, handled}
+use Rattle.irc_stage.specs.Handle.{ClientEvent, connects, says, goes, handled}
 use Rattle.irc_world.specs.World.{Setting, Hall, World, new_world, is_server, home_of, joined_place}
 use Rattle.irc_world.specs.World.{machine_at, with_hall}
 use Rattle.irc_world.specs.Stepping.{Item, connect, line, gone, link, cut, step, still as unmoved}
@@ -47,30 +47,32 @@ named (s ∷ settings) all links server = by (tell s.name server) (named setting
 
 module _ (brings : ClientsBringOwnUsers) (merge_new : MergeHasNothingNew)
     (split_new : SplitHasNothingNew) (settings : List Setting) where
-  machine_keeps : (world : World) (home : Name) (happening : Happening)
+  machine_keeps : (world : World) (home : Name) (client_event : ClientEvent)
       → HomesAreServers settings world → is_server settings home ≡ true
-      → HomesAreServers settings (by_machine settings world home happening).world
-  machine_keeps world home happening all known s =
+      → HomesAreServers settings (by_machine settings world home client_event).world
+  machine_keeps world home client_event all known s =
       hall_with (λ h. HomesPass (is_server settings) h.room) home s hall world
-      (λ _. brings (machine_at settings world home) happening (is_server settings) (all home)
+      (λ _. brings (machine_at settings world home) client_event (is_server settings) (all home)
       (ap (is_server settings) (named settings settings world.links home) ∙ known))
       (λ _. all s)
     where
       hall : Hall
       hall = record {
-        clients = (handled (machine_at settings world home) happening).machine.clients;
-        room = (handled (machine_at settings world home) happening).machine.room;
+        clients = (handled (machine_at settings world home) client_event).state.clients;
+        room = (handled (machine_at settings world home) client_event).state.room;
       }
 
-  client_keeps : (world : World) (client : ℕ) (happening : Happening)
+  client_keeps : (world : World) (client : ℕ) (client_event : ClientEvent)
       → IsSound settings world → HomesAreServers settings world
-      → HomesAreServers settings (by_client settings world client happening).world
-  client_keeps world client happening sound all = by (home_of world client) refl
+      → HomesAreServers settings (by_client settings world client client_event).world
+  client_keeps world client client_event sound all = by (home_of world client) refl
     where
       by : (o : Option Name) → home_of world client ≡ o → HomesAreServers settings
-          (option_map_or (λ home. by_machine settings world home happening) o (unmoved world)).world
+          (option_map_or (λ home. by_machine settings world home client_event) o
+          (unmoved world)).world
       by None is = all
-      by (Some home) is = machine_keeps world home happening all (sound.homes_known client home is)
+      by (Some home) is =
+          machine_keeps world home client_event all (sound.homes_known client home is)
 
   link_keeps : (world : World) (near far : Name) → IsSound settings world
       → HomesAreServers settings world → HomesAreServers settings (link_made world near far).world

@@ -17,8 +17,7 @@ use Rattle.irc_line.specs.Messages.{Parsed}
 use Rattle.irc_line.specs.Reading.{read_of}
 use Rattle.irc_users.specs.declared.user.User.{User}
 use Rattle.irc_room.specs.effect.Effect.{Effect}
-use Rattle.irc_room.specs.effect.Effect.TheVariants.{AddUser, Rename, Quit, Join, Part, Kick}
-use Rattle.irc_room.specs.effect.Effect.TheVariants.{ChangeModes, SetTopic, Say, Invite, UserMode}
+use Rattle.irc_room.specs.effect.Effect.TheVariants.{Rename, Quit}
 use Rattle.irc_room.specs.Room.{IsWellFormed}
 use Rattle.irc_room.specs.Limits.{IsWithinLimits, KeepsLimits}
 use Rattle.irc_room.specs.Laws.{NoRoomIsWithinLimits, AfterIsWithinLimits, SentKeepsLimits}
@@ -35,7 +34,7 @@ use Rattle.irc_stage.specs.declared.clients.Client.{Client}
 use Rattle.irc_stage.specs.declared.clients.Client.TheVariants.{Registering, Registered}
 use Rattle.irc_stage.specs.RoomMachine.{Clients, RoomMachine, client_of, with_client}
 use Rattle.irc_stage.specs.RoomMachine.{without_client}
-use Rattle.irc_stage.specs.Handle.{Happening, connects, says, goes, Handled, handled, is_client}
+use Rattle.irc_stage.specs.Handle.{ClientEvent, connects, says, goes, Handled, handled, is_client}
 use Rattle.irc_stage.specs.Handle.{renamed_in, clients_after, with_effect, stepped, all_stepped}
 use Rattle.irc_stage.specs.Handle.{unchanged, closing, client_after, fresh, user_decided, said_by}
 use Rattle.irc_stage.specs.Handle.{user_of, quits, lost_text}
@@ -78,22 +77,13 @@ still_waits nick new pending (Some (Registered name)) is = by (is_client nick (R
 
 waits_after : (effect : Effect) (clients : Clients) → AreGiven clients
     → AreGiven (clients_after effect clients)
-waits_after (AddUser user) clients all = all
 waits_after (Rename nick new) clients all =
     λ client pending is. all client pending (still_waits nick new pending (get clients client)
     (sym (get-from_entries nat_cmp_total
     (map (λ (e : ℕ × Client). (e.0, renamed_in nick new e.1)) (entries clients)) client
     ∙ find_each (renamed_in nick new) client (entries clients)
     ∙ ap (option_map (renamed_in nick new)) (sym (get-entries clients client))) ∙ is))
-waits_after (Quit nick text) clients all = all
-waits_after (Join nick channel op) clients all = all
-waits_after (Part nick channel text) clients all = all
-waits_after (Kick by channel nick text) clients all = all
-waits_after (ChangeModes by channel changes) clients all = all
-waits_after (SetTopic by channel text) clients all = all
-waits_after (Say by notice target text) clients all = all
-waits_after (Invite by nick channel) clients all = all
-waits_after (UserMode nick invisible) clients all = all
+waits_after other clients all = all
 
 given_with : (clients : Clients) (conn : ℕ) (client : Client) → AreGiven clients
     → ((pending : Pending) → client ≡ Registering pending → IsPendingWithin pending)
@@ -119,16 +109,16 @@ pending_in : (one other : Pending) → Registering one ≡ Registering other →
 pending_in one other is = cc
 
 module _ (after_within : AfterIsWithinLimits) (sent : SentKeepsLimits) where
-  effect_keeps : (effect : Effect) (before : Handled) → KeepsLimits effect → Keeps before.machine
-      → Keeps (with_effect effect before).machine
+  effect_keeps : (effect : Effect) (before : Handled) → KeepsLimits effect → Keeps before.state
+      → Keeps (with_effect effect before).state
   effect_keeps effect before small keeps = record {
-    room = after_within before.machine.room effect keeps.room small;
-    given = waits_after effect before.machine.clients keeps.given;
+    room = after_within before.state.room effect keeps.room small;
+    given = waits_after effect before.state.clients keeps.given;
   }
 
   steps_keep : (conn : ℕ) (name : Option (List ℕ)) (acts : List Act) (before : Handled)
-      → Keeps before.machine → AreSendable before.machine.room acts
-      → Keeps (all_stepped conn name acts before).machine
+      → Keeps before.state → AreSendable before.state.room acts
+      → Keeps (all_stepped conn name acts before).state
   steps_keep conn name [] before keeps sendable = keeps
   steps_keep conn name (Answer reply ∷ acts) before keeps sendable =
       steps_keep conn name acts (stepped conn name (Answer reply) before) keeps sendable
@@ -136,7 +126,7 @@ module _ (after_within : AfterIsWithinLimits) (sent : SentKeepsLimits) where
       steps_keep conn name acts (stepped conn name (Raw raw) before) keeps sendable
   steps_keep conn name (Do effect ∷ acts) before keeps sendable =
       steps_keep conn name acts (with_effect effect before)
-      (effect_keeps effect before (sent before.machine.room effect keeps.room sendable.now) keeps)
+      (effect_keeps effect before (sent before.state.room effect keeps.room sendable.now) keeps)
       sendable.later
 
   leaving_keeps : (machine : RoomMachine) (conn : ℕ) → Keeps machine
@@ -144,13 +134,13 @@ module _ (after_within : AfterIsWithinLimits) (sent : SentKeepsLimits) where
   leaving_keeps machine conn keeps =
       record { room = keeps.room; given = given_without machine.clients conn keeps.given }
 
-  close_keeps : (close : Bool) (conn : ℕ) (before : Handled) → Keeps before.machine
-      → Keeps (closing close conn before).machine
-  close_keeps true conn before keeps = leaving_keeps before.machine conn keeps
+  close_keeps : (close : Bool) (conn : ℕ) (before : Handled) → Keeps before.state
+      → Keeps (closing close conn before).state
+  close_keeps true conn before keeps = leaving_keeps before.state conn keeps
   close_keeps false conn before keeps = keeps
 
-  quits_keep : (nick : Option (List ℕ)) (before : Handled) → Keeps before.machine
-      → Keeps (quits nick before).machine
+  quits_keep : (nick : Option (List ℕ)) (before : Handled) → Keeps before.state
+      → Keeps (quits nick before).state
   quits_keep None before keeps = keeps
   quits_keep (Some nick) before keeps = effect_keeps (Quit nick lost_text) before tt keeps
 
@@ -159,7 +149,7 @@ module _ (after_within : AfterIsWithinLimits) (sent : SentKeepsLimits) where
       (well : IsWellFormed machine.room)
       (place_named : IsServer machine.place.name) (conn : ℕ) (bytes : List ℕ) (message : Parsed)
       (words : AreLineWords bytes message) where
-    user_keeps : (o : Option User) → Keeps (user_decided machine conn o message).machine
+    user_keeps : (o : Option User) → Keeps (user_decided machine conn o message).state
     user_keeps None = keeps
     user_keeps (Some user) =
         close_keeps (decide machine.room machine.place user.nick message).close conn
@@ -170,7 +160,7 @@ module _ (after_within : AfterIsWithinLimits) (sent : SentKeepsLimits) where
         (decided machine.room machine.place user.nick bytes message well keeps.room words))
 
     said_keeps : (o : Option Client) → client_of machine conn ≡ o
-        → Keeps (said_by machine conn o message).machine
+        → Keeps (said_by machine conn o message).state
     said_keeps None is = keeps
     said_keeps (Some (Registering pending)) is =
         close_keeps given.close conn (all_stepped conn given.pending.nick given.steps
@@ -219,16 +209,16 @@ module _ (words : WordsAreOfTheLine) (after_within : AfterIsWithinLimits) (sent 
     (decided : DecidedIsSendable)
     (registering : RegisteringIsSendable)
     (settings : List Setting) (names : AreNamed settings) where
-  hall_keeps : (world : World) (home : Name) (happening : Happening) → IsWorldWithin world
-      → Keeps (handled (machine_at settings world home) happening).machine
-      → IsWorldWithin (by_machine settings world home happening).world
-  hall_keeps world home happening all keeps s = hall_with IsHallWithin home s hall world
+  hall_keeps : (world : World) (home : Name) (client_event : ClientEvent) → IsWorldWithin world
+      → Keeps (handled (machine_at settings world home) client_event).state
+      → IsWorldWithin (by_machine settings world home client_event).world
+  hall_keeps world home client_event all keeps s = hall_with IsHallWithin home s hall world
       (λ _. record { room = keeps.room; given = keeps.given }) (λ _. all s)
     where
       hall : Hall
       hall = record {
-        clients = (handled (machine_at settings world home) happening).machine.clients;
-        room = (handled (machine_at settings world home) happening).machine.room;
+        clients = (handled (machine_at settings world home) client_event).state.clients;
+        room = (handled (machine_at settings world home) client_event).state.room;
       }
 
   start : (world : World) (home : Name) → IsWorldWithin world
@@ -253,7 +243,7 @@ module _ (words : WordsAreOfTheLine) (after_within : AfterIsWithinLimits) (sent 
   line_keeps world client bytes carried sound all = by (home_of world client) refl
     where
       read_keeps : (home : Name) → is_server settings home ≡ true → (read : _) → read_of bytes
-          ≡ read → Keeps (handled (machine_at settings world home) (says client read)).machine
+          ≡ read → Keeps (handled (machine_at settings world home) (says client read)).state
       read_keeps home known (Err fault) is = start world home all
       read_keeps home known (Ok message) is =
           said_keeps after_within sent decided registering (machine_at settings world home)

@@ -14,10 +14,10 @@ use Rattle.irc_names.specs.Tables.{row}
 use Rattle.irc_names.specs.TableLaws.{same_fold, one_fold, row-alter, row-moved}
 use Rattle.irc_line.specs.Messages.{Parsed}
 use Rattle.irc_users.specs.declared.user.User.{User}
-use Rattle.irc_users.specs.UserTable.{with_nick, with_invisible}
+use Rattle.irc_users.specs.declared.user_change.UserChange.{UserChange}
+use Rattle.irc_users.specs.UserTable.{with_nick, with_change}
 use Rattle.irc_room.specs.effect.Effect.{Effect}
-use Rattle.irc_room.specs.effect.Effect.TheVariants.{AddUser, Rename, Quit, Join, Part, Kick}
-use Rattle.irc_room.specs.effect.Effect.TheVariants.{ChangeModes, SetTopic, Say, Invite, UserMode}
+use Rattle.irc_room.specs.effect.Effect.TheVariants.{AddUser, Rename, Quit, ChangeUser}
 use Rattle.irc_room.specs.Room.{IsWellFormed}
 use Rattle.irc_room.specs.Effects.{IsPossible, has_user}
 use Rattle.irc_room.specs.After.{after}
@@ -35,7 +35,7 @@ use Rattle.irc_stage.specs.declared.clients.Client.{Client}
 use Rattle.irc_stage.specs.declared.clients.Client.TheVariants.{Registering, Registered}
 use Rattle.irc_stage.specs.RoomMachine.{Clients, RoomMachine, client_of, with_client}
 use Rattle.irc_stage.specs.RoomMachine.{without_client, each_client}
-use Rattle.irc_stage.specs.Handle.{Happening, connects, says, goes, Handled, handled, renamed_in}
+use Rattle.irc_stage.specs.Handle.{ClientEvent, connects, says, goes, Handled, handled, renamed_in}
 use Rattle.irc_stage.specs.Handle.{machine_after, with_effect, stepped, all_stepped, unchanged}
 use Rattle.irc_stage.specs.Handle.{closing, client_after, fresh, pending_decided, user_decided}
 use Rattle.irc_stage.specs.Handle.{said_by, quits, gone, lost_text}
@@ -172,24 +172,24 @@ module _ (homes : ℕ → Option Name) where
             (home_of_cond (same_fold fold (key nick)) None (row machine.room.users fold)))
             (registered_renamed nick new machine.clients)
 
-  mode_matched : (machine : RoomMachine) (nick : List ℕ) (invisible : Bool) → IsMatched machine
-      → IsMatched (machine_after machine (UserMode nick invisible))
+  mode_matched : (machine : RoomMachine) (nick : List ℕ) (change : UserChange) → IsMatched machine
+      → IsMatched (machine_after machine (ChangeUser nick change))
   unfolding after
-  mode_matched machine nick invisible matched =
+  mode_matched machine nick change matched =
       still_matched homes (home_under machine.room) (registered_as machine.clients) matched
-      (home_under (machine_after machine (UserMode nick invisible)).room)
+      (home_under (machine_after machine (ChangeUser nick change)).room)
       (registered_as machine.clients)
-      (λ fold. ap home_in_row (row-alter (key nick) (option_map (with_invisible invisible))
+      (λ fold. ap home_in_row (row-alter (key nick) (option_map (with_change change))
       machine.room.users fold) ∙ by fold (same_fold fold (key nick)) refl)
       (λ client. refl)
     where
       same_home : (o : Option User)
-          → home_in_row (option_map (with_invisible invisible) o) ≡ home_in_row o
+          → home_in_row (option_map (with_change change) o) ≡ home_in_row o
       same_home None = refl
       same_home (Some user) = refl
 
       by : (fold : List ℕ) (b : Bool) → same_fold fold (key nick) ≡ b → home_in_row
-          (cond b (option_map (with_invisible invisible) (row machine.room.users (key nick)))
+          (cond b (option_map (with_change change) (row machine.room.users (key nick)))
           (row machine.room.users fold))
           ≡ home_under machine.room fold
       by fold true one = same_home (row machine.room.users (key nick))
@@ -205,19 +205,13 @@ module _ (homes : ℕ → Option Name) where
   quiet_matched machine (Rename nick new) matched possible quiet =
       renamed_matched machine nick new matched possible
   quiet_matched machine (Quit nick text) matched possible quiet = absurd (cc quiet)
-  quiet_matched machine (Join nick channel op) matched possible quiet = matched
-  quiet_matched machine (Part nick channel text) matched possible quiet = matched
-  quiet_matched machine (Kick by channel nick text) matched possible quiet = matched
-  quiet_matched machine (ChangeModes by channel changes) matched possible quiet = matched
-  quiet_matched machine (SetTopic by channel text) matched possible quiet = matched
-  quiet_matched machine (Say by notice target text) matched possible quiet = matched
-  quiet_matched machine (Invite by nick channel) matched possible quiet = matched
-  quiet_matched machine (UserMode nick invisible) matched possible quiet =
-      mode_matched machine nick invisible matched
+  quiet_matched machine (ChangeUser nick change) matched possible quiet =
+      mode_matched machine nick change matched
+  quiet_matched machine other matched possible quiet = matched
 
   quiet_steps : (conn : ℕ) (name : Option (List ℕ)) (acts : List Act) (before : Handled)
-      → IsMatched before.machine → ArePossible before.machine.room acts
-      → list_any adds_or_ends acts ≡ false → IsMatched (all_stepped conn name acts before).machine
+      → IsMatched before.state → ArePossible before.state.room acts
+      → list_any adds_or_ends acts ≡ false → IsMatched (all_stepped conn name acts before).state
   quiet_steps conn name [] before matched possible quiet = matched
   quiet_steps conn name (Answer reply ∷ acts) before matched possible quiet =
       quiet_steps conn name acts (stepped conn name (Answer reply) before) matched possible quiet
@@ -226,12 +220,12 @@ module _ (homes : ℕ → Option Name) where
   quiet_steps conn name (Do effect ∷ acts) before matched possible quiet =
       let parts = neither (adds_or_ends (Do effect)) (list_any adds_or_ends acts) quiet in
       quiet_steps conn name acts (with_effect effect before)
-      (quiet_matched before.machine effect matched possible.now parts.0) possible.later parts.1
+      (quiet_matched before.state effect matched possible.now parts.0) possible.later parts.1
 
   -- steps that change nothing
   still_steps : (conn : ℕ) (name : Option (List ℕ)) (acts : List Act) (before : Handled)
       → list_any is_effect acts ≡ false
-      → (all_stepped conn name acts before).machine ≡ before.machine
+      → (all_stepped conn name acts before).state ≡ before.state
   still_steps conn name [] before still = refl
   still_steps conn name (Answer reply ∷ acts) before still =
       still_steps conn name acts (stepped conn name (Answer reply) before) still
@@ -298,18 +292,18 @@ module _ (homes : ℕ → Option Name) where
       (closes : WhoIsClosedQuits) (machine : RoomMachine) (matched : IsMatched machine)
       (well : IsWellFormed machine.room) (conn : ℕ) where
     line_matched : (user : User) → registered_as machine.clients conn ≡ Some (key user.nick)
-        → (message : Parsed) → IsMatched (user_decided machine conn (Some user) message).machine
+        → (message : Parsed) → IsMatched (user_decided machine conn (Some user) message).state
     line_matched user mine message =
         by (decide machine.room machine.place user.nick message).close refl
       where
         by : (b : Bool) → (decide machine.room machine.place user.nick message).close ≡ b
             → IsMatched (closing b conn (all_stepped conn (Some user.nick)
             (decide machine.room machine.place user.nick message).steps
-            (unchanged machine))).machine
+            (unchanged machine))).state
         by true is =
             let first = closes machine.room machine.place user.nick message is in
             subst (λ (after : RoomMachine). IsMatched (without_client after conn))
-            (sym (ap (λ acts. (all_stepped conn (Some user.nick) acts (unchanged machine)).machine)
+            (sym (ap (λ acts. (all_stepped conn (Some user.nick) acts (unchanged machine)).state)
             first.steps_are
             ∙ still_steps conn (Some user.nick) first.behind
             (with_effect (Quit first.me.nick first.reason) (unchanged machine)) first.no_more))
@@ -322,7 +316,7 @@ module _ (homes : ℕ → Option Name) where
 
     user_matched : (nick : List ℕ) → client_of machine conn ≡ Some (Registered nick)
         → (message : Parsed) → (o : Option User) → row machine.room.users (key nick) ≡ o
-        → IsMatched (user_decided machine conn o message).machine
+        → IsMatched (user_decided machine conn o message).state
     user_matched nick mine message None there = matched
     user_matched nick mine message (Some user) there =
         line_matched user (ap (option_and_then fold_of) mine
@@ -348,12 +342,12 @@ module _ (homes : ℕ → Option Name) where
 
     new_matched : given.registered ≡ true → given.close ≡ false
         → AddsFirst machine.place given.pending.nick given.steps
-        → IsMatched (pending_decided machine conn given).machine
+        → IsMatched (pending_decided machine conn given).state
     new_matched is stays first =
         subst (λ b. IsMatched (closing b conn (all_stepped conn given.pending.nick given.steps
-        (unchanged given_machine))).machine) (sym stays)
+        (unchanged given_machine))).state) (sym stays)
         (subst (λ acts. IsMatched (all_stepped conn given.pending.nick acts
-        (unchanged given_machine)).machine) (sym first.steps_are)
+        (unchanged given_machine)).state) (sym first.steps_are)
         (subst IsMatched (sym (still_steps conn given.pending.nick first.behind
         (with_effect (AddUser first.user) (unchanged given_machine)) first.no_more))
         (subst (λ client.
@@ -363,7 +357,7 @@ module _ (homes : ℕ → Option Name) where
         (subst (ArePossible machine.room) first.steps_are possible).now matched))))
 
     waiting_matched : given.registered ≡ false → list_any is_effect given.steps ≡ false
-        → IsMatched (pending_decided machine conn given).machine
+        → IsMatched (pending_decided machine conn given).state
     waiting_matched is still = by given.close
       where
         waits : IsMatched given_machine
@@ -377,12 +371,12 @@ module _ (homes : ℕ → Option Name) where
             ∙ waiting_client given given.pending.nick is
 
         same_machine : (all_stepped conn given.pending.nick given.steps
-            (unchanged given_machine)).machine ≡ given_machine
+            (unchanged given_machine)).state ≡ given_machine
         same_machine =
             still_steps conn given.pending.nick given.steps (unchanged given_machine) still
 
         by : (b : Bool) → IsMatched (closing b conn
-            (all_stepped conn given.pending.nick given.steps (unchanged given_machine))).machine
+            (all_stepped conn given.pending.nick given.steps (unchanged given_machine))).state
         by true = subst (λ (after : RoomMachine). IsMatched (without_client after conn))
             (sym same_machine) (taken_matched given_machine conn now_none waits)
         by false = subst IsMatched (sym same_machine) waits
@@ -391,7 +385,7 @@ module _ (homes : ℕ → Option Name) where
 
   gone_matched : (machine : RoomMachine) → IsMatched machine → IsWellFormed machine.room
       → (conn : ℕ) (o : Option Client) → client_of machine conn ≡ o
-      → IsMatched (gone machine conn o).machine
+      → IsMatched (gone machine conn o).state
   gone_matched machine matched well conn None is =
       taken_matched machine conn (ap (option_and_then fold_of) is) matched
   gone_matched machine matched well conn (Some (Registering pending)) is =
@@ -400,7 +394,7 @@ module _ (homes : ℕ → Option Name) where
       by (row machine.room.users (key nick)) refl
     where
       by : (o : Option User) → row machine.room.users (key nick) ≡ o → IsMatched (quits (option_map
-          (λ (user : User). user.nick) o) (unchanged (without_client machine conn))).machine
+          (λ (user : User). user.nick) o) (unchanged (without_client machine conn))).state
       by None there =
           let user = matched.registered_is_user conn (key nick) (ap (option_and_then fold_of) is) in
           absurd (let none = sym (ap home_in_row there) ∙ user.of_user in cc none)
@@ -411,7 +405,7 @@ module _ (homes : ℕ → Option Name) where
   -- ---- whatever happens
 
   -- who connects is not there yet, and who is there has the home that the machine has for its place
-  abbrev pub IsDue : RoomMachine → Happening → Type 0
+  abbrev pub IsDue : RoomMachine → ClientEvent → Type 0
   IsDue machine (connects conn host) = client_of machine conn ≡ None
   IsDue machine (says conn read) = homes conn ≡ Some machine.place.name
   IsDue machine (goes conn) = homes conn ≡ Some machine.place.name
@@ -423,7 +417,7 @@ module _ (homes : ℕ → Option Name) where
       (well : IsWellFormed machine.room) where
     said_matched : (conn : ℕ) (message : Parsed) → homes conn ≡ Some machine.place.name
         → (o : Option Client) → client_of machine conn ≡ o
-        → IsMatched (said_by machine conn o message).machine
+        → IsMatched (said_by machine conn o message).state
     said_matched conn message home None is = matched
     said_matched conn message home (Some (Registering pending)) is =
         by (register machine.room machine.place pending message).registered refl
@@ -437,7 +431,7 @@ module _ (homes : ℕ → Option Name) where
 
         by : (b : Bool) → (register machine.room machine.place pending message).registered ≡ b
             → IsMatched (pending_decided machine conn
-            (register machine.room machine.place pending message)).machine
+            (register machine.room machine.place pending message)).state
         by true is = new_matched machine matched conn
             (register machine.room machine.place pending message) none home possible is
             (kept machine.room machine.place pending message is)
@@ -449,8 +443,8 @@ module _ (homes : ℕ → Option Name) where
         user_matched decided_possible stays closes machine matched well conn nick is message
         (row machine.room.users (key nick)) refl
 
-    pub handled_matched : (happening : Happening) → IsDue machine happening
-        → IsMatched (handled machine happening).machine
+    pub handled_matched : (client_event : ClientEvent) → IsDue machine client_event
+        → IsMatched (handled machine client_event).state
     unfolding handled
     handled_matched (connects conn host) due =
         seated_matched machine conn (fresh host) refl (ap (option_and_then fold_of) due) matched

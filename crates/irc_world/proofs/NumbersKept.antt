@@ -4,7 +4,7 @@ use Rattle.std.proofs.Common.{◌∙◌}
 use Rattle.std.specs.Option.{option_map_or}
 use Rattle.irc_relay.specs.Links.{Name}
 use Rattle.irc_line.specs.Reading.{read_of}
-use Rattle.irc_stage.specs.Handle.{Happening, says, goes}
+use Rattle.irc_stage.specs.Handle.{ClientEvent, says, goes}
 use Rattle.irc_world.specs.World.{Setting, World, home_in, home_of}
 use Rattle.irc_world.specs.Stepping.{Item, connect, line, gone, link, cut, step, still, by_machine}
 use Rattle.irc_world.specs.Stepping.{by_client}
@@ -17,11 +17,11 @@ one_more_home : (homes : List Name) (new : Name) (client : ℕ) (home : Name)
 one_more_home homes new zero home is = absurd (cc is)
 one_more_home homes new (suc earlier) home is = still_home homes new earlier home is
 
-same_homes : (settings : List Setting) (world : World) (actor : ℕ) (happening : Happening)
-    → (by_client settings world actor happening).world.homes ≡ world.homes
-same_homes settings world actor happening = by (home_of world actor)
+same_homes : (settings : List Setting) (world : World) (actor : ℕ) (client_event : ClientEvent)
+    → (by_client settings world actor client_event).world.homes ≡ world.homes
+same_homes settings world actor client_event = by (home_of world actor)
   where
-    by : (o : Option Name) → (option_map_or (λ home. by_machine settings world home happening) o
+    by : (o : Option Name) → (option_map_or (λ home. by_machine settings world home client_event) o
         (still world)).world.homes ≡ world.homes
     by None = refl
     by (Some home) = refl

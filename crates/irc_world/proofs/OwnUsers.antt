@@ -7,8 +7,7 @@ use Rattle.irc_names.specs.Tables.{row}
 use Rattle.irc_line.specs.Messages.{Parsed}
 use Rattle.irc_users.specs.declared.user.User.{User}
 use Rattle.irc_room.specs.effect.Effect.{Effect}
-use Rattle.irc_room.specs.effect.Effect.TheVariants.{AddUser, Rename, Quit, Join, Part, Kick}
-use Rattle.irc_room.specs.effect.Effect.TheVariants.{ChangeModes, SetTopic, Say, Invite, UserMode}
+use Rattle.irc_room.specs.effect.Effect.TheVariants.{AddUser, Quit}
 use Rattle.irc_acts.specs.declared.act.Act.{Act}
 use Rattle.irc_acts.specs.declared.act.Act.TheVariants.{Answer, Raw, Do}
 use Rattle.irc_commands.specs.Decide.{decide}
@@ -18,7 +17,7 @@ use Rattle.irc_commands.specs.Comings.{UnregisteredChangesNothing}
 use Rattle.irc_stage.specs.declared.clients.Client.{Client}
 use Rattle.irc_stage.specs.declared.clients.Client.TheVariants.{Registering, Registered}
 use Rattle.irc_stage.specs.RoomMachine.{RoomMachine, client_of, with_client, without_client}
-use Rattle.irc_stage.specs.Handle.{Happening, connects, says, goes, Handled, handled, with_effect}
+use Rattle.irc_stage.specs.Handle.{ClientEvent, connects, says, goes, Handled, handled, with_effect}
 use Rattle.irc_stage.specs.Handle.{stepped, all_stepped, unchanged, closing, client_after}
 use Rattle.irc_stage.specs.Handle.{user_decided, said_by, user_of, quits, lost_text}
 use Rattle.irc_world.specs.Lemmas.HomesPassing.{NewPasses, pass_after}
@@ -43,20 +42,11 @@ none_added (act ∷ acts) none =
 module _ (passes : List ℕ → Bool) where
   adds_nobody : (effect : Effect) → adds_user (Do effect) ≡ false → NewPasses passes effect
   adds_nobody (AddUser user) none = absurd (cc none)
-  adds_nobody (Rename nick new) none = tt
-  adds_nobody (Quit nick reason) none = tt
-  adds_nobody (Join nick channel op) none = tt
-  adds_nobody (Part nick channel reason) none = tt
-  adds_nobody (Kick by channel nick reason) none = tt
-  adds_nobody (ChangeModes by channel changes) none = tt
-  adds_nobody (SetTopic by channel topic) none = tt
-  adds_nobody (Say by notice target words) none = tt
-  adds_nobody (Invite by nick channel) none = tt
-  adds_nobody (UserMode nick invisible) none = tt
+  adds_nobody other none = tt
 
   steps_pass : (conn : ℕ) (name : Option (List ℕ)) (acts : List Act) (before : Handled)
-      → HomesPass passes before.machine.room → list_any adds_user acts ≡ false
-      → HomesPass passes (all_stepped conn name acts before).machine.room
+      → HomesPass passes before.state.room → list_any adds_user acts ≡ false
+      → HomesPass passes (all_stepped conn name acts before).state.room
   steps_pass conn name [] before all none = all
   steps_pass conn name (Answer reply ∷ acts) before all none =
       steps_pass conn name acts (stepped conn name (Answer reply) before) all none
@@ -65,10 +55,10 @@ module _ (passes : List ℕ → Bool) where
   steps_pass conn name (Do effect ∷ acts) before all none =
       let both = neither (adds_user (Do effect)) (list_any adds_user acts) none in
       steps_pass conn name acts (with_effect effect before)
-      (pass_after passes before.machine.room effect all (adds_nobody effect both.0)) both.1
+      (pass_after passes before.state.room effect all (adds_nobody effect both.0)) both.1
 
-  close_passes : (close : Bool) (conn : ℕ) (before : Handled) → HomesPass passes before.machine.room
-      → HomesPass passes (closing close conn before).machine.room
+  close_passes : (close : Bool) (conn : ℕ) (before : Handled) → HomesPass passes before.state.room
+      → HomesPass passes (closing close conn before).state.room
   close_passes true conn before all = all
   close_passes false conn before all = all
 
@@ -76,7 +66,7 @@ module _ (passes : List ℕ → Bool) where
       (stays : UnregisteredChangesNothing) (machine : RoomMachine)
       (all : HomesPass passes machine.room) (here : passes machine.place.name ≡ true) where
     user_passes : (conn : ℕ) (o : Option User) (message : Parsed)
-        → HomesPass passes (user_decided machine conn o message).machine.room
+        → HomesPass passes (user_decided machine conn o message).state.room
     user_passes conn None message = all
     user_passes conn (Some user) message =
         close_passes (decide machine.room machine.place user.nick message).close conn
@@ -87,7 +77,7 @@ module _ (passes : List ℕ → Bool) where
         (adds machine.room machine.place user.nick message))
 
     said_passes : (conn : ℕ) (o : Option Client) (message : Parsed)
-        → HomesPass passes (said_by machine conn o message).machine.room
+        → HomesPass passes (said_by machine conn o message).state.room
     said_passes conn None message = all
     said_passes conn (Some (Registering pending)) message =
         close_passes given.close conn (all_stepped conn given.pending.nick given.steps
@@ -100,11 +90,11 @@ module _ (passes : List ℕ → Bool) where
         now = with_client machine conn (client_after given given.pending.nick)
 
         by : (b : Bool) → given.registered ≡ b → HomesPass passes
-            (all_stepped conn given.pending.nick given.steps (unchanged now)).machine.room
+            (all_stepped conn given.pending.nick given.steps (unchanged now)).state.room
         by true is =
             let first = comes machine.room machine.place pending message is in
             subst (λ acts. HomesPass passes (all_stepped conn given.pending.nick acts
-            (unchanged now)).machine.room) (sym first.steps_are)
+            (unchanged now)).state.room) (sym first.steps_are)
             (steps_pass conn given.pending.nick first.behind
             (with_effect (AddUser first.user) (unchanged now))
             (pass_after passes machine.room (AddUser first.user) all
@@ -114,14 +104,14 @@ module _ (passes : List ℕ → Bool) where
     said_passes conn (Some (Registered nick)) message =
         user_passes conn (row machine.room.users (key nick)) message
 
-    quits_pass : (nick : Option (List ℕ)) (before : Handled) → HomesPass passes before.machine.room
-        → HomesPass passes (quits nick before).machine.room
+    quits_pass : (nick : Option (List ℕ)) (before : Handled) → HomesPass passes before.state.room
+        → HomesPass passes (quits nick before).state.room
     quits_pass None before all = all
     quits_pass (Some nick) before all =
-        pass_after passes before.machine.room (Quit nick lost_text) all tt
+        pass_after passes before.state.room (Quit nick lost_text) all tt
 
-    handled_passes : (happening : Happening)
-        → HomesPass passes (handled machine happening).machine.room
+    handled_passes : (client_event : ClientEvent)
+        → HomesPass passes (handled machine client_event).state.room
     unfolding handled
     handled_passes (connects conn host) = all
     handled_passes (says conn (Err fault)) = all
@@ -131,5 +121,5 @@ module _ (passes : List ℕ → Bool) where
 
 pub clients_bring_own_users : DecidedAddsNobody → RegisteredIsAdded → UnregisteredChangesNothing
     → ClientsBringOwnUsers
-clients_bring_own_users adds comes stays machine happening passes all here =
-    handled_passes passes adds comes stays machine all here happening
+clients_bring_own_users adds comes stays machine client_event passes all here =
+    handled_passes passes adds comes stays machine all here client_event

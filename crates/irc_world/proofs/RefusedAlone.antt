@@ -10,11 +10,11 @@ use Rattle.irc_server.specs.declared.event.Event.TheVariants.{Connect, Line, Gon
 use Rattle.irc_server.specs.declared.event.Event.TheVariants.{LinkDown}
 use Rattle.irc_server.specs.declared.event.ServerFault.TheVariants.{NoSuchConnection}
 use Rattle.irc_stage.specs.RoomMachine.{client_of}
-use Rattle.irc_server.specs.Happening.{occurrence_of}
+use Rattle.irc_server.specs.ReadEvents.{read_event_of}
 use Rattle.irc_server.specs.Served.{of_client}
 use Rattle.irc_server.specs.Served.{fault_of, not_there}
 use Rattle.irc_stage.specs.View.{View, machine_of}
-use Rattle.irc_stage.specs.Handle.{Happening, connects, says, goes}
+use Rattle.irc_stage.specs.Handle.{ClientEvent, connects, says, goes}
 use Rattle.irc_world.specs.World.{Setting, World, is_server}
 use Rattle.irc_world.specs.Stepping.{connect, line, gone, link, cut}
 use Rattle.irc_world.specs.Refused.{refused, open_client, no_such_server, no_such_client}
@@ -23,7 +23,7 @@ use Rattle.irc_world.specs.OneServer.{IsTheServer, OneServerRefuses}
 use Rattle.irc_world.proofs.Matches.{same_some}
 use Rattle.irc_world.proofs.ServedAlone.{one_name}
 
-abbrev conn_of : Happening → ℕ
+abbrev conn_of : ClientEvent → ℕ
 conn_of (connects conn host) = conn
 conn_of (says conn read) = conn
 conn_of (goes conn) = conn
@@ -33,8 +33,8 @@ is_refused : (b : Bool) → (if b then None else Some no_such_client) ≡ Some n
 is_refused true is = absurd (cc is)
 is_refused false is = refl
 
-its_happening : (a b : Happening) → of_client a ≡ of_client b → a ≡ b
-its_happening a b is = cc is
+its_client_event : (a b : ClientEvent) → of_client a ≡ of_client b → a ≡ b
+its_client_event a b is = cc is
 
 module _ (setting : Setting) (world : World) (view : View) (sound : IsSound (setting ∷ []) world)
     (is : IsTheServer setting world view) where
@@ -54,21 +54,21 @@ module _ (setting : Setting) (world : World) (view : View) (sound : IsSound (set
           (at_home.is_home ∙ ap Some (sym here))
           ∙ ap is_some there in cc clash)
 
-  event_refused : (client : ℕ) (happening : Happening) (event : Event)
-      → of_client happening ≡ occurrence_of event → conn_of happening ≡ client
-      → (((conn : ℕ) (host : List ℕ) → happening ≡ connects conn host → ⊥))
+  event_refused : (client : ℕ) (client_event : ClientEvent) (event : Event)
+      → of_client client_event ≡ read_event_of event → conn_of client_event ≡ client
+      → (((conn : ℕ) (host : List ℕ) → client_event ≡ connects conn host → ⊥))
       → is_some (open_client world client) ≡ false → fault_of view event ≡ Some NoSuchConnection
-  event_refused client happening (Connect conn host) same number apart none =
-      absurd (apart conn _ (its_happening _ _ same))
-  event_refused client happening (Line conn text) same number apart none =
-      ap not_there (ap (client_of (machine_of view)) (sym (ap conn_of (its_happening _ _ same))
+  event_refused client client_event (Connect conn host) same number apart none =
+      absurd (apart conn _ (its_client_event _ _ same))
+  event_refused client client_event (Line conn text) same number apart none =
+      ap not_there (ap (client_of (machine_of view)) (sym (ap conn_of (its_client_event _ _ same))
       ∙ number) ∙ nobody client none)
-  event_refused client happening (Gone conn) same number apart none =
-      ap not_there (ap (client_of (machine_of view)) (sym (ap conn_of (its_happening _ _ same))
+  event_refused client client_event (Gone conn) same number apart none =
+      ap not_there (ap (client_of (machine_of view)) (sym (ap conn_of (its_client_event _ _ same))
       ∙ number) ∙ nobody client none)
-  event_refused client happening (LinkUp number starts) same is apart none = absurd (cc same)
-  event_refused client happening (LinkLine number text) same is apart none = absurd (cc same)
-  event_refused client happening (LinkDown number) same is apart none = absurd (cc same)
+  event_refused client client_event (LinkUp number starts) same is apart none = absurd (cc same)
+  event_refused client client_event (LinkLine number text) same is apart none = absurd (cc same)
+  event_refused client client_event (LinkDown number) same is apart none = absurd (cc same)
 
 pub one_server_refuses : OneServerRefuses
 unfolding refused
@@ -80,11 +80,11 @@ one_server_refuses setting world view (connect server host) event sound is same 
     by false taken = cc taken
 one_server_refuses setting world view (line client bytes) event sound is same taken =
     event_refused setting world view sound is client (says client (read_of bytes)) event
-    (same_some (of_client (says client (read_of bytes))) (occurrence_of event) same) refl
+    (same_some (of_client (says client (read_of bytes))) (read_event_of event) same) refl
     (λ conn host is. cc is) (is_refused (is_some (open_client world client)) taken)
 one_server_refuses setting world view (gone client) event sound is same taken =
     event_refused setting world view sound is client (goes client) event
-    (same_some (of_client (goes client)) (occurrence_of event) same) refl
+    (same_some (of_client (goes client)) (read_event_of event) same) refl
     (λ conn host is. cc is) (is_refused (is_some (open_client world client)) taken)
 one_server_refuses setting world view (link near far) event sound is same taken = absurd (cc same)
 one_server_refuses setting world view (cut near far) event sound is same taken = absurd (cc same)

@@ -19,7 +19,7 @@ use Rattle.irc_merge.specs.Split.{split, split_effects}
 use Rattle.irc_routes.specs.Place.{KnownServer, alone}
 use Rattle.irc_stage.specs.declared.clients.Client.{Client}
 use Rattle.irc_stage.specs.declared.clients.Client.TheVariants.{Registering, Registered}
-use Rattle.irc_stage.specs.Handle.{Happening, connects, says, goes, handled}
+use Rattle.irc_stage.specs.Handle.{ClientEvent, connects, says, goes, handled}
 use Rattle.irc_server.specs.Owed.{lines_to}
 use Rattle.irc_world.specs.World.{Setting, World, setting_of, servers_where, home_in, home_of}
 use Rattle.irc_world.specs.World.{known_from, has_end, joined_place, place_at, machine_at}
@@ -139,33 +139,33 @@ module _ (turned_same : TurnedAreTheSame) (settings : List Setting) (one other :
   home_same : (client : ℕ) → home_of one client ≡ home_of other client
   home_same client = ap (λ homes. home_in homes client) as_one.homes
 
-  by_machine_same : (home : Name) (happening : Happening)
-      → AreSteps (by_machine settings one home happening) (by_machine settings other home happening)
-  by_machine_same home happening = record {
+  by_machine_same : (home : Name) (client_event : ClientEvent) → AreSteps
+      (by_machine settings one home client_event) (by_machine settings other home client_event)
+  by_machine_same home client_event = record {
     worlds = record {
       links = as_one.links;
       homes = as_one.homes;
       hall = λ server. λ i. if are.joined_same server home i then record {
-        clients = (handled (machine_same home i) happening).machine.clients;
-        room = (handled (machine_same home i) happening).machine.room;
+        clients = (handled (machine_same home i) client_event).state.clients;
+        room = (handled (machine_same home i) client_event).state.room;
       } else as_one.hall server i;
     };
-    lines = λ client. ap (λ machine. lines_to client (handled machine happening).out)
+    lines = λ client. ap (λ machine. lines_to client (handled machine client_event).out)
         (machine_same home);
   }
 
-  by_client_same : (client : ℕ) (happening : Happening) → AreSteps
-      (by_client settings one client happening) (by_client settings other client happening)
-  by_client_same client happening =
-      subst (λ o. AreSteps (by_client settings one client happening)
-      (option_map_or (λ home. by_machine settings other home happening) o (still other)))
+  by_client_same : (client : ℕ) (client_event : ClientEvent) → AreSteps
+      (by_client settings one client client_event) (by_client settings other client client_event)
+  by_client_same client client_event =
+      subst (λ o. AreSteps (by_client settings one client client_event)
+      (option_map_or (λ home. by_machine settings other home client_event) o (still other)))
       (home_same client) (by (home_of one client))
     where
-      by : (o : Option Name)
-          → AreSteps (option_map_or (λ home. by_machine settings one home happening) o (still one))
-          (option_map_or (λ home. by_machine settings other home happening) o (still other))
+      by : (o : Option Name) → AreSteps
+          (option_map_or (λ home. by_machine settings one home client_event) o (still one))
+          (option_map_or (λ home. by_machine settings other home client_event) o (still other))
       by None = record { worlds = as_one; lines = λ client. refl }
-      by (Some home) = by_machine_same home happening
+      by (Some home) = by_machine_same home client_event
 
   linked_same : (near far : Name) → IsForest (record { near = near; far = far } ∷ one.links)
       → AreSteps (link_made one near far) (link_made other near far)

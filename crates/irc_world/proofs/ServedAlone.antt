@@ -22,7 +22,7 @@ use Rattle.irc_routes.specs.Lemmas.TableRows.{values-table_of}
 use Rattle.irc_stage.specs.declared.clients.Client.{Client}
 use Rattle.irc_stage.specs.RoomMachine.{Clients, RoomMachine, client_of}
 use Rattle.irc_stage.specs.View.{View, machine_of}
-use Rattle.irc_stage.specs.Handle.{Happening, connects, says, goes, handled}
+use Rattle.irc_stage.specs.Handle.{ClientEvent, connects, says, goes, handled}
 use Rattle.irc_stage.specs.Lemmas.Alone.{knows_no_other}
 use Rattle.irc_server.specs.Served.{Served, of_client, served, LoneServerIsOneRoom, SaysTheSame}
 use Rattle.irc_server.specs.Owed.{lines_to}
@@ -37,7 +37,7 @@ use Rattle.irc_world.specs.Owed.{owed_by_network, owed_from}
 use Rattle.irc_world.specs.Sound.{IsSound, AreTaken}
 use Rattle.irc_world.specs.Laws.{StepStaysSound}
 use Rattle.irc_world.specs.OneServer.{lone_view, IsTheServer, OneServerHasNoLink, IsServed}
-use Rattle.irc_world.specs.OneServer.{OneServerIsTheNetwork, happenings_from, OneServerOwes}
+use Rattle.irc_world.specs.OneServer.{OneServerIsTheNetwork, client_events_from, OneServerOwes}
 use Rattle.irc_world.proofs.Halls.{hall_with}
 use Rattle.irc_world.proofs.StaysSound.{new_world_is_sound, if_taken, server_known, link_taken}
 
@@ -117,17 +117,17 @@ one_server_has_no_link setting world sound = by world.links sound.forest sound.e
         let far = one_name setting l.far (known l.far l.near (inl (inr (refl, refl)))) in
         absurd (forest.0 (ap (part ls) (sym near ∙ far)))
 
--- ---- one happening
+-- ---- one event of a client
 
 abbrev machine_with : Place → Clients → Room → RoomMachine
 machine_with place clients room = record { place = place; clients = clients; room = room }
 
 -- what a client does, does the same to both
 pub record IsDone (setting : Setting) (done : Stepped) (view : View)
-    (happening : Happening) : Type 0 where
-  pub stays : IsTheServer setting done.world (served view (of_client happening)).view
+    (client_event : ClientEvent) : Type 0 where
+  pub stays : IsTheServer setting done.world (served view (of_client client_event)).state
   pub lines : (client : ℕ)
-      → done.lines client ≡ lines_to client (served view (of_client happening)).out
+      → done.lines client ≡ lines_to client (served view (of_client client_event)).out
 
 pub past_end : (homes : List Name) → slice_get homes (length homes) ≡ None
 past_end [] = refl
@@ -147,33 +147,33 @@ module _ (alone_is : AloneIsAlone) (one_room : LoneServerIsOneRoom) (setting : S
       (sym is.clients)
       ∙ ap (machine_with (place_of view.routes) view.clients) (sym is.room)
 
-  machine_done : (world : World) (view : View) (happening : Happening)
+  machine_done : (world : World) (view : View) (client_event : ClientEvent)
       → world.links ≡ [] → IsTheServer setting world view
-      → IsDone setting (by_machine (setting ∷ []) world setting.name happening) view happening
-  machine_done world view happening no_links is = record {
+      → IsDone setting (by_machine (setting ∷ []) world setting.name client_event) view client_event
+  machine_done world view client_event no_links is = record {
     stays = record {
-      routes = ap (λ (s : Served). s.view.routes) same.whole ∙ is.routes;
-      no_ends = ap (λ (s : Served). s.view.ends) same.whole ∙ is.no_ends;
-      clients = ap (λ (s : Served). s.view.clients) same.whole
-          ∙ hall_with (λ h. (handled (machine_of view) happening).machine.clients
+      routes = ap (λ (s : Served). s.state.routes) same.whole ∙ is.routes;
+      no_ends = ap (λ (s : Served). s.state.ends) same.whole ∙ is.no_ends;
+      clients = ap (λ (s : Served). s.state.clients) same.whole
+          ∙ hall_with (λ h. (handled (machine_of view) client_event).state.clients
           ≡ h.clients) setting.name setting.name hall world
-          (λ _. ap (λ m. (handled m happening).machine.clients) (sym same_machine))
+          (λ _. ap (λ m. (handled m client_event).state.clients) (sym same_machine))
           (λ apart. absurd (apart refl));
-      room = ap (λ (s : Served). s.view.room) same.whole
-          ∙ hall_with (λ h. (handled (machine_of view) happening).machine.room
+      room = ap (λ (s : Served). s.state.room) same.whole
+          ∙ hall_with (λ h. (handled (machine_of view) client_event).state.room
           ≡ h.room) setting.name setting.name hall world
-          (λ _. ap (λ m. (handled m happening).machine.room) (sym same_machine))
+          (λ _. ap (λ m. (handled m client_event).state.room) (sym same_machine))
           (λ apart. absurd (apart refl));
     };
-    lines = λ client. ap (λ m. lines_to client (handled m happening).out) same_machine
+    lines = λ client. ap (λ m. lines_to client (handled m client_event).out) same_machine
         ∙ ap (lines_to client) (sym same.out);
   }
     where
       same_machine : machine_at (setting ∷ []) world setting.name ≡ machine_of view
       same_machine = machine_is world view no_links is
 
-      same : SaysTheSame view happening
-      same = one_room view happening (record {
+      same : SaysTheSame view client_event
+      same = one_room view client_event (record {
         no_ends = is.no_ends;
         no_others = ap others is.routes ∙ knows_no_other setting.name setting.info setting.created;
       })
@@ -181,8 +181,8 @@ module _ (alone_is : AloneIsAlone) (one_room : LoneServerIsOneRoom) (setting : S
       hall : Hall
       hall = record {
         clients =
-            (handled (machine_at (setting ∷ []) world setting.name) happening).machine.clients;
-        room = (handled (machine_at (setting ∷ []) world setting.name) happening).machine.room;
+            (handled (machine_at (setting ∷ []) world setting.name) client_event).state.clients;
+        room = (handled (machine_at (setting ∷ []) world setting.name) client_event).state.room;
       }
 
   module _ (world : World) (view : View) (sound : IsSound (setting ∷ []) world)
@@ -209,12 +209,13 @@ module _ (alone_is : AloneIsAlone) (one_room : LoneServerIsOneRoom) (setting : S
         (sym (client_home client there))
         ∙ there
 
-    client_done : (client : ℕ) (happening : Happening) → is_some (open_client world client) ≡ true
-        → IsDone setting (by_client (setting ∷ []) world client happening) view happening
-    client_done client happening there =
+    client_done : (client : ℕ) (client_event : ClientEvent)
+        → is_some (open_client world client) ≡ true
+        → IsDone setting (by_client (setting ∷ []) world client client_event) view client_event
+    client_done client client_event there =
         subst (λ o. IsDone setting (option_map_or (λ home.
-        by_machine (setting ∷ []) world home happening) o (unmoved world)) view happening)
-        (sym (client_home client there)) (machine_done world view happening no_links is)
+        by_machine (setting ∷ []) world home client_event) o (unmoved world)) view client_event)
+        (sym (client_home client there)) (machine_done world view client_event no_links is)
 
     new_number : client_of (machine_of view) (suc (length world.homes)) ≡ None
     new_number = by (get view.clients (suc (length world.homes))) refl
@@ -277,7 +278,7 @@ one_server_is_the_network alone_is one_room setting world view item sound is tak
         let done = connect_done alone_is one_room setting world view sound is server host
         (one_name setting server (server_known (setting ∷ []) world server host taken)) in
         record {
-          happening = connects (suc (length world.homes)) host;
+          client_event = connects (suc (length world.homes)) host;
           is_item = refl;
           expected = new_number alone_is one_room setting world view sound is;
           stays = done.stays;
@@ -287,7 +288,7 @@ one_server_is_the_network alone_is one_room setting world view item sound is tak
         let done = client_done alone_is one_room setting world view sound is client
         (says client (read_of bytes)) (there client taken) in
         record {
-          happening = says client (read_of bytes);
+          client_event = says client (read_of bytes);
           is_item = refl;
           expected = client_there alone_is one_room setting world view sound is client
               (there client taken);
@@ -298,7 +299,7 @@ one_server_is_the_network alone_is one_room setting world view item sound is tak
         let done = client_done alone_is one_room setting world view sound is client (goes client)
         (there client taken) in
         record {
-          happening = goes client;
+          client_event = goes client;
           is_item = refl;
           expected = client_there alone_is one_room setting world view sound is client
               (there client taken);
@@ -317,15 +318,15 @@ module _ (alone_is : AloneIsAlone) (one_room : LoneServerIsOneRoom) (stays_sound
   owes : (items : List Item) (world : World) (view : View) → IsSound (setting ∷ []) world
       → IsTheServer setting world view → AreTaken (setting ∷ []) world items
       → owed_from (setting ∷ []) world items client ≡ owed_by_server client view
-      (happenings_from (setting ∷ []) world items)
+      (client_events_from (setting ∷ []) world items)
   owes [] world view sound is taken = refl
   owes (item ∷ items) world view sound is taken =
       ap (λ lines. lines ++ owed_from (setting ∷ []) next items client) (first.lines client)
-      ∙ ap (λ lines. lines_to client (served view (of_client first.happening)).out ++ lines)
-      (owes items next (served view (of_client first.happening)).view
+      ∙ ap (λ lines. lines_to client (served view (of_client first.client_event)).out ++ lines)
+      (owes items next (served view (of_client first.client_event)).state
       (stays_sound (setting ∷ []) world item sound taken.now) first.stays taken.later)
       ∙ ap (λ o. owed_by_server client view
-      (option_to_list o ++ happenings_from (setting ∷ []) next items)) (sym first.is_item)
+      (option_to_list o ++ client_events_from (setting ∷ []) next items)) (sym first.is_item)
     where
       first : IsServed setting world view item
       first = one_server_is_the_network alone_is one_room setting world view item sound is taken.now

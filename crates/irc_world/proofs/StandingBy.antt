@@ -15,7 +15,7 @@ use Rattle.irc_relay.specs.Lemmas.TellingNames.{alike, unlike, tell, same_when}
 use Rattle.irc_commands.specs.declared.pending.Pending.{Pending}
 use Rattle.irc_stage.specs.declared.clients.Client.{Client}
 use Rattle.irc_stage.specs.declared.clients.Client.TheVariants.{Registering}
-use Rattle.irc_stage.specs.Handle.{Happening, connects, says, goes, handled}
+use Rattle.irc_stage.specs.Handle.{ClientEvent, connects, says, goes, handled}
 use Rattle.irc_world.specs.World.{Setting, Hall, World, home_of, place_at, machine_at, with_hall}
 use Rattle.irc_world.specs.Stepping.{connect, line, gone, link, cut, step, still, by_machine}
 use Rattle.irc_world.specs.Stepping.{by_client, merged, meeting_lines, link_made, remaining}
@@ -110,36 +110,36 @@ module _ (settings : List Setting) (world : World) (sound : IsSound settings wor
       ++ leaving_lines settings left far near (world.hall far).room
       (not_remaining left far near client other i)
 
-  silent_machine : (home : Name) (happening : Happening) (client : ℕ)
+  silent_machine : (home : Name) (client_event : ClientEvent) (client : ℕ)
       → get (world.hall home).clients client ≡ None
-      → (by_machine settings world home happening).lines client ≡ []
-  silent_machine home happening client none =
-      unheard client (machine_at settings world home) happening none
+      → (by_machine settings world home client_event).lines client ≡ []
+  silent_machine home client_event client none =
+      unheard client (machine_at settings world home) client_event none
 
-  silent_client : (actor : ℕ) (happening : Happening) (client : ℕ) → ((home : Name)
+  silent_client : (actor : ℕ) (client_event : ClientEvent) (client : ℕ) → ((home : Name)
       → home_of world actor ≡ Some home → get (world.hall home).clients client ≡ None)
-      → (by_client settings world actor happening).lines client ≡ []
-  silent_client actor happening client none = by (home_of world actor) refl
+      → (by_client settings world actor client_event).lines client ≡ []
+  silent_client actor client_event client none = by (home_of world actor) refl
     where
       by : (o : Option Name) → home_of world actor ≡ o → (option_map_or
-          (λ home. by_machine settings world home happening) o (still world)).lines client ≡ []
+          (λ home. by_machine settings world home client_event) o (still world)).lines client ≡ []
       by None is = refl
-      by (Some home) is = silent_machine home happening client (none home is)
+      by (Some home) is = silent_machine home client_event client (none home is)
 
   -- ---- halls of other parts
 
-  client_elsewhere : (actor : ℕ) (happening : Happening) (server : Name)
+  client_elsewhere : (actor : ℕ) (client_event : ClientEvent) (server : Name)
       → ((home : Name) → home_of world actor ≡ Some home → AreJoined world.links server home → ⊥)
-      → (by_client settings world actor happening).world.hall server ≡ world.hall server
-  client_elsewhere actor happening server apart = by (home_of world actor) refl
+      → (by_client settings world actor client_event).world.hall server ≡ world.hall server
+  client_elsewhere actor client_event server apart = by (home_of world actor) refl
     where
       by : (o : Option Name) → home_of world actor ≡ o
-          → (option_map_or (λ home. by_machine settings world home happening) o
+          → (option_map_or (λ home. by_machine settings world home client_event) o
           (still world)).world.hall server ≡ world.hall server
       by None is = refl
       by (Some home) is = other_hall world home server (record {
-        clients = (handled (machine_at settings world home) happening).machine.clients;
-        room = (handled (machine_at settings world home) happening).machine.room;
+        clients = (handled (machine_at settings world home) client_event).state.clients;
+        room = (handled (machine_at settings world home) client_event).state.room;
       }) (apart home is)
 
 -- ---- who is not connected
@@ -169,11 +169,12 @@ only_connected_receive settings world (cut near far) client sound taken closed =
 module _ (tests : TestsTell) (join : LinksJoin) (between : LinkBetweenParts)
     (taken_out : LinkTakenOut) (over_link : JoinedOverLink) where
   -- a client makes and loses no link
-  same_links : (settings : List Setting) (world : World) (actor : ℕ) (happening : Happening)
-      → (by_client settings world actor happening).world.links ≡ world.links
-  same_links settings world actor happening = by (home_of world actor)
+  same_links : (settings : List Setting) (world : World) (actor : ℕ) (client_event : ClientEvent)
+      → (by_client settings world actor client_event).world.links ≡ world.links
+  same_links settings world actor client_event = by (home_of world actor)
     where
-      by : (o : Option Name) → (option_map_or (λ home. by_machine settings world home happening) o
+      by : (o : Option Name)
+          → (option_map_or (λ home. by_machine settings world home client_event) o
           (still world)).world.links ≡ world.links
       by None = refl
       by (Some home) = refl
@@ -197,9 +198,9 @@ module _ (tests : TestsTell) (join : LinksJoin) (between : LinkBetweenParts)
   other_parts_stay settings world (connect at host) server sound taken apart = record {
     hall = other_hall (record world { homes = world.homes ++ at ∷ [] }) at server (record {
       clients = (handled (machine_at settings (record world { homes = world.homes ++ at ∷ [] }) at)
-          (connects (suc (length world.homes)) host)).machine.clients;
+          (connects (suc (length world.homes)) host)).state.clients;
       room = (handled (machine_at settings (record world { homes = world.homes ++ at ∷ [] }) at)
-          (connects (suc (length world.homes)) host)).machine.room;
+          (connects (suc (length world.homes)) host)).state.room;
     }) apart;
     place = refl;
     lines = λ client there.

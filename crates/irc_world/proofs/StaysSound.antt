@@ -18,7 +18,7 @@ use Rattle.irc_room.specs.Lemmas.WellFormedLaw.{no_room_is_well_formed}
 use Rattle.irc_commands.specs.Possible.{DecidedIsPossible, RegisteringIsPossible}
 use Rattle.irc_merge.specs.Laws.{MergeIsWellFormed, SplitIsWellFormed}
 use Rattle.irc_stage.specs.declared.clients.Client.{Client}
-use Rattle.irc_stage.specs.Handle.{Happening, connects, says, goes, handled}
+use Rattle.irc_stage.specs.Handle.{ClientEvent, connects, says, goes, handled}
 use Rattle.irc_world.specs.World.{Setting, Hall, World, new_world, is_server, home_in, home_of}
 use Rattle.irc_world.specs.World.{machine_at, with_hall}
 use Rattle.irc_world.specs.Stepping.{Item, connect, line, gone, link, cut, step, still as unmoved}
@@ -58,10 +58,11 @@ new_world_is_sound settings = record {
 
 module _ (decided_possible : DecidedIsPossible) (registering_possible : RegisteringIsPossible)
     (settings : List Setting) where
-  pub machine_sound : (world : World) (home : Name) (happening : Happening) → IsSound settings world
-      → Comes (λ client. HasHomeBy world.links world.homes client home) happening
-      → IsSound settings (by_machine settings world home happening).world
-  machine_sound world home happening sound comes = record {
+  pub machine_sound : (world : World) (home : Name) (client_event : ClientEvent)
+      → IsSound settings world
+      → Comes (λ client. HasHomeBy world.links world.homes client home) client_event
+      → IsSound settings (by_machine settings world home client_event).world
+  machine_sound world home client_event sound comes = record {
     forest = sound.forest;
     one_hall = one_hall_with home hall world (λ s t one apart. sound.one_hall s t one);
     well_formed = λ s. hall_with (λ h. IsWellFormed h.room) home s hall world (λ _. after.well)
@@ -76,20 +77,20 @@ module _ (decided_possible : DecidedIsPossible) (registering_possible : Register
     where
       hall : Hall
       hall = record {
-        clients = (handled (machine_at settings world home) happening).machine.clients;
-        room = (handled (machine_at settings world home) happening).machine.room;
+        clients = (handled (machine_at settings world home) client_event).state.clients;
+        room = (handled (machine_at settings world home) client_event).state.room;
       }
 
       after : Keeps (machine_at settings world home)
           (λ client. HasHomeBy world.links world.homes client home)
-          (handled (machine_at settings world home) happening).machine
+          (handled (machine_at settings world home) client_event).state
       after = handled_keeps (machine_at settings world home) (λ client.
           HasHomeBy world.links world.homes client home) decided_possible registering_possible
           (record {
             place = refl;
             well = sound.well_formed home;
             clients = sound.clients_home home;
-          }) happening comes
+          }) client_event comes
 
       nearer : (client : ℕ) (s : Name) → AreJoined world.links s home
           → HasHomeBy world.links world.homes client home
@@ -100,21 +101,23 @@ module _ (decided_possible : DecidedIsPossible) (registering_possible : Register
         joined = at_home.joined ∙ sym here;
       }
 
-  client_sound : (world : World) (client : ℕ) (happening : Happening)
-      → IsSound settings world → Comes (λ client. ⊥) happening
-      → IsSound settings (by_client settings world client happening).world
-  client_sound world client happening sound comes = by (home_of world client)
+  client_sound : (world : World) (client : ℕ) (client_event : ClientEvent)
+      → IsSound settings world → Comes (λ client. ⊥) client_event
+      → IsSound settings (by_client settings world client client_event).world
+  client_sound world client client_event sound comes = by (home_of world client)
     where
-      comes_so : (home : Name) (happening : Happening) → Comes (λ client. ⊥) happening
-          → Comes (λ client. HasHomeBy world.links world.homes client home) happening
+      comes_so : (home : Name) (client_event : ClientEvent) → Comes (λ client. ⊥) client_event
+          → Comes (λ client. HasHomeBy world.links world.homes client home) client_event
       comes_so home (connects conn host) none = absurd none
       comes_so home (says conn read) none = tt
       comes_so home (goes conn) none = tt
 
       by : (o : Option Name) → IsSound settings
-          (option_map_or (λ home. by_machine settings world home happening) o (unmoved world)).world
+          (option_map_or (λ home. by_machine settings world home client_event) o
+          (unmoved world)).world
       by None = sound
-      by (Some home) = machine_sound world home happening sound (comes_so home happening comes)
+      by (Some home) =
+          machine_sound world home client_event sound (comes_so home client_event comes)
 
 -- ---- two parts are linked
 

@@ -12,8 +12,7 @@ use Rattle.irc_names.specs.Tables.{row}
 use Rattle.irc_line.specs.Messages.{Parsed}
 use Rattle.irc_users.specs.declared.user.User.{User}
 use Rattle.irc_room.specs.effect.Effect.{Effect}
-use Rattle.irc_room.specs.effect.Effect.TheVariants.{AddUser, Rename, Quit, Join, Part, Kick}
-use Rattle.irc_room.specs.effect.Effect.TheVariants.{ChangeModes, SetTopic, Say, Invite, UserMode}
+use Rattle.irc_room.specs.effect.Effect.TheVariants.{Rename, Quit}
 use Rattle.irc_room.specs.Seen.{Showing, seen}
 use Rattle.irc_numerics.specs.Replies.{reply_text}
 use Rattle.irc_acts.specs.declared.act.Act.{Act}
@@ -25,7 +24,7 @@ use Rattle.irc_stage.specs.declared.clients.Client.{Client}
 use Rattle.irc_stage.specs.declared.clients.Client.TheVariants.{Registering, Registered}
 use Rattle.irc_stage.specs.RoomMachine.{Clients, RoomMachine, client_of, with_client}
 use Rattle.irc_stage.specs.RoomMachine.{without_client}
-use Rattle.irc_stage.specs.Handle.{Happening, connects, says, goes, Handled, handled, is_client}
+use Rattle.irc_stage.specs.Handle.{ClientEvent, connects, says, goes, Handled, handled, is_client}
 use Rattle.irc_stage.specs.Handle.{to_viewer, renamed_in, clients_after, with_effect, stepped}
 use Rattle.irc_stage.specs.Handle.{all_stepped, unchanged, closing, client_after, user_decided}
 use Rattle.irc_stage.specs.Handle.{said_by, user_of, quits, lost_text}
@@ -44,7 +43,7 @@ other_number q n two = by (nat_eq n q) refl
 module _ (who : ℕ) where
   -- nothing is for it, and it is no client
   record IsUnheard (now : Handled) : Type 0 where
-    nowhere : get now.machine.clients who ≡ None
+    nowhere : get now.state.clients who ≡ None
     nothing : lines_to who now.out ≡ []
 
   nothing_more : (one other : List Sent) → lines_to who one ≡ [] → lines_to who other ≡ []
@@ -93,26 +92,17 @@ module _ (who : ℕ) where
 
   still_nowhere : (effect : Effect) (clients : Clients) → get clients who ≡ None
       → get (clients_after effect clients) who ≡ None
-  still_nowhere (AddUser user) clients none = none
   still_nowhere (Rename nick new) clients none = get-each (renamed_in nick new) clients who
       ∙ ap (option_map (renamed_in nick new)) none
-  still_nowhere (Quit nick reason) clients none = none
-  still_nowhere (Join nick channel op) clients none = none
-  still_nowhere (Part nick channel reason) clients none = none
-  still_nowhere (Kick by channel nick reason) clients none = none
-  still_nowhere (ChangeModes by channel changes) clients none = none
-  still_nowhere (SetTopic by channel topic) clients none = none
-  still_nowhere (Say by notice target words) clients none = none
-  still_nowhere (Invite by nick channel) clients none = none
-  still_nowhere (UserMode nick invisible) clients none = none
+  still_nowhere other clients none = none
 
   effect_unheard : (effect : Effect) (before : Handled) → IsUnheard before
       → IsUnheard (with_effect effect before)
   effect_unheard effect before so = record {
-    nowhere = still_nowhere effect before.machine.clients so.nowhere;
+    nowhere = still_nowhere effect before.state.clients so.nowhere;
     nothing = nothing_more before.out
-        (flat_map (to_viewer before.machine.clients) (seen before.machine.room effect)) so.nothing
-        (of_showings before.machine.clients so.nowhere (seen before.machine.room effect));
+        (flat_map (to_viewer before.state.clients) (seen before.state.room effect)) so.nothing
+        (of_showings before.state.clients so.nowhere (seen before.state.room effect));
   }
 
   module _ (conn : ℕ) (apart : nat_eq conn who ≡ false) where
@@ -124,8 +114,8 @@ module _ (who : ℕ) where
     step_unheard name (Answer reply) before so = record {
       nowhere = so.nowhere;
       nothing = nothing_more before.out
-          (line_to conn (reply_text before.machine.place.name name reply) ∷ []) so.nothing
-          (line_elsewhere (reply_text before.machine.place.name name reply));
+          (line_to conn (reply_text before.state.place.name name reply) ∷ []) so.nothing
+          (line_elsewhere (reply_text before.state.place.name name reply));
     }
     step_unheard name (Raw line) before so = record {
       nowhere = so.nowhere;
@@ -147,8 +137,8 @@ module _ (who : ℕ) where
     close_unheard : (close : Bool) (before : Handled) → IsUnheard before
         → IsUnheard (closing close conn before)
     close_unheard true before so = record {
-      nowhere = get-without before.machine.clients conn who
-          ∙ still_out (same_number who conn) (get before.machine.clients who) so.nowhere;
+      nowhere = get-without before.state.clients conn who
+          ∙ still_out (same_number who conn) (get before.state.clients who) so.nowhere;
       nothing = nothing_more before.out (end_of conn ∷ []) so.nothing refl;
     }
     close_unheard false before so = so
@@ -204,8 +194,8 @@ module _ (who : ℕ) where
           (ap (client_of machine) (eqb-true conn who same) ∙ none)
       by false apart = said_unheard conn apart machine none (client_of machine conn) message
 
-  pub unheard : (machine : RoomMachine) (happening : Happening) → client_of machine who ≡ None
-      → lines_to who (handled machine happening).out ≡ []
+  pub unheard : (machine : RoomMachine) (client_event : ClientEvent) → client_of machine who ≡ None
+      → lines_to who (handled machine client_event).out ≡ []
   unfolding handled
   unheard machine (connects conn host) none = refl
   unheard machine (says conn (Err fault)) none = refl

@@ -18,7 +18,7 @@ use Rattle.irc_relay.specs.Links.{Name, Link, joined, links_without}
 use Rattle.irc_stage.specs.declared.clients.Client.{Client}
 use Rattle.irc_stage.specs.declared.clients.Client.TheVariants.{Registering, Registered}
 use Rattle.irc_stage.specs.RoomMachine.{RoomMachine, client_of}
-use Rattle.irc_stage.specs.Handle.{Happening, connects, says, goes, user_of, lost_text}
+use Rattle.irc_stage.specs.Handle.{ClientEvent, connects, says, goes, user_of, lost_text}
 use Rattle.irc_world.specs.World.{Setting, World, servers_where, home_of, machine_at}
 use Rattle.irc_world.specs.Stepping.{Item, connect, line, gone, link, cut}
 use Rattle.irc_world.specs.Refused.{refused}
@@ -46,18 +46,18 @@ abbrev pub effects_left : Option (List ℕ) → List Effect
 effects_left None = []
 effects_left (Some nick) = Quit nick lost_text ∷ []
 
--- the effects of a happening on the room
-abbrev pub effects_at : RoomMachine → Happening → List Effect
+-- the effects of what a client does on the room
+abbrev pub effects_at : RoomMachine → ClientEvent → List Effect
 effects_at machine (connects conn host) = []
 effects_at machine (says conn (Err fault)) = []
 effects_at machine (says conn (Ok message)) = effects_said machine message (client_of machine conn)
 effects_at machine (goes conn) = effects_left (user_of machine.room (client_of machine conn))
 
 -- each effect, to each other server of the part
-abbrev pub most_of_client : List Setting → World → Option Name → Happening → ℕ
-most_of_client settings world None happening = 0
-most_of_client settings world (Some home) happening =
-    length (effects_at (machine_at settings world home) happening)
+abbrev pub most_of_client : List Setting → World → Option Name → ClientEvent → ℕ
+most_of_client settings world None client_event = 0
+most_of_client settings world (Some home) client_event =
+    length (effects_at (machine_at settings world home) client_event)
     * (part_size settings world.links home - 1)
 
 -- ---- links that are made and lost

@@ -11,10 +11,10 @@ use Rattle.irc_stage.specs.RoomMachine.{RoomMachine, client_of}
 use Rattle.irc_server.specs.declared.config.Config.{Config}
 use Rattle.irc_server.specs.declared.event.Event.{Event}
 use Rattle.irc_server.specs.declared.event.ServerFault.TheVariants.{NoSuchConnection}
-use Rattle.irc_server.specs.Happening.{occurrence_of}
+use Rattle.irc_server.specs.ReadEvents.{read_event_of}
 use Rattle.irc_server.specs.Configuring.{IsMade}
 use Rattle.irc_stage.specs.View.{View, known_peer, machine_of}
-use Rattle.irc_stage.specs.Handle.{Happening, connects, says, goes}
+use Rattle.irc_stage.specs.Handle.{ClientEvent, connects, says, goes}
 use Rattle.irc_server.specs.Served.{of_client, served, fault_of}
 use Rattle.irc_server.specs.Owed.{lines_to}
 use Rattle.irc_server.specs.Owed.{lines_owed as owed_by_server}
@@ -62,28 +62,28 @@ pub record IsTheServer (setting : Setting) (world : World) (view : View) : Type 
   pub room : view.room ≡ (world.hall setting.name).room
 
 -- what an item is to the one server: there is no other that it could be linked to
-abbrev pub happening_at : World → Item → Option Happening
-happening_at world (connect server host) = Some (connects (suc (length world.homes)) host)
-happening_at world (line client bytes) = Some (says client (read_of bytes))
-happening_at world (gone client) = Some (goes client)
-happening_at world (link near far) = None
-happening_at world (cut near far) = None
+abbrev pub client_event_at : World → Item → Option ClientEvent
+client_event_at world (connect server host) = Some (connects (suc (length world.homes)) host)
+client_event_at world (line client bytes) = Some (says client (read_of bytes))
+client_event_at world (gone client) = Some (goes client)
+client_event_at world (link near far) = None
+client_event_at world (cut near far) = None
 
 -- who connects is not there yet, and all others are: so no server refuses it
-abbrev pub IsExpected : RoomMachine → Happening → Type 0
+abbrev pub IsExpected : RoomMachine → ClientEvent → Type 0
 IsExpected machine (connects conn host) = client_of machine conn ≡ None
 IsExpected machine (says conn read) = is_some (client_of machine conn) ≡ true
 IsExpected machine (goes conn) = is_some (client_of machine conn) ≡ true
 
 -- an item does to the network what it does to the server
 pub record IsServed (setting : Setting) (world : World) (view : View) (item : Item) : Type 0 where
-  pub happening : Happening
-  pub is_item : happening_at world item ≡ Some happening
-  pub expected : IsExpected (machine_of view) happening
+  pub client_event : ClientEvent
+  pub is_item : client_event_at world item ≡ Some client_event
+  pub expected : IsExpected (machine_of view) client_event
   pub stays : IsTheServer setting (step (setting ∷ []) world item).world
-      (served view (of_client happening)).view
+      (served view (of_client client_event)).state
   pub lines : (client : ℕ) → (step (setting ∷ []) world item).lines client
-      ≡ lines_to client (served view (of_client happening)).out
+      ≡ lines_to client (served view (of_client client_event)).out
 
 -- any item that is not refused is one for the one server, and it does the same
 abbrev pub OneServerIsTheNetwork : Type 0
@@ -92,10 +92,10 @@ OneServerIsTheNetwork = (setting : Setting) (world : World) (view : View) (item 
     → refused (setting ∷ []) world item ≡ None → IsServed setting world view item
 
 -- what these items are to the one server, each when its turn comes
-abbrev pub happenings_from : List Setting → World → List Item → List Happening
-happenings_from settings world [] = []
-happenings_from settings world (item ∷ items) =
-    option_to_list (happening_at world item) ++ happenings_from settings
+abbrev pub client_events_from : List Setting → World → List Item → List ClientEvent
+client_events_from settings world [] = []
+client_events_from settings world (item ∷ items) =
+    option_to_list (client_event_at world item) ++ client_events_from settings
     (step settings world item).world items
 
 -- so the clients of a network of one server are owed what that server owes them
@@ -103,13 +103,13 @@ abbrev pub OneServerOwes : Type 0
 OneServerOwes = (setting : Setting) (items : List Item) → AreTaken (setting ∷ []) new_world items
     → (client : ℕ)
     → owed_by_network (setting ∷ []) items client ≡ owed_by_server client (lone_view setting)
-    (happenings_from (setting ∷ []) new_world items)
+    (client_events_from (setting ∷ []) new_world items)
 
 -- What a client would do that is not there, the one server refuses as well.
 abbrev pub OneServerRefuses : Type 0
 OneServerRefuses =
     (setting : Setting) (world : World) (view : View) (item : Item) (event : Event)
     → IsSound (setting ∷ []) world → IsTheServer setting world view
-    → option_map of_client (happening_at world item) ≡ Some (occurrence_of event)
+    → option_map of_client (client_event_at world item) ≡ Some (read_event_of event)
     → refused (setting ∷ []) world item ≡ Some no_such_client
     → fault_of view event ≡ Some NoSuchConnection

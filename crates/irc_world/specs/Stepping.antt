@@ -17,7 +17,7 @@ use Rattle.irc_relay.specs.Links.{Name, Link, joined, links_without}
 use Rattle.irc_stage.specs.declared.clients.Client.{Client}
 use Rattle.irc_stage.specs.declared.clients.Client.TheVariants.{Registering, Registered}
 use Rattle.irc_stage.specs.RoomMachine.{Clients}
-use Rattle.irc_stage.specs.Handle.{Happening, connects, says, goes, handled}
+use Rattle.irc_stage.specs.Handle.{ClientEvent, connects, says, goes, handled}
 use Rattle.irc_server.specs.Owed.{lines_to}
 use Rattle.irc_world.specs.World.{Setting, Hall, World, servers_where, home_of, machine_at}
 use Rattle.irc_world.specs.World.{with_hall}
@@ -44,19 +44,19 @@ still world = record { world = world; lines = λ client. [] }
 -- ---- a client does something
 
 -- It is done by the room machine of its part: one room, as though one server held everybody in it.
-abbrev pub by_machine : List Setting → World → Name → Happening → Stepped
-by_machine settings world home happening = record {
+abbrev pub by_machine : List Setting → World → Name → ClientEvent → Stepped
+by_machine settings world home client_event = record {
   world = with_hall home (record {
-    clients = (handled (machine_at settings world home) happening).machine.clients;
-    room = (handled (machine_at settings world home) happening).machine.room;
+    clients = (handled (machine_at settings world home) client_event).state.clients;
+    room = (handled (machine_at settings world home) client_event).state.room;
   }) world;
-  lines = λ client. lines_to client (handled (machine_at settings world home) happening).out;
+  lines = λ client. lines_to client (handled (machine_at settings world home) client_event).out;
 }
 
 -- a client acts in the part of its home; one that never connected does nothing
-abbrev pub by_client : List Setting → World → ℕ → Happening → Stepped
-by_client settings world client happening = option_map_or
-    (λ home. by_machine settings world home happening) (home_of world client) (still world)
+abbrev pub by_client : List Setting → World → ℕ → ClientEvent → Stepped
+by_client settings world client client_event = option_map_or
+    (λ home. by_machine settings world home client_event) (home_of world client) (still world)
 
 -- ---- two parts are linked
 

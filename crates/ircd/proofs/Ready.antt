@@ -7,7 +7,7 @@ use Rattle.irc_outbox.specs.Calls.{Call}
 use Rattle.irc_late.specs.declared.late_wire.LateWire.{LateWire}
 use Rattle.irc_sockets.specs.declared.mio_wire.MioWire.{MioWire}
 use Rattle.irc_engine.specs.declared.engine.EngineFault.{EngineFault}
-use Rattle.irc_engine.specs.Turning.{EngineView}
+use Rattle.irc_engine.specs.EngineView.{EngineView}
 use Rattle.irc_engine.specs.Telling.{RunsTelling}
 use Rattle.irc_engine.specs.Laws.Tellings.{runs_tell_some}
 use Rattle.irc_journal.specs.Saying.{AreSomeSaid}

@@ -12,7 +12,8 @@ use Rattle.irc_settings.specs.Configuration.{AreSettingsOf, is_configuration}
 use Rattle.irc_server.specs.declared.config.Config.{Config}
 use Rattle.irc_server.specs.Configuring.{config_fault, made_view}
 use Rattle.irc_stage.specs.View.{KnownPeer, known_peer}
-use Rattle.irc_engine.specs.Turning.{EngineView, IsNew}
+use Rattle.irc_engine.specs.Turning.{IsNew}
+use Rattle.irc_engine.specs.EngineView.{EngineView}
 use Rattle.irc_engine.specs.Telling.{ToldTurns}
 use Rattle.irc_journal.specs.Saying.{AreSomeSaid}
 use Rattle.irc_late.specs.declared.late_wire.LateWire.{LateWire}

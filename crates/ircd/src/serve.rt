@@ -1,7 +1,7 @@
 //! `ircd serve`: a server on TCP sockets.
 ghost use Rattle.std.specs.Prelude.{IfErr};
 ghost use Rattle.irc_engine.specs.Knowing.{HasNobody};
-ghost use Rattle.irc_engine.specs.Loops.Engines.{engine_view};
+ghost use Rattle.irc_engine.specs.EngineView.{engine_view};
 ghost use Rattle.ircd.specs.Loops.Turns.{IsOfFile, IsRun, Opens, TakesTurns};
 ghost use Rattle.ircd.specs.Serving.{ServesFile, ServesText};
 

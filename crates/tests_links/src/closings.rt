@@ -1,5 +1,5 @@
 //! Why a link is closed, each reason in a handshake or behind it; and that no other link is.
-use crate::happening::{
+use crate::events::{
     EventRow, LinkEvent, are_put, event_of, happens, line_of, rows_hold, server, takes,
 };
 use irc_batch::{Batch, Out};

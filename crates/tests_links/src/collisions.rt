@@ -1,6 +1,6 @@
 //! Nicknames that two users would have: both are taken out (RFC 2813 section 4.1.5 and RFC 2812
 //! section 3.7.1).
-use crate::happening::{EventRow, LinkEvent, rows_hold};
+use crate::events::{EventRow, LinkEvent, rows_hold};
 use irc_batch::Out;
 
 /// b.net is linked by 7, with bo, zed and gil, and c.net by 8, with cy. al is client 1 and an

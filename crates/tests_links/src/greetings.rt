@@ -1,6 +1,6 @@
 //! Handshakes and bursts, at the end that is called and at the end that calls (RFC 2813 section
 //! 4.1).
-use crate::happening::{EventRow, LinkEvent, rows_hold};
+use crate::events::{EventRow, LinkEvent, rows_hold};
 use irc_batch::Out;
 use irc_server::CloseReason;
 

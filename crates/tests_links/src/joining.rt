@@ -1,6 +1,6 @@
 //! Channels that two sides have when they are linked: spellings, modes and topics are joined (our
 //! own choice).
-use crate::happening::{EventRow, LinkEvent, rows_hold};
+use crate::events::{EventRow, LinkEvent, rows_hold};
 use irc_batch::Out;
 
 /// al, client 1, has made #key, #private, #limit, #ban and #Spelled. c.net is linked by 8, with cy,

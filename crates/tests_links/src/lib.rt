@@ -13,11 +13,11 @@ mod deed_reading;
 #[cfg(test)]
 mod deed_shown;
 #[cfg(test)]
+mod events;
+#[cfg(test)]
 mod greetings;
 #[cfg(test)]
 mod handshake;
-#[cfg(test)]
-mod happening;
 #[cfg(test)]
 mod joining;
 #[cfg(test)]

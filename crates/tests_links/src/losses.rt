@@ -1,5 +1,5 @@
 //! Servers that are lost, by a SQUIT or with a link (RFC 2813 section 4.1.6).
-use crate::happening::{EventRow, LinkEvent, rows_hold};
+use crate::events::{EventRow, LinkEvent, rows_hold};
 use irc_batch::Out;
 use irc_server::CloseReason;
 

@@ -1,8 +1,9 @@
 //! What is read of a line, as the rows of a test show it.
 use arrayvec::ArrayVec;
 use irc_modes::{ModeChange, ModeLetter};
+use irc_names::Nick;
 use irc_room::{By, Effect, Target};
-use irc_users::User;
+use irc_users::{User, UserChange};
 use irc_wire::WireFault;
 
 /// What is read of a line.
@@ -124,6 +125,16 @@ fn show_on_channel(effect: &Effect, shown: &mut ShownEffects) {
     }
 }
 
+fn show_user_change(nick: &Nick, change: &UserChange, shown: &mut ShownEffects) {
+    match change {
+        UserChange::Invisible(invisible) => {
+            append_word(shown, b"hides");
+            append_word(shown, nick.as_bytes());
+            append_word(shown, flag_word(*invisible));
+        }
+    }
+}
+
 /// Shows an effect.
 pub fn show(effect: &Effect, shown: &mut ShownEffects) {
     match effect {
@@ -138,11 +149,7 @@ pub fn show(effect: &Effect, shown: &mut ShownEffects) {
             append_word(shown, nick.as_bytes());
             append_word(shown, text.as_bytes());
         }
-        Effect::UserMode { nick, invisible } => {
-            append_word(shown, b"hides");
-            append_word(shown, nick.as_bytes());
-            append_word(shown, flag_word(*invisible));
-        }
+        Effect::ChangeUser { nick, change } => show_user_change(nick, change, shown),
         Effect::Invite { by, nick, channel } => {
             append_word(shown, b"invites");
             append_word(shown, by.as_bytes());

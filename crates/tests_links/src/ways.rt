@@ -1,6 +1,6 @@
 //! The links by which a line goes on: along the tree, toward those whom it is for, and never back
 //! (RFC 2813 section 5).
-use crate::happening::{EventRow, LinkEvent, happens, rows_hold, server};
+use crate::events::{EventRow, LinkEvent, happens, rows_hold, server};
 use irc_batch::{Batch, Out};
 use std::alloc::Global;
 

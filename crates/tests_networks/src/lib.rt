@@ -15,7 +15,7 @@ mod tests;
 
 use irc_line::Text;
 use irc_names::ServerName;
-use irc_net::{Answer, Config, Item, Kept, Net, NetConfigFault, NetFault};
+use irc_net::{Answer, ClientNumber, Config, Item, Kept, Net, NetConfigFault, NetFault};
 use std::alloc::Global;
 
 /// A network of these configurations, to which nothing was given.
@@ -81,7 +81,7 @@ pub fn settle(net: &mut Net<Kept>) -> Result<(), NetFault>
 
 /// What a client has received: a front of what it is owed by all that was given, and at rest all
 /// of it.
-pub fn lines(net: &Net<Kept>, client: u64) -> &[Text]
+pub fn lines(net: &Net<Kept>, client: ClientNumber) -> &[Text]
     ensures { ReadsOwed net.now client (map line_bytes result.now) }
 {
     irc_net::laws::every_network_is_one_room();

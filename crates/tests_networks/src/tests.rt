@@ -1,7 +1,7 @@
 //! A network of two servers, of which one calls the other.
 use crate::{begun, give, let_come, lines, lines_taken, rooms, settle};
 use irc_names::{Host, ServerName};
-use irc_net::{Config, Item, Kept, Net, NetFault, Peer};
+use irc_net::{ClientNumber, Config, Item, Kept, Net, NetFault, Peer};
 use irc_routes::Own;
 use std::alloc::{AllocError, Global};
 
@@ -46,14 +46,14 @@ fn meet(
     let early = give(net, Item::Connect(one.copy(), host.copy()));
     settle(net)?;
     let answer = give(net, Item::Connect(one.copy(), host.copy()))?;
-    let gone = give(net, Item::Gone(2));
+    let gone = give(net, Item::Gone(ClientNumber::of(2)));
     rooms(net);
     Ok(
         matches!(early, Err(NetFault::NotAtRest))
-            && answer.client == Some(1)
+            && answer.client == Some(ClientNumber::of(1))
             && matches!(gone, Err(NetFault::NoSuchClient))
             && lines_taken(net) == 0
-            && lines(net, 1).is_empty(),
+            && lines(net, ClientNumber::of(1)).is_empty(),
     )
 }
 

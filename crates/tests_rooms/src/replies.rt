@@ -2,7 +2,9 @@
 use arrayvec::ArrayVec;
 use irc_line::body;
 use irc_names::{BanMask, ChannelName, Host, Key, Nick, RealName, ServerName, UserName, cut_copy};
-use irc_numerics::{ClientWords, Listed, Mark, NameList, OnChannel, Reply, Visibility, reply_line};
+use irc_numerics::{
+    ClientWords, Listed, MemberMark, NameList, OnChannel, Reply, Visibility, reply_line,
+};
 use std::alloc::Global;
 use std::process::Abort;
 
@@ -329,23 +331,23 @@ fn modes_are_written(rt: HostRuntime) {
 
 /// What bo is on a channel, who may know of that, and how it stands in the answers to WHOIS, WHO
 /// and NAMES.
-static MARKS: [(Mark, Visibility, &str, &str, &str); 3] = [
+static MARKS: [(MemberMark, Visibility, &str, &str, &str); 3] = [
     (
-        Mark::Operator,
+        MemberMark::Operator,
         Visibility::Public,
         ":a.net 319 al bo :@#c @#c",
         ":a.net 352 al #c u h a.net bo H@ :0 Bo Li",
         ":a.net 353 al = #c :@bo @bo",
     ),
     (
-        Mark::Voiced,
+        MemberMark::Voiced,
         Visibility::Private,
         ":a.net 319 al bo :+#c +#c",
         ":a.net 352 al #c u h a.net bo H+ :0 Bo Li",
         ":a.net 353 al * #c :+bo +bo",
     ),
     (
-        Mark::Plain,
+        MemberMark::Plain,
         Visibility::Secret,
         ":a.net 319 al bo :#c #c",
         ":a.net 352 al #c u h a.net bo H :0 Bo Li",
@@ -354,7 +356,7 @@ static MARKS: [(Mark, Visibility, &str, &str, &str); 3] = [
 ];
 
 /// Whether bo and two channels of it are written as this line.
-fn shows_channels(given: &ReplyNames, mark: Mark, line: &str) -> bool {
+fn shows_channels(given: &ReplyNames, mark: MemberMark, line: &str) -> bool {
     let mut channels = ArrayVec::new();
     for _ in 0..2 {
         let _ = channels.try_push(OnChannel {
@@ -370,7 +372,7 @@ fn shows_channels(given: &ReplyNames, mark: Mark, line: &str) -> bool {
 fn shows_names(
     alloc: Global,
     given: &ReplyNames,
-    mark: Mark,
+    mark: MemberMark,
     visibility: Visibility,
     line: &str,
 ) -> bool {
@@ -410,7 +412,7 @@ fn longest_names_are_whole(alloc: Global, by: &ServerName, nick: &Nick, to: Chan
     let mut names = ArrayVec::new();
     for _ in 0..10 {
         let _ = names.try_push(Listed {
-            mark: Mark::Operator,
+            mark: MemberMark::Operator,
             nick: nick.copy(),
         });
     }
@@ -436,7 +438,12 @@ fn the_longest_names_are_whole(rt: HostRuntime) {
 }
 
 /// Whether bo, perhaps on a channel, is written as this line.
-fn shows_user(given: &ReplyNames, channel: Option<ChannelName>, mark: Mark, line: &str) -> bool {
+fn shows_user(
+    given: &ReplyNames,
+    channel: Option<ChannelName>,
+    mark: MemberMark,
+    line: &str,
+) -> bool {
     let reply = Reply::WhoReply {
         channel,
         user: UserName::clean(b"u"),
@@ -468,7 +475,7 @@ fn members_are_written_with_their_marks(rt: HostRuntime) {
         shows_user(
             &given,
             None,
-            Mark::Plain,
+            MemberMark::Plain,
             ":a.net 352 al * u h a.net bo H :0 Bo Li"
         )
     );

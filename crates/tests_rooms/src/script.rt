@@ -24,7 +24,7 @@ use irc_line::body;
 use irc_modes::{ModeItem, Modes, Privacy, read_modes};
 use irc_names::{ChannelName, Host, Nick, ServerName, cut_copy};
 use irc_room::{By, Effect, ModeChanges, Room, RoomFault, ShownLine, Target};
-use irc_users::{RealName, User, UserName};
+use irc_users::{RealName, User, UserChange, UserName};
 use itoa::Buffer;
 use std::alloc::Global;
 use std::process::Abort;
@@ -142,9 +142,9 @@ fn effect_of(rt: &impl Abort, alloc: Global, row: ScriptRow<'_>) -> Effect {
             channel: channel(rt, row.second),
             text: Words::cut(row.text.as_bytes()),
         },
-        "set" => Effect::UserMode {
+        "set" => Effect::ChangeUser {
             nick: nick(rt, row.first),
-            invisible: row.second == "+i",
+            change: UserChange::Invisible(row.second == "+i"),
         },
         _ => effect_on(rt, alloc, row),
     }

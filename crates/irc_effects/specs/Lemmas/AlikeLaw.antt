@@ -12,9 +12,9 @@ use Rattle.irc_users.specs.UserTable.{with_nick}
 use Rattle.irc_channels.specs.declared.channel.Channel.{Channel}
 use Rattle.irc_channels.specs.Channels.{new_channel, joined, left, with_topic, all_changed}
 use Rattle.irc_effects.specs.declared.effect.Effect.{Effect}
-use Rattle.irc_effects.specs.declared.effect.Effect.TheVariants.{AddUser, Rename, Quit, Join, Part}
-use Rattle.irc_effects.specs.declared.effect.Effect.TheVariants.{Kick, ChangeModes, SetTopic, Say}
-use Rattle.irc_effects.specs.declared.effect.Effect.TheVariants.{Invite, UserMode}
+use Rattle.irc_effects.specs.declared.effect.Effect.TheVariants.{Rename, Quit, Join, Part}
+use Rattle.irc_effects.specs.declared.effect.Effect.TheVariants.{Kick, ChangeModes, SetTopic}
+use Rattle.irc_effects.specs.declared.effect.Effect.TheVariants.{Invite}
 use Rattle.irc_effects.specs.declared.fault.RoomFault.TheVariants.{Failed}
 use Rattle.irc_effects.specs.Room.{Room}
 use Rattle.irc_effects.specs.Effects.{has_channel, is_member, is_idle, needs_users, needs_channel}
@@ -134,7 +134,6 @@ moved_nobody old new invited = same_table (retain_keys (moved old new (λ u. u) 
 uninvited_follows : (room : Room) (effect : Effect)
     → with_invited nobody (after room effect) ≡ uninvited_after effect (with_invited nobody room)
 unfolding after
-uninvited_follows room (AddUser user) = refl
 uninvited_follows room (Rename nick new) =
     only_renamed nobody nobody (moved (key nick) (key new) (with_nick new) room.users) (key nick)
     (key new) room.channels
@@ -153,9 +152,8 @@ uninvited_follows room (ChangeModes by name changes) =
     only_altered nobody name (option_map (all_changed changes)) room (changed_only nobody changes)
 uninvited_follows room (SetTopic by name text) =
     only_altered nobody name (option_map (with_topic text)) room (topic_only nobody text)
-uninvited_follows room (Say by notice to text) = refl
 uninvited_follows room (Invite by nick name) = only_unchanged nobody name nick room refl
-uninvited_follows room (UserMode nick invisible) = refl
+uninvited_follows room other = refl
 
 pub alike_stay_alike : AlikeStayAlike
 alike_stay_alike room other effect alike =

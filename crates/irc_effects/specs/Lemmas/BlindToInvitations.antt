@@ -12,9 +12,9 @@ use Rattle.irc_users.specs.declared.user.User.{User}
 use Rattle.irc_channels.specs.declared.channel.Channel.{Channel}
 use Rattle.irc_channels.specs.Channels.{has_member}
 use Rattle.irc_effects.specs.declared.effect.Effect.{Effect}
-use Rattle.irc_effects.specs.declared.effect.Effect.TheVariants.{AddUser, Rename, Quit, Join, Part}
+use Rattle.irc_effects.specs.declared.effect.Effect.TheVariants.{Rename, Quit, Join, Part}
 use Rattle.irc_effects.specs.declared.effect.Effect.TheVariants.{Kick, ChangeModes, SetTopic, Say}
-use Rattle.irc_effects.specs.declared.effect.Effect.TheVariants.{Invite, UserMode}
+use Rattle.irc_effects.specs.declared.effect.Effect.TheVariants.{Invite}
 use Rattle.irc_effects.specs.declared.effect.Target.TheVariants as target
 use Rattle.irc_effects.specs.declared.fault.RoomFault.TheVariants.{NoSuchUser, NoSuchChannel}
 use Rattle.irc_effects.specs.Room.{Room}
@@ -80,17 +80,10 @@ module _ (stays : List ℕ → Bool) (room : Room) where
       (inviting_only stays) (values room.channels)
 
   pub idle_same : (effect : Effect) → is_idle now effect ≡ is_idle room effect
-  idle_same (AddUser user) = refl
-  idle_same (Rename nick new) = refl
-  idle_same (Quit nick text) = refl
   idle_same (Join nick name op) = member_same nick name
   idle_same (Part nick name text) = λ i. channel_same name i && not (member_same nick name i)
   idle_same (Kick by name nick text) = λ i. channel_same name i && not (member_same nick name i)
-  idle_same (ChangeModes by name changes) = refl
-  idle_same (SetTopic by name text) = refl
-  idle_same (Say by notice to text) = refl
-  idle_same (Invite by nick name) = refl
-  idle_same (UserMode nick invisible) = refl
+  idle_same other = refl
 
   pub free_same : (effect : Effect) → brings_free now effect ≡ brings_free room effect
   free_same effect = refl
@@ -108,7 +101,6 @@ module _ (stays : List ℕ → Bool) (room : Room) where
   does_same effect = λ i. is_none (missing_same effect i) && not (idle_same effect i)
 
   sees_same : (effect : Effect) (viewer : List ℕ) → sees now effect viewer ≡ sees room effect viewer
-  sees_same (AddUser user) viewer = refl
   sees_same (Rename nick new) viewer = ap (λ b. same nick viewer || b) (share_same nick viewer)
   sees_same (Quit nick text) viewer = ap (λ b. not (same nick viewer) && b) (share_same nick viewer)
   sees_same (Join nick name op) viewer = ap (λ b. same nick viewer || b) (member_same viewer name)
@@ -116,17 +108,12 @@ module _ (stays : List ℕ → Bool) (room : Room) where
   sees_same (Kick by name nick text) viewer = member_same viewer name
   sees_same (ChangeModes by name changes) viewer = member_same viewer name
   sees_same (SetTopic by name text) viewer = member_same viewer name
-  sees_same (Say by notice (target.User nick) text) viewer = refl
   sees_same (Say by notice (target.Channel name) text) viewer =
       ap (λ b. not (same by viewer) && b) (member_same viewer name)
-  sees_same (Invite by nick name) viewer = refl
-  sees_same (UserMode nick invisible) viewer = refl
+  sees_same other viewer = refl
 
   line_same : (effect : Effect) (viewer : User)
       → shown_line now effect viewer ≡ shown_line room effect viewer
-  line_same (AddUser user) viewer = refl
-  line_same (Rename nick new) viewer = refl
-  line_same (Quit nick text) viewer = refl
   line_same (Join nick name op) viewer =
       ap (λ c. line_from (codes "JOIN") (c ∷ []) None (from_nick room nick)) (stored_same name)
   line_same (Part nick name text) viewer = ap
@@ -140,14 +127,13 @@ module _ (stays : List ℕ → Bool) (room : Room) where
   line_same (SetTopic by name text) viewer =
       ap (λ c. line_from (codes "TOPIC") (c ∷ []) (Some text) (from_by room by viewer))
       (stored_same name)
-  line_same (Say by notice (target.User nick) text) viewer = refl
   line_same (Say by notice (target.Channel name) text) viewer =
       ap (λ c. line_from (if notice then codes "NOTICE" else codes "PRIVMSG") (c ∷ [])
       (Some text.items) (from_nick room by)) (stored_same name)
   line_same (Invite by nick name) viewer =
       ap (λ c. line_from (codes "INVITE") (stored_nick room nick ∷ c ∷ []) None (from_nick room by))
       (stored_same name)
-  line_same (UserMode nick invisible) viewer = refl
+  line_same other viewer = refl
 
   pub seen_same : (effect : Effect) → seen now effect ≡ seen room effect
   unfolding seen

@@ -10,13 +10,14 @@ use Rattle.irc_names.specs.TableLaws.{same_fold, same_fold-refl, one_fold, row-a
 use Rattle.irc_names.specs.TableLaws.{row-alter_other, retain_keys-alike, each-alike, each-turned}
 use Rattle.irc_names.specs.TableLaws.{each-alter}
 use Rattle.irc_users.specs.declared.user.User.{User}
-use Rattle.irc_users.specs.UserTable.{is_home, with_nick, with_invisible}
+use Rattle.irc_users.specs.declared.user_change.UserChange.{UserChange}
+use Rattle.irc_users.specs.UserTable.{is_home, with_nick, with_change}
 use Rattle.irc_channels.specs.declared.channel.Channel.{Channel}
 use Rattle.irc_channels.specs.Channels.{new_channel, joined, left, without_user, renamed}
 use Rattle.irc_channels.specs.Channels.{invited_too, with_topic, all_changed}
 use Rattle.irc_effects.specs.declared.effect.Effect.TheVariants.{AddUser, Rename, Quit, Join, Part}
 use Rattle.irc_effects.specs.declared.effect.Effect.TheVariants.{Kick, ChangeModes, SetTopic, Say}
-use Rattle.irc_effects.specs.declared.effect.Effect.TheVariants.{Invite, UserMode}
+use Rattle.irc_effects.specs.declared.effect.Effect.TheVariants.{Invite, ChangeUser}
 use Rattle.irc_effects.specs.Room.{Room}
 use Rattle.irc_effects.specs.After.{after, alter_channel}
 use Rattle.irc_effects.specs.Invitations.{is_at, with_invited, of_home, HomeFollows}
@@ -107,19 +108,19 @@ new_elsewhere home fold user users free q there = by_fold (same_fold q fold) ref
     by_fold false apart = elsewhere home fold (λ _. Some user) users q apart
 
 -- a user's own mode is no matter
-mode_same : (home fold : List ℕ) (invisible : Bool) (users : Table User) (q : List ℕ)
-    → is_at home (alter fold (option_map (with_invisible invisible)) users) q ≡ is_at home users q
-mode_same home fold invisible users q =
+mode_same : (home fold : List ℕ) (change : UserChange) (users : Table User) (q : List ℕ)
+    → is_at home (alter fold (option_map (with_change change)) users) q ≡ is_at home users q
+mode_same home fold change users q =
     ap (λ o. option_map_or (is_home home) o false) (row-alter fold
-    (option_map (with_invisible invisible)) users q) ∙ by_fold (same_fold q fold) refl
+    (option_map (with_change change)) users q) ∙ by_fold (same_fold q fold) refl
   where
     at_home : (o : Option User) → option_map_or (is_home home)
-        (option_map (with_invisible invisible) o) false ≡ option_map_or (is_home home) o false
+        (option_map (with_change change) o) false ≡ option_map_or (is_home home) o false
     at_home None = refl
     at_home (Some user) = refl
 
     by_fold : (b : Bool) → same_fold q fold ≡ b → option_map_or (is_home home)
-        (cond b (option_map (with_invisible invisible) (row users fold)) (row users q)) false
+        (cond b (option_map (with_change change) (row users fold)) (row users q)) false
         ≡ is_at home users q
     by_fold true one = at_home (row users fold) ∙ ap (is_at home users) (sym (one_fold q fold one))
     by_fold false apart = refl
@@ -189,7 +190,7 @@ home_follows home room (SetTopic by name text) well free =
 home_follows home room (Say by notice target text) well free = refl
 home_follows home room (Invite by nick name) well free =
     home_invite home room nick name (is_at home room.users (key nick)) refl
-home_follows home room (UserMode nick invisible) well free =
-    let users = alter (key nick) (option_map (with_invisible invisible)) room.users in
+home_follows home room (ChangeUser nick change) well free =
+    let users = alter (key nick) (option_map (with_change change)) room.users in
     only_users (is_at home room.users) (is_at home users) users room.channels
-    (λ fold channel at q there. mode_same home (key nick) invisible room.users q)
+    (λ fold channel at q there. mode_same home (key nick) change room.users q)

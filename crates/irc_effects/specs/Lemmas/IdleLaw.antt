@@ -6,9 +6,8 @@ use Rattle.irc_names.specs.Fold.{key}
 use Rattle.irc_names.specs.Tables.{Table, row}
 use Rattle.irc_channels.specs.declared.channel.Channel.{Channel}
 use Rattle.irc_channels.specs.Channels.{has_member, new_channel, joined, left}
-use Rattle.irc_effects.specs.declared.effect.Effect.TheVariants.{AddUser, Rename, Quit, Join, Part}
-use Rattle.irc_effects.specs.declared.effect.Effect.TheVariants.{Kick, ChangeModes, SetTopic, Say}
-use Rattle.irc_effects.specs.declared.effect.Effect.TheVariants.{Invite, UserMode}
+use Rattle.irc_effects.specs.declared.effect.Effect.TheVariants.{Join, Part}
+use Rattle.irc_effects.specs.declared.effect.Effect.TheVariants.{Kick}
 use Rattle.irc_effects.specs.Room.{Room}
 use Rattle.irc_effects.specs.After.{after, alter_channel}
 use Rattle.irc_effects.specs.Laws.{IdleChangesNothing}
@@ -35,17 +34,10 @@ alter_channel_same name change room is =
 
 pub idle_changes_nothing : IdleChangesNothing
 unfolding after
-idle_changes_nothing room (AddUser user) idle = not_true idle
-idle_changes_nothing room (Rename nick new) idle = not_true idle
-idle_changes_nothing room (Quit nick text) idle = not_true idle
 idle_changes_nothing room (Join nick name op) idle =
     alter_channel_same name _ room (is_in (key nick) op name (row room.channels (key name)) idle)
 idle_changes_nothing room (Part nick name text) idle =
     alter_channel_same name _ room (is_out (key nick) (row room.channels (key name)) idle)
 idle_changes_nothing room (Kick by name nick text) idle =
     alter_channel_same name _ room (is_out (key nick) (row room.channels (key name)) idle)
-idle_changes_nothing room (ChangeModes by name changes) idle = not_true idle
-idle_changes_nothing room (SetTopic by name text) idle = not_true idle
-idle_changes_nothing room (Say by notice target text) idle = not_true idle
-idle_changes_nothing room (Invite by nick name) idle = not_true idle
-idle_changes_nothing room (UserMode nick invisible) idle = not_true idle
+idle_changes_nothing room other idle = not_true idle

@@ -9,7 +9,8 @@ use Rattle.irc_names.specs.Names.{IsNick, IsChannel}
 use Rattle.irc_names.specs.Tables.{Table, fold_cmp, row, alter, each, moved}
 use Rattle.irc_names.specs.TableLaws.{same_fold, row-alter, row-each, row-moved, row-moved_none}
 use Rattle.irc_users.specs.declared.user.User.{User}
-use Rattle.irc_users.specs.UserTable.{with_nick, with_invisible}
+use Rattle.irc_users.specs.declared.user_change.UserChange.{UserChange}
+use Rattle.irc_users.specs.UserTable.{with_nick, with_change}
 use Rattle.irc_modes.specs.declared.modes.ModeChange.{ModeChange}
 use Rattle.irc_modes.specs.declared.modes.ModeLetter.TheVariants as letter
 use Rattle.irc_modes.specs.declared.modes.ModeLetter.{ModeLetter}
@@ -20,7 +21,7 @@ use Rattle.irc_channels.specs.Channels.{without_user, renamed, invited_too, with
 use Rattle.irc_effects.specs.declared.effect.By.TheVariants as by
 use Rattle.irc_effects.specs.declared.effect.Effect.TheVariants.{AddUser, Rename, Quit, Join, Part}
 use Rattle.irc_effects.specs.declared.effect.Effect.TheVariants.{Kick, ChangeModes, SetTopic, Say}
-use Rattle.irc_effects.specs.declared.effect.Effect.TheVariants.{Invite, UserMode}
+use Rattle.irc_effects.specs.declared.effect.Effect.TheVariants.{Invite, ChangeUser}
 use Rattle.irc_effects.specs.Room.{Room}
 use Rattle.irc_effects.specs.Limits.{IsCarriedText, IsUserWithin, IsChannelWithin, IsBanCarried}
 use Rattle.irc_effects.specs.Sendable.{IsNameFor, IsSentWord, IsSentChange}
@@ -112,9 +113,9 @@ nick_within new user is within = record {
   home = within.home;
 }
 
-mode_within : (invisible : Bool) (user : User) → IsUserWithin user
-    → IsUserWithin (with_invisible invisible user)
-mode_within invisible user within = record {
+change_within : (change : UserChange) (user : User) → IsUserWithin user
+    → IsUserWithin (with_change change user)
+change_within change user within = record {
   nick = within.nick;
   name = within.name;
   name_some = within.name_some;
@@ -258,9 +259,9 @@ after_is_within_limits room (Invite by nick channel) within keeps = record {
       (invited_too (key nick)) room.channels within.channels
       (λ before is. same_within before (invited_too (key nick) before) refl refl refl is);
 }
-after_is_within_limits room (UserMode nick invisible) within keeps = record {
-  users = there_mapped IsUserWithin (key nick) (with_invisible invisible) room.users within.users
-      (λ before is. mode_within invisible before is);
+after_is_within_limits room (ChangeUser nick change) within keeps = record {
+  users = there_mapped IsUserWithin (key nick) (with_change change) room.users within.users
+      (λ before is. change_within change before is);
   channels = within.channels;
 }
 
@@ -298,17 +299,13 @@ bans_carried room (c ∷ changes) sent =
 pub sent_keeps_limits : SentKeepsLimits
 sent_keeps_limits room (AddUser user) within sent = sent
 sent_keeps_limits room (Rename nick new) within sent = sent.new_named
-sent_keeps_limits room (Quit nick text) within sent = tt
 sent_keeps_limits room (Join nick channel op) within sent =
     named channel (row room.channels (key channel))
     (within.channels (key channel)) sent.channel_named
-sent_keeps_limits room (Part nick channel text) within sent = tt
-sent_keeps_limits room (Kick by channel nick text) within sent = tt
 sent_keeps_limits room (ChangeModes (by.User nick) channel changes) within sent =
     bans_carried room changes sent.words_sent
 sent_keeps_limits room (ChangeModes by.Home channel changes) within sent = absurd sent
 sent_keeps_limits room (SetTopic (by.User nick) channel text) within sent = sent.text_within
 sent_keeps_limits room (SetTopic by.Home channel text) within sent = absurd sent
-sent_keeps_limits room (Say by notice to text) within sent = tt
-sent_keeps_limits room (Invite by nick channel) within sent = tt
-sent_keeps_limits room (UserMode nick invisible) within sent = tt
+sent_keeps_limits room (ChangeUser nick change) within sent = sent.keeps
+sent_keeps_limits room other within sent = tt

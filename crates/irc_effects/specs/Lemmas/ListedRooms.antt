@@ -8,7 +8,7 @@ use Rattle.irc_names.specs.Fold.{key}
 use Rattle.irc_names.specs.Greater.{bytes_cmp, greater}
 use Rattle.irc_names.specs.Tables.{Table, fold_cmp, alter}
 use Rattle.irc_users.specs.declared.user.User.{User}
-use Rattle.irc_users.specs.UserTable.{with_nick, with_invisible}
+use Rattle.irc_users.specs.UserTable.{with_nick, with_change}
 use Rattle.irc_channels.specs.declared.flags.Flags.{Flags}
 use Rattle.irc_modes.specs.declared.modes.Modes.{Modes}
 use Rattle.irc_modes.specs.declared.modes.ModeChange.{ModeChange}
@@ -23,7 +23,7 @@ use Rattle.irc_channels.specs.Channels.{letter_changed, all_changed}
 use Rattle.irc_effects.specs.declared.effect.Effect.{Effect}
 use Rattle.irc_effects.specs.declared.effect.Effect.TheVariants.{AddUser, Rename, Quit, Join, Part}
 use Rattle.irc_effects.specs.declared.effect.Effect.TheVariants.{Kick, ChangeModes, SetTopic, Say}
-use Rattle.irc_effects.specs.declared.effect.Effect.TheVariants.{Invite, UserMode}
+use Rattle.irc_effects.specs.declared.effect.Effect.TheVariants.{Invite, ChangeUser}
 use Rattle.irc_effects.specs.Room.{Room}
 use Rattle.irc_effects.specs.After.{after, titled_by}
 use Rattle.irc_effects.specs.Lemmas.Rows.{is_some_map}
@@ -270,8 +270,8 @@ list_after room (SetTopic by name text) =
 list_after room (Say by notice target text) = room
 list_after room (Invite by nick name) =
     alter_list_channel name (option_map (list_invited (key nick))) room
-list_after room (UserMode nick invisible) =
-    alter_list_user nick (option_map (with_invisible invisible)) room
+list_after room (ChangeUser nick change) =
+    alter_list_user nick (option_map (with_change change)) room
 
 with_channels : (room : ListedRoom) (channels : Table Channel)
     (es : List (List ℕ × ListedChannel)) → channels ≡ table_of channel_of es
@@ -347,10 +347,10 @@ after_listed room (Invite by nick name) =
     with_channels room _ _
     (maps_listed name (invited_too (key nick)) (list_invited (key nick)) room
     (invited_listed (key nick)))
-after_listed room (UserMode nick invisible) =
+after_listed room (ChangeUser nick change) =
     λ i. record (room_of room) {
       users = altered_plain (key nick)
-          (option_map (with_invisible invisible)) room.users i;
+          (option_map (with_change change)) room.users i;
     }
 
 -- a channel's name spelled in the greater of two ways

@@ -8,8 +8,9 @@ use Rattle.std.specs.FinMap.{values}
 use Rattle.std.specs.FinMap.Entries.{find, is_sorted}
 use Rattle.irc_names.specs.Fold.{key, same}
 use Rattle.irc_names.specs.Tables.{fold_cmp, row}
-use Rattle.irc_line.specs.Messages.{Sender, named}
+use Rattle.irc_line.specs.Messages.{Sender, named, text}
 use Rattle.irc_users.specs.declared.user.User.{User}
+use Rattle.irc_users.specs.UserTable.{is_shown}
 use Rattle.irc_channels.specs.declared.channel.Channel.{Channel}
 use Rattle.irc_channels.specs.Channels.{has_member}
 use Rattle.irc_modes.specs.ModeWritten.{letters_text}
@@ -21,11 +22,12 @@ use Rattle.irc_effects.specs.declared.effect.Target.TheVariants as target
 use Rattle.irc_effects.specs.declared.effect.Effect.{Effect}
 use Rattle.irc_effects.specs.declared.effect.Effect.TheVariants.{AddUser, Rename, Quit, Join, Part}
 use Rattle.irc_effects.specs.declared.effect.Effect.TheVariants.{Kick, ChangeModes, SetTopic, Say}
-use Rattle.irc_effects.specs.declared.effect.Effect.TheVariants.{Invite, UserMode}
+use Rattle.irc_effects.specs.declared.effect.Effect.TheVariants.{Invite, ChangeUser}
 use Rattle.irc_effects.specs.Room.{Room}
 use Rattle.irc_effects.specs.Effects.{is_idle, is_member, has_channel}
 use Rattle.irc_effects.specs.Seen.{Showing, seen, shown_to, share_channel, stored_nick}
 use Rattle.irc_effects.specs.Seen.{stored_channel, from_nick, full_sender, line_from, names_member}
+use Rattle.irc_effects.specs.Seen.{change_parts}
 use Rattle.irc_effects.specs.Lemmas.Rows.{is_some_map}
 use Rattle.irc_effects.specs.Lemmas.Listed.{map_itself, row_listed, entries_listed}
 use Rattle.irc_effects.specs.Lemmas.ListedRooms.{ListedChannel, ListedRoom, channel_of, room_of}
@@ -71,7 +73,7 @@ sees_by asked (Say by notice (target.User nick) text) viewer = same nick viewer
 sees_by asked (Say by notice (target.Channel channel) text) viewer =
     not (same by viewer) && asked.member viewer channel
 sees_by asked (Invite by nick channel) viewer = same nick viewer
-sees_by asked (UserMode nick invisible) viewer = same nick viewer
+sees_by asked (ChangeUser nick change) viewer = is_shown change && same nick viewer
 
 abbrev sender_by : RoomAnswers → By → User → Option Sender
 sender_by asked (by.User nick) viewer = asked.sender nick
@@ -107,9 +109,8 @@ line_by asked (Say by notice to words) viewer =
     (Some (words.items)) (asked.sender by)
 line_by asked (Invite by nick channel) viewer =
     line_from (codes "INVITE") (asked.nick nick ∷ asked.channel channel ∷ []) None (asked.sender by)
-line_by asked (UserMode nick invisible) viewer =
-    line_from (codes "MODE") (asked.nick nick ∷ (if invisible then codes "+i" else codes "-i")
-    ∷ []) None (asked.sender nick)
+line_by asked (ChangeUser nick change) viewer =
+    option_map text (change_parts (asked.nick nick) change (asked.sender nick))
 
 abbrev pub shown_by : RoomAnswers → Effect → User → Option Showing
 shown_by asked effect viewer =
@@ -121,34 +122,17 @@ seen_by asked users effect =
     if idle_by asked effect then [] else filter_map (shown_by asked effect) users
 
 idle_asked : (room : Room) (effect : Effect) → is_idle room effect ≡ idle_by (asked_of room) effect
-idle_asked room (AddUser user) = refl
-idle_asked room (Rename nick new) = refl
-idle_asked room (Quit nick text) = refl
-idle_asked room (Join nick channel op) = refl
-idle_asked room (Part nick channel text) = refl
-idle_asked room (Kick by channel nick text) = refl
-idle_asked room (ChangeModes by channel changes) = refl
-idle_asked room (SetTopic by channel text) = refl
-idle_asked room (Say by notice target text) = refl
-idle_asked room (Invite by nick channel) = refl
-idle_asked room (UserMode nick invisible) = refl
+idle_asked room other = refl
 
 shown_asked : (room : Room) (effect : Effect) (viewer : User)
     → shown_to room effect viewer ≡ shown_by (asked_of room) effect viewer
-shown_asked room (AddUser user) viewer = refl
-shown_asked room (Rename nick new) viewer = refl
-shown_asked room (Quit nick text) viewer = refl
-shown_asked room (Join nick channel op) viewer = refl
-shown_asked room (Part nick channel text) viewer = refl
-shown_asked room (Kick by channel nick text) viewer = refl
 shown_asked room (ChangeModes (by.User nick) channel changes) viewer = refl
 shown_asked room (ChangeModes by.Home channel changes) viewer = refl
 shown_asked room (SetTopic (by.User nick) channel text) viewer = refl
 shown_asked room (SetTopic by.Home channel text) viewer = refl
 shown_asked room (Say by notice (target.User nick) text) viewer = refl
 shown_asked room (Say by notice (target.Channel channel) text) viewer = refl
-shown_asked room (Invite by nick channel) viewer = refl
-shown_asked room (UserMode nick invisible) viewer = refl
+shown_asked room other viewer = refl
 
 seen_asked : (room : Room) (effect : Effect)
     → seen room effect ≡ seen_by (asked_of room) (values room.users) effect

@@ -16,9 +16,9 @@ use Rattle.irc_effects.specs.declared.effect.By.TheVariants as by
 use Rattle.irc_effects.specs.declared.effect.Target.{Target}
 use Rattle.irc_effects.specs.declared.effect.Target.TheVariants as target
 use Rattle.irc_effects.specs.declared.effect.Effect.{Effect}
-use Rattle.irc_effects.specs.declared.effect.Effect.TheVariants.{AddUser, Rename, Quit, Join, Part}
+use Rattle.irc_effects.specs.declared.effect.Effect.TheVariants.{Rename, Quit, Join, Part}
 use Rattle.irc_effects.specs.declared.effect.Effect.TheVariants.{Kick, ChangeModes, SetTopic, Say}
-use Rattle.irc_effects.specs.declared.effect.Effect.TheVariants.{Invite, UserMode}
+use Rattle.irc_effects.specs.declared.effect.Effect.TheVariants.{Invite, ChangeUser}
 use Rattle.irc_effects.specs.Room.{Room}
 use Rattle.irc_effects.specs.Limits.{IsChannelWithin, IsWithinLimits}
 use Rattle.irc_effects.specs.Seen.{names_member}
@@ -85,7 +85,6 @@ module _ (room other : Room) (alike : AreAlike room other) where
   target_stored (target.Channel name) = channel_stored name
 
   sent : (effect : Effect) → IsSendable room effect → IsSendable other effect
-  sent (AddUser user) so = so
   sent (Rename nick new) so =
       record { nick_stored = nick_stored nick so.nick_stored; new_named = so.new_named }
   sent (Quit nick text) so =
@@ -112,13 +111,11 @@ module _ (room other : Room) (alike : AreAlike room other) where
     changes_readable = so.changes_readable;
     words_sent = words_sent changes so.words_sent;
   }
-  sent (ChangeModes by.Home channel changes) so = so
   sent (SetTopic (by.User nick) channel text) so = record {
     by_stored = nick_stored nick so.by_stored;
     channel_stored = channel_stored channel so.channel_stored;
     text_within = so.text_within;
   }
-  sent (SetTopic by.Home channel text) so = so
   sent (Say by notice to text) so = record {
     by_stored = nick_stored by so.by_stored;
     target_stored = target_stored to so.target_stored;
@@ -133,7 +130,9 @@ module _ (room other : Room) (alike : AreAlike room other) where
     nick_stored = nick_stored nick so.nick_stored;
     channel_named = channel_named channel so.channel_named;
   }
-  sent (UserMode nick invisible) so = nick_stored nick so
+  sent (ChangeUser nick change) so =
+      record { nick_stored = nick_stored nick so.nick_stored; keeps = so.keeps }
+  sent other so = so
 
   as_uninvited : (channel : Channel) → IsChannelWithin channel
       → IsChannelWithin (uninviting channel)

@@ -7,13 +7,14 @@ use Rattle.irc_names.specs.Fold.{key}
 use Rattle.irc_names.specs.Tables.{Table, fold_cmp, row, alter, each, moved}
 use Rattle.irc_names.specs.TableLaws.{same_fold, one_fold, row-alter, row-each, row-moved}
 use Rattle.irc_users.specs.declared.user.User.{User}
-use Rattle.irc_users.specs.UserTable.{with_nick, with_invisible}
+use Rattle.irc_users.specs.declared.user_change.UserChange.{UserChange}
+use Rattle.irc_users.specs.UserTable.{with_nick, with_change}
 use Rattle.irc_channels.specs.declared.channel.Channel.{Channel}
 use Rattle.irc_channels.specs.Channels.{new_channel, joined, left, without_user, renamed}
 use Rattle.irc_channels.specs.Channels.{invited_too, with_topic, all_changed}
 use Rattle.irc_effects.specs.declared.effect.Effect.TheVariants.{AddUser, Rename, Quit, Join, Part}
 use Rattle.irc_effects.specs.declared.effect.Effect.TheVariants.{Kick, ChangeModes, SetTopic, Say}
-use Rattle.irc_effects.specs.declared.effect.Effect.TheVariants.{Invite, UserMode}
+use Rattle.irc_effects.specs.declared.effect.Effect.TheVariants.{Invite, ChangeUser}
 use Rattle.irc_effects.specs.Room.{Room, IsWellFormed, IsSoundRow}
 use Rattle.irc_effects.specs.After.{after, alter_user, alter_channel}
 use Rattle.irc_effects.specs.Laws.{AfterIsWellFormed, NoRoomIsWellFormed}
@@ -131,18 +132,18 @@ with_user room user well =
     (λ other is. ap (λ (u : User). key u.nick) (sym (same_some user other is)))
     (put_within (key user.nick) user room.users)
 
-with_mode : (room : Room) (nick : List ℕ) (invisible : Bool) → IsWellFormed room
-    → IsWellFormed (alter_user nick (option_map (with_invisible invisible)) room)
-with_mode room nick invisible well =
-    user_altered room nick (option_map (with_invisible invisible)) well
+with_mode : (room : Room) (nick : List ℕ) (change : UserChange) → IsWellFormed room
+    → IsWellFormed (alter_user nick (option_map (with_change change)) room)
+with_mode room nick change well =
+    user_altered room nick (option_map (with_change change)) well
     (λ user is. by_row (row room.users (key nick)) refl user is)
-    (mapped_within (key nick) (with_invisible invisible) room.users)
+    (mapped_within (key nick) (with_change change) room.users)
   where
     by_row : (o : Option User) → row room.users (key nick) ≡ o → (user : User)
-        → option_map (with_invisible invisible) o ≡ Some user → key user.nick ≡ key nick
+        → option_map (with_change change) o ≡ Some user → key user.nick ≡ key nick
     by_row None at user is = not_none user is
     by_row (Some before) at user is =
-        ap (λ (u : User). key u.nick) (sym (same_some (with_invisible invisible before) user is))
+        ap (λ (u : User). key u.nick) (sym (same_some (with_change change before) user is))
         ∙ well.users_named (key nick) before at
 
 -- who is left when one user quits
@@ -253,5 +254,5 @@ after_is_well_formed room (Invite by nick name) well possible =
     there_mapped room name (invited_too (key nick)) well
     (λ before sound. invited_sound room.users (key name) (key nick) before sound
     (second_there _ _ possible.users_there))
-after_is_well_formed room (UserMode nick invisible) well possible =
-    with_mode room nick invisible well
+after_is_well_formed room (ChangeUser nick change) well possible =
+    with_mode room nick change well

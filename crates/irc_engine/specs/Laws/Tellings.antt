@@ -8,7 +8,8 @@ use Rattle.irc_journal.specs.Saying.{AreSomeSaid}
 use Rattle.irc_journal.specs.Laws.Sayings.{some_said_both}
 use Rattle.irc_engine.specs.declared.engine.EngineFault.{EngineFault}
 use Rattle.irc_engine.specs.Running.{IsInOrder}
-use Rattle.irc_engine.specs.Turning.{EngineView, Turned, takes_turn}
+use Rattle.irc_engine.specs.Turning.{Turned, takes_turn}
+use Rattle.irc_engine.specs.EngineView.{EngineView}
 use Rattle.irc_engine.specs.Telling.{call_told, IsCallSaid, Tells, ToldTurns, no_told}
 use Rattle.irc_engine.specs.Telling.{told_more, RunsTelling, all_told, told_stopped}
 use Rattle.irc_engine.specs.Laws.Turns.{in_order_after}

@@ -18,7 +18,8 @@ use Rattle.irc_engine.specs.declared.connection_table.Connection.{Connection}
 use Rattle.irc_engine.specs.Carrying.{fresh_connection, has_some_at, is_exchange, bytes_owed, Fate}
 use Rattle.irc_engine.specs.Running.{Moment, IsInOrder, Ran, Starts, in_use, makes_connection}
 use Rattle.irc_engine.specs.Running.{Reads, not_open, read_once, Answers, Turn}
-use Rattle.irc_engine.specs.Turning.{EngineView, Turned, takes_turn, device_failed, wants_memory}
+use Rattle.irc_engine.specs.Turning.{Turned, takes_turn, device_failed, wants_memory}
+use Rattle.irc_engine.specs.EngineView.{EngineView}
 use Rattle.irc_engine.specs.Turning.{has_failed, Turns, no_turn, one_more}
 use Rattle.irc_engine.specs.Writing.{one_if}
 

@@ -3,9 +3,8 @@
 use Rattle.std.specs.Prelude.{◌≡◌, ℕ, ◌≤◌, Bool, true, false, ◌&&◌, ◌||◌, nat_eq, is_some, Option}
 use Rattle.std.specs.Prelude.{Some, None, Result, List, [], ◌∷◌, if◌then◌else◌}
 use Rattle.std.specs.List.{filter}
-use Rattle.std.specs.Ordering.{nat_cmp}
-use Rattle.std.specs.BTreeMap.{BTreeMap, get}
-use Rattle.std.specs.BTreeSet.{BTreeSet, contains}
+use Rattle.std.specs.BTreeMap.{BTreeMap}
+use Rattle.std.specs.BTreeSet.{BTreeSet}
 use Rattle.irc_outbox.specs.Calls.{Call, writes, closes, is_some_bytes, Adds}
 use Rattle.irc_outbox.specs.declared.wire.IoFault.{IoFault}
 use Rattle.irc_batch.specs.Batches.{Sent}
@@ -14,19 +13,13 @@ use Rattle.irc_engine.specs.declared.connection_table.Connection.{Connection}
 use Rattle.irc_engine.specs.declared.connections.Connections.{Connections}
 use Rattle.irc_engine.specs.Carrying.{AddsAll, Passage, has_some_at, is_done_at, is_exchange}
 use Rattle.irc_engine.specs.Carrying.{is_open_at, kind_at}
-use Rattle.irc_engine.specs.Loops.Tables.{connection_of, CountsWithout, IsSet}
+use Rattle.irc_engine.specs.Loops.Tables.{CountsWithout, IsSet}
+use Rattle.irc_engine.specs.Moments.{connection_of, has, lost_at}
 use Rattle.irc_engine.specs.Loops.Counts.{count_of}
-
-abbrev pub has : BTreeSet ℕ → ℕ → Bool
-has numbers conn = contains nat_cmp numbers conn
 
 -- a number is in a set, or is not, from now on
 abbrev pub IsNoted : BTreeSet ℕ → ℕ → Bool → BTreeSet ℕ → Type 0
 IsNoted old conn now new = (q : ℕ) → has new q ≡ (if nat_eq conn q then now else has old q)
-
--- the kind of a connection that was lost
-abbrev pub lost_at : BTreeMap ℕ ConnectionKind → ℕ → Option ConnectionKind
-lost_at lost conn = get nat_cmp lost conn
 
 -- a connection is among those that were lost, as one of some kind, or is not, from now on
 abbrev pub IsLostAs : BTreeMap ℕ ConnectionKind → ℕ → Option ConnectionKind

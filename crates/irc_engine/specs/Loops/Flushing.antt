@@ -12,9 +12,9 @@ use Rattle.irc_engine.specs.Carrying.{has_some_at}
 use Rattle.irc_engine.specs.Hearing.{nothing_of}
 use Rattle.irc_engine.specs.Running.{AllTold, IsInOrder, Ran}
 use Rattle.irc_engine.specs.Writing.{one_if, destinations, is_some_write}
-use Rattle.irc_engine.specs.Loops.Connections.{has, IsMarkedAt}
-use Rattle.irc_engine.specs.Loops.Moments.{moment_of, IsNobodyNoted}
-use Rattle.irc_engine.specs.Loops.Tables.{connection_of}
+use Rattle.irc_engine.specs.Loops.Connections.{IsMarkedAt}
+use Rattle.irc_engine.specs.Moments.{has, moment_of, connection_of}
+use Rattle.irc_engine.specs.Loops.Moments.{IsNobodyNoted}
 
 -- These calls have written, and just those that are still pending have yet to be written to.
 pub record Flushing (pending : ℕ → Bool) (was : ℕ → Option Connection) (calls : List Call)

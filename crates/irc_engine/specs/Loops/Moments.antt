@@ -6,7 +6,6 @@ use Rattle.irc_outbox.specs.declared.wire.Got.TheVariants.{Bytes, Later, End}
 use Rattle.irc_outbox.specs.declared.wire.IoFault.{IoFault}
 use Rattle.irc_outbox.specs.Calls.{Call}
 use Rattle.std.specs.Ordering.{is_lt}
-use Rattle.std.specs.Vec.{vec_len}
 use Rattle.arrayvec.specs.ArrayVec.{ArrayVec}
 use Rattle.irc_server.specs.declared.event.Event.{Event}
 use Rattle.irc_names.specs.Fold.{name_cmp}
@@ -18,19 +17,7 @@ use Rattle.irc_engine.specs.Carrying.{open_kind_at}
 use Rattle.irc_engine.specs.Hearing.{line_event_of, nothing_of, only_of}
 use Rattle.irc_engine.specs.Running.{Moment, AllTold, IsInOrder, Ran}
 use Rattle.irc_engine.specs.Knowing.{IsAtOne, IsSettled, IsToHear}
-use Rattle.irc_engine.specs.Loops.Connections.{has, lost_at}
-use Rattle.irc_engine.specs.Loops.Tables.{connection_of}
-
-abbrev pub moment_of : {W : Type 0} → Core W → Moment W
-moment_of core = record {
-  server = core.server;
-  journal = core.journal;
-  wire = core.connections.wire;
-  connections = connection_of core.connections.table;
-  lost = lost_at core.connections.lost;
-  waiting = has core.connections.waiting;
-  read_room = vec_len core.buffer;
-}
+use Rattle.irc_engine.specs.Moments.{moment_of, connection_of, has, lost_at}
 
 -- from the engine's parts to what they are then, as from one moment to another
 abbrev pub Spans : {W : Type 0} → (Moment W → Moment W → Type 0) → Core W → Core W → Type 0

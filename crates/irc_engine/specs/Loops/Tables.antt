@@ -2,8 +2,8 @@
 use Rattle.std.specs.Prelude.{◌≡◌, ℕ, ◌+◌, ◌<◌, ◌≤◌, true, false, nat_eq, is_some, IsNone, Option}
 use Rattle.std.specs.Prelude.{Some, None, Result, Ok, Err, List, [], ◌++◌, length, take}
 use Rattle.std.specs.Prelude.{if◌then◌else◌}
-use Rattle.std.specs.List.{count_by, slice_get}
-use Rattle.std.specs.HashMap.{get, hash_map_len}
+use Rattle.std.specs.List.{count_by}
+use Rattle.std.specs.HashMap.{hash_map_len}
 use Rattle.arrayvec.specs.ArrayVec.{ArrayVec}
 use Rattle.irc_line.specs.Framed.{found_in}
 use Rattle.irc_line.specs.Lines.{Begun, Takes}
@@ -16,18 +16,9 @@ use Rattle.irc_engine.specs.declared.connection_table.Connection.{Connection}
 use Rattle.irc_engine.specs.declared.connection_table.ConnectionTable.{ConnectionTable}
 use Rattle.irc_engine.specs.declared.connection_table.Pushed.{Pushed}
 use Rattle.irc_engine.specs.declared.connection_table.Pushed.TheVariants.{Nothing, First, More}
+use Rattle.irc_engine.specs.Moments.{connection_of}
 pub use Rattle.irc_engine.specs.Carrying.{fresh_connection, has_some_at, is_done_at, is_open_at}
 pub use Rattle.irc_engine.specs.Carrying.{open_kind_at}
-
--- a number among the dense ones has the connection that is there, and another that of the other map
-abbrev pub connection_at : Option (Option Connection) → Option Connection → Option Connection
-connection_at (Some dense) sparse = dense
-connection_at None sparse = sparse
-
--- the connection of a number, if there is one
-abbrev pub connection_of : ConnectionTable → ℕ → Option Connection
-connection_of table conn =
-    connection_at (slice_get table.dense.items conn) (get nat_eq table.sparse conn)
 
 -- how many there are
 abbrev pub connection_count : ConnectionTable → ℕ

@@ -12,7 +12,7 @@ use Rattle.irc_batch.specs.Batches.{Sent}
 use Rattle.irc_room.specs.effect.By.TheVariants as by
 use Rattle.irc_room.specs.effect.Effect.{Effect}
 use Rattle.irc_room.specs.effect.Effect.TheVariants.{AddUser, Rename, Quit, SetTopic, Say, Invite}
-use Rattle.irc_room.specs.effect.Effect.TheVariants.{UserMode}
+use Rattle.irc_room.specs.effect.Effect.TheVariants.{ChangeUser}
 use Rattle.irc_room.specs.After.{after}
 use Rattle.irc_room.specs.Effects.{brings_free}
 use Rattle.irc_room.specs.InTurn.{after_all, EachInTurn}
@@ -39,7 +39,7 @@ abbrev pub is_quiet : Effect → Bool
 is_quiet (AddUser user) = false
 is_quiet (Rename nick new) = false
 is_quiet (Quit nick text) = false
-is_quiet (UserMode nick invisible) = false
+is_quiet (ChangeUser nick change) = false
 is_quiet (Say by notice to text) = false
 is_quiet effect = true
 
@@ -142,7 +142,7 @@ unfolding after
 quiet_users room (AddUser user) is = cc is
 quiet_users room (Rename nick new) is = cc is
 quiet_users room (Quit nick text) is = cc is
-quiet_users room (UserMode nick invisible) is = cc is
+quiet_users room (ChangeUser nick change) is = cc is
 quiet_users room effect is = refl
 
 pub users_stay : (room : Room) (effects : List Effect) → AllQuiet effects
@@ -202,18 +202,18 @@ module _ (view : View) where
       ∙ ap not (here_alike room other effect alike ∙ counted.away)
 
   abbrev pub at_room : Room → List Sent → Served
-  at_room room out = record { view = in_room room; out = out }
+  at_room room out = record { state = in_room room; out = out }
 
   pub all_view : (effects : List Effect) (room other : Room) (out : List Sent)
       → AreAlike room other → AllCalm effects → EachInTurn IsCounted other effects
-      → (all_changed effects (at_room room out)).view ≡ in_room (after_all room effects)
+      → (all_changed effects (at_room room out)).state ≡ in_room (after_all room effects)
   all_view [] room other out alike calm counted = refl
   all_view (effect ∷ effects) room other out alike calm counted =
       ap (λ b. (all_changed effects (if b then changed effect (at_room room out)
-      else at_room room out)).view)
+      else at_room room out)).state)
       (counted_there room other effect alike counted.now)
       ∙ ap (λ v. (all_changed effects
-      (record { view = v; out = (changed effect (at_room room out)).out })).view)
+      (record { state = v; out = (changed effect (at_room room out)).out })).state)
       (calm_view room effect calm.0)
       ∙ all_view effects (after room effect) (after other effect) (changed effect
       (at_room room out)).out (alike_stay_alike room other effect alike) calm.1 counted.later

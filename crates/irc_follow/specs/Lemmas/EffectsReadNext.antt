@@ -12,13 +12,14 @@ use Rattle.irc_line.specs.Messages.{message_of}
 use Rattle.irc_names.specs.Fold.{key}
 use Rattle.irc_names.specs.Tables.{row}
 use Rattle.irc_users.specs.declared.user.User.{User}
+use Rattle.irc_users.specs.declared.user_change.UserChange.TheVariants.{Invisible}
 use Rattle.irc_room.specs.effect.By.TheVariants as by
 use Rattle.irc_room.specs.effect.Effect.{Effect}
-use Rattle.irc_room.specs.effect.Effect.TheVariants.{AddUser, Rename, Quit, Join, Part, Kick}
-use Rattle.irc_room.specs.effect.Effect.TheVariants.{ChangeModes, SetTopic, Say, Invite, UserMode}
-use Rattle.irc_room.specs.Effects.{has_user, needs_users, target_users, doer_of}
+use Rattle.irc_room.specs.effect.Effect.TheVariants.{AddUser, ChangeModes, SetTopic, ChangeUser}
+use Rattle.irc_room.specs.Effects.{has_user, needs_users, doer_of}
 use Rattle.irc_room.specs.OtherInvitations.{AreAlike}
 use Rattle.irc_room.specs.Readers.{home_under}
+use Rattle.irc_room.specs.Room.{Room}
 use Rattle.irc_room.specs.Seen.{stored_nick}
 use Rattle.irc_room.specs.Sendable.{IsSendable}
 use Rattle.irc_room.specs.Lemmas.Rows.{is_some_map, same_some}
@@ -49,6 +50,25 @@ use Rattle.irc_follow.specs.SideState as of_side
 use Rattle.irc_follow.specs.Fits.{Fits}
 use Rattle.irc_follow.specs.Says.{IsDoableEffect, IsFar}
 use Rattle.irc_follow.specs.Lemmas.SaidEffect.{far_is_another, rooms_alike, users_there}
+
+-- ---- who does an effect
+
+-- whoever does it is there
+doer_there : (has : List ℕ → Bool) (effect : Effect) (nick : List ℕ) → doer_of effect ≡ Some nick
+    → list_all has (needs_users effect) ≡ true → has nick ≡ true
+doer_there has (AddUser user) nick is there = absurd (cc is)
+doer_there has (ChangeModes by.Home channel changes) nick is there = absurd (cc is)
+doer_there has (SetTopic by.Home channel text) nick is there = absurd (cc is)
+doer_there has other nick is there =
+    subst (λ n. has n ≡ true) (same_some _ nick is) (and_parts _ _ there).0
+
+-- its line is from the doer
+from_doer : (room : Room) (known : Known) (effect : Effect) → IsSendable room effect
+    → (message_of (wire room known effect)).prefix ≡ option_map (stored_nick room) (doer_of effect)
+from_doer room known (ChangeModes by.Home channel changes) sent = absurd sent
+from_doer room known (SetTopic by.Home channel text) sent = absurd sent
+from_doer room known (ChangeUser nick (Invisible invisible)) sent = refl
+from_doer room known other sent = refl
 
 -- ---- a number stands for one server
 
@@ -253,49 +273,31 @@ module _ (s : ItemSetting) (fixed : IsItemSetting s) (t u : Name) (w : of_side.S
             is_far user.home (sound.at_known (key nick) user at)
             (doable.doer_far nick user.home doer (ap (option_map (λ (v : User). v.home)) at))
 
-    first_of : (a b : Bool) → (a && b) ≡ true → a ≡ true
-    first_of true b is = refl
-    first_of false b is = cc is
+    sendable : IsSendable view.room effect
+    sendable = (alike_send_alike view.room w.hall.room effect writers_room).1 doable.sendable
 
-    doer_far : (e : Effect) → e ≡ effect → IsSendable w.hall.room e
-        → list_all (has_user w.hall.room) (needs_users e) ≡ true
-        → IfSome (message_of (wire view.room view.routes e)).prefix
+    doer_far : IfSome (message_of (wire view.room view.routes effect)).prefix
         (λ nick. is_user_far (reader_of other.room other.routes (number s t)) nick ≡ true)
-    doer_far (AddUser user) is sent there = tt
-    doer_far (Rename nick new) is sent there =
-        doer_is_far nick (ap doer_of (sym is)) (first_of (has_user w.hall.room nick) true there)
-    doer_far (Quit nick text) is sent there =
-        doer_is_far nick (ap doer_of (sym is)) (first_of (has_user w.hall.room nick) true there)
-    doer_far (Join nick channel op) is sent there =
-        doer_is_far nick (ap doer_of (sym is)) (first_of (has_user w.hall.room nick) true there)
-    doer_far (Part nick channel text) is sent there =
-        doer_is_far nick (ap doer_of (sym is)) (first_of (has_user w.hall.room nick) true there)
-    doer_far (Kick by channel nick text) is sent there =
-        doer_is_far by (ap doer_of (sym is))
-        (first_of (has_user w.hall.room by) (has_user w.hall.room nick && true) there)
-    doer_far (ChangeModes (by.User nick) channel changes) is sent there =
-        doer_is_far nick (ap doer_of (sym is)) (first_of (has_user w.hall.room nick) true there)
-    doer_far (ChangeModes by.Home channel changes) is sent there = absurd sent
-    doer_far (SetTopic (by.User nick) channel text) is sent there =
-        doer_is_far nick (ap doer_of (sym is)) (first_of (has_user w.hall.room nick) true there)
-    doer_far (SetTopic by.Home channel text) is sent there = absurd sent
-    doer_far (Say by notice to text) is sent there =
-        doer_is_far by (ap doer_of (sym is)) (first_of (has_user w.hall.room by)
-        (list_all (has_user w.hall.room) (target_users to)) there)
-    doer_far (Invite by nick channel) is sent there =
-        doer_is_far by (ap doer_of (sym is))
-        (first_of (has_user w.hall.room by) (has_user w.hall.room nick && true) there)
-    doer_far (UserMode nick invisible) is sent there =
-        doer_is_far nick (ap doer_of (sym is)) (first_of (has_user w.hall.room nick) true there)
+    doer_far =
+        subst (λ prefix. IfSome prefix
+        (λ nick. is_user_far (reader_of other.room other.routes (number s t)) nick ≡ true))
+        (sym (from_doer view.room view.routes effect sendable)) (by (doer_of effect) refl)
+      where
+        by : (o : Option (List ℕ)) → doer_of effect ≡ o
+            → IfSome (option_map (stored_nick view.room) o)
+            (λ nick. is_user_far (reader_of other.room other.routes (number s t)) nick ≡ true)
+        by None doer = tt
+        by (Some nick) doer = doer_is_far nick doer
+            (doer_there (has_user w.hall.room) effect nick doer doable.possible.users_there)
 
     pub can_be_read : IsReadable view.room view.routes
         (reader_of other.room other.routes (number s t)) effect
     can_be_read = record {
       room_within = (alike_keep_limits view.room w.hall.room writers_room).1 sound.within;
-      sendable = (alike_send_alike view.room w.hall.room effect writers_room).1 doable.sendable;
+      sendable = sendable;
       users_known =
           all_known (needs_users effect) ∙ users_there s t u w other takes reader effect doable;
-      doer_far = doer_far effect refl doable.sendable doable.possible.users_there;
+      doer_far = doer_far;
     }
 
   -- ---- a user who comes

@@ -61,15 +61,15 @@ bare parts = by (line_text parts)
     by : (xs : List ℕ) → take (length (xs ++ 13 ∷ 10 ∷ []) - 2) (xs ++ 13 ∷ 10 ∷ []) ≡ xs
     by xs = ap (λ n. take n (xs ++ 13 ∷ 10 ∷ [])) (less xs) ∙ front xs (13 ∷ 10 ∷ [])
 
-ends_by_one : (effect : Effect) (s : Served) → (changed_if effect s).view.ends ≡ s.view.ends
-ends_by_one effect s = by (counts s.view effect)
+ends_by_one : (effect : Effect) (s : Served) → (changed_if effect s).state.ends ≡ s.state.ends
+ends_by_one effect s = by (counts s.state effect)
   where
-    by : (b : Bool) → (if b then changed effect s else s).view.ends ≡ s.view.ends
+    by : (b : Bool) → (if b then changed effect s else s).state.ends ≡ s.state.ends
     by true = refl
     by false = refl
 
 pub ends_by_all : (effects : List Effect) (s : Served)
-    → (all_changed effects s).view.ends ≡ s.view.ends
+    → (all_changed effects s).state.ends ≡ s.state.ends
 ends_by_all [] s = refl
 ends_by_all (effect ∷ effects) s = ends_by_all effects (changed_if effect s) ∙ ends_by_one effect s
 

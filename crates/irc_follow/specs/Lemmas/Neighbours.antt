@@ -131,21 +131,21 @@ module _ (s : ItemSetting) (p t u : Name) (w : of_side.SideState) (view other : 
 
   -- what is told to all, whether it goes back or not, goes to this one
   pub told_all : (back : Bool) (parts : Written) (before : Served)
-      → get before.view.ends (number s u) ≡ get view.ends (number s u) → lines_on (number s u)
+      → get before.state.ends (number s u) ≡ get view.ends (number s u) → lines_on (number s u)
       (told_on_all (if back then None else Some (number s p)) parts before).out
       ≡ lines_on (number s u) before.out ++ (line_text parts ∷ [])
   told_all back parts before ends =
       let arrival = if back then None else Some (number s p) in
       lines_behind (number s u) before.out _
       ∙ ap (λ l. lines_on (number s u) before.out ++ l)
-      (on_these (number s u) (but arrival (met_links before.view.ends)) parts
-      ∙ ap (map (λ _. line_text parts)) (by back ∙ all_of before.view.ends ends))
+      (on_these (number s u) (but arrival (met_links before.state.ends)) parts
+      ∙ ap (map (λ _. line_text parts)) (by back ∙ all_of before.state.ends ends))
     where
       by : (b : Bool) → filter (λ n. nat_eq n (number s u))
-          (but (if b then None else Some (number s p)) (met_links before.view.ends))
-          ≡ filter (λ n. nat_eq n (number s u)) (met_links before.view.ends)
-      by true = ap (filter (λ n. nat_eq n (number s u))) (but_none (met_links before.view.ends))
-      by false = but_another (number s u) (number s p) not_back (met_links before.view.ends)
+          (but (if b then None else Some (number s p)) (met_links before.state.ends))
+          ≡ filter (λ n. nat_eq n (number s u)) (met_links before.state.ends)
+      by true = ap (filter (λ n. nat_eq n (number s u))) (but_none (met_links before.state.ends))
+      by false = but_another (number s u) (number s p) not_back (met_links before.state.ends)
 
   -- ---- who is behind it
 

@@ -84,9 +84,9 @@ module _ (s : ItemSetting) (p t : Name) (w : of_side.SideState) (view : View)
 
   asked_is : (deed : Deed) (line : List ℕ) (end : End) → get view.ends (number s p) ≡ Some end
       → heard view (number s p) end (read_of line) ≡ tells (a_deed deed ∷ [])
-      → (neighbour_served s p view line).view ≡ (after_deed_of deed).view
+      → (neighbour_served s p view line).state ≡ (after_deed_of deed).state
   asked_is deed line end is_end means =
-      ap (λ (so : Served). so.view) (deed_served deed line end is_end means)
+      ap (λ (so : Served). so.state) (deed_served deed line end is_end means)
 
   -- ---- members, modes and a topic
 
@@ -158,11 +158,11 @@ module _ (s : ItemSetting) (p t : Name) (w : of_side.SideState) (view : View)
   quiet_fits : (deed : Deed) → IsQuietDeed deed
       → IsSoundSide s (record w { hall = record w.hall { room = after_deed w.hall.room deed } })
       → Fits s t (record w { hall = record w.hall { room = after_deed w.hall.room deed } })
-      (all_changed (effects_of view.room deed) (at_room view (titled view.room deed) [])).view
+      (all_changed (effects_of view.room deed) (at_room view (titled view.room deed) [])).state
   unfolding after_deed
   quiet_fits deed is sound_now =
       let effects = effects_of w.hall.room deed in
-      let view_is = ap (λ es. (all_changed es (at_room view (titled view.room deed) [])).view)
+      let view_is = ap (λ es. (all_changed es (at_room view (titled view.room deed) [])).state)
       (same_effects deed)
       ∙ all_view view effects (titled view.room deed) (titled w.hall.room deed) [] is.alike is.calm
       (quiet_counted view (titled w.hall.room deed) effects is.quiet is.each) in
@@ -180,7 +180,7 @@ module _ (s : ItemSetting) (p t : Name) (w : of_side.SideState) (view : View)
 
   pub said_brings_fits : (server channel : List ℕ) (members : List (List ℕ × Flags)) (line : List ℕ)
       → Says s p t w view (brings server channel members) line
-      → Fits s t (done s w (brings server channel members)) (neighbour_served s p view line).view
+      → Fits s t (done s w (brings server channel members)) (neighbour_served s p view line).state
   unfolding done told_by deed_told
   said_brings_fits server channel members line says =
       subst (Fits s t (done s w (brings server channel members)))
@@ -191,7 +191,7 @@ module _ (s : ItemSetting) (p t : Name) (w : of_side.SideState) (view : View)
 
   pub said_sets_fits : (server channel : List ℕ) (changes : List ModeChange) (line : List ℕ)
       → Says s p t w view (sets server channel changes) line
-      → Fits s t (done s w (sets server channel changes)) (neighbour_served s p view line).view
+      → Fits s t (done s w (sets server channel changes)) (neighbour_served s p view line).state
   unfolding done told_by deed_told
   said_sets_fits server channel changes line says =
       subst (Fits s t (done s w (sets server channel changes)))
@@ -201,7 +201,7 @@ module _ (s : ItemSetting) (p t : Name) (w : of_side.SideState) (view : View)
 
   pub said_tops_fits : (server channel topic : List ℕ) (line : List ℕ)
       → Says s p t w view (tops server channel topic) line
-      → Fits s t (done s w (tops server channel topic)) (neighbour_served s p view line).view
+      → Fits s t (done s w (tops server channel topic)) (neighbour_served s p view line).state
   unfolding done told_by deed_told
   said_tops_fits server channel topic line says =
       subst (Fits s t (done s w (tops server channel topic)))
@@ -277,11 +277,11 @@ module _ (s : ItemSetting) (p t : Name) (w : of_side.SideState) (view : View)
     abbrev quits : List Effect
     quits = quits_of text (users_at name w.hall.room)
 
-    quits_view : (all_changed (quits_of text (users_at name view.room)) (in_silence view)).view
+    quits_view : (all_changed (quits_of text (users_at name view.room)) (in_silence view)).state
         ≡ record view { room = after_all view.room quits }
     quits_view =
         ap (λ users. (all_changed (quits_of text (users_at name
-        (record view.room { users = users }))) (in_silence view)).view) rooms.users
+        (record view.room { users = users }))) (in_silence view)).state) rooms.users
         ∙ all_view view quits view.room w.hall.room [] rooms
         (quits_calm text (users_at name w.hall.room))
         (lost_counted view t name (own_name s p t w view takes fits) not_it w.hall.room text
@@ -313,7 +313,7 @@ module _ (s : ItemSetting) (p t : Name) (w : of_side.SideState) (view : View)
 
   pub said_loses_fits : (server name text : List ℕ) (line : List ℕ)
       → Says s p t w view (loses server name text) line
-      → Fits s t (done s w (loses server name text)) (neighbour_served s p view line).view
+      → Fits s t (done s w (loses server name text)) (neighbour_served s p view line).state
   unfolding told_by deed_told
   said_loses_fits server name text line says =
       subst (Fits s t (done s w (loses server name text)))
@@ -371,14 +371,14 @@ module _ (s : ItemSetting) (p t : Name) (w : of_side.SideState) (view : View)
     }
 
     killed_view : (client_ended nick collision_text (if has_user view.room nick
-        then changed (Quit nick collision_text) (in_silence view) else in_silence view)).view
+        then changed (Quit nick collision_text) (in_silence view) else in_silence view)).state
         ≡ killed
     killed_view = ap (λ b. (client_ended nick collision_text (if b then changed
-        (Quit nick collision_text) (in_silence view) else in_silence view)).view) there
+        (Quit nick collision_text) (in_silence view) else in_silence view)).state) there
 
   pub said_kills_fits : (server nick : List ℕ) (line : List ℕ)
       → Says s p t w view (kills server nick) line
-      → Fits s t (done s w (kills server nick)) (neighbour_served s p view line).view
+      → Fits s t (done s w (kills server nick)) (neighbour_served s p view line).state
   unfolding told_by deed_told
   said_kills_fits server nick line says =
       subst (Fits s t (done s w (kills server nick)))

@@ -306,7 +306,7 @@ module _ (s : ItemSetting) (p t : Name) (w : of_side.SideState) (view : View)
       else in_silence view) (effect_counts effect says.doable)
 
   pub said_effect_fits : (effect : Effect) (line : List ℕ) → Says s p t w view (does effect) line
-      → Fits s t (done s w (does effect)) (neighbour_served s p view line).view
+      → Fits s t (done s w (does effect)) (neighbour_served s p view line).state
   said_effect_fits effect line says = subst (Fits s t (done s w (does effect)))
-      (sym (ap (λ (so : Served). so.view) (effect_served effect line says)))
+      (sym (ap (λ (so : Served). so.state) (effect_served effect line says)))
       (effect_fits effect says.doable)

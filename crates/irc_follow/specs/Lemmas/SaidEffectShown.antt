@@ -119,7 +119,7 @@ module _ (who : ℕ) where
         else at_room view room out)).out)
         (counted_there view room other effect alike counted.now)
         ∙ ap (λ v. lines_to who (all_changed effects (record {
-          view = v;
+          state = v;
           out = out ++ shown_at
               (in_room view room) effect;
         })).out) (calm_view view room effect calm.0)

@@ -15,10 +15,11 @@ use Rattle.irc_names.specs.Fold.{key}
 use Rattle.irc_names.specs.Fold as folded
 use Rattle.irc_names.specs.Tables.{row}
 use Rattle.irc_users.specs.declared.user.User.{User}
+use Rattle.irc_users.specs.declared.user_change.UserChange.TheVariants.{Invisible}
 use Rattle.irc_room.specs.effect.By.TheVariants as by
 use Rattle.irc_room.specs.effect.Effect.{Effect}
-use Rattle.irc_room.specs.effect.Effect.TheVariants.{AddUser, Rename, Quit, Join, Part, Kick}
-use Rattle.irc_room.specs.effect.Effect.TheVariants.{ChangeModes, SetTopic, Say, Invite, UserMode}
+use Rattle.irc_room.specs.effect.Effect.TheVariants.{AddUser, Rename, ChangeModes, SetTopic, Say}
+use Rattle.irc_room.specs.effect.Effect.TheVariants.{Invite, ChangeUser}
 use Rattle.irc_room.specs.effect.Target.TheVariants as target
 use Rattle.irc_room.specs.Effects.{brings_free, has_user, is_member}
 use Rattle.irc_room.specs.OtherInvitations.{AreAlike}
@@ -90,6 +91,7 @@ pub no_row : (room : Room) (known : Known) (effect : Effect)
     → of_deeds.burst_row_of (message_of (wire room known effect)).command ≡ None
 no_row room known (Say by true to text) = refl
 no_row room known (Say by false to text) = refl
+no_row room known (ChangeUser nick (Invisible invisible)) = refl
 no_row room known effect = refl
 
 -- no server does it
@@ -123,17 +125,9 @@ one_deed own room server (Rename nick new) sent free =
     ap (λ b. if b then map (kills own)
     (of_deeds.nicks_in_order (stored_nick room nick) (stored_nick room new))
     else does (Rename nick new) ∷ []) (not_anothers (has_user room new) (folded.same nick new) free)
-one_deed own room (Some server) (ChangeModes (by.User nick) channel changes) sent free = refl
 one_deed own room server (ChangeModes by.Home channel changes) sent free = absurd sent
-one_deed own room (Some server) (SetTopic (by.User nick) channel text) sent free = refl
 one_deed own room server (SetTopic by.Home channel text) sent free = absurd sent
-one_deed own room (Some server) (Quit nick text) sent free = refl
-one_deed own room (Some server) (Join nick channel op) sent free = refl
-one_deed own room (Some server) (Part nick channel text) sent free = refl
-one_deed own room (Some server) (Kick by channel nick text) sent free = refl
-one_deed own room (Some server) (Say by notice to text) sent free = refl
-one_deed own room (Some server) (Invite by nick channel) sent free = refl
-one_deed own room (Some server) (UserMode nick invisible) sent free = refl
+one_deed own room (Some server) other sent free = refl
 one_deed own room None effect sent free = refl
 
 pub sent_by : (room : Room) (effect : Effect) → IsSendable room effect → IsSendableBy effect

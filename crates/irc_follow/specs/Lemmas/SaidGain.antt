@@ -38,15 +38,15 @@ use Rattle.irc_follow.specs.Lemmas.SaidEffect.{own_name}
 
 -- a row more, where it is taken
 row_more : (k : ℕ) (uplink name : List ℕ) (distance token : ℕ) (info : List ℕ) (before : Served)
-    → is_taken before.view.routes k name token ≡ true
-    → (told_by k (a_server uplink name distance token info) before).view
-    ≡ with_row k uplink name distance token info before.view
+    → is_taken before.state.routes k name token ≡ true
+    → (told_by k (a_server uplink name distance token info) before).state
+    ≡ with_row k uplink name distance token info before.state
 unfolding told_by
 row_more k uplink name distance token info before is =
     ap (λ b. (if b then gain_told k uplink name info (record before {
-      view =
-          with_row k uplink name distance token info before.view;
-    }) else before).view) is
+      state =
+          with_row k uplink name distance token info before.state;
+    }) else before).state) is
 
 module _ (s : ItemSetting) (fixed : IsItemSetting s) (p t : Name) (w : of_side.SideState)
     (view : View)
@@ -248,11 +248,11 @@ module _ (s : ItemSetting) (fixed : IsItemSetting s) (p t : Name) (w : of_side.S
     pub taken_met : is_taken view.routes (number s p) name 1 ≡ true
     taken_met = ap (is_taken view.routes (number s p) name) (sym number_one) ∙ taken
 
-    met_view : (met_by (number s p) name words view).view ≡ with_row (number s p) uplink name
+    met_view : (met_by (number s p) name words view).state ≡ with_row (number s p) uplink name
         (distance w.tree.forest t name) (told_token w.tree p name) words met
     met_view =
         ap (λ v. (told_by (number s p) (a_server view.routes.name name 1 1 words) (with_sent
-        (on_link (number s p) (owes view (number s p) name)) (in_silence v))).view)
+        (on_link (number s p) (owes view (number s p) name)) (in_silence v))).state)
         with_far_is
         ∙ row_more (number s p) view.routes.name name 1 1 words (with_sent
         (on_link (number s p) (owes view (number s p) name)) (in_silence met)) taken_met
@@ -260,17 +260,17 @@ module _ (s : ItemSetting) (fixed : IsItemSetting s) (p t : Name) (w : of_side.S
 
   -- ----
 
-  heard_fits : (end : End) → get view.ends (number s p) ≡ Some end → Telling name p
-      → Fits s t now (after_heard view (number s p) (saying s w p t (gains uplink name words))).view
+  heard_fits : (end : End) → get view.ends (number s p) ≡ Some end → Telling name p → Fits s t now
+      (after_heard view (number s p) (saying s w p t (gains uplink name words))).state
   heard_fits end is_end (alike is e) =
-      subst (λ what. Fits s t now (after_heard view (number s p) what).view) (sym (ap (choose) is))
+      subst (λ what. Fits s t now (after_heard view (number s p) what).state) (sym (ap (choose) is))
       (subst (Fits s t now) (sym (met_view e end is_end)) (met_fits e end is_end))
     where
       choose : Bool → Heard
       choose b = if b then meets name words else tells (a_server uplink name
           (distance w.tree.forest t name) (told_token w.tree p name) words ∷ [])
   heard_fits end is_end (unlike is two) =
-      subst (λ what. Fits s t now (after_heard view (number s p) what).view) (sym (ap (choose) is))
+      subst (λ what. Fits s t now (after_heard view (number s p) what).state) (sym (ap (choose) is))
       (subst (Fits s t now)
       (sym (row_more (number s p) uplink name (distance w.tree.forest t name)
       (told_token w.tree p name) words (in_silence view) taken)) (told_fits two))
@@ -282,12 +282,12 @@ module _ (s : ItemSetting) (fixed : IsItemSetting s) (p t : Name) (w : of_side.S
 pub said_gain_fits : (s : ItemSetting) → IsItemSetting s → (p t : Name) (w : of_side.SideState)
     (view : View) → TakesFrom s.streams t p → Fits s t w view → (uplink name words : List ℕ)
     (line : List ℕ) → Says s p t w view (gains uplink name words) line
-    → Fits s t (done s w (gains uplink name words)) (neighbour_served s p view line).view
+    → Fits s t (done s w (gains uplink name words)) (neighbour_served s p view line).state
 unfolding done served
 said_gain_fits s fixed p t w view takes fits uplink name words line says =
     subst (λ (o : Option End). Fits s t (done s w (gains uplink name words))
-    (line_served view (number s p) (read_of line) o).view) (sym says.is_end)
+    (line_served view (number s p) (read_of line) o).state) (sym says.is_end)
     (subst (λ what. Fits s t (done s w (gains uplink name words))
-    (after_heard view (number s p) what).view) (sym says.means)
+    (after_heard view (number s p) what).state) (sym says.means)
     (heard_fits s fixed p t w view takes fits uplink name words says.doable says.end says.is_end
     (tell name p)))

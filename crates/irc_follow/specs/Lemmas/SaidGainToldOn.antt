@@ -348,17 +348,17 @@ module _ (known : IsKnownOfLines) (uplink name words : List ℕ) (s : ItemSettin
   with_it v =
       with_row k uplink name (distance w.tree.forest t name) (told_token w.tree p name) words v
 
-  told_lines : (before : Served) → before.view.routes ≡ view.routes
-      → get before.view.ends (number s u) ≡ get view.ends (number s u)
+  told_lines : (before : Served) → before.state.routes ≡ view.routes
+      → get before.state.ends (number s u) ≡ get view.ends (number s u)
       → lines_on (number s u) before.out ≡ [] → lines_on (number s u) (gain_told k uplink name words
-      (record before { view = with_it before.view })).out ≡ line_text parts ∷ []
+      (record before { state = with_it before.state })).out ≡ line_text parts ∷ []
   told_lines before routes ends none =
       ap (λ r. lines_on (number s u) (told_on_all (Some k) (server_parts r uplink name words)
-      (record before { view = with_it before.view })).out)
+      (record before { state = with_it before.state })).out)
       (ap (λ r. (with_it (record view { routes = r })).routes) routes
       ∙ gain_of.routes_now s fixed p t w view takes writer uplink name words doable)
       ∙ beside.told_all s p t u w view other takes next apart writer reader false parts
-      (record before { view = with_it before.view }) ends
+      (record before { state = with_it before.state }) ends
       ∙ ap (λ l. l ++ (line_text parts ∷ [])) none
 
   by_line : lines_on (number s u) (told_by k (a_server uplink name (distance w.tree.forest t name)
@@ -367,7 +367,7 @@ module _ (known : IsKnownOfLines) (uplink name words : List ℕ) (s : ItemSettin
   unfolding told_by
   by_line =
       ap (λ b. lines_on (number s u) (if b then gain_told k uplink name words
-      (record (in_silence view) { view = with_it view }) else in_silence view).out)
+      (record (in_silence view) { state = with_it view }) else in_silence view).out)
       (gain_of.taken s fixed p t w view takes writer uplink name words doable)
       ∙ told_lines (in_silence view) refl refl refl
 
@@ -398,14 +398,14 @@ module _ (known : IsKnownOfLines) (uplink name words : List ℕ) (s : ItemSettin
         (gain_of.with_far_is s fixed p t w view takes writer uplink name words doable is_p
         end is_end)
         ∙ ap (λ b. lines_on (number s u) (if b then gain_told k view.routes.name name words
-        (record before { view = with_row k view.routes.name name 1 1 words met })
+        (record before { state = with_row k view.routes.name name 1 1 words met })
         else before).out)
         (gain_of.taken_met s fixed p t w view takes writer uplink name words doable is_p end is_end)
         ∙ ap (λ v. lines_on (number s u)
-        (gain_told k view.routes.name name words (record before { view = v })).out)
+        (gain_told k view.routes.name name words (record before { state = v })).out)
         (gain_of.row_now s fixed p t w view takes writer uplink name words doable is_p end is_end)
         ∙ ap (λ n. lines_on (number s u)
-        (gain_told k n name words (record before { view = with_it met })).out)
+        (gain_told k n name words (record before { state = with_it met })).out)
         (own_name s p t w view takes writer ∙ sym (gain_of.is_t s fixed p t w view takes writer
         uplink name words doable is_p end is_end))
         ∙ told_lines before refl other_end (none_on_another (number s u) k (beside.not_back s p t u

@@ -59,12 +59,12 @@ module _ {X : Type 0} (find : Sent → Option X) where
         by false = none_to_viewers view.clients (seen view.room effect)
 
     none_by_one : (effect : Effect) (s : Served) → found (changed_if effect s).out ≡ found s.out
-    none_by_one effect s = by (counts s.view effect)
+    none_by_one effect s = by (counts s.state effect)
       where
         by : (b : Bool) → found (if b then changed effect s else s).out ≡ found s.out
         by true =
-            filter_map-append find s.out (shown_at s.view effect)
-            ∙ ap (λ l. found s.out ++ l) (none_by_effect s.view effect)
+            filter_map-append find s.out (shown_at s.state effect)
+            ∙ ap (λ l. found s.out ++ l) (none_by_effect s.state effect)
             ∙ append-nil (found s.out)
         by false = refl
 

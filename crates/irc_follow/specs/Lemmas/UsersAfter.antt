@@ -7,10 +7,9 @@ use Rattle.irc_names.specs.Tables.{row, alter, moved}
 use Rattle.irc_names.specs.TableLaws.{same_fold, same_fold-refl, one_fold, row-alter, row-moved}
 use Rattle.irc_names.specs.TableLaws.{row-moved_none}
 use Rattle.irc_users.specs.declared.user.User.{User}
-use Rattle.irc_users.specs.UserTable.{with_nick, with_invisible}
+use Rattle.irc_users.specs.UserTable.{with_nick, with_change}
 use Rattle.irc_room.specs.effect.Effect.{Effect}
-use Rattle.irc_room.specs.effect.Effect.TheVariants.{AddUser, Rename, Quit, Join, Part, Kick}
-use Rattle.irc_room.specs.effect.Effect.TheVariants.{ChangeModes, SetTopic, Say, Invite, UserMode}
+use Rattle.irc_room.specs.effect.Effect.TheVariants.{AddUser, Rename, Quit, ChangeUser}
 use Rattle.irc_room.specs.Room.{Room}
 use Rattle.irc_room.specs.After.{after}
 use Rattle.irc_room.specs.Effects.{brings_free}
@@ -104,13 +103,7 @@ home_stays room (Rename nick new) fold home free stays is =
 home_stays room (Quit nick text) fold home free stays is =
     home_altered room (key nick) (λ _. None) fold home is
     (λ other there one. absurd (cc (sym stays ∙ one)))
-home_stays room (Join nick channel op) fold home free stays is = is
-home_stays room (Part nick channel text) fold home free stays is = is
-home_stays room (Kick by channel nick text) fold home free stays is = is
-home_stays room (ChangeModes by channel changes) fold home free stays is = is
-home_stays room (SetTopic by channel text) fold home free stays is = is
-home_stays room (Say by notice target text) fold home free stays is = is
-home_stays room (Invite by nick channel) fold home free stays is = is
-home_stays room (UserMode nick invisible) fold home free stays is =
-    home_altered room (key nick) (option_map (with_invisible invisible)) fold home is
+home_stays room (ChangeUser nick change) fold home free stays is =
+    home_altered room (key nick) (option_map (with_change change)) fold home is
     (λ user there one. refl)
+home_stays room other fold home free stays is = is

@@ -18,7 +18,7 @@ use Rattle.irc_relay.specs.Lemmas.LinkTakenOut.{tests_tell}
 use Rattle.irc_routes.specs.Known.{Known}
 use Rattle.irc_stage.specs.declared.clients.Client.{Client}
 use Rattle.irc_stage.specs.ClientTold.{client_told}
-use Rattle.irc_stage.specs.Handle.{Happening}
+use Rattle.irc_stage.specs.Handle.{ClientEvent}
 use Rattle.irc_stage.specs.View.{View}
 use Rattle.irc_server.specs.Owed.{lines_to}
 use Rattle.irc_server.specs.Served.{Served, of_client, served}
@@ -57,23 +57,23 @@ use Rattle.irc_items.proofs.Common.Sources.{starts_from, one_moment}
 -- what is put out on links tells whoever is linked to the client's server of its effects, and goes
 -- well in the world that they make
 pub record IsToldByHome (s : ItemSetting) (world after : World) (routes : Name → Known) (h : Name)
-    (view : View) (happening : Happening) : Type 0 where
+    (view : View) (client_event : ClientEvent) : Type 0 where
   pub told : (u : Name) (other : View) (client : ℕ)
       → AreLinked world.links h u → Fits s u (side_state_of s world routes u) other
       → Tells (machine s client) (play s client) (good_terms s no_answers after routes) h u
-      (side_state_of s world routes u) other (deeds_at s world h happening)
-      (lines_on (number s u) (client_told view happening).out)
+      (side_state_of s world routes u) other (deeds_at s world h client_event)
+      (lines_on (number s u) (client_told view client_event).out)
   pub few : (u : Name) (other : View) → AreLinked world.links h u
       → Fits s u (side_state_of s world routes u) other
-      → length (lines_on (number s u) (client_told view happening).out)
-      ≤ length (effects_at (machine_at s.settings world h) happening)
+      → length (lines_on (number s u) (client_told view client_event).out)
+      ≤ length (effects_at (machine_at s.settings world h) client_event)
   pub unlinked : (u : Name) → (AreLinked world.links h u → ⊥)
-      → lines_on (number s u) (client_told view happening).out ≡ []
+      → lines_on (number s u) (client_told view client_event).out ≡ []
 
-served_so : (view : View) (happening : Happening)
-    → served view (of_client happening) ≡ client_told view happening
+served_so : (view : View) (client_event : ClientEvent)
+    → served view (of_client client_event) ≡ client_told view client_event
 unfolding served
-served_so view happening = refl
+served_so view client_event = refl
 
 -- what is known of clients, of servers that follow, and of whom an item does not touch
 pub record AreClientLaws : Type 0 where
@@ -84,26 +84,27 @@ pub record AreClientLaws : Type 0 where
   pub only_connected : OnlyConnectedReceive
 
 module _ (laws : AreClientLaws) {net base new : Network} {world : World} {h : Name}
-    {happening : Happening} {item : Item} (given : IsClientStep net base new world h happening item)
+    {client_event : ClientEvent} {item : Item}
+    (given : IsClientStep net base new world h client_event item)
     (at_home : DoesAsMachine (home_setting net world h) world (routes_in net) h
-    (view_at net h) happening) (tells : IsToldByHome (home_setting net world h) world
-    (by_machine (settings_of net) world h happening).world (routes_in net) h (view_at net h)
-    happening) where
+    (view_at net h) client_event) (tells : IsToldByHome (home_setting net world h) world
+    (by_machine (settings_of net) world h client_event).world (routes_in net) h (view_at net h)
+    client_event) where
   abbrev s : ItemSetting
   s = home_setting net world h
 
   abbrev out : List Sent
-  out = (client_told (view_at net h) happening).out
+  out = (client_told (view_at net h) client_event).out
 
   abbrev after : World
-  after = (by_machine (settings_of net) world h happening).world
+  after = (by_machine (settings_of net) world h client_event).world
 
   pub fits_before : (t : Name) → IsAmong net.names t
       → Fits s t (side_state_of s world (routes_in net) t) (view_at net t)
   fits_before = fits_here laws.events.at_rest given
 
-  view_home : view_at new h ≡ (client_told (view_at net h) happening).view
-  view_home = given.served.view ∙ ap (λ r. r.view) (served_so (view_at net h) happening)
+  view_home : view_at new h ≡ (client_told (view_at net h) client_event).state
+  view_home = given.served.state ∙ ap (λ r. r.state) (served_so (view_at net h) client_event)
 
   pub fits_home : Fits s h (side_state_of s after (routes_in net) h) (view_at new h)
   fits_home =
@@ -134,7 +135,7 @@ module _ (laws : AreClientLaws) {net base new : Network} {world : World} {h : Na
       ∙ ap (λ o. unwrap_or o []) (given.served.way (number s y))
       ∙ ap (λ (r : Served). unwrap_or (option_map (λ before. before ++ lines_on (number s y) r.out)
       (way_at net h (number s y))) [])
-      (served_so (view_at net h) happening)
+      (served_so (view_at net h) client_event)
       ∙ by (linked world.links h y) refl
     where
       there : is_some (way_at net h (number s y)) ≡ linked world.links h y
@@ -167,7 +168,7 @@ module _ (laws : AreClientLaws) {net base new : Network} {world : World} {h : Na
     -- ---- it begins
 
     abbrev deeds : List Deed
-    deeds = deeds_at s world h happening
+    deeds = deeds_at s world h client_event
 
     one_part : (t p : Name) → AreJoined world.links t p
         → side_state_of s world (routes_in net) t ≡ side_state_of s world (routes_in net) p
@@ -239,7 +240,7 @@ module _ (laws : AreClientLaws) {net base new : Network} {world : World} {h : Na
     -- ---- what is received
 
     abbrev lines : List (List ℕ)
-    lines = (by_machine (settings_of net) world h happening).lines client
+    lines = (by_machine (settings_of net) world h client_event).lines client
 
     abbrev owed : List (List ℕ)
     owed = owed_now net client ++ lines
@@ -250,7 +251,7 @@ module _ (laws : AreClientLaws) {net base new : Network} {world : World} {h : Na
         given.served.received client t (ap (λ homes. home_in homes client) given.homes
         ∙ home_is world.homes client t is)
         ∙ ap (λ (r : Served). received_by net client ++ lines_to client r.out)
-        (served_so (view_at net h) happening)
+        (served_so (view_at net h) client_event)
         ∙ ap (λ before. before ++ lines_to client out) (given.step.one.received client)
 
     none_put_out : (t : Name) → is_home_of world.homes t client ≡ true → t ≢ h
@@ -311,7 +312,7 @@ module _ (laws : AreClientLaws) {net base new : Network} {world : World} {h : Na
         (received t is ∙ ap (λ more. owed_now net client ++ more)
         (none_put_out t is (far t below).other) ∙ append_nil (owed_now net client))
         ∙ ap (λ more. owed_now net client ++ more)
-        (shows_its_clients laws.events s world (routes_in net) h t happening client
+        (shows_its_clients laws.events s world (routes_in net) h t client_event client
         (far t below).other (far t below).joined_to given.holds given.due is)
 
     at_source : (t : Name) → IsAmong net.names t → s.streams.depth t ≡ 0
@@ -324,7 +325,7 @@ module _ (laws : AreClientLaws) {net base new : Network} {world : World} {h : Na
             (sym e) fits_home
         by (inr apart) = subst (Fits s t (side_state_of s after (routes_in net) t))
             (sym (given.served.other_views t (λ e. apart (ap (part world.links) e))))
-            (elsewhere_stays s world (routes_in net) h t happening (view_at net t) apart
+            (elsewhere_stays s world (routes_in net) h t client_event (view_at net t) apart
             (fits_before t among))
 
     pub begun : IsBegun s no_answers after (routes_in net) new client owed
@@ -334,7 +335,7 @@ module _ (laws : AreClientLaws) {net base new : Network} {world : World} {h : Na
       away = away;
       at_source = at_source;
       comes_to = λ t view among below fits. comes_to_world laws.events s world
-          (routes_in net) h t happening client view
+          (routes_in net) h t client_event client view
           (fixed_here laws.events.at_rest given) given.among among (far t below).other
           (far t below).joined_to given.holds
           (of_world laws.events.at_rest given) (right_here laws.events.at_rest given)

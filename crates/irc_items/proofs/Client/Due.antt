@@ -8,12 +8,12 @@ use Rattle.irc_line.specs.Messages.{Parsed}
 use Rattle.irc_line.specs.Reading.{read_of}
 use Rattle.irc_line.specs.declared.reading.LineFault.{LineFault}
 use Rattle.irc_relay.specs.Links.{Name}
-use Rattle.irc_stage.specs.Handle.{Happening, connects, says, goes}
+use Rattle.irc_stage.specs.Handle.{ClientEvent, connects, says, goes}
 use Rattle.irc_world.specs.World.{World, home_in}
 use Rattle.irc_follow.specs.SideState.{ItemSetting}
 
 -- by whom something happens
-abbrev pub client_in : Happening → ℕ
+abbrev pub client_in : ClientEvent → ℕ
 client_in (connects conn host) = conn
 client_in (says conn read) = conn
 client_in (goes conn) = conn
@@ -25,7 +25,7 @@ pub record IsReadOfLine (read : Result Parsed LineFault) : Type 0 where
   pub is_read : read ≡ read_of bytes
 
 -- a client of this server connects, says a line or goes
-abbrev pub IsDueAtHome : ItemSetting → World → Name → Happening → Type 0
+abbrev pub IsDueAtHome : ItemSetting → World → Name → ClientEvent → Type 0
 IsDueAtHome s world h (connects conn host) =
     (home_in s.homes conn ≡ Some h) × (IsHost host) × (get (world.hall h).clients conn ≡ None)
 IsDueAtHome s world h (says conn read) = (home_in s.homes conn ≡ Some h)

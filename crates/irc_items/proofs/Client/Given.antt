@@ -8,18 +8,18 @@ use Rattle.std.specs.Option.{option_and_then, option_map, option_map_or}
 use Rattle.irc_line.specs.Reading.{read_of}
 use Rattle.irc_relay.specs.Distances.{IsAmong}
 use Rattle.irc_relay.specs.Links.{Name, same}
-use Rattle.irc_stage.specs.Handle.{Happening, connects, goes, says}
+use Rattle.irc_stage.specs.Handle.{ClientEvent, connects, goes, says}
 use Rattle.irc_stage.specs.View.{View}
 use Rattle.irc_server.specs.Owed.{lines_to}
-use Rattle.irc_server.specs.Served.{Occurrence, Served, ServedKeepsItsSetting, of_client, served}
+use Rattle.irc_server.specs.Served.{ReadEvent, Served, ServedKeepsItsSetting, of_client, served}
 use Rattle.irc_world.specs.Refused.{no_such_client, no_such_server}
 use Rattle.irc_world.specs.Stepping.{Item, connect, gone, line}
 use Rattle.irc_world.specs.World.{home_in}
 use Rattle.irc_follow.specs.SideState.{is_home_of}
 use Rattle.irc_follow.specs.Says.{lines_on}
 use Rattle.irc_follow.specs.Tree.{index_in}
-use Rattle.irc_network.specs.Network.{Progress, Network, node_asked, node_asked_if, begun}
-use Rattle.irc_network.specs.Network.{done_by, given, home_place, serves_occurrence, next_client}
+use Rattle.irc_network.specs.Network.{Progress, Network, begun, node_asked, node_asked_if}
+use Rattle.irc_network.specs.Network.{done_by, given, home_place, serves_read_event, next_client}
 use Rattle.irc_network.specs.Network.{server_place, received_by, reply, node_view, with_client}
 use Rattle.irc_network.specs.Refusing.{fault_at_rest, has_client, is_there}
 use Rattle.irc_items.specs.OneRoom.{IsOneRoom}
@@ -31,22 +31,22 @@ use Rattle.irc_items.proofs.Nodes.Asked.{asked_there, reply_taken, set_up_beside
 use Rattle.irc_items.specs.Lemmas.SetUpFacts.{placed_if, there, viewed, viewed_nowhere}
 
 -- what a server does by something of a client
-abbrev pub done_at : Network → Name → Happening → Served
-done_at net h happening = served (view_at net h) (of_client happening)
+abbrev pub done_at : Network → Name → ClientEvent → Served
+done_at net h client_event = served (view_at net h) (of_client client_event)
 
 -- The client's server has served it, and nothing else has changed; `base` has one home more where
 -- the client connects.
-pub record IsServedFor (net base new : Network) (h : Name) (happening : Happening)
+pub record IsServedFor (net base new : Network) (h : Name) (client_event : ClientEvent)
     (item : Item) : Type 0 where
   pub taken : HasTaken net new item base.homes net.links
-  pub view : view_at new h ≡ (done_at net h happening).view
+  pub state : view_at new h ≡ (done_at net h client_event).state
   pub other_views : (u : Name) → u ≢ h → view_at new u ≡ view_at net u
   pub way : (place : ℕ) → way_at new h place ≡ option_map
-      (λ lines. lines ++ lines_on place (done_at net h happening).out) (way_at net h place)
+      (λ lines. lines ++ lines_on place (done_at net h client_event).out) (way_at net h place)
   pub other_ways : (u : Name) (place : ℕ) → u ≢ h → way_at new u place ≡ way_at net u place
   pub received : (client : ℕ) (home : Name) → home_in base.homes client ≡ Some home
       → received_by new client ≡ received_by net client
-      ++ lines_to client (done_at net h happening).out
+      ++ lines_to client (done_at net h client_event).out
   pub nobody : (client : ℕ) → home_in base.homes client ≡ None → received_by new client ≡ []
 
 -- the network with these homes, and with what clients have received
@@ -57,24 +57,28 @@ module _ (stays : ServedKeepsItsSetting) (net : Network) (homes : List Name)
     (received : List (List (List ℕ))) (set_up : IsSetUp net)
     (inboxes : length received ≡ length homes) (as_before : (client : ℕ)
     → received_by (homed net homes received) client ≡ received_by net client)
-    (h : Name) (among : IsAmong net.names h) (happening : Happening)
-    (taken : serves_occurrence (view_at net h) (of_client happening) ≡ true) (item : Item) where
+    (h : Name) (among : IsAmong net.names h) (client_event : ClientEvent)
+    (taken : serves_read_event (view_at net h) (of_client client_event) ≡ true) (item : Item) where
   abbrev base : Network
   base = homed net homes received
 
-  abbrev progress : Progress
-  progress = node_asked (index_in net.names h) (of_client happening) (begun base)
+  abbrev progress : Progress Network
+  progress = node_asked (index_in net.names h) (of_client client_event) (begun base)
 
-  answered : IsAskedAt h (reply (view_at net h) (of_client happening)) (begun base) progress
+  answered : IsAskedAt h (reply (view_at net h) (of_client client_event)) (begun base) progress
   answered = asked_there stays (begun base) (set_up_besides net net.links homes received net.items
-      net.taken set_up) inboxes h among (of_client happening)
+      net.taken set_up) inboxes h among (of_client client_event)
 
-  abbrev is_reply : reply (view_at net h) (of_client happening)
-      ≡ record { view = (done_at net h happening).view; out = (done_at net h happening).out }
-  is_reply = reply_taken (view_at net h) (of_client happening) taken
+  abbrev is_reply : reply (view_at net h) (of_client client_event)
+      ≡ record {
+        state = (done_at net h client_event).state;
+        out = (done_at net h client_event).out;
+      }
+  is_reply = reply_taken (view_at net h) (of_client client_event) taken
 
   served_for : IsServedFor net base
-      (record progress.net { items = progress.net.items ++ item ∷ []; taken = 0 }) h happening item
+      (record progress.net { items = progress.net.items ++ item ∷ []; taken = 0 }) h
+      client_event item
   served_for = record {
     taken = record {
       names = answered.names;
@@ -88,27 +92,28 @@ module _ (stays : ServedKeepsItsSetting) (net : Network) (homes : List Name)
           set_up_besides progress.net progress.net.links progress.net.homes progress.net.received
           (progress.net.items ++ item ∷ []) 0 answered.set_up;
     };
-    view = answered.view ∙ ap (λ (r : Served). r.view) is_reply;
+    state = answered.state ∙ ap (λ (r : Served). r.state) is_reply;
     other_views = answered.other_views;
     way = λ place. answered.way place ∙ ap (λ (r : Served).
         option_map (λ lines. lines ++ lines_on place r.out) (way_at net h place)) is_reply;
     other_ways = answered.other_ways;
     received = λ client home is. answered.received client home is
         ∙ ap (λ (r : Served). received_by base client ++ lines_to client r.out) is_reply
-        ∙ ap (λ before. before ++ lines_to client (done_at net h happening).out) (as_before client);
+        ∙ ap (λ before. before ++ lines_to client (done_at net h client_event).out)
+        (as_before client);
     nobody = answered.nobody;
   }
 
 -- the client's home is asked
 given_where : (item : Item) (net base : Network) (place : Option ℕ) (k : ℕ)
-    (occurrence : Occurrence) → done_by item net ≡ node_asked_if place occurrence (begun base)
+    (read_event : ReadEvent) → done_by item net ≡ node_asked_if place read_event (begun base)
     → place ≡ Some k → (given item net).net
-    ≡ record (node_asked k occurrence (begun base)).net
-    { items = (node_asked k occurrence (begun base)).net.items ++ item ∷ []; taken = 0 }
+    ≡ record (node_asked k read_event (begun base)).net
+    { items = (node_asked k read_event (begun base)).net.items ++ item ∷ []; taken = 0 }
 unfolding given
-given_where item net base place k occurrence done is =
-    ap (λ (c : Progress). record c.net { items = c.net.items ++ item ∷ []; taken = 0 })
-    (done ∙ ap (λ o. node_asked_if o occurrence (begun base)) is)
+given_where item net base place k read_event done is =
+    ap (λ (c : Progress Network). record c.net { items = c.net.items ++ item ∷ []; taken = 0 })
+    (done ∙ ap (λ o. node_asked_if o read_event (begun base)) is)
 
 -- ---- a line is said, or the client goes
 
@@ -160,11 +165,11 @@ home_there net set_up client is = by (home_in net.homes client) refl
         ∙ is in absurd (cc f)
 
 -- the client's home has served it
-pub record IsDoneAtHome (net : Network) (client : ℕ) (happening : Happening)
+pub record IsDoneAtHome (net : Network) (client : ℕ) (client_event : ClientEvent)
     (item : Item) : Type 0 where
   pub home : Name
   pub at_home : IsAtHome net client home
-  pub served : IsServedFor net net (given item net).net home happening item
+  pub served : IsServedFor net net (given item net).net home client_event item
 
 home_asked : (net : Network) → IsSetUp net → (client : ℕ) (home : Name) → IsAtHome net client home
     → home_place net client ≡ Some (index_in net.names home)
@@ -173,21 +178,21 @@ home_asked net set_up client home at_home =
     ∙ (there net set_up home at_home.among).place
 
 done_at_home : ServedKeepsItsSetting → (net : Network) → IsSound net
-    → (client : ℕ) (happening : Happening) (item : Item) → ((view : View) → is_some
-    (get view.clients client) ≡ true → serves_occurrence view (of_client happening) ≡ true)
-    → done_by item net ≡ node_asked_if (home_place net client) (of_client happening) (begun net)
-    → is_there net client ≡ true → IsDoneAtHome net client happening item
-done_at_home stays net sound client happening item taken done is =
+    → (client : ℕ) (client_event : ClientEvent) (item : Item) → ((view : View) → is_some
+    (get view.clients client) ≡ true → serves_read_event view (of_client client_event) ≡ true)
+    → done_by item net ≡ node_asked_if (home_place net client) (of_client client_event) (begun net)
+    → is_there net client ≡ true → IsDoneAtHome net client client_event item
+done_at_home stays net sound client client_event item taken done is =
     let found : HasHome net client = home_there net sound.set_up client is in
     record {
       home = found.home;
       at_home = found.at_home;
-      served = subst (λ new. IsServedFor net net new found.home happening item)
+      served = subst (λ new. IsServedFor net net new found.home client_event item)
           (sym (given_where item net net (home_place net client) (index_in net.names found.home)
-          (of_client happening) done
+          (of_client client_event) done
           (home_asked net sound.set_up client found.home found.at_home)))
           (served_for stays net net.homes net.received sound.set_up sound.inboxes
-          (λ c. refl) found.home found.at_home.among happening
+          (λ c. refl) found.home found.at_home.among client_event
           (taken (view_at net found.home) found.at_home.connected) item);
     }
 

@@ -11,7 +11,7 @@ use Rattle.irc_relay.specs.Distances.{IsAmong}
 use Rattle.irc_relay.specs.Links.{Name, part, IsForest, AreJoined}
 use Rattle.irc_relay.specs.Relay.{streams_from, from_one}
 use Rattle.irc_routes.specs.Known.{Known, place_of}
-use Rattle.irc_stage.specs.Handle.{Happening, connects, goes, says}
+use Rattle.irc_stage.specs.Handle.{ClientEvent, connects, goes, says}
 use Rattle.irc_stage.specs.Lemmas.Counting.{get-kept}
 use Rattle.irc_stage.specs.View.{View}
 use Rattle.irc_stage.specs.declared.clients.Client.{Client}
@@ -46,12 +46,12 @@ use Rattle.irc_items.specs.Lemmas.SetUpFacts.{listed}
 abbrev pub TellsByHome : Type 0
 TellsByHome =
     (s : ItemSetting) (world after : World) (routes : Name → Known) (h : Name) (view : View)
-    (happening : Happening) → after.links ≡ world.links → IsItemSetting s
+    (client_event : ClientEvent) → after.links ≡ world.links → IsItemSetting s
     → IsForest world.links → s.streams ≡ streams_from world.links (from_one world.links h)
     → IsAmong s.names h → IsWorld s.settings world → IsOfWorld s world
     → AreRight s world.links routes → Fits s h (side_state_of s world routes h) view
     → place_of (routes h) ≡ place_at s.settings world.links h
-    → IsDueAtHome s world h happening → IsToldByHome s world after routes h view happening
+    → IsDueAtHome s world h client_event → IsToldByHome s world after routes h view client_event
 
 pub record AreItemLaws : Type 0 where
   pub client : AreClientLaws
@@ -68,16 +68,17 @@ module _ (laws : AreItemLaws) (net : Network) (sound : IsSound net) (rest : is_a
     (one : IsOneRoom net)
     (holds : IsWorld (settings_of net) (world_now net)) where
   -- whatever is known of a client's item makes the network sound
-  served_sound : (base : Network) (world : World) (h : Name) (happening : Happening) (item : Item)
-      → IsClientStep net base (given item net).net world h happening item
+  served_sound : (base : Network) (world : World) (h : Name) (client_event : ClientEvent)
+      (item : Item) → IsClientStep net base (given item net).net world h client_event item
       → IsSound (given item net).net
-  served_sound base world h happening item step =
+  served_sound base world h client_event item step =
       client_sound laws.client step
       (does_as_machine laws.home s world (routes_in net) h
-      (view_at net h) happening fixed_so step.among step.holds of_so right_so
+      (view_at net h) client_event fixed_so step.among step.holds of_so right_so
       (fits_so h step.among) step.step.holds_after place_so step.due)
-      (laws.tells s world (by_machine (settings_of net) world h happening).world (routes_in net) h
-      (view_at net h) happening refl fixed_so
+      (laws.tells s world (by_machine (settings_of net) world h client_event).world
+      (routes_in net) h
+      (view_at net h) client_event refl fixed_so
       step.holds.sound.forest refl step.among step.holds of_so right_so
       (fits_so h step.among) place_so step.due)
     where
@@ -103,16 +104,16 @@ module _ (laws : AreItemLaws) (net : Network) (sound : IsSound net) (rest : is_a
           (ends laws.client.events.at_rest step) right_so step.among
 
   -- what is known of an item that a server has served
-  served_step : (base : Network) (world : World) (h : Name) (happening : Happening) (item : Item)
-      → fault_at_rest net item ≡ None → IsItemWithin item
-      → step (settings_of net) (world_now net) item ≡ by_machine (settings_of net) world h happening
-      → IsServedFor net base (given item net).net h happening item → base.homes ≡ world.homes
+  served_step : (base : Network) (world : World) (h : Name) (client_event : ClientEvent)
+      (item : Item) → fault_at_rest net item ≡ None → IsItemWithin item → step (settings_of net)
+      (world_now net) item ≡ by_machine (settings_of net) world h client_event
+      → IsServedFor net base (given item net).net h client_event item → base.homes ≡ world.homes
       → net.links ≡ world.links → ((client : ℕ) → home_in world.homes client ≡ None
       → home_in net.homes client ≡ None) → IsStep net (given item net).net item world.homes
-      (by_machine (settings_of net) world h happening)
-  served_step base world h happening item taken within stepped served homes links before =
+      (by_machine (settings_of net) world h client_event)
+  served_step base world h client_event item taken within stepped served homes links before =
       is_step laws.steps net sound rest one holds item taken within (given item net).net world.homes
-      (by_machine (settings_of net) world h happening) stepped
+      (by_machine (settings_of net) world h client_event) stepped
       (subst (HasTaken net (given item net).net item world.homes) links
       (subst (λ homes. HasTaken net (given item net).net item homes net.links) homes served.taken))
       refl before
@@ -141,17 +142,18 @@ module _ (laws : AreItemLaws) (net : Network) (sound : IsSound net) (rest : is_a
       → home_in (world_now net).homes client ≡ Some home
   home_now client home is = ap (λ homes. home_in homes client) (sym sound.homes) ∙ is
 
-  at_home_step : (client : ℕ) (happening : Happening) (item : Item)
-      (done : IsDoneAtHome net client happening item) → fault_at_rest net item ≡ None
+  at_home_step : (client : ℕ) (client_event : ClientEvent) (item : Item)
+      (done : IsDoneAtHome net client client_event item) → fault_at_rest net item ≡ None
       → IsItemWithin item → step (settings_of net) (world_now net) item
-      ≡ by_machine (settings_of net) (world_now net) done.home happening → ((t : Name)
+      ≡ by_machine (settings_of net) (world_now net) done.home client_event → ((t : Name)
       → (AreJoined (world_now net).links t done.home → ⊥) → IsElsewhere (world_now net) item t)
-      → IsDueAtHome (home_setting net (world_now net) done.home) (world_now net) done.home happening
+      → IsDueAtHome (home_setting net (world_now net) done.home)
+      (world_now net) done.home client_event
       → most (settings_of net) (world_now net) item ≡ most_of_client (settings_of net)
-      (world_now net) (Some done.home) happening → IsSound (given item net).net
-  at_home_step client happening item done taken within stepped elsewhere due bound =
-      served_sound net (world_now net) done.home happening item (record {
-        step = served_step net (world_now net) done.home happening item taken within stepped
+      (world_now net) (Some done.home) client_event → IsSound (given item net).net
+  at_home_step client client_event item done taken within stepped elsewhere due bound =
+      served_sound net (world_now net) done.home client_event item (record {
+        step = served_step net (world_now net) done.home client_event item taken within stepped
             done.served sound.homes sound.links
             (λ client none. ap (λ homes. home_in homes client) sound.homes ∙ none);
         served = done.served;

@@ -17,7 +17,7 @@ use Rattle.irc_relay.specs.Lemmas.TellingNames.{same_unless, same_when}
 use Rattle.irc_routes.specs.Known.{Known}
 use Rattle.irc_stage.specs.declared.clients.Client.{Client}
 use Rattle.irc_stage.specs.declared.clients.Client.TheVariants.{Registering, Registered}
-use Rattle.irc_stage.specs.Handle.{Happening, connects, handled}
+use Rattle.irc_stage.specs.Handle.{ClientEvent, connects, handled}
 use Rattle.irc_stage.specs.Lemmas.Numbers.{one_number, same_number}
 use Rattle.irc_stage.specs.View.{View}
 use Rattle.irc_world.specs.Bounds.{effects_at}
@@ -36,8 +36,8 @@ use Rattle.irc_items.proofs.Client.OthersAlong.{IsAsHall, IsKnownOfDecisions, ha
 use Rattle.irc_items.proofs.Client.OthersAlong.{handled_so, seen_along}
 
 -- the deeds of a client's event
-abbrev pub deeds_at : ItemSetting → World → Name → Happening → List Deed
-deeds_at s world h happening = map does (effects_at (machine_at s.settings world h) happening)
+abbrev pub deeds_at : ItemSetting → World → Name → ClientEvent → List Deed
+deeds_at s world h client_event = map does (effects_at (machine_at s.settings world h) client_event)
 
 pub record IsKnownOfEvents : Type 0 where
   pub decisions : IsKnownOfDecisions
@@ -78,10 +78,10 @@ module _ (s : ItemSetting) (client : ℕ) where
 
 -- ---- the client's home
 
-pub due_home : (s : ItemSetting) (world : World) (h : Name) (happening : Happening)
-    → IsDueAtHome s world h happening → home_in s.homes (client_in happening) ≡ Some h
+pub due_home : (s : ItemSetting) (world : World) (h : Name) (client_event : ClientEvent)
+    → IsDueAtHome s world h client_event → home_in s.homes (client_in client_event) ≡ Some h
 due_home s world h (connects conn host) due = due.0
-due_home s world h happening due = due.0
+due_home s world h client_event due = due.0
 
 -- a client of another server is another client
 another_client : (homes : List Name) (h t : Name) (conn q : ℕ) → home_in homes conn ≡ Some h → t ≢ h
@@ -97,15 +97,15 @@ another_client homes h t conn q home apart here = by (same_number q conn) refl
 
 -- ---- the event in the world
 
-module _ (s : ItemSetting) (world : World) (h t : Name) (happening : Happening) where
+module _ (s : ItemSetting) (world : World) (h t : Name) (client_event : ClientEvent) where
   abbrev effects : List Effect
-  effects = effects_at (machine_at s.settings world h) happening
+  effects = effects_at (machine_at s.settings world h) client_event
 
   abbrev world_after : World
-  world_after = (by_machine s.settings world h happening).world
+  world_after = (by_machine s.settings world h client_event).world
 
   abbrev hall_then : Hall
-  hall_then = hall_of (handled (machine_at s.settings world h) happening).machine
+  hall_then = hall_of (handled (machine_at s.settings world h) client_event).state
 
   hall_now : AreJoined world.links t h → world_after.hall t ≡ hall_then
   hall_now together = ap (λ b. if b then hall_then else world.hall t)
@@ -121,16 +121,17 @@ module _ (s : ItemSetting) (world : World) (h t : Name) (happening : Happening) 
     one_hall = is_world.sound.one_hall t h together
 
     abbrev IsAs : Hall → Type 0
-    IsAs hall = IsAsHall (client_in happening) (handled (machine_at s.settings world h) happening)
+    IsAs hall =
+        IsAsHall (client_in client_event) (handled (machine_at s.settings world h) client_event)
         (hall_along effects hall) (λ q. seen_along q effects hall)
 
     served : IsAs (world.hall t)
     served =
         subst IsAs (sym one_hall)
         (handled_so known (home_in world.homes) (machine_at s.settings world h)
-        (is_world.sound.well_formed h) (is_world.clients_users h) happening)
+        (is_world.sound.well_formed h) (is_world.clients_users h) client_event)
 
-    module _ (apart : t ≢ h) (home : home_in s.homes (client_in happening) ≡ Some h) where
+    module _ (apart : t ≢ h) (home : home_in s.homes (client_in client_event) ≡ Some h) where
       rooms : (hall_along effects (world.hall t)).room ≡ (world_after.hall t).room
       rooms = sym served.room ∙ ap (λ (hall : Hall). hall.room) (sym (hall_now together))
 
@@ -139,27 +140,31 @@ module _ (s : ItemSetting) (world : World) (h t : Name) (happening : Happening) 
       kept_clients =
           same_kept s.homes t (hall_along effects (world.hall t)).clients hall_then.clients
           (λ q here. sym (served.clients q
-          (another_client s.homes h t (client_in happening) q home apart here)))
+          (another_client s.homes h t (client_in client_event) q home apart here)))
           ∙ ap (λ (hall : Hall). retain_keys hall.clients (is_home_of s.homes t))
           (sym (hall_now together))
 
-      lines_of : (q : ℕ) → is_home_of s.homes t q ≡ true
-          → seen_along q effects (world.hall t) ≡ (by_machine s.settings world h happening).lines q
+      lines_of : (q : ℕ) → is_home_of s.homes t q ≡ true → seen_along q effects (world.hall t)
+          ≡ (by_machine s.settings world h client_event).lines q
       lines_of q here =
-          sym (served.lines q (another_client s.homes h t (client_in happening) q home apart here))
+          sym (served.lines q
+          (another_client s.homes h t (client_in client_event) q home apart here))
 
 -- ---- another server of the part
 
 -- Once it has followed the deeds, it is what it has to be in the world after the event.
 pub comes_to_world : IsKnownOfEvents → (s : ItemSetting) (world : World) (routes : Name → Known)
-    (h t : Name) (happening : Happening) (client : ℕ) (view : View) → IsItemSetting s
+    (h t : Name) (client_event : ClientEvent) (client : ℕ) (view : View) → IsItemSetting s
     → IsAmong s.names h
     → IsAmong s.names t → t ≢ h → AreJoined world.links t h → IsWorld s.settings world
     → IsOfWorld s world → AreRight s world.links routes → IsWorld s.settings
-    (by_machine s.settings world h happening).world → IsDueAtHome s world h happening → Fits s t
-    (all_done (play s client) (side_state_of s world routes t) (deeds_at s world h happening)) view
-    → Fits s t (side_state_of s (by_machine s.settings world h happening).world routes t) view
-comes_to_world known s world routes h t happening client view fixed home_among among apart together
+    (by_machine s.settings world h client_event).world → IsDueAtHome s world h client_event
+    → Fits s t
+    (all_done (play s client) (side_state_of s world routes t)
+    (deeds_at s world h client_event)) view
+    → Fits s t (side_state_of s (by_machine s.settings world h client_event).world routes t) view
+comes_to_world known s world routes h t client_event client view fixed home_among among apart
+    together
     is_world of_world right after due fits = record {
       here = along.here;
       sound = known.at_rest s now routes t fixed
@@ -169,48 +174,48 @@ comes_to_world known s world routes h t happening client view fixed home_among a
       ends = along.ends;
       no_others = along.no_others;
       clients = along.clients
-          ∙ kept_clients s world h t happening known.decisions is_world together apart home;
+          ∙ kept_clients s world h t client_event known.decisions is_world together apart home;
       room = along.room
           ∙ ap (of_home t)
-          (rooms s world h t happening known.decisions is_world together apart home);
+          (rooms s world h t client_event known.decisions is_world together apart home);
     }
   where
     now : World
-    now = (by_machine s.settings world h happening).world
+    now = (by_machine s.settings world h client_event).world
 
-    home : home_in s.homes (client_in happening) ≡ Some h
-    home = due_home s world h happening due
+    home : home_in s.homes (client_in client_event) ≡ Some h
+    home = due_home s world h client_event due
 
     along : Fits s t (record (side_state_of s world routes t) {
       hall = hall_along
-          (effects_at (machine_at s.settings world h) happening) (world.hall t);
+          (effects_at (machine_at s.settings world h) client_event) (world.hall t);
     }) view
     along = subst (λ w. Fits s t w view) (done_along s client
-        (effects_at (machine_at s.settings world h) happening)
+        (effects_at (machine_at s.settings world h) client_event)
         (side_state_of s world routes t)) fits
 
 -- It has shown each of its clients what that receives.
 pub shows_its_clients : IsKnownOfEvents → (s : ItemSetting) (world : World)
-    (routes : Name → Known) (h t : Name) (happening : Happening) (client : ℕ) → t ≢ h
-    → AreJoined world.links t h → IsWorld s.settings world → IsDueAtHome s world h happening
+    (routes : Name → Known) (h t : Name) (client_event : ClientEvent) (client : ℕ) → t ≢ h
+    → AreJoined world.links t h → IsWorld s.settings world → IsDueAtHome s world h client_event
     → is_home_of s.homes t client ≡ true
     → all_seen (play s client) t (side_state_of s world routes t)
-    (deeds_at s world h happening) ≡ (by_machine s.settings world h happening).lines client
-shows_its_clients known s world routes h t happening client apart together is_world due here =
-    seen_at_home s client t here (effects_at (machine_at s.settings world h) happening)
+    (deeds_at s world h client_event) ≡ (by_machine s.settings world h client_event).lines client
+shows_its_clients known s world routes h t client_event client apart together is_world due here =
+    seen_at_home s client t here (effects_at (machine_at s.settings world h) client_event)
     (side_state_of s world routes t)
-    ∙ lines_of s world h t happening known.decisions is_world together apart
-    (due_home s world h happening due) client here
+    ∙ lines_of s world h t client_event known.decisions is_world together apart
+    (due_home s world h client_event due) client here
 
 -- ---- a server of another part
 
 -- It stays as it is.
 pub elsewhere_stays : (s : ItemSetting) (world : World) (routes : Name → Known)
-    (h t : Name) (happening : Happening) (view : View)
+    (h t : Name) (client_event : ClientEvent) (view : View)
     → (AreJoined world.links t h → ⊥) → Fits s t (side_state_of s world routes t) view
-    → Fits s t (side_state_of s (by_machine s.settings world h happening).world routes t) view
-elsewhere_stays s world routes h t happening view apart fits =
+    → Fits s t (side_state_of s (by_machine s.settings world h client_event).world routes t) view
+elsewhere_stays s world routes h t client_event view apart fits =
     subst (λ (hall : Hall). Fits s t (record {
       tree = (side_state_of s world routes t).tree;
       hall = hall;
-    }) view) (sym (hall_still s world h t happening apart)) fits
+    }) view) (sym (hall_still s world h t client_event apart)) fits

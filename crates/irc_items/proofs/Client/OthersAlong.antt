@@ -40,7 +40,8 @@ use Rattle.irc_stage.specs.declared.clients.Client.TheVariants.{Registering, Reg
 use Rattle.irc_stage.specs.RoomMachine.{Clients, RoomMachine, client_of, with_client}
 use Rattle.irc_stage.specs.RoomMachine.{without_client}
 use Rattle.irc_stage.specs.EffectTold.{is_another}
-use Rattle.irc_stage.specs.Handle.{Happening, connects, says, goes, Handled, handled, client_after}
+use Rattle.irc_stage.specs.Handle.{ClientEvent, connects, says, goes, Handled, handled}
+use Rattle.irc_stage.specs.Handle.{client_after}
 use Rattle.irc_stage.specs.Handle.{clients_after, closing, fresh, gone, is_client, lost_text}
 use Rattle.irc_stage.specs.Handle.{all_stepped, pending_decided, quits, renamed_in, said_by}
 use Rattle.irc_stage.specs.Handle.{stepped, to_viewer, unchanged, user_decided, user_of}
@@ -83,9 +84,9 @@ AllLeaveOthers conn (effect ∷ effects) clients = IsSoFirst (LeavesOthers conn 
 -- a machine has come to be this hall, but for one client, and the others have received this
 pub record IsAsHall (conn : ℕ) (now : Handled) (hall : Hall)
     (received : ℕ → List (List ℕ)) : Type 0 where
-  pub room : now.machine.room ≡ hall.room
+  pub room : now.state.room ≡ hall.room
   pub clients : (q : ℕ) → same_number q conn ≡ false
-      → get now.machine.clients q ≡ get hall.clients q
+      → get now.state.clients q ≡ get hall.clients q
   pub lines : (q : ℕ) → same_number q conn ≡ false → lines_to q now.out ≡ received q
 
 abbrev pub hall_of : RoomMachine → Hall
@@ -131,17 +132,17 @@ module _ (conn : ℕ) where
       (λ q. received q ++ client_shown q hall.room effect (get hall.clients q))
   effect_as effect before hall received is_so well leaves = record {
     room = ap (λ room. after room effect) is_so.room;
-    clients = λ q two. clients_alike effect before.machine.clients hall.clients leaves q two
+    clients = λ q two. clients_alike effect before.state.clients hall.clients leaves q two
         (is_so.clients q two);
     lines = λ q two.
         lines_behind q before.out
-        (flat_map (to_viewer before.machine.clients) (seen before.machine.room effect))
-        ∙ ap (λ l. l ++ lines_to q (flat_map (to_viewer before.machine.clients)
-        (seen before.machine.room effect))) (is_so.lines q two)
+        (flat_map (to_viewer before.state.clients) (seen before.state.room effect))
+        ∙ ap (λ l. l ++ lines_to q (flat_map (to_viewer before.state.clients)
+        (seen before.state.room effect))) (is_so.lines q two)
         ∙ ap (λ l. received q ++ l)
-        (effect_lines q before.machine.clients before.machine.room effect
+        (effect_lines q before.state.clients before.state.room effect
         (subst IsWellFormed (sym is_so.room) well)
-        ∙ ap (λ room. client_shown q room effect (get before.machine.clients q)) is_so.room
+        ∙ ap (λ room. client_shown q room effect (get before.state.clients q)) is_so.room
         ∙ ap (client_shown q hall.room effect) (is_so.clients q two));
   }
 
@@ -159,8 +160,8 @@ module _ (conn : ℕ) where
       → IsAsHall conn before hall received → IsAsHall conn (closing close conn before) hall received
   closed_as true before hall received is_so = record {
     room = is_so.room;
-    clients = λ q two. get-without before.machine.clients conn q
-        ∙ ap (λ b. cond b None (get before.machine.clients q)) two ∙ is_so.clients q two;
+    clients = λ q two. get-without before.state.clients conn q
+        ∙ ap (λ b. cond b None (get before.state.clients q)) two ∙ is_so.clients q two;
     lines = λ q two. own_end q before.out ∙ is_so.lines q two;
   }
   closed_as false before hall received is_so = is_so
@@ -185,7 +186,7 @@ module _ (conn : ℕ) where
       (λ q. sym (append-nil (received q))) is_so
   steps_as name (Answer reply ∷ acts) before hall received is_so well possible leave =
       steps_as name acts (stepped conn name (Answer reply) before) hall received
-      (answered_as before hall received (reply_text before.machine.place.name name reply) is_so)
+      (answered_as before hall received (reply_text before.state.place.name name reply) is_so)
       well possible leave
   steps_as name (Raw line ∷ acts) before hall received is_so well possible leave =
       steps_as name acts (stepped conn name (Raw line) before) hall received
@@ -385,8 +386,8 @@ module _ (known : IsKnownOfDecisions) (homes : ℕ → Option Name) (machine : R
             (own_alone user.nick lost_text (ap (option_and_then fold_of) is
             ∙ ap Some (sym (well.users_named (key nick) user there)))))
 
-  pub handled_so : (happening : Happening)
-      → IsServed (client_in happening) (handled machine happening) (effects_at machine happening)
+  pub handled_so : (client_event : ClientEvent) → IsServed (client_in client_event)
+      (handled machine client_event) (effects_at machine client_event)
   unfolding handled
   handled_so (connects conn host) = with_it conn (fresh host)
   handled_so (says conn (Err fault)) = as_it_is conn

@@ -12,7 +12,7 @@ use Rattle.irc_relay.specs.Lemmas.StreamsFlow.{one_covers, source_is_one}
 use Rattle.irc_relay.specs.Lemmas.NextHops.{next_hop}
 use Rattle.irc_room.specs.Invitations.{of_home}
 use Rattle.irc_stage.specs.declared.clients.Client.{Client}
-use Rattle.irc_stage.specs.Handle.{Happening}
+use Rattle.irc_stage.specs.Handle.{ClientEvent}
 use Rattle.irc_stage.specs.Lemmas.Counting.{get-kept}
 use Rattle.irc_stage.specs.Lemmas.Numbers.{same_clients}
 use Rattle.irc_world.specs.Bounds.{effects_at, most, part_size}
@@ -54,10 +54,11 @@ home_setting net world h = record {
 }
 
 -- What is known of a client's item, in a world that has the client already where it connects.
-pub record IsClientStep (net base new : Network) (world : World) (h : Name) (happening : Happening)
+pub record IsClientStep (net base new : Network) (world : World) (h : Name)
+    (client_event : ClientEvent)
     (item : Item) : Type 0 where
-  pub step : IsStep net new item world.homes (by_machine (settings_of net) world h happening)
-  pub served : IsServedFor net base new h happening item
+  pub step : IsStep net new item world.homes (by_machine (settings_of net) world h client_event)
+  pub served : IsServedFor net base new h client_event item
   pub among : IsAmong net.names h
   pub homes : base.homes ≡ world.homes
   pub old_homes : (client : ℕ) (home : Name) → home_in net.homes client ≡ Some home
@@ -66,14 +67,14 @@ pub record IsClientStep (net base new : Network) (world : World) (h : Name) (hap
   pub hall : (t : Name) → world.hall t ≡ (world_now net).hall t
   pub holds : IsWorld (settings_of net) world
   pub elsewhere : (t : Name) → (AreJoined world.links t h → ⊥) → IsElsewhere (world_now net) item t
-  pub due : IsDueAtHome (home_setting net world h) world h happening
-  pub few : length (effects_at (machine_at (settings_of net) world h) happening)
+  pub due : IsDueAtHome (home_setting net world h) world h client_event
+  pub few : length (effects_at (machine_at (settings_of net) world h) client_event)
       * (part_size (settings_of net) world.links h - 1)
       ≤ most (settings_of net) (world_now net) item
 
 module _ (side : SideAtRestIsSound) {net base new : Network} {world : World} {h : Name}
-    {happening : Happening} {item : Item}
-    (given : IsClientStep net base new world h happening item) where
+    {client_event : ClientEvent} {item : Item}
+    (given : IsClientStep net base new world h client_event item) where
   abbrev s : ItemSetting
   s = home_setting net world h
 

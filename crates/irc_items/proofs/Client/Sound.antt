@@ -10,7 +10,7 @@ use Rattle.irc_relay.specs.Relay.{from_one, lines_coming, lines_pending, under_w
 use Rattle.irc_relay.specs.Lemmas.StreamsFlow.{one_covers}
 use Rattle.irc_relay.specs.Lemmas.NextHops.{linked_back}
 use Rattle.irc_stage.specs.ClientTold.{client_told}
-use Rattle.irc_stage.specs.Handle.{Happening}
+use Rattle.irc_stage.specs.Handle.{ClientEvent}
 use Rattle.irc_world.specs.Bounds.{effects_at, most, part_size}
 use Rattle.irc_world.specs.Stepping.{Item, by_machine}
 use Rattle.irc_world.specs.World.{World, machine_at}
@@ -41,16 +41,17 @@ turned : (sum size effects part : ℕ) → sum ≤ 0 + size * effects → part �
 turned sum size effects part most same = rw same (omega arith)
 
 module _ (laws : AreClientLaws) {net base new : Network} {world : World} {h : Name}
-    {happening : Happening} {item : Item} (given : IsClientStep net base new world h happening item)
+    {client_event : ClientEvent} {item : Item}
+    (given : IsClientStep net base new world h client_event item)
     (at_home : DoesAsMachine (home_setting net world h) world (routes_in net) h
-    (view_at net h) happening) (tells : IsToldByHome (home_setting net world h) world
-    (by_machine (settings_of net) world h happening).world (routes_in net) h (view_at net h)
-    happening) where
+    (view_at net h) client_event) (tells : IsToldByHome (home_setting net world h) world
+    (by_machine (settings_of net) world h client_event).world (routes_in net) h (view_at net h)
+    client_event) where
   abbrev s : ItemSetting
   s = home_setting net world h
 
   abbrev after : World
-  after = (by_machine (settings_of net) world h happening).world
+  after = (by_machine (settings_of net) world h client_event).world
 
   abbrev source : Name → Name
   source = from_one world.links h
@@ -59,11 +60,11 @@ module _ (laws : AreClientLaws) {net base new : Network} {world : World} {h : Na
 
   module _ (client : ℕ) where
     abbrev effects : ℕ
-    effects = length (effects_at (machine_at (settings_of net) world h) happening)
+    effects = length (effects_at (machine_at (settings_of net) world h) client_event)
 
     goes_on : IsGoingOn s no_answers after source (routes_in net) new client
-        (owed_now net client ++ (by_machine (settings_of net) world h happening).lines client)
-        (side_state_of s world (routes_in net)) (λ t. deeds_at s world h happening)
+        (owed_now net client ++ (by_machine (settings_of net) world h client_event).lines client)
+        (side_state_of s world (routes_in net)) (λ t. deeds_at s world h client_event)
     goes_on = client_goes_on laws given at_home tells client
 
     next_few : (t : Name) → s.streams.depth t ≡ 1
@@ -79,11 +80,11 @@ module _ (laws : AreClientLaws) {net base new : Network} {world : World} {h : Na
         taker = fits_taker laws given at_home tells client t (omega arith)
 
         on_its_way : under_way (relayed s new client) (s.streams.parent t) t
-            ≡ lines_on (number s t) (client_told (view_at net h) happening).out
+            ≡ lines_on (number s t) (client_told (view_at net h) client_event).out
         on_its_way = ap (λ p. under_way (relayed s new client) p t) near.parent
             ∙ from_home laws given at_home tells client t
 
-    few : AreFew (λ e o. e ≡ h) world.links s new client (λ t. deeds_at s world h happening)
+    few : AreFew (λ e o. e ≡ h) world.links s new client (λ t. deeds_at s world h client_event)
         (λ e o. 0) (λ e o. effects)
     few = record {
       at_end = λ e o is.
@@ -92,7 +93,8 @@ module _ (laws : AreClientLaws) {net base new : Network} {world : World} {h : Na
           as_many (ap (λ (lines : List (List ℕ)). length lines) (none_at_source goes_on e none));
       next = λ t e o ends on two one. next_few t one;
       told = λ t e o ends on.
-          as_many (length-map (effects_at (machine_at (settings_of net) world h) happening) does);
+          as_many
+          (length-map (effects_at (machine_at (settings_of net) world h) client_event) does);
     }
 
     few_come : lines_coming (machine s client) s.streams (relayed s new client) net.names
@@ -145,11 +147,12 @@ module _ (laws : AreClientLaws) {net base new : Network} {world : World} {h : Na
       by : Telling x h → is_some (way_at new x place) ≡ is_some (way_at net x place)
       by (alike _ e) =
           ap (λ v. is_some (way_at new v place)) e ∙ ap is_some (given.served.way place)
-          ∙ stays_some (λ lines. lines ++ lines_on place (done_at net h happening).out)
+          ∙ stays_some (λ lines. lines ++ lines_on place (done_at net h client_event).out)
           (way_at net h place) ∙ sym (ap (λ v. is_some (way_at net v place)) e)
       by (unlike _ two) = ap is_some (given.served.other_ways x place two)
 
-  comes : ComesTo net new item world.homes (by_machine (settings_of net) world h happening) source
+  comes : ComesTo net new item world.homes
+      (by_machine (settings_of net) world h client_event) source
       (routes_in net) no_answers
   comes = record {
     covers = one_covers world.links h;

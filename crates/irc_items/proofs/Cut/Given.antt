@@ -46,8 +46,8 @@ parted_at net t other = served (view_at net t) (link_down (index_in net.names ot
 -- else has changed.
 pub record IsCut (net new : Network) (near far : Name) : Type 0 where
   pub taken : HasTaken net new (cut near far) net.homes (links_without net.links near far)
-  pub view : (a b : Name) → HasEnds (record { near = near; far = far }) a b
-      → view_at new a ≡ (parted_at net a b).view
+  pub state : (a b : Name) → HasEnds (record { near = near; far = far }) a b
+      → view_at new a ≡ (parted_at net a b).state
   pub other_views : (u : Name) → u ≢ near → u ≢ far → view_at new u ≡ view_at net u
   pub way : (a b : Name) → HasEnds (record { near = near; far = far }) a b
       → (place : ℕ) → place ≢ index_in net.names b → way_at new a place
@@ -125,12 +125,12 @@ module _ (stays : ServedKeepsItsSetting) (net : Network) (sound : IsSound net)
   are_linked = both_ends l (AreLinked net.links) m.linked (linked_back net.links near far m.linked)
 
   answers : (a b : Name) → HasEnds l a b → reply (view_at net a) (link_down (index_in net.names b))
-      ≡ record { view = (parted_at net a b).view; out = (parted_at net a b).out }
+      ≡ record { state = (parted_at net a b).state; out = (parted_at net a b).out }
   answers a b ends = reply_taken (view_at net a) (link_down (index_in net.names b))
       (has_end a b (among a b ends) (among b a (other_end l a b ends)) (are_linked a b ends))
 
   abbrev answer : Name → Name → Served
-  answer a b = record { view = (parted_at net a b).view; out = (parted_at net a b).out }
+  answer a b = record { state = (parted_at net a b).state; out = (parted_at net a b).out }
 
   abbrev left : List Link
   left = links_without net.links near far
@@ -150,7 +150,7 @@ module _ (stays : ServedKeepsItsSetting) (net : Network) (sound : IsSound net)
     far_is = answers far near (inr (refl, refl));
   }
 
-  abbrev both_parted : Progress
+  abbrev both_parted : Progress Network
   both_parted = both_asked will
 
   has_asked : HasAskedBoth net (item_kept (cut near far) both_parted).net near far None
@@ -160,8 +160,8 @@ module _ (stays : ServedKeepsItsSetting) (net : Network) (sound : IsSound net)
   cut_so : IsCut net (item_kept (cut near far) both_parted).net near far
   cut_so = record {
     taken = both_taken will (cut near far);
-    view = both_ends l (λ a b. view_at (item_kept (cut near far) both_parted).net a
-        ≡ (parted_at net a b).view) has_asked.near_view has_asked.far_view;
+    state = both_ends l (λ a b. view_at (item_kept (cut near far) both_parted).net a
+        ≡ (parted_at net a b).state) has_asked.near_view has_asked.far_view;
     other_views = has_asked.other_views;
     way = both_ends l (λ a b. (place : ℕ) → place ≢ index_in net.names b
         → way_at (item_kept (cut near far) both_parted).net a place
@@ -185,5 +185,5 @@ module _ (stays : ServedKeepsItsSetting) (net : Network) (sound : IsSound net)
 pub cut_is_given : ServedKeepsItsSetting → (net : Network) → IsSound net → IsOneRoom net
     → (near far : Name) → IsParting net near far → IsCut net (given (cut near far) net).net near far
 cut_is_given stays net sound room near far m =
-    subst (λ (progress : Progress). IsCut net progress.net near far)
+    subst (λ (progress : Progress Network). IsCut net progress.net near far)
     (sym (is_given stays net sound room near far m)) (cut_so stays net sound room near far m)

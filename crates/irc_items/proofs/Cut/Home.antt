@@ -153,12 +153,12 @@ module _ {s : ItemSetting} {world : World} {routes : Name → Known} {left : Lis
 -- what it is then, and what it puts out
 pub record IsParted (s : ItemSetting) (world : World) (routes : Name → Known) (left : List Link)
     (a b : Name) (view : View) (now : Served) : Type 0 where
-  pub peers : now.view.peers ≡ view.peers
-  pub knows : now.view.routes ≡ (cut_after s world routes left a b).tree.routes a
-  pub end_gone : get now.view.ends (number s b) ≡ None
-  pub ends_stay : (k : ℕ) → k ≢ number s b → get now.view.ends k ≡ get view.ends k
-  pub clients : now.view.clients ≡ view.clients
-  pub room : now.view.room ≡ of_home a
+  pub peers : now.state.peers ≡ view.peers
+  pub knows : now.state.routes ≡ (cut_after s world routes left a b).tree.routes a
+  pub end_gone : get now.state.ends (number s b) ≡ None
+  pub ends_stay : (k : ℕ) → k ≢ number s b → get now.state.ends k ≡ get view.ends k
+  pub clients : now.state.clients ≡ view.clients
+  pub room : now.state.room ≡ of_home a
       (split (split_text a b) (servers_on_side s.settings left b) (world.hall a).room)
   pub told : (u : Name) → AreLinked left a u → lines_on (number s u) now.out ≡ map
       (λ x. line_text (squit_parts a x (split_text a b))) (names_behind (routes a) (number s b))
@@ -209,13 +209,13 @@ module _ {s : ItemSetting} {world : World} {routes : Name → Known} {left : Lis
 
   at_first : in_silence view ≡ first
   at_first =
-      λ i. record { view = record view { routes = fits.routes i; room = fits.room i }; out = [] }
+      λ i. record { state = record view { routes = fits.routes i; room = fits.room i }; out = [] }
 
   abbrev so : Served
   so = deeds_told (Some k) (losses a b gone) first
 
   abbrev closed : Served → Served
-  closed now = record now { view = unlinked k now.view }
+  closed now = record now { state = unlinked k now.state }
 
   served_is : served view (link_down k) ≡ closed so
   unfolding served
@@ -236,7 +236,7 @@ module _ {s : ItemSetting} {world : World} {routes : Name → Known} {left : Lis
   numbered : IsNumbered (routes a)
   numbered = cut.right.numbered a (a_among cut)
 
-  forgets_them : (closed so).view.routes ≡ all_forgotten gone (routes a)
+  forgets_them : (closed so).state.routes ≡ all_forgotten gone (routes a)
   forgets_them =
       ap (λ (v : View). without_link k v.routes) has.view_is ∙ nobody_behind (routes a) k numbered
 
@@ -313,7 +313,7 @@ module _ {s : ItemSetting} {world : World} {routes : Name → Known} {left : Lis
 
   -- ----
 
-  ends_now : (q : ℕ) → get (closed so).view.ends q ≡ cond (same_number q k) None (get view.ends q)
+  ends_now : (q : ℕ) → get (closed so).state.ends q ≡ cond (same_number q k) None (get view.ends q)
   ends_now q = ap (λ (v : View). get (remove v.ends k) q) has.view_is ∙ get-without view.ends k q
 
   closed_is : IsParted s world routes left a b view (closed so)

@@ -208,7 +208,7 @@ module _ (laws : AreCutItemLaws) (net : Network) (sound : IsSound net)
         (one.servers a (end_among given_so a b ends)).sound)
 
     is_cut_end : IsCutEnd s world routes left a b (view_at new a)
-    is_cut_end = subst (IsCutEnd s world routes left a b) (sym (cut_so.view a b ends)) (record {
+    is_cut_end = subst (IsCutEnd s world routes left a b) (sym (cut_so.state a b ends)) (record {
       streams = s.streams;
       before = view_at net a;
       fitted = fits_here a (end_among given_so a b ends);

@@ -79,7 +79,7 @@ module _ (view : View) (t far : Name) (k : ℕ) where
   moment known room = record view { routes = known; room = of_home t room }
 
   abbrev pub serving : Known → Room → List Sent → Served
-  serving known room out = record { view = moment known room; out = out }
+  serving known room out = record { state = moment known room; out = out }
 
   -- the links on which each loss is told
   abbrev pub other_links : List ℕ
@@ -116,11 +116,11 @@ module _ (view : View) (t far : Name) (k : ℕ) where
         sym (home_follows_deed home_follows t room deed well tt
         ∙ ap (after_all (of_home t room)) same_quits)
 
-    loss_view : (deed_told (Some k) deed (serving known room out)).view
+    loss_view : (deed_told (Some k) deed (serving known room out)).state
         ≡ moment (without_server name known) (after_deed room deed)
     unfolding deed_told
     loss_view =
-        ap (λ effects. without_row name (all_changed effects (serving known room out)).view)
+        ap (λ effects. without_row name (all_changed effects (serving known room out)).state)
         same_quits
         ∙ ap (without_row name)
         (all_view (moment known room) quits (of_home t room) room out rooms
@@ -133,7 +133,7 @@ module _ (view : View) (t far : Name) (k : ℕ) where
     loss_lines j =
         let before = all_changed own_quits (serving known room out) in
         lines_behind j before.out
-        (on_links (but (Some k) (met_links before.view.ends)) (squit_parts t name text))
+        (on_links (but (Some k) (met_links before.state.ends)) (squit_parts t name text))
         ∙ (λ i. none_by_all j own_quits (serving known room out) i
         ++ lines_on j (on_links (but (Some k) (met_links
         (ends_by_all own_quits (serving known room out) i))) (squit_parts t name text)))
@@ -153,7 +153,7 @@ module _ (view : View) (t far : Name) (k : ℕ) where
     unfolding deed_told
     loss_shown who =
         let before = all_changed own_quits (serving known room out) in
-        but_links who before.out (but (Some k) (met_links before.view.ends))
+        but_links who before.out (but (Some k) (met_links before.state.ends))
         (squit_parts t name text)
         ∙ ap (λ effects. lines_to who (all_changed effects (serving known room out)).out) same_quits
         ∙ all_lines who (moment known room) quits (of_home t room) room out rooms
@@ -169,8 +169,9 @@ module _ (view : View) (t far : Name) (k : ℕ) where
     loss_closes =
         let before = all_changed own_quits (serving known room out) in
         closed_before before.out
-        (on_links (but (Some k) (met_links before.view.ends)) (squit_parts t name text))
-        (none_closed_on_links (but (Some k) (met_links before.view.ends)) (squit_parts t name text))
+        (on_links (but (Some k) (met_links before.state.ends)) (squit_parts t name text))
+        (none_closed_on_links (but (Some k) (met_links before.state.ends))
+        (squit_parts t name text))
         ∙ none_closed_by_all own_quits (serving known room out)
 
     well_afterwards : IsWellFormed (after_deed room deed)
@@ -181,7 +182,7 @@ module _ (view : View) (t far : Name) (k : ℕ) where
 
   pub record HasLost (known : Known) (room : Room) (out : List Sent) (names : List Name)
       (so : Served) : Type 0 where
-    pub view_is : so.view ≡ moment (all_forgotten names known)
+    pub view_is : so.state ≡ moment (all_forgotten names known)
         (after_deeds room (losses t far names))
     pub lines : (j : ℕ) (b : Bool) → filter (λ n. nat_eq n j) other_links ≡ (if b then j ∷ []
         else []) → lines_on j so.out ≡ lines_on j out ++ (if b then map told_line names else [])
@@ -249,7 +250,7 @@ module _ (view : View) (t far : Name) (k : ℕ) where
       one_more known room out name names _ own others.0 well
       (subst (λ (v : View). HasLost (without_server name known)
       (after_deed room (loses t name text)) first.out names
-      (deeds_told (Some k) (losses t far names) (record { view = v; out = first.out })))
+      (deeds_told (Some k) (losses t far names) (record { state = v; out = first.out })))
       (sym (loss_view known room out name own others.0 well))
       (has_lost names (without_server name known)
       (after_deed room (loses t name text)) first.out own others.1

@@ -206,7 +206,7 @@ pub data SaysInTurn (s : ItemSetting) (p t : Name) (Q : SideState → Deed → T
   says_none : {w : SideState} {view : View} → SaysInTurn s p t Q w view [] []
   says_first : {w : SideState} {view : View} {deed : Deed} {deeds : List Deed}
       {line : List ℕ} {lines : List (List ℕ)} → Q w deed → Says s p t w view deed line
-      → SaysInTurn s p t Q (done s w deed) (neighbour_served s p view line).view deeds lines
+      → SaysInTurn s p t Q (done s w deed) (neighbour_served s p view line).state deeds lines
       → SaysInTurn s p t Q w view (deed ∷ deeds) (line ∷ lines)
 
 -- So they tell of the deeds, in whatever terms ask no more.
@@ -222,7 +222,7 @@ tells_in_turn s client p t Q x so w view [] (line ∷ lines) never = elim never 
 tells_in_turn s client p t Q x so w view (deed ∷ deeds) [] never = elim never [ ]
 tells_in_turn s client p t Q x so w view (deed ∷ deeds) (line ∷ lines) (says_first is said later) =
     by_line (so w view deed line is said) (tells_in_turn s client p t Q x so (done s w deed)
-    (neighbour_served s p view line).view deeds lines later)
+    (neighbour_served s p view line).state deeds lines later)
 
 -- ---- the servers of one side are lost one by one on the other
 
@@ -360,7 +360,7 @@ module _ (known : IsKnownOfLines) {s : ItemSetting} {world : World} {routes : Na
         (can.0.doable reader.sound) in
         says_first (record { side = can.0.side; loss = tt }) said
         (said_along names (done s w (loses a name text))
-        (neighbour_served s a other (line_text (squit_parts a name text))).view can.1
+        (neighbour_served s a other (line_text (squit_parts a name text))).state can.1
         (said_loses_fits s a u w other next reader a name text
         (line_text (squit_parts a name text)) said))
 

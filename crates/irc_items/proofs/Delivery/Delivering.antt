@@ -72,7 +72,7 @@ pending_of net sound =
     sound.asks.other
 
 -- a line fewer is coming
-pub record IsOneFewer (old new : Progress) (sound : IsSound old.net) : Type 0 where
+pub record IsOneFewer (old new : Progress Network) (sound : IsSound old.net) : Type 0 where
   pub sound_now : IsSound new.net
   pub fewer : pending_of new.net sound_now < pending_of old.net sound
 
@@ -85,7 +85,8 @@ append_both : (a b c : List (List ℕ)) → (a ++ b) ++ c ≡ a ++ (b ++ c)
 append_both [] b c = refl
 append_both (x ∷ a) b c = ap (λ lines. x ∷ lines) (append_both a b c)
 
-module _ (laws : AreDeliveryLaws) (old new : Progress) (sound : IsSound old.net) (p t : Name)
+module _ (laws : AreDeliveryLaws) (old new : Progress Network) (sound : IsSound old.net)
+    (p t : Name)
     (line : List ℕ) (d : IsDeliveredTo p t line old new) where
   abbrev s : ItemSetting
   s = flowing old.net sound
@@ -129,15 +130,15 @@ module _ (laws : AreDeliveryLaws) (old new : Progress) (sound : IsSound old.net)
   -- ---- what it makes
 
   reply_is : reply view (link_says (index_in old.net.names p) (read_of line))
-      ≡ record { view = after.view; out = after.out }
-  reply_is = ap (λ b. if b then record { view = after.view; out = after.out }
-      else record { view = view; out = [] }) (ap is_some well.is_end)
+      ≡ record { state = after.state; out = after.out }
+  reply_is = ap (λ b. if b then record { state = after.state; out = after.out }
+      else record { state = view; out = [] }) (ap is_some well.is_end)
 
-  answered : IsAskedAt t (record { view = after.view; out = after.out }) d.mid new
+  answered : IsAskedAt t (record { state = after.state; out = after.out }) d.mid new
   answered =
-      subst (IsAskedAt t (record { view = after.view; out = after.out }) d.mid)
+      subst (IsAskedAt t (record { state = after.state; out = after.out }) d.mid)
       (sym d.asked_is ∙ refl)
-      (subst (λ place. IsAskedAt t (record { view = after.view; out = after.out }) d.mid
+      (subst (λ place. IsAskedAt t (record { state = after.state; out = after.out }) d.mid
       (node_asked place (link_says (index_in old.net.names p) (read_of line)) d.mid))
       (ap (λ names. index_in names t) d.names)
       (subst (λ r. IsAskedAt t r d.mid (node_asked (index_in d.mid.net.names t)
@@ -153,8 +154,8 @@ module _ (laws : AreDeliveryLaws) (old new : Progress) (sound : IsSound old.net)
   names_same : new.net.names ≡ old.net.names
   names_same = answered.names ∙ d.names
 
-  view_taker : view_at new.net t ≡ after.view
-  view_taker = answered.view
+  view_taker : view_at new.net t ≡ after.state
+  view_taker = answered.state
 
   view_other : (u : Name) → u ≢ t → view_at new.net u ≡ view_at old.net u
   view_other u n = answered.other_views u n ∙ d.views u
@@ -284,7 +285,7 @@ module _ (laws : AreDeliveryLaws) (old new : Progress) (sound : IsSound old.net)
         ∙ ap (λ v. (unwrap_or (way_between old.net t p) [] ++ lines_on (number s p) after.out)
         ++ owed_to s v p) view_taker
         ∙ append_both (unwrap_or (way_between old.net t p) []) (lines_on (number s p) after.out)
-        (owed_to s after.view p)
+        (owed_to s after.state p)
         ∙ ap (λ lines. unwrap_or (way_between old.net t p) [] ++ lines) good.pays
         ∙ sym (append_both (unwrap_or (way_between old.net t p) []) (owed_to s view p) back)
 
@@ -448,8 +449,8 @@ module _ (laws : AreDeliveryLaws) (old new : Progress) (sound : IsSound old.net)
       → greeting (view_at new.net x).routes ≡ greeting (view_at old.net x).routes
   greeting_same x = by (tell x t)
     where
-      alike_after : IsSetAlike view after.view
-      alike_after = subst (λ (r : Served). IsSetAlike view r.view) reply_is
+      alike_after : IsSetAlike view after.state
+      alike_after = subst (λ (r : Served). IsSetAlike view r.state) reply_is
           (reply_alike laws.kept view (link_says (index_in old.net.names p) (read_of line)))
 
       by : Telling x t → greeting (view_at new.net x).routes ≡ greeting (view_at old.net x).routes
@@ -478,7 +479,7 @@ module _ (laws : AreDeliveryLaws) (old new : Progress) (sound : IsSound old.net)
 
   -- the line by which p names itself, at t
   greeted : line ≡ line_text (greeting (view_at old.net p).routes)
-      → is_met_with s after.view p ≡ true
+      → is_met_with s after.state p ≡ true
   greeted is = by (has_far well.end) refl
     where
       met_before : has_far well.end ≡ true → is_met_with s view p ≡ true
@@ -489,14 +490,14 @@ module _ (laws : AreDeliveryLaws) (old new : Progress) (sound : IsSound old.net)
 
       greeted_line : (l : List ℕ) → l ≡ line_text (greeting (view_at old.net p).routes)
           → has_far well.end ≡ false → closings (asked_line s p view l).out ≡ []
-          → is_met_with s (asked_line s p view l).view p ≡ true
+          → is_met_with s (asked_line s p view l).state p ≡ true
       greeted_line l e not_met open_still =
-          subst (λ l. is_met_with s (asked_line s p view l).view p ≡ true) (sym e)
+          subst (λ l. is_met_with s (asked_line s p view l).state p ≡ true) (sym e)
           (laws.greeting_met view (number s p) well.end
           (view_at old.net p).routes well.is_end not_met configured.name configured.info
           (subst (λ l. closings (asked_line s p view l).out ≡ []) e open_still))
 
-      by : (b : Bool) → has_far well.end ≡ b → is_met_with s after.view p ≡ true
+      by : (b : Bool) → has_far well.end ≡ b → is_met_with s after.state p ≡ true
       by true e = good.met_stay p (met_before e)
       by false e = greeted_line line is e good.closes_none
 
@@ -539,7 +540,7 @@ module _ (laws : AreDeliveryLaws) (old new : Progress) (sound : IsSound old.net)
           ++ line_text (greeting (view_at old.net x).routes) ∷ behind → HasCalled s new.net x y
       on_way [] e f parts = is_met (ap (λ v. is_met_with s (view_at new.net v) x) f
           ∙ ap (λ v. is_met_with s v x) view_taker
-          ∙ ap (λ v. is_met_with s after.view v) e
+          ∙ ap (λ v. is_met_with s after.state v) e
           ∙ greeted
           (first_of line (line_text (greeting (view_at old.net x).routes)) d.rest behind parts
           ∙ ap (λ v. line_text (greeting (view_at old.net v).routes)) e))
@@ -650,7 +651,7 @@ module _ (laws : AreDeliveryLaws) (old new : Progress) (sound : IsSound old.net)
   pub one_fewer : IsOneFewer old new sound
   one_fewer = record { sound_now = delivered_sound; fewer = fewer_now }
 
-pub leaves_one_fewer : AreDeliveryLaws → (from to : ℕ) (old new : Progress)
+pub leaves_one_fewer : AreDeliveryLaws → (from to : ℕ) (old new : Progress Network)
     (sound : IsSound old.net) → delivered from to old ≡ Some new → IsOneFewer old new sound
 leaves_one_fewer laws from to old new sound is =
     let d = delivered_between old sound from to new is in

@@ -15,11 +15,11 @@ pending_few net sound = less net.taken (pending_of net sound) (most_now net) (so
 
 -- ---- as many lines fewer are coming as were taken
 
-record AreTurns (count : ℕ) (old new : Progress) (sound : IsSound old.net) : Type 0 where
+record AreTurns (count : ℕ) (old new : Progress Network) (sound : IsSound old.net) : Type 0 where
   sound_now : IsSound new.net
   fewer : pending_of new.net sound_now + count ≤ pending_of old.net sound
 
-turns : AreDeliveryLaws → (count : ℕ) (old new : Progress) (sound : IsSound old.net)
+turns : AreDeliveryLaws → (count : ℕ) (old new : Progress Network) (sound : IsSound old.net)
     → TakesInTurn count old new → AreTurns count old new sound
 turns laws zero old new sound none_yet =
     record { sound_now = sound; fewer = none (pending_of old.net sound) }
@@ -50,7 +50,7 @@ turns_are_few laws count old new sound takes =
 -- ---- so many can be taken in turn
 
 -- what is taken first, and then the others
-turn_first : {count : ℕ} {first between last : Progress} → next_in_turn first ≡ Some between
+turn_first : {count : ℕ} {first between last : Progress Network} → next_in_turn first ≡ Some between
     → TakesInTurn count between last → TakesInTurn (suc count) first last
 turn_first {first = first} {between = between} is none_yet = by (first_direction first.net) refl is
   where
@@ -61,23 +61,24 @@ turn_first {first = first} {between = between} is none_yet = by (first_direction
     by (Some d) way e = then_one none_yet way e
 turn_first is (then_one before way line) = then_one (turn_first is before) way line
 
-record CanBeTaken (count : ℕ) (progress : Progress) : Type 0 where
-  last : Progress
+record CanBeTaken (count : ℕ) (progress : Progress Network) : Type 0 where
+  last : Progress Network
   takes : TakesInTurn count progress last
 
-left_are_taken : (most : ℕ) (progress : Progress) → CanBeTaken (lines_left most progress) progress
+left_are_taken : (most : ℕ) (progress : Progress Network)
+    → CanBeTaken (lines_left most progress) progress
 left_are_taken zero progress = record { last = progress; takes = none_yet }
 left_are_taken (suc most) progress = by (left_are_taken most) (next_in_turn progress) refl
   where
-    by : ((next : Progress) → CanBeTaken (lines_left most next) next)
-        → (o : Option Progress) → next_in_turn progress ≡ o
+    by : ((next : Progress Network) → CanBeTaken (lines_left most next) next)
+        → (o : Option (Progress Network)) → next_in_turn progress ≡ o
         → CanBeTaken (option_map_or (λ next. suc (lines_left most next)) o 0) progress
     by later None none = record { last = progress; takes = none_yet }
     by later (Some next) is =
         let more = later next in record { last = more.last; takes = turn_first is more.takes }
 
 -- a number that is not reached tells how many are left
-same_left : (most : ℕ) (progress : Progress) → lines_left (suc most) progress ≤ most
+same_left : (most : ℕ) (progress : Progress Network) → lines_left (suc most) progress ≤ most
     → lines_left (suc most) progress ≡ lines_left most progress
 same_left zero progress few = none (lines_left 1 progress) few
   where
@@ -88,8 +89,8 @@ same_left (suc most) progress few = by (same_left most) (next_in_turn progress) 
     below : (n : ℕ) → suc n ≤ suc most → n ≤ most
     below n few = omega arith
 
-    by : ((next : Progress) → lines_left (suc most) next ≤ most
-        → lines_left (suc most) next ≡ lines_left most next) → (o : Option Progress)
+    by : ((next : Progress Network) → lines_left (suc most) next ≤ most
+        → lines_left (suc most) next ≡ lines_left most next) → (o : Option (Progress Network))
         → option_map_or (λ next. suc (lines_left (suc most) next)) o 0 ≤ suc most
         → option_map_or (λ next. suc (lines_left (suc most) next)) o 0
         ≡ option_map_or (λ next. suc (lines_left most next)) o 0

@@ -22,7 +22,7 @@ use Rattle.irc_items.proofs.Good.GoodLines.{no_answer}
 
 module _ (s : ItemSetting) (t p : Name) (view : View) where
   abbrev silent : Served
-  silent = record { view = view; out = [] }
+  silent = record { state = view; out = [] }
 
   nothing_comes : (line : List ℕ) → IsUnheard s t view line
       → neighbour_served s t view line ≡ silent
@@ -35,7 +35,7 @@ module _ (s : ItemSetting) (t p : Name) (view : View) where
     harmless : (line : List ℕ) → IsUnheard s t view line
         → IsHarmless (machine s client) p t view line
     harmless line un = record {
-      same_state = ap (λ (after : Served). after.view) (nothing_comes line un);
+      same_state = ap (λ (after : Served). after.state) (nothing_comes line un);
       shows_none = none_of (is_home_of s.homes p client)
           (lines_to client (neighbour_served s t view line).out)
           (ap (λ (after : Served). lines_to client after.out) (nothing_comes line un));
@@ -89,6 +89,6 @@ module _ (s : ItemSetting) (t p : Name) (view : View) where
       all_go_well (line ∷ lines) all = (
         goes_well line all.0,
         subst (λ now. AllAlong (machine s client) (IsGoodLine s asks world routes) t p now lines)
-            (sym (ap (λ (after : Served). after.view) (nothing_comes line all.0)))
+            (sym (ap (λ (after : Served). after.state) (nothing_comes line all.0)))
             (all_go_well lines all.1),
       )

@@ -48,27 +48,27 @@ module _ (client : ℕ) where
       ∙ ap (option_map (renamed_in nick new)) none
   still_none effect clients none = none
 
-  none_by_one : (effect : Effect) (s : Served) → get s.view.clients client ≡ None
+  none_by_one : (effect : Effect) (s : Served) → get s.state.clients client ≡ None
       → lines_to client (changed_if effect s).out ≡ lines_to client s.out
-  none_by_one effect s none = by (counts s.view effect)
+  none_by_one effect s none = by (counts s.state effect)
     where
       by : (b : Bool) → lines_to client (if b then changed effect s else s).out
           ≡ lines_to client s.out
       by true =
-          lines_to_behind client s.out (shown_at s.view effect)
-          ∙ ap (λ l. lines_to client s.out ++ l) (none_shown client s.view effect none)
+          lines_to_behind client s.out (shown_at s.state effect)
+          ∙ ap (λ l. lines_to client s.out ++ l) (none_shown client s.state effect none)
           ∙ append-nil (lines_to client s.out)
       by false = refl
 
-  none_behind_one : (effect : Effect) (s : Served) → get s.view.clients client ≡ None
-      → get (changed_if effect s).view.clients client ≡ None
-  none_behind_one effect s none = by (counts s.view effect)
+  none_behind_one : (effect : Effect) (s : Served) → get s.state.clients client ≡ None
+      → get (changed_if effect s).state.clients client ≡ None
+  none_behind_one effect s none = by (counts s.state effect)
     where
-      by : (b : Bool) → get (if b then changed effect s else s).view.clients client ≡ None
-      by true = still_none effect s.view.clients none
+      by : (b : Bool) → get (if b then changed effect s else s).state.clients client ≡ None
+      by true = still_none effect s.state.clients none
       by false = none
 
-  none_in_turn : (effects : List Effect) (s : Served) → get s.view.clients client ≡ None
+  none_in_turn : (effects : List Effect) (s : Served) → get s.state.clients client ≡ None
       → lines_to client (all_changed effects s).out ≡ lines_to client s.out
   none_in_turn [] s none = refl
   none_in_turn (effect ∷ effects) s none = none_in_turn effects (changed_if effect s)
@@ -82,7 +82,7 @@ pub record IsToldOnce (s : ItemSetting) (p : Name) (view : View) (after : Served
   pub room : Room
   pub effects : List Effect
   pub parts : Written
-  pub ends : after.view.ends ≡ view.ends
+  pub ends : after.state.ends ≡ view.ends
   pub out : after.out ≡ (all_changed effects (in_silence (record view { room = room }))).out
       ++ on_links (but (Some (number s p)) (met_links view.ends)) parts
 
@@ -148,8 +148,8 @@ module _ (s : ItemSetting) (links : List Link) (p t : Name) (w : of_side.SideSta
         met_known s links t w view fits forest p says.end says.is_end
         (teller_is_met view (number s p) says.end (read_of line) (a_deed deed) [] means)
 
-    deed_goes_well : (room : Room) → told_of.view.ends
-        ≡ (all_changed effects (in_silence (record view { room = room }))).view.ends
+    deed_goes_well : (room : Room) → told_of.state.ends
+        ≡ (all_changed effects (in_silence (record view { room = room }))).state.ends
         → told_of.out ≡ (told_on_all (Some (number s p)) parts
         (all_changed effects (in_silence (record view { room = room })))).out → OthersAreKnown
         → IsGoodReply s links p t view (neighbour_served s p view line) []
@@ -161,7 +161,8 @@ module _ (s : ItemSetting) (links : List Link) (p t : Name) (w : of_side.SideSta
           effects = effects;
           parts = parts;
           ends =
-              ap (λ (so : Served). so.view.ends) served_is ∙ same_ends ∙ ends_by_all effects before;
+              ap (λ (so : Served). so.state.ends) served_is ∙ same_ends
+              ∙ ends_by_all effects before;
           out = ap (λ (so : Served). so.out) served_is ∙ same_out
               ∙ ap (λ ends. (all_changed effects before).out
               ++ on_links (but (Some (number s p)) (met_links ends)) parts)

@@ -62,7 +62,7 @@ module _ (s : ItemSetting) (links : List Link) (p t : Name) (w : of_side.SideSta
       → IsGoodReply s links p t view after []
   effect_goes_well =
       reply_so s links p t w view takes fits forest after put_out [] none_goes_back
-      (ap (λ (so : Served). so.view.ends) (effect_served s p t w view takes fits effect line says))
+      (ap (λ (so : Served). so.state.ends) (effect_served s p t w view takes fits effect line says))
       (met_known s links t w view fits forest p says.end says.is_end
       (teller_is_met view (number s p) says.end (read_of line)
       (a_deed (does effect)) [] says.means))

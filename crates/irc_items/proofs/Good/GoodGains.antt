@@ -42,19 +42,19 @@ pub record IsToldOn (s : ItemSetting) (p : Name) (view : View) (after : Served) 
   pub answered : List Written
   pub parts : Written
   pub out : after.out ≡ on_link (number s p) answered
-      ++ on_links (but (Some (number s p)) (met_links after.view.ends)) parts
+      ++ on_links (but (Some (number s p)) (met_links after.state.ends)) parts
   pub owed : map line_text answered ≡ owed_to s view p
 
 -- a server more, where it is taken
 gained_there : (k : ℕ) (uplink name : List ℕ) (distance token : ℕ) (info : List ℕ) (before : Served)
-    → is_taken before.view.routes k name token ≡ true
+    → is_taken before.state.routes k name token ≡ true
     → told_by k (a_server uplink name distance token info) before
     ≡ gain_told k uplink name info
-    (record before { view = with_row k uplink name distance token info before.view })
+    (record before { state = with_row k uplink name distance token info before.state })
 unfolding told_by
 gained_there k uplink name distance token info before is =
     ap (λ b. if b then gain_told k uplink name info (record before
-    { view = with_row k uplink name distance token info before.view }) else before) is
+    { state = with_row k uplink name distance token info before.state }) else before) is
 
 module _ (s : ItemSetting) (links : List Link) (p t : Name) (w : of_side.SideState) (view : View)
     (takes : TakesFrom s.streams t p) (fits : Fits s t w view)
@@ -63,10 +63,10 @@ module _ (s : ItemSetting) (links : List Link) (p t : Name) (w : of_side.SideSta
 
   module _ (after : Served) (told : IsToldOn s p view after) where
     abbrev others : List ℕ
-    others = but (Some (number s p)) (met_links after.view.ends)
+    others = but (Some (number s p)) (met_links after.state.ends)
 
     module _ (later : of_side.SideState) (stays : IsLaterSide links t w later)
-        (fits_after : Fits s t later after.view) where
+        (fits_after : Fits s t later after.state) where
       put_out : IsPutOutSo s links p t view after
       put_out = record {
         first = on_link (number s p) told.answered;
@@ -76,10 +76,10 @@ module _ (s : ItemSetting) (links : List Link) (p t : Name) (w : of_side.SideSta
         closes_none = none_closed_on_link (number s p) told.answered;
         on_no_other = λ u other. none_on_another (number s u) (number s p) other told.answered;
         to_clients = λ client none. none_to_clients client (number s p) told.answered;
-        on_linked = λ u other line lines is. met_linked s links t later after.view fits_after
+        on_linked = λ u other line lines is. met_linked s links t later after.state fits_after
             stays.forest u line lines (line_text told.parts)
             (sym (ap (map (λ _. line_text told.parts)) (but_another (number s u) (number s p) other
-            (met_links after.view.ends))) ∙ is);
+            (met_links after.state.ends))) ∙ is);
       }
 
       back : lines_on (number s p) after.out ≡ owed_to s view p
@@ -88,15 +88,15 @@ module _ (s : ItemSetting) (links : List Link) (p t : Name) (w : of_side.SideSta
           lines_put_out s links p t w view takes fits forest after put_out (number s p)
           ∙ (λ i. (all_on_it (number s p) told.answered ∙ told.owed) i
           ++ map (λ _. line_text told.parts)
-          (but_itself (number s p) (met_links after.view.ends) i))
+          (but_itself (number s p) (met_links after.state.ends) i))
           ∙ append-nil (owed_to s view p)
 
       told_answer : later.tree.knows p ≡ true → IsAnswer s links p t view after
       told_answer known =
           answer_so s links p t w view takes fits forest after put_out
-          (ap (λ l. l ++ owed_to s after.view p) back
+          (ap (λ l. l ++ owed_to s after.state p) back
           ∙ ap (λ l. owed_to s view p ++ l)
-          (owes_none s links t later after.view fits_after stays.forest p (λ there. known))
+          (owes_none s links t later after.state fits_after stays.forest p (λ there. known))
           ∙ append-nil (owed_to s view p))
 
   -- ---- what a line of a server's gain is served as
@@ -138,7 +138,7 @@ module _ (s : ItemSetting) (links : List Link) (p t : Name) (w : of_side.SideSta
       answered = [];
       parts = parts;
       out = ap (λ (so : Served). so.out) is
-          ∙ sym (ap (λ (so : Served). on_links (but (Some k) (met_links so.view.ends)) parts) is);
+          ∙ sym (ap (λ (so : Served). on_links (but (Some k) (met_links so.state.ends)) parts) is);
       owed = sym (owes_none s links t w view fits forest p (λ there. knows_p other));
     }
       where
@@ -150,7 +150,7 @@ module _ (s : ItemSetting) (links : List Link) (p t : Name) (w : of_side.SideSta
         parts = deed_parts view.room (with_it view).routes (gains uplink name words)
 
         is : neighbour_served s p view line ≡ gain_told k uplink name words
-            (record (in_silence view) { view = with_it view })
+            (record (in_silence view) { state = with_it view })
         is = served_as false other
             ∙ gained_there k uplink name (distance w.tree.forest t name)
             (told_token w.tree p name) words (in_silence view)
@@ -178,7 +178,7 @@ module _ (s : ItemSetting) (links : List Link) (p t : Name) (w : of_side.SideSta
       parts = deed_parts met_row.room met_row.routes (gains view.routes.name name words)
 
       answer_is : neighbour_served s p view line ≡ gain_told k view.routes.name name words
-          (record before { view = met_row })
+          (record before { state = met_row })
       answer_is =
           served_as true it
           ∙ ap (λ v. told_by k (a_server view.routes.name name 1 1 words)
@@ -208,7 +208,7 @@ module _ (s : ItemSetting) (links : List Link) (p t : Name) (w : of_side.SideSta
         parts = parts;
         out = ap (λ (so : Served). so.out) answer_is
             ∙ sym (ap (λ (so : Served). on_link k (owes view k name)
-            ++ on_links (but (Some k) (met_links so.view.ends)) parts) answer_is);
+            ++ on_links (but (Some k) (met_links so.state.ends)) parts) answer_is);
         owed = all_owed;
       }
 
@@ -225,7 +225,7 @@ module _ (s : ItemSetting) (links : List Link) (p t : Name) (w : of_side.SideSta
         (says.means ∙ ap heard_as other)))
 
     pub gain_goes_well : Fits s t (done s w (gains uplink name words))
-        (neighbour_served s p view line).view
+        (neighbour_served s p view line).state
         → ((u : Name) → AreLinked links t u → u ≢ p → w.tree.knows u ≡ true)
         → IsGoodReply s links p t view (neighbour_served s p view line) []
     gain_goes_well after known =

@@ -182,4 +182,4 @@ module _ (s : ItemSetting) (links : List Link) (p t : Name) (w : of_side.SideSta
     kills_goes_well =
         reply_so s links p t w view takes fits forest after put_out
         (if same server t then line_text (kill_parts t nick) ∷ [] else []) goes_back
-        (ap (λ (so : Served). so.view.ends) after_is) knows_p
+        (ap (λ (so : Served). so.state.ends) after_is) knows_p

@@ -203,7 +203,7 @@ module _ (s : ItemSetting) (asks : Answering) (world : World) (routes : Name →
       ∙ sym (ap (λ o. option_map_or (owed_at s view p) o []) is_end)
 
   owed_stays : (end : End) → get view.ends k ≡ Some end → (what : Heard) → IsNothing what
-      → owed_to s (after_heard view k what).view p ≡ owed_to s view p
+      → owed_to s (after_heard view k what).state p ≡ owed_to s view p
   owed_stays end is_end ignored nothing = refl
   owed_stays end is_end (closes why) nothing = absurd nothing
   owed_stays end is_end (password word) nothing = owed_still end is_end word
@@ -212,10 +212,10 @@ module _ (s : ItemSetting) (asks : Answering) (world : World) (routes : Name →
   owed_stays end is_end (tells (told ∷ later)) nothing = absurd nothing
 
   owed_after : Aside s p t w view line
-      → owed_to s (neighbour_served s p view line).view p ≡ owed_to s view p
+      → owed_to s (neighbour_served s p view line).state p ≡ owed_to s view p
   unfolding served
   owed_after aside =
-      ap (λ o. owed_to s (line_served view k (read_of line) o).view p) aside.is_end
+      ap (λ o. owed_to s (line_served view k (read_of line) o).state p) aside.is_end
       ∙ owed_stays aside.end aside.is_end (heard view k aside.end (read_of line)) aside.nothing
 
   silent_reply : Aside s p t w view line → PutsOutNothing s t w (neighbour_served s p view line)
@@ -229,7 +229,7 @@ module _ (s : ItemSetting) (asks : Answering) (world : World) (routes : Name →
         to_linked = λ u first lines is. cc (sym (ap (lines_on (number s u)) stays.silent) ∙ is);
         to_own = λ client first lines is. cc (sym (ap (lines_to client) stays.silent) ∙ is);
         pays = ap (λ out. lines_on (number s p) out
-            ++ owed_to s (neighbour_served s p view line).view p) stays.silent ∙ owed_after aside;
+            ++ owed_to s (neighbour_served s p view line).state p) stays.silent ∙ owed_after aside;
       })
 
   aside_good : IsKnownOfLine → Aside s p t w view line → Good

@@ -212,7 +212,7 @@ pub record IsAnswer (s : ItemSetting) (links : List Link) (p t : Name) (view : V
       → lines_on (number s u) after.out ≡ line ∷ lines → AreLinked links t u
   pub to_own : (client : ℕ) (line : List ℕ) (lines : List (List ℕ))
       → lines_to client after.out ≡ line ∷ lines → is_home_of s.homes t client ≡ true
-  pub pays : lines_on (number s p) after.out ++ owed_to s after.view p ≡ owed_to s view p
+  pub pays : lines_on (number s p) after.out ++ owed_to s after.state p ≡ owed_to s view p
 
 -- a side with the same links, that knows all that another does
 pub record IsLaterSide (links : List Link) (t : Name) (w later : of_side.SideState) : Type 0 where
@@ -222,7 +222,7 @@ pub record IsLaterSide (links : List Link) (t : Name) (w later : of_side.SideSta
 -- the rest is so of each server that fits its side, before and after, where all linked servers but
 -- p are known
 pub good_reply : (s : ItemSetting) (links : List Link) (p t : Name) (w later : of_side.SideState)
-    (view : View) (after : Served) → Fits s t w view → Fits s t later after.view
+    (view : View) (after : Served) → Fits s t w view → Fits s t later after.state
     → AreLinkedAlike links w.tree.forest t → ((u : Name) → AreLinked links t u → u ≢ p
     → w.tree.knows u ≡ true) → IsLaterSide links t w later → IsAnswer s links p t view after
     → IsGoodReply s links p t view after []
@@ -238,17 +238,17 @@ good_reply s links p t w later view after fits fits_after forest known stays ans
     others : (u : Name) → u ≢ p → PaysNothing s view after u
     others u other =
         let before = owes_none s links t w view fits forest u (λ there. known u there other) in
-        let behind = owes_none s links t later after.view fits_after stays.forest u
+        let behind = owes_none s links t later after.state fits_after stays.forest u
         (λ there. stays.knows u (known u there other)) in
         record { owes_as_before = behind ∙ sym before; in_turn = inr before }
 
-    met_stay : (u : Name) → is_met_with s view u ≡ true → is_met_with s after.view u ≡ true
+    met_stay : (u : Name) → is_met_with s view u ≡ true → is_met_with s after.state u ≡ true
     met_stay u met = by (get view.ends (number s u)) refl met
       where
         by : (o : Option End) → get view.ends (number s u) ≡ o → option_map_or is_met o false ≡ true
-            → is_met_with s after.view u ≡ true
+            → is_met_with s after.state u ≡ true
         by None there is = cc is
         by (Some end) there is =
-            is_met_when s links t later after.view fits_after stays.forest u
+            is_met_when s links t later after.state fits_after stays.forest u
             (end_linked s links t w view fits forest u end there)
             (stays.knows u (met_known s links t w view fits forest u end there is))

@@ -132,7 +132,7 @@ module _ (s : ItemSetting) (links : List Link) (p t : Name) (w : of_side.SideSta
             ∙ so.to_clients client (client_here s p t w view takes fits client
             ∙ ap (λ b. cond b (get w.hall.clients client) None) away)) ∙ is)
 
-    pub answer_so : lines_on (number s p) after.out ++ owed_to s after.view p ≡ owed_to s view p
+    pub answer_so : lines_on (number s p) after.out ++ owed_to s after.state p ≡ owed_to s view p
         → IsAnswer s links p t view after
     answer_so pays = record {
       closes_none = none_closed;
@@ -142,24 +142,24 @@ module _ (s : ItemSetting) (links : List Link) (p t : Name) (w : of_side.SideSta
     }
 
     -- nothing is owed to who has named itself, whatever is kept of other servers
-    still_none_owed : after.view.ends ≡ view.ends → (u : Name)
-        → (AreLinked links t u → w.tree.knows u ≡ true) → owed_to s after.view u ≡ []
+    still_none_owed : after.state.ends ≡ view.ends → (u : Name)
+        → (AreLinked links t u → w.tree.knows u ≡ true) → owed_to s after.state u ≡ []
     still_none_owed ends u known =
-        ap (λ ends. option_map_or (owed_at s after.view u) (get ends (number s u)) []) ends
+        ap (λ ends. option_map_or (owed_at s after.state u) (get ends (number s u)) []) ends
         ∙ by (get view.ends (number s u)) refl
       where
         by : (o : Option End) → get view.ends (number s u) ≡ o
-            → option_map_or (owed_at s after.view u) o [] ≡ []
+            → option_map_or (owed_at s after.state u) o [] ≡ []
         by None there = refl
         by (Some end) there =
             ap (λ far. if is_some far then []
-            else map line_text (owed_by after.view (number s u) u end))
+            else map line_text (owed_by after.state (number s u) u end))
             (far_is s links t w view fits forest u end there
             ∙ ap (λ b. if b then Some u else None)
             (known (end_linked s links t w view fits forest u end there)))
 
     pub reply_so : (back : List (List ℕ)) → lines_on (number s p) after.out ≡ back
-        → after.view.ends ≡ view.ends → w.tree.knows p ≡ true → ((u : Name) → AreLinked links t u
+        → after.state.ends ≡ view.ends → w.tree.knows p ≡ true → ((u : Name) → AreLinked links t u
         → u ≢ p → w.tree.knows u ≡ true) → IsGoodReply s links p t view after back
     reply_so back goes_back ends knows_p known = record {
       closes_none = none_closed;

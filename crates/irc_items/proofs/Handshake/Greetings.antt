@@ -141,7 +141,7 @@ GreetingIsMet = (view : View) (k : ℕ) (end : End) (known : Known) → get view
     → is_met end ≡ false → IsServer known.name → IsInfo known.info
     → closings (served view (link_says k (read_of (line_text (greeting known))))).out ≡ []
     → option_map_or is_met (get (served view
-    (link_says k (read_of (line_text (greeting known))))).view.ends k) false ≡ true
+    (link_says k (read_of (line_text (greeting known))))).state.ends k) false ≡ true
 
 closing_shows : (k : ℕ) (why : CloseReason) (view : View)
     → closings (after_heard view k (closes why)).out ≡ [] → ⊥
@@ -149,13 +149,13 @@ closing_shows k why view none = let e = sym (ap (λ (s : Served). closings s.out
     (lost_link_behind k (end_of_link k why ∷ []) (in_silence view))) ∙ none in cc e
 
 ends_told : (k : ℕ) (name info : List ℕ) (s : Served)
-    → (told_by k (a_server s.view.routes.name name 1 1 info) s).view.ends ≡ s.view.ends
+    → (told_by k (a_server s.state.routes.name name 1 1 info) s).state.ends ≡ s.state.ends
 unfolding told_by
-ends_told k name info s = by (is_taken s.view.routes k name 1)
+ends_told k name info s = by (is_taken s.state.routes k name 1)
   where
-    by : (b : Bool) → (if b then gain_told k s.view.routes.name name info
-        (record s { view = with_row k s.view.routes.name name 1 1 info s.view })
-        else s).view.ends ≡ s.view.ends
+    by : (b : Bool) → (if b then gain_told k s.state.routes.name name info
+        (record s { state = with_row k s.state.routes.name name 1 1 info s.state })
+        else s).state.ends ≡ s.state.ends
     by true = refl
     by false = refl
 
@@ -183,11 +183,11 @@ routes_of_far view k name = by (get view.ends k)
     by (Some end) = refl
 
 meets_is_met : (view : View) (k : ℕ) (name info : List ℕ) (end : End) → get view.ends k ≡ Some end
-    → option_map_or is_met (get (after_heard view k (meets name info)).view.ends k) false ≡ true
+    → option_map_or is_met (get (after_heard view k (meets name info)).state.ends k) false ≡ true
 meets_is_met view k name info end is =
     ap (λ (r : List ℕ). option_map_or is_met
     (get (told_by k (a_server r name 1 1 info) (with_sent (on_link k (owes view k name))
-    (in_silence (with_far k name view)))).view.ends k) false)
+    (in_silence (with_far k name view)))).state.ends k) false)
     (sym (ap (λ (known : Known). known.name) (routes_of_far view k name)))
     ∙ ap (λ ends. option_map_or is_met (get ends k) false)
     (ends_told k name info
@@ -206,9 +206,9 @@ greeting_is_met laws view k end known is not_met name info open_still =
         ∙ ap (after_heard view k) e
 
     by : HearsGreeting view k end known → option_map_or is_met (get (line_served view k
-        (read_of (line_text (greeting known))) (get view.ends k)).view.ends k) false ≡ true
+        (read_of (line_text (greeting known))) (get view.ends k)).state.ends k) false ≡ true
     by (it_closes why e) = absurd (closing_shows k why view
         (sym (ap (λ (s : Served). closings s.out) (served_is (closes why) e)) ∙ open_still))
-    by (it_meets e) = ap (λ (s : Served). option_map_or is_met (get s.view.ends k) false)
+    by (it_meets e) = ap (λ (s : Served). option_map_or is_met (get s.state.ends k) false)
         (served_is (meets known.name known.info) e)
         ∙ meets_is_met view k known.name known.info end is

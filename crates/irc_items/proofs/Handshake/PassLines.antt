@@ -150,11 +150,11 @@ module _ (laws : IsKnownOfHandshakes) (word : List ℕ) (is : is_password word �
     with_word = record view { ends = insert view.ends k (record end { password = Some word }) }
 
     pub pass_served : get view.ends k ≡ Some end
-        → (served view (link_says k (read_of (line_text (pass_parts word))))).view ≡ with_word
+        → (served view (link_says k (read_of (line_text (pass_parts word))))).state ≡ with_word
     unfolding served
     pass_served is_end =
-        ap (λ o. (line_served view k (read_of (line_text (pass_parts word))) o).view) is_end
-        ∙ ap (λ what. (after_heard view k what).view) pass_heard
+        ap (λ o. (line_served view k (read_of (line_text (pass_parts word))) o).state) is_end
+        ∙ ap (λ what. (after_heard view k what).state) pass_heard
         ∙ ap (λ o. option_map_or (λ (e : End). record view {
           ends = insert view.ends k
               (record e { password = Some word });

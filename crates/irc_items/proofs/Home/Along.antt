@@ -30,7 +30,7 @@ use Rattle.irc_stage.specs.ClientTold.{client_told, closed_told, message_told, q
 use Rattle.irc_stage.specs.ClientTold.{steps_told, user_told}
 use Rattle.irc_stage.specs.EffectTold.{Served, effect_told, in_silence, on_links, room_after}
 use Rattle.irc_stage.specs.EffectTold.{shown_at, ways_at}
-use Rattle.irc_stage.specs.Handle.{Happening, connects, says, goes, client_after, lost_text}
+use Rattle.irc_stage.specs.Handle.{ClientEvent, connects, says, goes, client_after, lost_text}
 use Rattle.irc_stage.specs.Handle.{user_of}
 use Rattle.irc_stage.specs.RoomMachine.{Clients, client_of}
 use Rattle.irc_stage.specs.View.{View, machine_of}
@@ -111,7 +111,7 @@ module _ (k : ℕ) (view : View) where
       ∙ append-nil (lines_on k out)
 
   effect_lines : (clients : Clients) (room : Room) (out : List Sent) (effect : Effect)
-      → IsTold (effect_told None effect (record { view = at clients room; out = out })) out
+      → IsTold (effect_told None effect (record { state = at clients room; out = out })) out
       (lines_on k
       (on_links (ways_at (in_room view room) None effect) (wire room view.routes effect)))
   effect_lines clients room out effect =
@@ -125,25 +125,25 @@ module _ (k : ℕ) (view : View) where
 
   steps_lines : (conn : ℕ) (name : Option (List ℕ)) (acts : List Act)
       (clients : Clients) (room : Room) (out : List Sent)
-      → IsTold (steps_told conn name acts (record { view = at clients room; out = out })) out
+      → IsTold (steps_told conn name acts (record { state = at clients room; out = out })) out
       (lines_along k view room (effects_among acts))
   steps_lines conn name [] clients room out = sym (append-nil (lines_on k out))
   steps_lines conn name (Answer reply ∷ acts) clients room out =
       steps_lines conn name acts clients room
-      (step_told conn name (Answer reply) (record { view = at clients room; out = out })).out
+      (step_told conn name (Answer reply) (record { state = at clients room; out = out })).out
       ∙ ap (λ l. l ++ lines_along k view room (effects_among acts)) (nothing_more out _ refl)
   steps_lines conn name (Raw line ∷ acts) clients room out =
       steps_lines conn name acts clients room
-      (step_told conn name (Raw line) (record { view = at clients room; out = out })).out
+      (step_told conn name (Raw line) (record { state = at clients room; out = out })).out
       ∙ ap (λ l. l ++ lines_along k view room (effects_among acts)) (nothing_more out _ refl)
   steps_lines conn name (Do effect ∷ acts) clients room out =
-      let after = effect_told None effect (record { view = at clients room; out = out }) in
-      steps_lines conn name acts after.view.clients after.view.room after.out
-      ∙ ap (λ l. l ++ lines_along k view after.view.room (effects_among acts))
+      let after = effect_told None effect (record { state = at clients room; out = out }) in
+      steps_lines conn name acts after.state.clients after.state.room after.out
+      ∙ ap (λ l. l ++ lines_along k view after.state.room (effects_among acts))
       (effect_lines clients room out effect)
       ∙ append_assoc (lines_on k out) (lines_on k
       (on_links (ways_at (in_room view room) None effect) (wire room view.routes effect)))
-      (lines_along k view after.view.room (effects_among acts))
+      (lines_along k view after.state.room (effects_among acts))
 
   close_lines : (close : Bool) (conn : ℕ) (after : Served)
       → lines_on k (closed_told close conn after).out ≡ lines_on k after.out
@@ -184,8 +184,8 @@ module _ (k : ℕ) (view : View) where
   quit_lines (Some nick) clients = effect_lines clients view.room [] (Quit nick lost_text)
       ∙ sym (append-nil _)
 
-  pub told_along : (happening : Happening) → lines_on k (client_told view happening).out
-      ≡ lines_along k view view.room (effects_at (machine_of view) happening)
+  pub told_along : (client_event : ClientEvent) → lines_on k (client_told view client_event).out
+      ≡ lines_along k view view.room (effects_at (machine_of view) client_event)
   unfolding client_told
   told_along (connects conn host) = refl
   told_along (says conn (Ok message)) =

@@ -43,7 +43,7 @@ use Rattle.irc_commands.specs.Sendable.{DecidedIsSendable, IsPendingWithin, Regi
 use Rattle.irc_relay.specs.Links.{Name}
 use Rattle.irc_stage.specs.declared.clients.Client.{Client}
 use Rattle.irc_stage.specs.declared.clients.Client.TheVariants.{Registering, Registered}
-use Rattle.irc_stage.specs.Handle.{Happening, connects, says, goes, lost_text, user_of}
+use Rattle.irc_stage.specs.Handle.{ClientEvent, connects, says, goes, lost_text, user_of}
 use Rattle.irc_stage.specs.RoomMachine.{RoomMachine}
 use Rattle.irc_stage.specs.View.{View, machine_of}
 use Rattle.irc_stage.specs.Lemmas.MatchedEvents.{quit_possible}
@@ -70,7 +70,7 @@ pub record IsOwnTold (t : Name) (room : Room) (effect : Effect) : Type 0 where
       → home_under room (key nick) ≡ Some home → home ≡ t
 
 -- a line that was read has neither NUL, CR nor LF
-abbrev pub IsSaidWell : Happening → Type 0
+abbrev pub IsSaidWell : ClientEvent → Type 0
 IsSaidWell (says conn read) = IsReadOfLine read
 IsSaidWell other = ⊤
 
@@ -271,9 +271,9 @@ pub record IsClientWithin (machine : RoomMachine) (conn : ℕ) : Type 0 where
 -- each effect is one of this server's users, and can be told
 pub effects_told : AreSpokenLaws → (t : Name) (stays : ℕ → Bool) (knows : Name → Bool)
     (view : View) (machine : RoomMachine) → IsHomeOf t stays knows view machine
-    → IsServer t → (happening : Happening) → IsClientWithin machine (client_in happening)
-    → stays (client_in happening) ≡ true → IsSaidWell happening
-    → EachInTurn (IsOwnTold t) machine.room (effects_at machine happening)
+    → IsServer t → (client_event : ClientEvent) → IsClientWithin machine (client_in client_event)
+    → stays (client_in client_event) ≡ true → IsSaidWell client_event
+    → EachInTurn (IsOwnTold t) machine.room (effects_at machine client_event)
 effects_told laws t stays knows view machine home named (connects conn host) within mine well = tt
 effects_told laws t stays knows view machine home named (goes conn) within mine well =
     left_told t laws stays knows view machine home conn mine named within.room within.given
@@ -288,8 +288,8 @@ effects_told laws t stays knows view machine home named (says conn (Ok message))
 -- the server itself decides on the same effects
 pub same_effects : AreSpokenLaws → (t : Name) (stays : ℕ → Bool) (knows : Name → Bool)
     (view : View) (machine : RoomMachine) → IsHomeOf t stays knows view machine
-    → (happening : Happening) → stays (client_in happening) ≡ true
-    → effects_at (machine_of view) happening ≡ effects_at machine happening
+    → (client_event : ClientEvent) → stays (client_in client_event) ≡ true
+    → effects_at (machine_of view) client_event ≡ effects_at machine client_event
 same_effects laws t stays knows view machine home (connects conn host) mine = refl
 same_effects laws t stays knows view machine home (says conn (Err fault)) mine = refl
 same_effects laws t stays knows view machine home (says conn (Ok message)) mine =

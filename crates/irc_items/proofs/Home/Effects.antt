@@ -73,7 +73,7 @@ module _ (t : Name) (stays : ℕ → Bool) (start : View) where
 
   -- after the same events at the room machine and at the server, so much put out
   pub record AreOneAt (h : Handled) (v : Served) : Type 0 where
-    pub view : v.view ≡ view_in h.machine
+    pub state : v.state ≡ view_in h.state
     pub told : (who : ℕ) → lines_to who v.out ≡ cond (stays who) (lines_to who h.out) []
     pub closes_none : closings v.out ≡ []
 
@@ -252,21 +252,22 @@ module _ (t : Name) (stays : ℕ → Bool) (start : View) where
   -- ---- so both are one after it
 
   pub effect_so : (knows : Name → Bool) → KnowsWays knows → (h : Handled) (v : Served)
-      (effect : Effect) → IsHomeRoom t stays knows h.machine → IsOwnStep t h.machine.room effect
+      (effect : Effect) → IsHomeRoom t stays knows h.state → IsOwnStep t h.state.room effect
       → AreOneAt h v → AreOneAt (with_effect effect h) (effect_told None effect v)
   effect_so knows ways h v effect is step one = record {
-    view = ap (λ view. view_after view effect) one.view
-        ∙ view_now knows ways h.machine is effect step.possible;
+    state = ap (λ view. view_after view effect) one.state
+        ∙ view_now knows ways h.state is effect step.possible;
     told = λ who.
-        but_links who (v.out ++ shown_at v.view effect) (ways_at v.view None effect)
-        (wire v.view.room v.view.routes effect)
-        ∙ ap (λ view. lines_to who (v.out ++ shown_at view effect)) one.view
-        ∙ told_more knows ways h.machine is who effect v.out h.out step.possible.users_there
+        but_links who (v.out ++ shown_at v.state effect) (ways_at v.state None effect)
+        (wire v.state.room v.state.routes effect)
+        ∙ ap (λ view. lines_to who (v.out ++ shown_at view effect)) one.state
+        ∙ told_more knows ways h.state is who effect v.out h.out step.possible.users_there
         (one.told who);
     closes_none =
-        closings_behind (v.out ++ shown_at v.view effect)
-        (on_links (ways_at v.view None effect) (wire v.view.room v.view.routes effect))
-        (closings_behind v.out (shown_at v.view effect) one.closes_none
-        ∙ none_closed_by_effect v.view effect)
-        ∙ none_closed_on_links (ways_at v.view None effect) (wire v.view.room v.view.routes effect);
+        closings_behind (v.out ++ shown_at v.state effect)
+        (on_links (ways_at v.state None effect) (wire v.state.room v.state.routes effect))
+        (closings_behind v.out (shown_at v.state effect) one.closes_none
+        ∙ none_closed_by_effect v.state effect)
+        ∙ none_closed_on_links (ways_at v.state None effect)
+        (wire v.state.room v.state.routes effect);
   }

@@ -37,7 +37,8 @@ use Rattle.irc_stage.specs.declared.clients.Client.TheVariants.{Registering, Reg
 use Rattle.irc_stage.specs.ClientTold.{client_told, decision_told, given_told, message_told}
 use Rattle.irc_stage.specs.ClientTold.{quit_told, seated, unseated, user_told}
 use Rattle.irc_stage.specs.EffectTold.{Served, in_silence}
-use Rattle.irc_stage.specs.Handle.{Handled, Happening, connects, says, goes, client_after, decided}
+use Rattle.irc_stage.specs.Handle.{Handled, ClientEvent, connects, says, goes, client_after}
+use Rattle.irc_stage.specs.Handle.{decided}
 use Rattle.irc_stage.specs.Handle.{fresh, handled, lost_text, pending_decided, quits, said_by}
 use Rattle.irc_stage.specs.Handle.{unchanged, user_decided, user_of}
 use Rattle.irc_stage.specs.RoomMachine.{RoomMachine, with_client, without_client}
@@ -270,8 +271,8 @@ module _ (laws : AreDecisionLaws) (t : Name) (stays : ℕ → Bool) (knows : Nam
 
 pub handled_so : AreDecisionLaws → (t : Name) (stays : ℕ → Bool) (knows : Name → Bool)
     (view : View) (machine : RoomMachine) → IsHomeOf t stays knows view machine
-    → (happening : Happening) → stays (client_in happening) ≡ true
-    → AreOneAt t stays view (handled machine happening) (client_told view happening)
+    → (client_event : ClientEvent) → stays (client_in client_event) ≡ true
+    → AreOneAt t stays view (handled machine client_event) (client_told view client_event)
 unfolding handled client_told
 handled_so laws t stays knows view machine home (connects conn host) mine =
     begins_so t stays view (with_client machine conn (fresh host)) (seated conn (fresh host) view)

@@ -17,7 +17,7 @@ use Rattle.irc_relay.specs.Distances.{IsAmong}
 use Rattle.irc_relay.specs.Links.{Name, joined, same}
 use Rattle.irc_stage.specs.declared.clients.Client.TheVariants.{Registered}
 use Rattle.irc_stage.specs.ClientTold.{client_told}
-use Rattle.irc_stage.specs.Handle.{Happening, connects, handled}
+use Rattle.irc_stage.specs.Handle.{ClientEvent, connects, handled}
 use Rattle.irc_stage.specs.RoomMachine.{RoomMachine}
 use Rattle.irc_stage.specs.View.{View}
 use Rattle.irc_server.specs.Owed.{lines_to}
@@ -36,29 +36,31 @@ use Rattle.irc_items.proofs.Home.Effects.{AreOneAt, KnowsWays, view_in}
 use Rattle.irc_items.proofs.Home.Events.{AreDecisionLaws, IsHomeOf, handled_so}
 
 pub record DoesAsMachine (s : ItemSetting) (world : World) (routes : Name → Known) (h : Name)
-    (view : View) (happening : Happening) : Type 0 where
-  pub fits : Fits s h (side_state_of s (by_machine s.settings world h happening).world routes h)
-      (client_told view happening).view
+    (view : View) (client_event : ClientEvent) : Type 0 where
+  pub fits : Fits s h (side_state_of s (by_machine s.settings world h client_event).world routes h)
+      (client_told view client_event).state
   pub lines : (client : ℕ) → is_home_of s.homes h client ≡ true → lines_to client
-      (client_told view happening).out ≡ (by_machine s.settings world h happening).lines client
+      (client_told view client_event).out
+      ≡ (by_machine s.settings world h client_event).lines client
   pub own : (client : ℕ) (line : List ℕ) (lines : List (List ℕ)) → lines_to client
-      (client_told view happening).out ≡ line ∷ lines → is_home_of s.homes h client ≡ true
-  pub ends : (client_told view happening).view.ends ≡ view.ends
-  pub closes_none : closings (client_told view happening).out ≡ []
+      (client_told view client_event).out ≡ line ∷ lines → is_home_of s.homes h client ≡ true
+  pub ends : (client_told view client_event).state.ends ≡ view.ends
+  pub closes_none : closings (client_told view client_event).out ≡ []
 
 pub record AreHomeLaws : Type 0 where
   pub decisions : AreDecisionLaws
   pub sound : SideAtRestIsSound
 
-pub due_mine : (s : ItemSetting) (world : World) (h : Name) (happening : Happening)
-    → IsDueAtHome s world h happening → is_home_of s.homes h (client_in happening) ≡ true
-due_mine s world h happening due = ap (λ o. option_map_or (same h) o false) (at_home happening due)
+pub due_mine : (s : ItemSetting) (world : World) (h : Name) (client_event : ClientEvent)
+    → IsDueAtHome s world h client_event → is_home_of s.homes h (client_in client_event) ≡ true
+due_mine s world h client_event due =
+    ap (λ o. option_map_or (same h) o false) (at_home client_event due)
     ∙ (bytes_decides h h).1 refl
   where
-    at_home : (happening : Happening) → IsDueAtHome s world h happening
-        → home_in s.homes (client_in happening) ≡ Some h
+    at_home : (client_event : ClientEvent) → IsDueAtHome s world h client_event
+        → home_in s.homes (client_in client_event) ≡ Some h
     at_home (connects conn host) due = due.0
-    at_home happening due = due.0
+    at_home client_event due = due.0
 
 module _ (s : ItemSetting) (world : World) (routes : Name → Known) (h : Name) (view : View)
     (fits : Fits s h (side_state_of s world routes h) view) where
@@ -104,25 +106,26 @@ module _ (s : ItemSetting) (world : World) (routes : Name → Known) (h : Name) 
     room = record { well = fits.sound.well; at_known = fits.sound.at_known; own = own_users };
   }
 
-  module _ (laws : AreHomeLaws) (happening : Happening) (fixed : IsItemSetting s)
+  module _ (laws : AreHomeLaws) (client_event : ClientEvent) (fixed : IsItemSetting s)
       (among : IsAmong s.names h) (of_world : IsOfWorld s world)
       (right : AreRight s world.links routes)
-      (after : IsWorld s.settings (by_machine s.settings world h happening).world)
+      (after : IsWorld s.settings (by_machine s.settings world h client_event).world)
       (one : AreOneAt h (is_home_of s.homes h) view
-      (handled (machine_at s.settings world h) happening) (client_told view happening)) where
+      (handled (machine_at s.settings world h) client_event) (client_told view client_event)) where
     abbrev now : RoomMachine
-    now = (handled (machine_at s.settings world h) happening).machine
+    now = (handled (machine_at s.settings world h) client_event).state
 
-    hall_now : (by_machine s.settings world h happening).world.hall h
+    hall_now : (by_machine s.settings world h client_event).world.hall h
         ≡ record { clients = now.clients; room = now.room }
     hall_now = ap (λ b. if b then record { clients = now.clients; room = now.room }
         else world.hall h) fits.here
 
-    fits_now : Fits s h (side_state_of s (by_machine s.settings world h happening).world routes h)
+    fits_now : Fits s h
+        (side_state_of s (by_machine s.settings world h client_event).world routes h)
         (view_in h (is_home_of s.homes h) view now)
     fits_now = record {
       here = fits.here;
-      sound = laws.sound s (by_machine s.settings world h happening).world routes h fixed
+      sound = laws.sound s (by_machine s.settings world h client_event).world routes h fixed
           (record { homes = of_world.homes; parents = of_world.parents })
           after right among;
       peers = fits.peers;
@@ -134,40 +137,41 @@ module _ (s : ItemSetting) (world : World) (routes : Name → Known) (h : Name) 
     }
 
     nobody_else : (client : ℕ) (line : List ℕ) (lines : List (List ℕ))
-        → lines_to client (client_told view happening).out ≡ line ∷ lines → (b : Bool)
+        → lines_to client (client_told view client_event).out ≡ line ∷ lines → (b : Bool)
         → is_home_of s.homes h client ≡ b → b ≡ true
     nobody_else client line lines some true mine = refl
     nobody_else client line lines some false away =
         let none = one.told client ∙ ap (λ b. cond b
-        (lines_to client (handled (machine_at s.settings world h) happening).out) []) away in
+        (lines_to client (handled (machine_at s.settings world h) client_event).out) []) away in
         absurd (cc (sym none ∙ some))
 
-    does_so : DoesAsMachine s world routes h view happening
+    does_so : DoesAsMachine s world routes h view client_event
     does_so = record {
       fits = subst
-          (Fits s h (side_state_of s (by_machine s.settings world h happening).world routes h))
-          (sym one.view) fits_now;
+          (Fits s h (side_state_of s (by_machine s.settings world h client_event).world routes h))
+          (sym one.state) fits_now;
       lines = λ client mine.
           one.told client ∙ ap (λ b. cond b
-          (lines_to client (handled (machine_at s.settings world h) happening).out) []) mine;
+          (lines_to client (handled (machine_at s.settings world h) client_event).out) []) mine;
       own = λ client line lines some. nobody_else client line lines some
           (is_home_of s.homes h client) refl;
-      ends = ap (λ (v : View). v.ends) one.view;
+      ends = ap (λ (v : View). v.ends) one.state;
       closes_none = one.closes_none;
     }
 
 pub does_as_machine : AreHomeLaws → (s : ItemSetting) (world : World) (routes : Name → Known)
     (h : Name)
-    (view : View) (happening : Happening) → IsItemSetting s → IsAmong s.names h
+    (view : View) (client_event : ClientEvent) → IsItemSetting s → IsAmong s.names h
     → IsWorld s.settings world
     → IsOfWorld s world → AreRight s world.links routes
     → Fits s h (side_state_of s world routes h) view
-    → IsWorld s.settings (by_machine s.settings world h happening).world
-    → place_of (routes h) ≡ place_at s.settings world.links h → IsDueAtHome s world h happening
-    → DoesAsMachine s world routes h view happening
-does_as_machine laws s world routes h view happening fixed among is_world of_world right fits after
+    → IsWorld s.settings (by_machine s.settings world h client_event).world
+    → place_of (routes h) ≡ place_at s.settings world.links h → IsDueAtHome s world h client_event
+    → DoesAsMachine s world routes h view client_event
+does_as_machine laws s world routes h view client_event fixed among is_world of_world right
+    fits after
     place due =
-    does_so s world routes h view fits laws happening fixed among of_world right after
+    does_so s world routes h view fits laws client_event fixed among of_world right after
     (handled_so laws.decisions h (is_home_of s.homes h) (λ x. joined world.links x h) view
     (machine_at s.settings world h)
-    (home_so s world routes h view fits place) happening (due_mine s world h happening due))
+    (home_so s world routes h view fits place) client_event (due_mine s world h client_event due))

@@ -41,7 +41,7 @@ module _ (t : Name) (stays : ℕ → Bool) (start : View) where
   pub begins_so : (machine : RoomMachine) (view : View) → view ≡ view_in t stays start machine
       → IsOne (unchanged machine) (in_silence view)
   begins_so machine view is =
-      record { view = is; told = λ who. nothing_either (stays who); closes_none = refl }
+      record { state = is; told = λ who. nothing_either (stays who); closes_none = refl }
 
   -- ---- something more is put out, to a client that stays here
 
@@ -49,7 +49,7 @@ module _ (t : Name) (stays : ℕ → Bool) (start : View) where
       → ((who : ℕ) → lines_to who sent ≡ cond (stays who) (lines_to who sent) []) → (h : Handled)
       (v : Served) → IsOne h v → IsOne (record h { out = h.out ++ sent }) (with_sent sent v)
   sent_so sent none here h v one = record {
-    view = one.view;
+    state = one.state;
     told = λ who.
         lines_behind who v.out sent
         ∙ (λ i. one.told who i ++ here who i)
@@ -102,10 +102,10 @@ module _ (t : Name) (stays : ℕ → Bool) (start : View) where
         → IsOne (closing close conn h) (closed_told close conn v)
     close_so true h v one =
         sent_so (end_of conn ∷ []) refl (λ who. nothing_either (stays who))
-        (record { machine = without_client h.machine conn; out = h.out })
-        (record { view = unseated conn v.view; out = v.out })
+        (record { state = without_client h.state conn; out = h.out })
+        (record { state = unseated conn v.state; out = v.out })
         (record {
-          view = unseated_view h.machine v.view one.view;
+          state = unseated_view h.state v.state one.state;
           told = one.told;
           closes_none = one.closes_none;
         })
@@ -148,19 +148,19 @@ module _ (t : Name) (stays : ℕ → Bool) (start : View) where
 
       module _ (here : knows t ≡ true) (ways : KnowsWays t stays start knows) where
         answer_so : (name : Option (List ℕ)) (act : Act) (h : Handled) (v : Served)
-            → start.routes.name ≡ h.machine.place.name → effects_among (act ∷ []) ≡ [] → IsOne h v
+            → start.routes.name ≡ h.state.place.name → effects_among (act ∷ []) ≡ [] → IsOne h v
             → IsOne (stepped conn name act h) (step_told conn name act v)
         answer_so name (Answer reply) h v named none one =
             subst (λ (own : List ℕ). IsOne (stepped conn name (Answer reply) h)
             (with_sent (line_to conn (reply_text own name reply) ∷ []) v))
-            (sym (ap (λ (view : View). view.routes.name) one.view ∙ named))
-            (line_so (reply_text h.machine.place.name name reply) h v one)
+            (sym (ap (λ (view : View). view.routes.name) one.state ∙ named))
+            (line_so (reply_text h.state.place.name name reply) h v one)
         answer_so name (Raw line) h v named none one = line_so line.items h v one
         answer_so name (Do effect) h v named none one = absurd (cc none)
 
         steps_so : (name : Option (List ℕ)) (acts : List Act) (h : Handled) (v : Served)
-            → start.routes.name ≡ h.machine.place.name → IsHomeRoom t stays knows h.machine
-            → EachInTurn (IsOwnStep t) h.machine.room (effects_among acts) → IsOne h v
+            → start.routes.name ≡ h.state.place.name → IsHomeRoom t stays knows h.state
+            → EachInTurn (IsOwnStep t) h.state.room (effects_among acts) → IsOne h v
             → IsOne (all_stepped conn name acts h) (steps_told conn name acts v)
         steps_so name [] h v named is steps one = one
         steps_so name (Answer reply ∷ acts) h v named is steps one =
@@ -173,7 +173,7 @@ module _ (t : Name) (stays : ℕ → Bool) (start : View) where
             (answer_so name (Raw line) h v named refl one)
         steps_so name (Do effect ∷ acts) h v named is steps one =
             steps_so name acts (with_effect effect h) (effect_told None effect v) named
-            (home_room_after t stays knows h.machine effect here is steps.now) steps.later
+            (home_room_after t stays knows h.state effect here is steps.now) steps.later
             (effect_so t stays start knows ways h v effect is steps.now one)
 
         pub carried_so : (close : Bool) (name : Option (List ℕ)) (acts : List Act)

@@ -26,7 +26,7 @@ use Rattle.irc_routes.specs.Known.{Known, place_of}
 use Rattle.irc_stage.specs.declared.clients.Client.{Client}
 use Rattle.irc_stage.specs.ClientTold.{client_told}
 use Rattle.irc_stage.specs.EffectTold.{room_after}
-use Rattle.irc_stage.specs.Handle.{Happening, says}
+use Rattle.irc_stage.specs.Handle.{ClientEvent, says}
 use Rattle.irc_stage.specs.RoomMachine.{RoomMachine}
 use Rattle.irc_stage.specs.View.{View}
 use Rattle.irc_wire.specs.EachReadBack.{EachIsReadBack}
@@ -177,7 +177,7 @@ module _ (laws : AreTellingLaws) (s : ItemSetting) (fixed : IsItemSetting s) (li
           may = tt;
           side = subst (λ all. IsWithinSide s all w) (sym same_links) side;
         })
-        (rest (neighbour_served s h other line).view
+        (rest (neighbour_served s h other line).state
         (laws.line.fits s h u w other (does effect) line fixed next reader said)))
     one_more w other effect deeds first more side reader (passed is passes) rest =
         subst (λ lines. AreToldTo w other (does effect ∷ deeds) (lines ++ more)) (sym is)
@@ -219,17 +219,17 @@ module _ (laws : AreTellingLaws) (s : ItemSetting) (fixed : IsItemSetting s) (li
 
 module _ (laws : AreTellingLaws) (s : ItemSetting) (world : World) (routes : Name → Known)
     (h : Name)
-    (view : View) (happening : Happening) (fixed : IsItemSetting s)
+    (view : View) (client_event : ClientEvent) (fixed : IsItemSetting s)
     (forest : IsForest world.links) (streams : s.streams ≡ streams_from world.links
     (from_one world.links h)) (is_world : IsWorld s.settings world)
     (fits : Fits s h (side_state_of s world routes h) view)
     (place : place_of (routes h) ≡ place_at s.settings world.links h)
-    (due : IsDueAtHome s world h happening) where
+    (due : IsDueAtHome s world h client_event) where
   abbrev here : of_side.SideState
   here = side_state_of s world routes h
 
   abbrev effects : List Effect
-  effects = effects_at (machine_at s.settings world h) happening
+  effects = effects_at (machine_at s.settings world h) client_event
 
   taking : (x p : Name) → TakesFrom s.streams x p
       → TakesFrom (streams_from world.links (from_one world.links h)) x p
@@ -273,39 +273,40 @@ module _ (laws : AreTellingLaws) (s : ItemSetting) (world : World) (routes : Nam
       (machine_at s.settings world h)
   home = home_so s world routes h view fits place
 
-  mine : is_home_of s.homes h (client_in happening) ≡ true
-  mine = due_mine s world h happening due
+  mine : is_home_of s.homes h (client_in client_event) ≡ true
+  mine = due_mine s world h client_event due
 
-  within : IsClientWithin (machine_at s.settings world h) (client_in happening)
+  within : IsClientWithin (machine_at s.settings world h) (client_in client_event)
   within = record {
     room = (is_world.within h).room;
-    given = (is_world.within h).given (client_in happening);
+    given = (is_world.within h).given (client_in client_event);
   }
 
-  said_well : IsSaidWell happening
-  said_well = by happening due
+  said_well : IsSaidWell client_event
+  said_well = by client_event due
     where
-      by : (happening : Happening) → IsDueAtHome s world h happening → IsSaidWell happening
+      by : (client_event : ClientEvent) → IsDueAtHome s world h client_event
+          → IsSaidWell client_event
       by (says conn read) due = due.2
-      by happening due = tt
+      by client_event due = tt
 
   each : EachInTurn (IsOwnTold h) (world.hall h).room effects
   each = effects_told laws.spoken h (is_home_of s.homes h) (λ x. joined world.links x h) view
       (machine_at s.settings world h) home
-      (fixed.servers.named h h_among) happening within mine said_well
+      (fixed.servers.named h h_among) client_event within mine said_well
 
-  lines_so : (k : ℕ) → lines_on k (client_told view happening).out ≡ lines_along k view
+  lines_so : (k : ℕ) → lines_on k (client_told view client_event).out ≡ lines_along k view
       (of_home h (world.hall h).room) effects
   lines_so k =
-      told_along k view happening
+      told_along k view client_event
       ∙ (λ i. lines_along k view (fits.room i)
       (same_effects laws.spoken h (is_home_of s.homes h) (λ x. joined world.links x h) view
-      (machine_at s.settings world h) home happening mine i))
+      (machine_at s.settings world h) home client_event mine i))
 
   tells_next : (later : World) → later.links ≡ world.links → (client : ℕ) (u : Name) (other : View)
       → AreLinked world.links h u → Fits s u here other → Tells (machine s client) (play s client)
       (good_terms s no_answers later routes) h u here other (map does effects)
-      (lines_on (number s u) (client_told view happening).out)
+      (lines_on (number s u) (client_told view client_event).out)
   tells_next later same_links client u other there reader =
       subst (Tells (machine s client) (play s client) (good_terms s no_answers later routes) h u
       here other (map does effects)) (sym (lines_so (number s u)))
@@ -327,7 +328,7 @@ module _ (laws : AreTellingLaws) (s : ItemSetting) (world : World) (routes : Nam
 
   -- all of it, as the network begins to follow
   pub tells_from_home : (later : World) → later.links ≡ world.links
-      → IsToldByHome s world later routes h view happening
+      → IsToldByHome s world later routes h view client_event
   tells_from_home later same_links = record {
     told = told;
     few = λ u other there reader. subst (λ lines. length lines ≤ length effects)
@@ -341,12 +342,12 @@ module _ (laws : AreTellingLaws) (s : ItemSetting) (world : World) (routes : Nam
           → Fits s u (side_state_of s world routes u) other
           → Tells (machine s client) (play s client) (good_terms s no_answers later routes) h u
           (side_state_of s world routes u) other (map does effects)
-          (lines_on (number s u) (client_told view happening).out)
+          (lines_on (number s u) (client_told view client_event).out)
       told u other client there reader =
           let one =
           same_part u (linked_joined world.links u h (linked_back world.links h u there)) in
           subst (λ w. Tells (machine s client) (play s client)
           (good_terms s no_answers later routes) h u w other
-          (map does effects) (lines_on (number s u) (client_told view happening).out)) one
+          (map does effects) (lines_on (number s u) (client_told view client_event).out)) one
           (tells_next later same_links client u other there
           (subst (λ w. Fits s u w other) (sym one) reader))

@@ -12,10 +12,10 @@ use Rattle.irc_names.specs.Tables.{Table, row, alter, moved}
 use Rattle.irc_names.specs.TableLaws.{same_fold, same_fold-refl, one_fold, row-alter, row-moved}
 use Rattle.irc_names.specs.TableLaws.{row-moved_none}
 use Rattle.irc_users.specs.declared.user.User.{User}
-use Rattle.irc_users.specs.UserTable.{is_home, with_nick, with_invisible}
+use Rattle.irc_users.specs.declared.user_change.UserChange.{UserChange}
+use Rattle.irc_users.specs.UserTable.{is_home, with_nick, with_change}
 use Rattle.irc_room.specs.effect.Effect.{Effect}
-use Rattle.irc_room.specs.effect.Effect.TheVariants.{AddUser, Rename, Quit, Join, Part, Kick}
-use Rattle.irc_room.specs.effect.Effect.TheVariants.{ChangeModes, SetTopic, Say, Invite, UserMode}
+use Rattle.irc_room.specs.effect.Effect.TheVariants.{AddUser, Rename, Quit, ChangeUser}
 use Rattle.irc_room.specs.After.{after}
 use Rattle.irc_room.specs.Effects.{has_user, IsPossible}
 use Rattle.irc_room.specs.InTurn.{EachInTurn}
@@ -69,24 +69,24 @@ module _ (t : Name) where
         by false two = own user two
 
     -- in its own place
-    same_home : (invisible : Bool) (o : Option User) (user : User)
+    same_home : (change : UserChange) (o : Option User) (user : User)
         → ((old : User) → o ≡ Some old → is_home t old ≡ true)
-        → option_map (with_invisible invisible) o ≡ Some user → is_home t user ≡ true
-    same_home invisible None user all is = absurd (cc is)
-    same_home invisible (Some old) user all is =
-        ap (is_home t) (sym (same_some (with_invisible invisible old) user is)) ∙ all old refl
+        → option_map (with_change change) o ≡ Some user → is_home t user ≡ true
+    same_home change None user all is = absurd (cc is)
+    same_home change (Some old) user all is =
+        ap (is_home t) (sym (same_some (with_change change old) user is)) ∙ all old refl
 
     one_fold_own : (at : List ℕ) → same_fold fold at ≡ true → IsOwnAt users at
     one_fold_own at one user is = own user (ap (row users) (one_fold fold at one) ∙ is)
 
-    seen_or_not : (at : List ℕ) (invisible : Bool)
-        → IsOwnAt (alter at (option_map (with_invisible invisible)) users) fold
-    seen_or_not at invisible user is = by (same_fold fold at) refl
-        (sym (row-alter at (option_map (with_invisible invisible)) users fold) ∙ is)
+    seen_or_not : (at : List ℕ) (change : UserChange)
+        → IsOwnAt (alter at (option_map (with_change change)) users) fold
+    seen_or_not at change user is = by (same_fold fold at) refl
+        (sym (row-alter at (option_map (with_change change)) users fold) ∙ is)
       where
-        by : (b : Bool) → same_fold fold at ≡ b → cond b (option_map (with_invisible invisible)
+        by : (b : Bool) → same_fold fold at ≡ b → cond b (option_map (with_change change)
             (row users at)) (row users fold) ≡ Some user → is_home t user ≡ true
-        by true one now = same_home invisible (row users at) user (one_fold_own at one) now
+        by true one now = same_home change (row users at) user (one_fold_own at one) now
         by false two now = own user now
 
     moved_own : (old new nick : List ℕ) → IsOwnAt users old → (o : Option User) → row users old ≡ o
@@ -111,15 +111,9 @@ module _ (t : Name) where
   own_after room (Rename nick new) fold does own =
       moved_own room.users fold own (key nick) (key new) new does (row room.users (key nick)) refl
   own_after room (Quit nick text) fold does own = taken_out room.users fold own (key nick)
-  own_after room (Join nick channel op) fold does own = own
-  own_after room (Part nick channel text) fold does own = own
-  own_after room (Kick by channel nick text) fold does own = own
-  own_after room (ChangeModes by channel changes) fold does own = own
-  own_after room (SetTopic by channel text) fold does own = own
-  own_after room (Say by notice to text) fold does own = own
-  own_after room (Invite by nick channel) fold does own = own
-  own_after room (UserMode nick invisible) fold does own =
-      seen_or_not room.users fold own (key nick) invisible
+  own_after room (ChangeUser nick change) fold does own =
+      seen_or_not room.users fold own (key nick) change
+  own_after room other fold does own = own
 
   -- the new nickname is the old user's
   pub new_is_own : (room : Room) (nick new : List ℕ) → IsOwnAt room.users (key nick)

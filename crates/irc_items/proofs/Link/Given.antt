@@ -57,7 +57,7 @@ pub record IsMeeting (net : Network) (near far : Name) : Type 0 where
 -- an end is open, to which nobody has named itself
 pub record HasOpened (net new : Network) (a b : Name) : Type 0 where
   pub starts : Option Name
-  pub view : view_at new a ≡ with_end (index_in net.names b) starts (view_at net a)
+  pub state : view_at new a ≡ with_end (index_in net.names b) starts (view_at net a)
 
 -- Both ends are open, and the near end has called: PASS and SERVER are on their way. Nothing else
 -- has changed.
@@ -173,11 +173,11 @@ meeting net set_up near far taken =
 -- an end is opened by the server that calls, which says PASS and SERVER
 calls_out : (view : View) (k : ℕ) (name word : Name) → get view.ends k ≡ None
     → password_for view name ≡ Some word → reply view (link_up k (Some name))
-    ≡ record { view = with_end k (Some name) view; out = on_link k (opening_parts view name) }
+    ≡ record { state = with_end k (Some name) view; out = on_link k (opening_parts view name) }
 unfolding served
 calls_out view k name word free is =
     reply_taken view (link_up k (Some name)) (ap is_none free)
-    ∙ ap (λ o. record { view = (opened_if o).view; out = (opened_if o).out }) is
+    ∙ ap (λ o. record { state = (opened_if o).state; out = (opened_if o).out }) is
   where
     opened_if : Option (List ℕ) → Served
     opened_if o =
@@ -187,7 +187,7 @@ calls_out view k name word free is =
 
 -- and by the one that is called, which waits
 is_called : (view : View) (k : ℕ) → get view.ends k ≡ None
-    → reply view (link_up k None) ≡ record { view = with_end k None view; out = [] }
+    → reply view (link_up k None) ≡ record { state = with_end k None view; out = [] }
 unfolding served
 is_called view k free = reply_taken view (link_up k None) (ap is_none free)
 
@@ -273,10 +273,10 @@ module _ (stays : ServedKeepsItsSetting) (net : Network) (sound : IsSound net)
   parts = opening_parts (view_at net near) far
 
   abbrev calls : Served
-  calls = record { view = with_end q (Some far) (view_at net near); out = on_link q parts }
+  calls = record { state = with_end q (Some far) (view_at net near); out = on_link q parts }
 
   abbrev waits : Served
-  waits = record { view = with_end p None (view_at net far); out = [] }
+  waits = record { state = with_end p None (view_at net far); out = [] }
 
   will : WillAskBoth net near far (record { near = near; far = far } ∷ net.links) with_way (Some [])
       (link_up q (Some far)) (link_up p None) calls waits
@@ -362,5 +362,5 @@ pub link_is_given : ServedKeepsItsSetting → (net : Network) → IsSound net
     → IsOneRoom net → (near far : Name) → IsMeeting net near far
     → IsLinked net (given (link near far) net).net near far
 link_is_given stays net sound room near far m =
-    subst (λ (progress : Progress). IsLinked net progress.net near far)
+    subst (λ (progress : Progress Network). IsLinked net progress.net near far)
     (sym (is_given stays net sound room near far m)) (linked_so stays net sound room near far m)

@@ -206,7 +206,7 @@ module _ (laws : AreRoomLaws) {s : ItemSetting} {l : Link} {world : World} {rout
       read_aside : (line : List ℕ) → Aside s b t (w hall) view line → IsReadSo line []
       read_aside line aside more =
           aside_line (record { aside = aside; side = within laws.sides is knows known_at hall })
-          (more (neighbour_served s b view line).view
+          (more (neighbour_served s b view line).state
           (laws.line.aside s b t (w hall) view line fits aside).fits)
 
       abbrev May : Deed → List ℕ → Type 0
@@ -219,9 +219,9 @@ module _ (laws : AreRoomLaws) {s : ItemSetting} {l : Link} {world : World} {rout
           by_line
           (record { says = says; may = may; side = within laws.sides is knows known_at hall })
           (subst (λ part. AreTold laws.sides is client part
-          (neighbour_served s b view line).view deeds lines) (sym done_is)
-          (more (neighbour_served s b view line).view
-          (subst (λ part. Fits s t part (neighbour_served s b view line).view) done_is
+          (neighbour_served s b view line).state deeds lines) (sym done_is)
+          (more (neighbour_served s b view line).state
+          (subst (λ part. Fits s t part (neighbour_served s b view line).state) done_is
           (laws.line.fits s b t (w hall) view deed line is.fixed
           (takes_b laws.sides is) fits says))))
         where

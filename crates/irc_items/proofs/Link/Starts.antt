@@ -519,7 +519,7 @@ module _ (known : IsKnownOfSides) {s : ItemSetting} {l : Link} {world : World}
       by_line says
       (tell_rows client rows (λ x. knows x || same x r.name)
       (gained_at s.names (moment knows known_at hall).tree r.uplink r.name r.info) hall
-      (neighbour_served s b view (server_line (routes b) r)).view
+      (neighbour_served s b view (server_line (routes b) r)).state
       (b_stays knows known_at hall r.uplink r.name r.info at_b)
       (ap (λ c. c || same b r.name) b_known)
       (said_gain_fits s is.fixed b t (moment knows known_at hall) view takes_b fits r.uplink r.name
@@ -562,7 +562,7 @@ module _ (known : IsKnownOfSides) {s : ItemSetting} {l : Link} {world : World}
       by_line says
       (tell_rows client (servers_told (routes b) (number s t)) (λ x. joined links x t || same x b)
       (gained_at s.names first.tree t b (info b)) (world.hall t)
-      (neighbour_served s b view greeting_line).view
+      (neighbour_served s b view greeting_line).state
       (b_stays knows_first routes (world.hall t) t b (info b) refl) b_known
       (said_gain_fits s is.fixed b t first view takes_b fits t b (info b) greeting_line says.says)
       (come_in_turn s links routes b is.forest.1 is.right is.b_among ends_there t is.t_among
@@ -653,7 +653,7 @@ module _ (known : IsKnownOfSides) {s : ItemSetting} {l : Link} {world : World}
     link_tells client kept other_kept end is_end not_met no_word more =
         subst (AreTold client first view (deeds_of_link s world routes t b))
         (sym (lines_are other_kept)) (aside_line aside (
-        from_greeting client (neighbour_served s b view pass_line).view word
+        from_greeting client (neighbour_served s b view pass_line).state word
         (record end { password = Some word })
         (aside_stays s b t first view pass_line fits aside.aside).fits
         (ap (λ (v : View). password_for v b) after ∙ kept)
@@ -674,6 +674,6 @@ module _ (known : IsKnownOfSides) {s : ItemSetting} {l : Link} {world : World}
           side = within knows_first routes (world.hall t);
         }
 
-        after : (neighbour_served s b view pass_line).view ≡ with_word laws word is_word view
+        after : (neighbour_served s b view pass_line).state ≡ with_word laws word is_word view
             (number s b) end not_met no_word
         after = pass_served laws word is_word view (number s b) end not_met no_word is_end

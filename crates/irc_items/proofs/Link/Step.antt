@@ -130,12 +130,12 @@ module _ {net new : Network} {near far : Name} (given : IsLinkStep net new near 
   -- an end is open, to which the other has not named itself
   pub opened : (a b : Name) → HasEnds l a b → HasOpened net new a b
   opened =
-      both_ends l (HasOpened net new) (record { starts = Some far; view = given.linked.near_view })
-      (record { starts = None; view = given.linked.far_view })
+      both_ends l (HasOpened net new) (record { starts = Some far; state = given.linked.near_view })
+      (record { starts = None; state = given.linked.far_view })
 
   pub end_is : (a b : Name) (ends : HasEnds l a b)
       → get (view_at new a).ends (number s b) ≡ Some (fresh_end (opened a b ends).starts)
-  end_is a b ends = ap (λ (v : View). get v.ends (number s b)) (opened a b ends).view
+  end_is a b ends = ap (λ (v : View). get v.ends (number s b)) (opened a b ends).state
       ∙ fresh (view_at net a).ends (number s b) (opened a b ends).starts
 
   other_number : (a b : Name) → IsAmong net.names a → a ≢ b
@@ -162,7 +162,7 @@ module _ {net new : Network} {near far : Name} (given : IsLinkStep net new near 
 
       by : AtEnd l t → get (view_at new t).ends (number s x) ≡ get (view_at net t).ends (number s x)
       by (is_end b ends) =
-          ap (λ (v : View). get v.ends (number s x)) (opened t b ends).view
+          ap (λ (v : View). get v.ends (number s x)) (opened t b ends).state
           ∙ other (opened t b ends).starts b (λ e. none (subst (HasEnds l t) (sym e) ends))
       by (is_none m n) = ap (λ (v : View). get v.ends (number s x)) (given.linked.other_views t m n)
 
@@ -172,7 +172,7 @@ module _ {net new : Network} {near far : Name} (given : IsLinkStep net new near 
   as_before f same_but t = by (which_end l t)
     where
       by : AtEnd l t → f (view_at new t) ≡ f (view_at net t)
-      by (is_end b ends) = ap f (opened t b ends).view
+      by (is_end b ends) = ap f (opened t b ends).state
           ∙ same_but (number s b) (opened t b ends).starts (view_at net t)
       by (is_none m n) = ap f (given.linked.other_views t m n)
 
@@ -225,7 +225,7 @@ module _ {net new : Network} {near far : Name} (given : IsLinkStep net new near 
 
       by : AtEnd l t → IsNumberOf s k
       by (is_end b ends) = added b (opened t b ends).starts (end_among b t (other_end l t b ends))
-          (sym (ap (λ (v : View). get v.ends k) (opened t b ends).view) ∙ is)
+          (sym (ap (λ (v : View). get v.ends k) (opened t b ends).state) ∙ is)
           (same_number k (number s b)) refl
       by (is_none m n) =
           old (sym (ap (λ (v : View). get v.ends k) (given.linked.other_views t m n)) ∙ is)

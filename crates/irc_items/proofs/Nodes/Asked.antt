@@ -10,14 +10,14 @@ use Rattle.irc_routes.specs.Info.{IsInfo}
 use Rattle.irc_relay.specs.Distances.{IsAmong}
 use Rattle.irc_relay.specs.Links.{Link, Name}
 use Rattle.irc_server.specs.Owed.{lines_to}
-use Rattle.irc_server.specs.Served.{IsSetAlike, Occurrence, ServedKeepsItsSetting, served}
+use Rattle.irc_server.specs.Served.{IsSetAlike, ReadEvent, ServedKeepsItsSetting, served}
 use Rattle.irc_stage.specs.View.{View}
 use Rattle.irc_world.specs.Stepping.{Item}
 use Rattle.irc_world.specs.World.{home_in}
 use Rattle.irc_follow.specs.Says.{lines_on}
 use Rattle.irc_follow.specs.Tree.{index_in}
 use Rattle.irc_network.specs.Network.{Progress, Network, Served, Node, all_sent_out, node_asked}
-use Rattle.irc_network.specs.Network.{asked_at, serves_occurrence, received_by, reply, with_reply}
+use Rattle.irc_network.specs.Network.{asked_at, serves_read_event, received_by, reply, with_reply}
 use Rattle.irc_network.specs.Network.{with_node}
 use Rattle.irc_items.specs.Relayed.{way_at}
 use Rattle.irc_items.specs.SetUp.{setting_now, settings_of, view_at, HasPassword, IsConfigured}
@@ -29,7 +29,7 @@ use Rattle.irc_items.proofs.Nodes.NodeChanged.{changed_twice, set_up_after, node
 use Rattle.irc_items.proofs.Nodes.NodeChanged.{IsAlikeNode, IsSetUpAfter, IsNodeChanged}
 
 -- t answered: what it put out waits behind the others on its ways, and is received behind all else
-pub record IsAskedAt (t : Name) (answer : Served) (old new : Progress) : Type 0 where
+pub record IsAskedAt (t : Name) (answer : Served) (old new : Progress Network) : Type 0 where
   pub names : new.net.names ≡ old.net.names
   pub links : new.net.links ≡ old.net.links
   pub homes : new.net.homes ≡ old.net.homes
@@ -38,7 +38,7 @@ pub record IsAskedAt (t : Name) (answer : Served) (old new : Progress) : Type 0 
   pub inboxes : length new.net.received ≡ length old.net.received
   pub settings : settings_of new.net ≡ settings_of old.net
   pub set_up : IsSetUp new.net
-  pub view : view_at new.net t ≡ answer.view
+  pub state : view_at new.net t ≡ answer.state
   pub other_views : (u : Name) → u ≢ t → view_at new.net u ≡ view_at old.net u
   pub way : (place : ℕ) → way_at new.net t place ≡ option_map
       (λ lines. lines ++ lines_on place answer.out) (way_at old.net t place)
@@ -48,24 +48,24 @@ pub record IsAskedAt (t : Name) (answer : Served) (old new : Progress) : Type 0 
   pub nobody : (client : ℕ) → home_in old.net.homes client ≡ None → received_by new.net client ≡ []
 
 -- what a server answers keeps what it is configured to be
-pub reply_alike : ServedKeepsItsSetting → (view : View) (occurrence : Occurrence)
-    → IsSetAlike view (reply view occurrence).view
-reply_alike kept view occurrence = by (serves_occurrence view occurrence) refl
+pub reply_alike : ServedKeepsItsSetting → (view : View) (read_event : ReadEvent)
+    → IsSetAlike view (reply view read_event).state
+reply_alike kept view read_event = by (serves_read_event view read_event) refl
   where
-    by : (b : Bool) → serves_occurrence view occurrence ≡ b
-        → IsSetAlike view (reply view occurrence).view
-    by true e = subst (λ (r : Served). IsSetAlike view r.view)
+    by : (b : Bool) → serves_read_event view read_event ≡ b
+        → IsSetAlike view (reply view read_event).state
+    by true e = subst (λ (r : Served). IsSetAlike view r.state)
         (sym (ap (λ b. if b then record {
-          view = (served view occurrence).view;
-          out = (served view occurrence).out;
+          state = (served view read_event).state;
+          out = (served view read_event).out;
         }
-        else record { view = view; out = [] }) e)) (kept view occurrence)
-    by false e = subst (λ (r : Served). IsSetAlike view r.view)
+        else record { state = view; out = [] }) e)) (kept view read_event)
+    by false e = subst (λ (r : Served). IsSetAlike view r.state)
         (sym (ap (λ b. if b then record {
-          view = (served view occurrence).view;
-          out = (served view occurrence).out;
+          state = (served view read_event).state;
+          out = (served view read_event).out;
         }
-        else record { view = view; out = [] }) e)) (record {
+        else record { state = view; out = [] }) e)) (record {
           peers =
               refl;
           name = refl;
@@ -81,8 +81,9 @@ setting_alike old new alike i = record {
   peers = alike.peers i;
 }
 
-module _ (kept : ServedKeepsItsSetting) (old : Progress) (set_up : IsSetUp old.net) (t : Name)
-    (among : IsAmong old.net.names t) (occurrence : Occurrence) where
+module _ (kept : ServedKeepsItsSetting) (old : Progress Network) (set_up : IsSetUp old.net)
+    (t : Name)
+    (among : IsAmong old.net.names t) (read_event : ReadEvent) where
   abbrev place : ℕ
   place = index_in old.net.names t
 
@@ -90,22 +91,22 @@ module _ (kept : ServedKeepsItsSetting) (old : Progress) (set_up : IsSetUp old.n
   view = view_at old.net t
 
   abbrev answer : Served
-  answer = reply view occurrence
+  answer = reply view read_event
 
   abbrev node : Node
   node = (there old.net set_up t among).node
 
   abbrev replied : Node
-  replied = record node { server = Some answer.view }
+  replied = record node { server = Some answer.state }
 
-  abbrev mid : Progress
+  abbrev mid : Progress Network
   mid = record old { net = with_node place replied old.net }
 
   alike_node : IsAlikeNode node replied
   alike_node = record {
-    named = ap Some (reply_alike kept view occurrence).name ∙ sym
+    named = ap Some (reply_alike kept view read_event).name ∙ sym
         (ap (option_map (λ (v : View). v.routes.name)) (there old.net set_up t among).is_view);
-    setting = ap Some (setting_alike view answer.view (reply_alike kept view occurrence))
+    setting = ap Some (setting_alike view answer.state (reply_alike kept view read_event))
         ∙ sym (ap (option_map setting_now) (there old.net set_up t among).is_view);
   }
 
@@ -116,22 +117,22 @@ module _ (kept : ServedKeepsItsSetting) (old : Progress) (set_up : IsSetUp old.n
   sent : IsSentOut place answer.out replied mid (all_sent_out place answer.out mid)
   sent = all_sent place answer.out replied mid first_changed.is_after
 
-  asked_is : node_asked place occurrence old ≡ all_sent_out place answer.out mid
+  asked_is : node_asked place read_event old ≡ all_sent_out place answer.out mid
   unfolding node_asked
   asked_is =
-      ap (λ o. option_map_or (asked_at place occurrence old) o old)
+      ap (λ o. option_map_or (asked_at place read_event old) o old)
       (there old.net set_up t among).is_node
-      ∙ ap (λ o. option_map_or (λ (v : View). with_reply place old node (reply v occurrence)) o old)
+      ∙ ap (λ o. option_map_or (λ (v : View). with_reply place old node (reply v read_event)) o old)
       (there old.net set_up t among).is_view
 
   changed : IsNodeChanged place sent.after old.net (all_sent_out place answer.out mid).net
   changed = changed_twice place replied sent.after old.net mid.net
       (all_sent_out place answer.out mid).net first_changed sent.changed
 
-  configured : IsConfigured answer.view
+  configured : IsConfigured answer.state
   configured =
       let was = set_up.configured t among in
-      let same = reply_alike kept view occurrence in record {
+      let same = reply_alike kept view read_event in record {
         name = subst IsServer (sym same.name) was.name;
         info = subst IsInfo (sym same.info) was.info;
         created = let e = ap (λ (c : List ℕ). length c) same.created in let few = was.created in
@@ -139,10 +140,10 @@ module _ (kept : ServedKeepsItsSetting) (old : Progress) (set_up : IsSetUp old.n
         passwords = subst (AllByRecursion HasPassword) (sym same.peers) was.passwords;
       }
 
-  then_set_up : IsSetUpAfter t answer.view sent.after old.net
+  then_set_up : IsSetUpAfter t answer.state sent.after old.net
       (all_sent_out place answer.out mid).net
   then_set_up = set_up_after old.net (all_sent_out place answer.out mid).net set_up t among
-      sent.after answer.view changed sent.server configured
+      sent.after answer.state changed sent.server configured
 
   received_so : (inboxes : length old.net.received ≡ length old.net.homes)
       (client : ℕ) (home : Name) → home_in old.net.homes client ≡ Some home
@@ -174,7 +175,7 @@ module _ (kept : ServedKeepsItsSetting) (old : Progress) (set_up : IsSetUp old.n
     inboxes = sent.inboxes;
     settings = changed.settings;
     set_up = then_set_up.set_up;
-    view = then_set_up.view;
+    state = then_set_up.state;
     other_views = then_set_up.other_views;
     way = λ to. ap (option_and_then (λ (s : Node). get s.queues to)) then_set_up.node ∙ sent.ways to
         ∙ sym (ap (λ o. option_map (λ lines. lines ++ lines_on to answer.out)
@@ -188,14 +189,14 @@ module _ (kept : ServedKeepsItsSetting) (old : Progress) (set_up : IsSetUp old.n
         (ap (λ homes. home_in homes client) changed.homes ∙ none);
   }
 
-pub asked_there : ServedKeepsItsSetting → (old : Progress) → IsSetUp old.net
+pub asked_there : ServedKeepsItsSetting → (old : Progress Network) → IsSetUp old.net
     → length old.net.received ≡ length old.net.homes → (t : Name) → IsAmong old.net.names t
-    → (occurrence : Occurrence) → IsAskedAt t (reply (view_at old.net t) occurrence) old
-    (node_asked (index_in old.net.names t) occurrence old)
-asked_there kept old set_up inboxes t among occurrence =
-    subst (IsAskedAt t (reply (view_at old.net t) occurrence) old)
-    (sym (asked_is kept old set_up t among occurrence))
-    (asked_so kept old set_up t among occurrence inboxes)
+    → (read_event : ReadEvent) → IsAskedAt t (reply (view_at old.net t) read_event) old
+    (node_asked (index_in old.net.names t) read_event old)
+asked_there kept old set_up inboxes t among read_event =
+    subst (IsAskedAt t (reply (view_at old.net t) read_event) old)
+    (sym (asked_is kept old set_up t among read_event))
+    (asked_so kept old set_up t among read_event inboxes)
 
 -- servers are set up whatever else becomes of the network
 pub set_up_besides : (net : Network) (links : List Link) (homes : List Name)
@@ -210,11 +211,11 @@ set_up_besides net links homes received items taken set_up =
     }
 
 -- what is not refused is served
-pub reply_taken : (view : View) (occurrence : Occurrence)
-    → serves_occurrence view occurrence ≡ true → reply view occurrence
-    ≡ record { view = (served view occurrence).view; out = (served view occurrence).out }
-reply_taken view occurrence taken =
+pub reply_taken : (view : View) (read_event : ReadEvent)
+    → serves_read_event view read_event ≡ true → reply view read_event
+    ≡ record { state = (served view read_event).state; out = (served view read_event).out }
+reply_taken view read_event taken =
     ap (λ b. if b then record {
-      view = (served view occurrence).view;
-      out = (served view occurrence).out;
-    } else record { view = view; out = [] }) taken
+      state = (served view read_event).state;
+      out = (served view read_event).out;
+    } else record { state = view; out = [] }) taken

@@ -6,12 +6,12 @@ use Rattle.std.specs.Option.{option_and_then, option_map}
 use Rattle.irc_relay.specs.Distances.{IsAmong}
 use Rattle.irc_relay.specs.Links.{Name, Link}
 use Rattle.irc_server.specs.Owed.{lines_to}
-use Rattle.irc_server.specs.Served.{Occurrence, ServedKeepsItsSetting}
+use Rattle.irc_server.specs.Served.{ReadEvent, ServedKeepsItsSetting}
 use Rattle.irc_world.specs.Stepping.{Item}
 use Rattle.irc_world.specs.World.{home_in}
 use Rattle.irc_follow.specs.Says.{lines_on}
 use Rattle.irc_follow.specs.Tree.{index_in}
-use Rattle.irc_network.specs.Network.{Progress, Network, Served, Node, node_asked, begun, item_kept}
+use Rattle.irc_network.specs.Network.{Progress, Network, Served, Node, begun, item_kept, node_asked}
 use Rattle.irc_network.specs.Network.{link_places, server_place, node_changed_at, received_by}
 use Rattle.irc_network.specs.Network.{reply}
 use Rattle.irc_items.specs.Relayed.{way_at}
@@ -25,8 +25,8 @@ use Rattle.irc_items.specs.Lemmas.SetUpFacts.{there}
 -- is put out waits behind the others.
 pub record HasAskedBoth (net new : Network) (near far : Name) (lines : Option (List (List ℕ)))
     (near_answer far_answer : Served) : Type 0 where
-  pub near_view : view_at new near ≡ near_answer.view
-  pub far_view : view_at new far ≡ far_answer.view
+  pub near_view : view_at new near ≡ near_answer.state
+  pub far_view : view_at new far ≡ far_answer.state
   pub other_views : (u : Name) → u ≢ near → u ≢ far → view_at new u ≡ view_at net u
   pub near_way : (place : ℕ) → place ≢ index_in net.names far → way_at new near place
       ≡ option_map (λ before. before ++ lines_on place near_answer.out) (way_at net near place)
@@ -47,7 +47,7 @@ pub record HasAskedBoth (net new : Network) (near far : Name) (lines : Option (L
 -- they answer.
 pub record WillAskBoth (net : Network) (near far : Name) (links : List Link)
     (change : ℕ → Node → Node) (lines : Option (List (List ℕ)))
-    (near_does far_does : Occurrence) (near_answer far_answer : Served) : Type 0 where
+    (near_does far_does : ReadEvent) (near_answer far_answer : Served) : Type 0 where
   pub changes : ChangesWay change lines
   pub stays : ServedKeepsItsSetting
   pub set_up : IsSetUp net
@@ -59,7 +59,7 @@ pub record WillAskBoth (net : Network) (near far : Name) (links : List Link)
   pub far_is : reply (view_at net far) far_does ≡ far_answer
 
 module _ {net : Network} {near far : Name} {links : List Link} {change : ℕ → Node → Node}
-    {lines : Option (List (List ℕ))} {near_does far_does : Occurrence}
+    {lines : Option (List (List ℕ))} {near_does far_does : ReadEvent}
     {near_answer far_answer : Served} (will : WillAskBoth net near far links change lines near_does
     far_does near_answer far_answer) where
   abbrev p : ℕ
@@ -98,7 +98,7 @@ module _ {net : Network} {near far : Name} {links : List Link} {change : ℕ →
 
   -- ---- the near end answers, and then the far end
 
-  abbrev one_asked : Progress
+  abbrev one_asked : Progress Network
   one_asked = node_asked p near_does (begun both_ways)
 
   near_asked : IsAskedAt near (reply (view_at both_ways near) near_does) (begun both_ways) one_asked
@@ -108,7 +108,7 @@ module _ {net : Network} {near far : Name} {links : List Link} {change : ℕ →
   near_reply : reply (view_at both_ways near) near_does ≡ near_answer
   near_reply = ap (λ view. reply view near_does) (view_still near) ∙ will.near_is
 
-  abbrev pub both_asked : Progress
+  abbrev pub both_asked : Progress Network
   both_asked = node_asked q far_does one_asked
 
   far_asked : IsAskedAt far (reply (view_at one_asked.net far) far_does) one_asked both_asked
@@ -179,9 +179,9 @@ module _ {net : Network} {near far : Name} {links : List Link} {change : ℕ →
   pub asked_both : (item : Item)
       → HasAskedBoth net (item_kept item both_asked).net near far lines near_answer far_answer
   asked_both item = record {
-    near_view = far_asked.other_views near will.two ∙ near_asked.view
-        ∙ ap (λ (r : Served). r.view) near_reply;
-    far_view = far_asked.view ∙ ap (λ (r : Served). r.view) far_reply;
+    near_view = far_asked.other_views near will.two ∙ near_asked.state
+        ∙ ap (λ (r : Served). r.state) near_reply;
+    far_view = far_asked.state ∙ ap (λ (r : Served). r.state) far_reply;
     other_views = λ u not_near not_far. far_asked.other_views u not_far
         ∙ near_asked.other_views u not_near ∙ view_still u;
     near_way = λ place two. near_ways place ∙ ap (option_map

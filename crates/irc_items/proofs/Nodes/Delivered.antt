@@ -11,7 +11,7 @@ use Rattle.irc_stage.specs.Lemmas.Numbers.{get-with, one_number, same_number, sa
 use Rattle.irc_server.specs.Served.{link_says}
 use Rattle.irc_follow.specs.Tree.{index_in}
 use Rattle.irc_network.specs.Network.{Progress, Node, node_asked, line_counted, delivered, left}
-use Rattle.irc_network.specs.Network.{node_at, taken_of, waiting, with_node}
+use Rattle.irc_network.specs.Network.{Network, node_at, taken_of, waiting, with_node}
 use Rattle.irc_items.specs.Relayed.{way_at, way_between}
 use Rattle.irc_items.specs.SetUp.{settings_of, view_at, IsSetUp}
 use Rattle.irc_items.specs.Sound.{IsPlaceOf, IsSound}
@@ -20,12 +20,12 @@ use Rattle.irc_items.proofs.Nodes.NodeChanged.{same_server, set_up_after, node_s
 use Rattle.irc_items.proofs.Nodes.NodeChanged.{IsSetUpAfter, IsNodeChanged}
 
 -- t took the oldest line on its way from p; it was counted, and then t was asked for it
-pub record IsDeliveredTo (p t : Name) (line : List ℕ) (old new : Progress) : Type 0 where
+pub record IsDeliveredTo (p t : Name) (line : List ℕ) (old new : Progress Network) : Type 0 where
   pub p_among : IsAmong old.net.names p
   pub t_among : IsAmong old.net.names t
   pub rest : List (List ℕ)
   pub waited : way_between old.net p t ≡ Some (line ∷ rest)
-  pub mid : Progress
+  pub mid : Progress Network
   pub set_up : IsSetUp mid.net
   pub left_is : way_at mid.net p (index_in old.net.names t) ≡ Some rest
   pub other_ways : (x : Name) (place : ℕ) → (x ≡ p → place ≡ index_in old.net.names t → ⊥)
@@ -41,18 +41,18 @@ pub record IsDeliveredTo (p t : Name) (line : List ℕ) (old new : Progress) : T
   pub asked_is : new ≡ node_asked (index_in old.net.names t)
       (link_says (index_in old.net.names p) (read_of line)) mid
 
-pub record IsDelivery (old new : Progress) : Type 0 where
+pub record IsDelivery (old new : Progress Network) : Type 0 where
   pub giver : Name
   pub taker : Name
   pub line : List ℕ
   pub delivered_to : IsDeliveredTo giver taker line old new
 
-module _ (old : Progress) (set_up : IsSetUp old.net) (p t : Name)
+module _ (old : Progress Network) (set_up : IsSetUp old.net) (p t : Name)
     (p_among : IsAmong old.net.names p)
     (t_among : IsAmong old.net.names t)
     (line : List ℕ) (rest : List (List ℕ)) (waited : waiting (there old.net set_up p p_among).node
     (index_in old.net.names t) ≡ line ∷ rest)
-    (new : Progress)
+    (new : Progress Network)
     (new_is : new ≡ node_asked (index_in old.net.names t)
     (link_says (index_in old.net.names p) (read_of line))
     (record old {
@@ -65,7 +65,7 @@ module _ (old : Progress) (set_up : IsSetUp old.net) (p t : Name)
   abbrev after : Node
   after = left (index_in old.net.names t) rest node
 
-  abbrev mid : Progress
+  abbrev mid : Progress Network
   mid = record old { net = line_counted (with_node (index_in old.net.names p) after old.net) }
 
   changed : IsNodeChanged (index_in old.net.names p) after old.net mid.net
@@ -104,7 +104,7 @@ module _ (old : Progress) (set_up : IsSetUp old.net) (p t : Name)
       not_it false is = is
 
   view_same : (x : Name) → Telling x p → view_at mid.net x ≡ view_at old.net x
-  view_same x (alike _ e) = ap (view_at mid.net) e ∙ now.view ∙ sym (ap (view_at old.net) e)
+  view_same x (alike _ e) = ap (view_at mid.net) e ∙ now.state ∙ sym (ap (view_at old.net) e)
   view_same x (unlike _ n) = now.other_views x n
 
   pub delivered_so : IsDeliveredTo p t line old new
@@ -133,8 +133,8 @@ module _ (old : Progress) (set_up : IsSetUp old.net) (p t : Name)
   }
 
 -- a delivery is one from a server to a server
-pub delivered_between : (old : Progress) → IsSound old.net → (from to : ℕ) (new : Progress)
-    → delivered from to old ≡ Some new → IsDelivery old new
+pub delivered_between : (old : Progress Network) → IsSound old.net
+    → (from to : ℕ) (new : Progress Network) → delivered from to old ≡ Some new → IsDelivery old new
 unfolding delivered
 delivered_between old sound from to new is = by (node_at old.net from) refl
   where

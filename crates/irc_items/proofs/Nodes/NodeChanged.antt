@@ -164,7 +164,7 @@ view_of_node net server node view is_node is_view =
 pub record IsSetUpAfter (t : Name) (now : View) (after : Node) (old new : Network) : Type 0 where
   pub set_up : IsSetUp new
   pub node : node_of new t ≡ Some after
-  pub view : view_at new t ≡ now
+  pub state : view_at new t ≡ now
   pub other_nodes : (u : Name) → u ≢ t → node_of new u ≡ node_of old u
   pub other_views : (u : Name) → u ≢ t → view_at new u ≡ view_at old u
 
@@ -215,7 +215,7 @@ module _ (old new : Network) (set_up : IsSetUp old) (t : Name) (among : IsAmong 
           (subst (λ all. IsAmong all u) changed.names one);
     };
     node = node_now;
-    view = view_now is_view;
+    state = view_now is_view;
     other_nodes = other_node;
     other_views = other_view;
   }

@@ -12,12 +12,14 @@ use Rattle.irc_stage.specs.Lemmas.Numbers.{get-with, one_number, same_number, sa
 use Rattle.irc_server.specs.Owed.{line_to_conn as line_to_for, lines_to}
 use Rattle.irc_follow.specs.Says.{line_on_link, lines_on}
 use Rattle.irc_network.specs.Network.{Progress, Node, all_sent_out, line_body, has_received}
-use Rattle.irc_network.specs.Network.{has_received_at, line_queued, sent_out, node_at, with_node}
+use Rattle.irc_network.specs.Network.{Network, has_received_at, line_queued, sent_out, node_at}
+use Rattle.irc_network.specs.Network.{with_node}
 use Rattle.irc_items.proofs.Nodes.NodeChanged.{IsNodeChanged, changed_twice, not_changed}
 use Rattle.irc_items.proofs.Nodes.NodeChanged.{only_received, same_server, set_length, set_other}
 use Rattle.irc_items.proofs.Nodes.NodeChanged.{set_there, node_set}
 
-pub record IsSentOut (place : ℕ) (out : List Sent) (node : Node) (old new : Progress) : Type 0 where
+pub record IsSentOut (place : ℕ) (out : List Sent) (node : Node)
+    (old new : Progress Network) : Type 0 where
   pub after : Node
   pub changed : IsNodeChanged place after old.net new.net
   pub server : after.server ≡ node.server
@@ -65,7 +67,7 @@ module _ (f : Sent → Option (List ℕ)) where
 
 -- ---- nothing is put out
 
-pub nothing_sent : (place : ℕ) (out : List Sent) (node : Node) (progress : Progress)
+pub nothing_sent : (place : ℕ) (out : List Sent) (node : Node) (progress : Progress Network)
     → node_at progress.net place ≡ Some node → ((to : ℕ) → lines_on to out ≡ [])
     → ((earlier : ℕ) → lines_to (suc earlier) out ≡ []) → IsSentOut place out node progress progress
 nothing_sent place out node progress is no_line none_received = record {
@@ -187,7 +189,7 @@ nobodys text earlier = by (nat_eq zero (suc earlier)) refl
 
 -- ---- one thing is put out
 
-module _ (place : ℕ) (node : Node) (progress : Progress)
+module _ (place : ℕ) (node : Node) (progress : Progress Network)
     (is : node_at progress.net place ≡ Some node) where
   one_received : (earlier : ℕ) (text : List ℕ) (o : Option (List (List ℕ)))
       → slice_get progress.net.received earlier ≡ o → IsSentOut place (line_to (suc earlier) text
@@ -250,7 +252,8 @@ module _ (place : ℕ) (node : Node) (progress : Progress)
 
 -- ---- all of it
 
-sent_then : (place : ℕ) (sent : Sent) (out : List Sent) (node : Node) (old mid new : Progress)
+sent_then : (place : ℕ) (sent : Sent) (out : List Sent) (node : Node)
+    (old mid new : Progress Network)
     (first : IsSentOut place (sent ∷ []) node old mid) → IsSentOut place out first.after mid new
     → IsSentOut place (sent ∷ out) node old new
 sent_then place sent out node old mid new first rest = record {
@@ -267,7 +270,7 @@ sent_then place sent out node old mid new first rest = record {
       ∙ joined (line_to_for (suc earlier)) sent out (slice_get old.net.received earlier);
 }
 
-pub all_sent : (place : ℕ) (out : List Sent) (node : Node) (progress : Progress)
+pub all_sent : (place : ℕ) (out : List Sent) (node : Node) (progress : Progress Network)
     → node_at progress.net place ≡ Some node
     → IsSentOut place out node progress (all_sent_out place out progress)
 all_sent place [] node progress is =

@@ -86,7 +86,7 @@ module _ {change : ℕ → Node → Node} {lines : Option (List (List ℕ))} (by
   }
     where
       by_name : (u : Name) → Telling u t → view_at new u ≡ view_at net u
-      by_name u (alike _ e) = ap (view_at new) e ∙ after.view ∙ sym (ap (view_at net) e)
+      by_name u (alike _ e) = ap (view_at new) e ∙ after.state ∙ sym (ap (view_at net) e)
       by_name u (unlike _ two) = after.other_views u two
 
       elsewhere : (place : ℕ) → place ≢ to → (b : Bool) → same_number place to ≡ b

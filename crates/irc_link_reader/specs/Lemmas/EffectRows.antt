@@ -21,24 +21,14 @@ row_of_letters letters =
 
 row_of_effect : (command : EffectCommand)
     → row_of_letters (map to_ascii_lowercase (effect_name command)) ≡ Some (row command)
-row_of_effect command.Nick = refl
-row_of_effect command.Quit = refl
-row_of_effect command.Join = refl
-row_of_effect command.Part = refl
-row_of_effect command.Kick = refl
-row_of_effect command.Mode = refl
-row_of_effect command.Topic = refl
 row_of_effect (command.Say true) = refl
 row_of_effect (command.Say false) = refl
-row_of_effect command.Invite = refl
+row_of_effect other = refl
 
 row_of_server : (command : ServerCommand)
     → row_of_letters (map to_ascii_lowercase (server_name command)) ≡ None
 row_of_server server.Server = refl
-row_of_server server.Squit = refl
-row_of_server server.Kill = refl
-row_of_server server.Njoin = refl
-row_of_server server.Pass = refl
+row_of_server other = refl
 
 pub effect_row : (word : List ℕ) (command : EffectCommand)
     → command_of word ≡ Some (OfEffects command) → wire_row_of word ≡ Some (row command)

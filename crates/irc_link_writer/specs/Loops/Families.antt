@@ -3,7 +3,7 @@ use Rattle.std.specs.Prelude.{ℕ, Bool, ⊤, Some, None, List, [], ◌∷◌, �
 use Rattle.irc_line.specs.Messages.{Written, nobody}
 use Rattle.irc_users.specs.declared.user.User.{User}
 use Rattle.irc_room.specs.effect.Effect.{Effect}
-use Rattle.irc_room.specs.effect.Effect.TheVariants.{AddUser, Rename, Quit, Say, Invite, UserMode}
+use Rattle.irc_room.specs.effect.Effect.TheVariants.{AddUser, Rename, Quit, Say, Invite, ChangeUser}
 use Rattle.irc_room.specs.Room.{Room}
 use Rattle.irc_room.specs.Seen.{changes_words}
 use Rattle.irc_modes.specs.declared.modes.ModeChange.{ModeChange}
@@ -17,7 +17,7 @@ IsOfUsers (Rename nick new) = ⊤
 IsOfUsers (Quit nick text) = ⊤
 IsOfUsers (Say by notice to text) = ⊤
 IsOfUsers (Invite by nick channel) = ⊤
-IsOfUsers (UserMode nick invisible) = ⊤
+IsOfUsers (ChangeUser nick change) = ⊤
 IsOfUsers other = ⊥
 
 -- a user is introduced with this distance and this number

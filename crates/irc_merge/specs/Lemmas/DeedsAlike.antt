@@ -20,8 +20,8 @@ use Rattle.irc_modes.specs.declared.modes.ModeLetter.TheVariants as letter
 use Rattle.irc_modes.specs.Raised.{raising}
 use Rattle.irc_room.specs.effect.By.TheVariants as by
 use Rattle.irc_room.specs.effect.Effect.{Effect}
-use Rattle.irc_room.specs.effect.Effect.TheVariants.{AddUser, Rename, Quit, Join, Part, Kick}
-use Rattle.irc_room.specs.effect.Effect.TheVariants.{ChangeModes, SetTopic, Say, Invite, UserMode}
+use Rattle.irc_room.specs.effect.Effect.TheVariants.{AddUser, Quit}
+use Rattle.irc_room.specs.effect.Effect.TheVariants.{ChangeModes, SetTopic, Invite}
 use Rattle.irc_room.specs.Room.{Room, IsWellFormed}
 use Rattle.irc_room.specs.Effects.{IsPossible, brings_free}
 use Rattle.irc_room.specs.After.{after, titled_by}
@@ -170,16 +170,7 @@ module _ (stay : AlikeStayAlike) (take : AlikeTakeAlike) (have : AlikeHaveAlike)
     one_alike : (room other : Room) (deed : Deed) → AreAlikeRooms room other
         → read_deed own far room deed ≡ read_deed own far other deed
     one_alike room other (does (AddUser user)) alike = introduced_alike room other user alike
-    one_alike room other (does (Rename nick new)) alike = refl
-    one_alike room other (does (Quit nick text)) alike = refl
-    one_alike room other (does (Join nick channel op)) alike = refl
-    one_alike room other (does (Part nick channel text)) alike = refl
-    one_alike room other (does (Kick by channel nick text)) alike = refl
-    one_alike room other (does (ChangeModes by channel changes)) alike = refl
-    one_alike room other (does (SetTopic by channel text)) alike = refl
-    one_alike room other (does (Say by notice to text)) alike = refl
-    one_alike room other (does (Invite by nick channel)) alike = refl
-    one_alike room other (does (UserMode nick invisible)) alike = refl
+    one_alike room other (does effect) alike = refl
     one_alike room other (gains uplink name info) alike = refl
     one_alike room other (loses server name text) alike = refl
     one_alike room other (kills server nick) alike = refl
@@ -246,17 +237,8 @@ members_invite channel (member ∷ members) =
 
 at_all : (home : List ℕ) (room : Room) (effect : Effect) → InvitesNobody effect
     → after_at home room effect ≡ after room effect
-at_all home room (AddUser user) none = refl
-at_all home room (Rename nick new) none = refl
-at_all home room (Quit nick text) none = refl
-at_all home room (Join nick channel op) none = refl
-at_all home room (Part nick channel text) none = refl
-at_all home room (Kick by channel nick text) none = refl
-at_all home room (ChangeModes by channel changes) none = refl
-at_all home room (SetTopic by channel text) none = refl
-at_all home room (Say by notice to text) none = refl
 at_all home room (Invite by nick channel) none = absurd none
-at_all home room (UserMode nick invisible) none = refl
+at_all home room other none = refl
 
 -- each effect can be done when its turn comes, as far as a room has to stay well formed
 abbrev StaysWell : Room → Effect → Type 0

@@ -15,6 +15,7 @@ use Rattle.irc_names.specs.Names.{is_key, is_ban_mask}
 use Rattle.irc_names.specs.Tables.{Table, row, alter}
 use Rattle.irc_names.specs.TableLaws.{row-alter_same}
 use Rattle.irc_users.specs.declared.user.User.{User}
+use Rattle.irc_users.specs.UserTable.{with_change}
 use Rattle.irc_channels.specs.declared.channel.Channel.{Channel}
 use Rattle.irc_channels.specs.declared.flags.Flags.{Flags}
 use Rattle.irc_modes.specs.declared.modes.ModeChange.{ModeChange}
@@ -27,7 +28,7 @@ use Rattle.irc_modes.specs.Lemmas.BanPlaces.{taken_gone}
 use Rattle.irc_channels.specs.Channels.{changed, all_changed}
 use Rattle.irc_modes.specs.ModeWords.{Asked, change, list, no_word, unknown, modes_read}
 use Rattle.irc_room.specs.effect.Effect.{Effect}
-use Rattle.irc_room.specs.effect.Effect.TheVariants.{ChangeModes, UserMode}
+use Rattle.irc_room.specs.effect.Effect.TheVariants.{ChangeModes, ChangeUser}
 use Rattle.irc_room.specs.Room.{Room, IsWellFormed}
 use Rattle.irc_room.specs.InTurn.{IsSoFirst, EachInTurn}
 use Rattle.irc_acts.specs.Acts.{effects_among}
@@ -51,8 +52,8 @@ EachChanges channel (first ∷ changes) =
 abbrev pub IsDoing : Room → Effect → Type 0
 IsDoing room (ChangeModes by name changes) =
     (channel : Channel) → row room.channels (key name) ≡ Some channel → EachChanges channel changes
-IsDoing room (UserMode nick invisible) = (user : User) → row room.users (key nick) ≡ Some user
-    → user.invisible ≢ invisible
+IsDoing room (ChangeUser nick made) =
+    (user : User) → row room.users (key nick) ≡ Some user → with_change made user ≢ user
 IsDoing room other = ⊤
 
 abbrev pub ModeDoesSomething : Type 0
@@ -251,5 +252,5 @@ mode_does_something me room name words well mine = mode_so IsDoing me room name 
       (sym ((well.channels_sound (key name) channel is).named)) ∙ at))
       (served_changes room.users channel channel well.users_named (modes_read words));
   sets_own = λ invisible other user at e. apart me.invisible invisible other
-      (ap (λ (u : User). u.invisible) (one_found me user (sym mine ∙ at)) ∙ e);
+      (ap (λ (u : User). u.invisible) (one_found me user (sym mine ∙ at) ∙ sym e));
 })

@@ -4,6 +4,7 @@ use Rattle.std.proofs.Common.{◌∷◌, refl, sym, ◌∙◌, ap, subst}
 use Rattle.irc_names.specs.Fold.{key, same}
 use Rattle.irc_names.specs.Tables.{Table, row}
 use Rattle.irc_users.specs.declared.user.User.{User}
+use Rattle.irc_users.specs.declared.user_change.UserChange.TheVariants.{Invisible}
 use Rattle.irc_channels.specs.declared.channel.Channel.{Channel}
 use Rattle.irc_modes.specs.declared.modes.ModeChange.{ModeChange}
 use Rattle.irc_channels.specs.Channels.{all_changed}
@@ -13,7 +14,7 @@ use Rattle.irc_numerics.specs.declared.replies.Reply.TheVariants.{UsersDontMatch
 use Rattle.irc_numerics.specs.declared.replies.Reply.TheVariants.{EndOfBanList}
 use Rattle.irc_room.specs.effect.By.TheVariants as by
 use Rattle.irc_room.specs.effect.Effect.{Effect}
-use Rattle.irc_room.specs.effect.Effect.TheVariants.{ChangeModes, UserMode}
+use Rattle.irc_room.specs.effect.Effect.TheVariants.{ChangeModes, ChangeUser}
 use Rattle.irc_room.specs.Room.{Room}
 use Rattle.irc_room.specs.InTurn.{EachInTurn}
 use Rattle.irc_acts.specs.declared.act.Act.{Act}
@@ -107,11 +108,12 @@ pub record IsSoOfModes (Q : Room → Effect → Type 0) (me : User) (room : Room
       (row channel.members (key me.nick)) ≡ true → is_nil (changed_by room channel words) ≡ false
       → Q room (ChangeModes (by.User me.nick) channel.name (changed_by room channel words))
   pub sets_own : (invisible : Bool) → differs me.invisible invisible ≡ true
-      → Q room (UserMode me.nick invisible)
+      → Q room (ChangeUser me.nick (Invisible invisible))
 
 own_so : (Q : Room → Effect → Type 0) (me : User) (room : Room) (more : List (List ℕ))
     → ((invisible : Bool) → differs me.invisible invisible ≡ true
-    → Q room (UserMode me.nick invisible)) → EachInTurn Q room (effects_among (own_mode me more))
+    → Q room (ChangeUser me.nick (Invisible invisible)))
+    → EachInTurn Q room (effects_among (own_mode me more))
 own_so Q me room [] so = tt
 own_so Q me room (letters ∷ more) so =
     let invisible = invisible_after true me.invisible letters in
@@ -119,7 +121,7 @@ own_so Q me room (letters ∷ more) so =
     (by_test (λ (acts : List Act). effects_among acts ≡ []) (list_any is_unknown_flag letters)
     (Answer UModeUnknownFlag ∷ []) [] (λ some. refl) (λ none. refl))
     (by_test (λ (acts : List Act). EachInTurn Q room (effects_among acts))
-    (differs me.invisible invisible) (Do (UserMode me.nick invisible) ∷ []) []
+    (differs me.invisible invisible) (Do (ChangeUser me.nick (Invisible invisible)) ∷ []) []
     (λ apart. record { now = so invisible apart; later = tt }) (λ alike. tt))
 
 user_so : (Q : Room → Effect → Type 0) (me : User) (room : Room)
@@ -178,5 +180,5 @@ pub mode_is_own : ModeIsOwn
 mode_is_own me room name words = mode_so (IsOwn me) me room name words (record {
   changes_it =
       λ channel is operator some. own.changes_modes name (changed_by room channel words) channel is;
-  sets_own = λ invisible apart. own.sets_user_mode invisible;
+  sets_own = λ invisible apart. own.changes_itself (Invisible invisible) tt;
 })

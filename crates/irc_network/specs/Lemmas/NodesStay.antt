@@ -5,12 +5,12 @@ use Rattle.std.specs.List.{slice_get, slice_set}
 use Rattle.std.specs.Option.{option_map_or}
 use Rattle.irc_batch.specs.Batches.{Sent, end_of, end_of_link, line_on, line_to}
 use Rattle.irc_line.specs.Reading.{read_of}
-use Rattle.irc_server.specs.Served.{Occurrence, link_says, of_client}
+use Rattle.irc_server.specs.Served.{ReadEvent, link_says, of_client}
 use Rattle.irc_stage.specs.Handle.{connects, goes, says}
 use Rattle.irc_stage.specs.View.{View}
 use Rattle.irc_world.specs.Stepping.{Item, connect, line, gone, link, cut}
 use Rattle.irc_network.specs.Network.{Progress, LinkPlaces, Network, Node, all_sent_out, node_asked}
-use Rattle.irc_network.specs.Network.{asked_at, node_asked_if, begun, node_changed_at, line_counted}
+use Rattle.irc_network.specs.Network.{asked_at, begun, line_counted, node_asked_if, node_changed_at}
 use Rattle.irc_network.specs.Network.{done_by, link_places, given, has_received, has_received_at}
 use Rattle.irc_network.specs.Network.{heard, home_place, servers_parted, servers_linked}
 use Rattle.irc_network.specs.Network.{next_client, server_place, line_queued, reply, sent_out}
@@ -40,7 +40,7 @@ changed_stays place change net = by (node_at net place)
     by None = refl
     by (Some node) = put_stays place (change node) net
 
-received_stays : (client : ℕ) (text : List ℕ) (progress : Progress)
+received_stays : (client : ℕ) (text : List ℕ) (progress : Progress Network)
     → servers (has_received client text progress).net ≡ servers progress.net
 received_stays zero text progress = refl
 received_stays (suc earlier) text progress = by (slice_get progress.net.received earlier)
@@ -51,58 +51,58 @@ received_stays (suc earlier) text progress = by (slice_get progress.net.received
     by None = refl
     by (Some lines) = refl
 
-sent_stays : (place : ℕ) (sent : Sent) (progress : Progress)
+sent_stays : (place : ℕ) (sent : Sent) (progress : Progress Network)
     → servers (sent_out place sent progress).net ≡ servers progress.net
 sent_stays place (line_to client text) progress = received_stays client text progress
 sent_stays place (end_of client) progress = refl
 sent_stays place (line_on to text) progress = changed_stays place (line_queued to text) progress.net
 sent_stays place (end_of_link to reason) progress = refl
 
-pub all_stay : (place : ℕ) (out : List Sent) (progress : Progress)
+pub all_stay : (place : ℕ) (out : List Sent) (progress : Progress Network)
     → servers (all_sent_out place out progress).net ≡ servers progress.net
 all_stay place [] progress = refl
 all_stay place (sent ∷ out) progress =
     all_stay place out (sent_out place sent progress) ∙ sent_stays place sent progress
 
-pub asked_stays : (place : ℕ) (occurrence : Occurrence) (progress : Progress)
-    → servers (node_asked place occurrence progress).net ≡ servers progress.net
+pub asked_stays : (place : ℕ) (read_event : ReadEvent) (progress : Progress Network)
+    → servers (node_asked place read_event progress).net ≡ servers progress.net
 unfolding node_asked
-asked_stays place occurrence progress = by_node (node_at progress.net place)
+asked_stays place read_event progress = by_node (node_at progress.net place)
   where
     by_view : (node : Node) (o : Option View) → servers (option_map_or (λ (view : View).
-        with_reply place progress node (reply view occurrence)) o progress).net
+        with_reply place progress node (reply view read_event)) o progress).net
         ≡ servers progress.net
     by_view node None = refl
     by_view node (Some view) =
-        let r = reply view occurrence in
+        let r = reply view read_event in
         all_stay place r.out (record progress {
           net = with_node place
-              (record node { server = Some r.view }) progress.net;
+              (record node { server = Some r.state }) progress.net;
         })
-        ∙ put_stays place (record node { server = Some r.view }) progress.net
+        ∙ put_stays place (record node { server = Some r.state }) progress.net
 
     by_node : (o : Option Node) → servers
-        (option_map_or (asked_at place occurrence progress) o progress).net ≡ servers progress.net
+        (option_map_or (asked_at place read_event progress) o progress).net ≡ servers progress.net
     by_node None = refl
     by_node (Some node) = by_view node node.server
 
-pub heard_stays : (from to : ℕ) (progress : Progress) (bytes : List ℕ)
+pub heard_stays : (from to : ℕ) (progress : Progress Network) (bytes : List ℕ)
     → servers (heard from to progress bytes).net ≡ servers progress.net
 heard_stays from to progress bytes = asked_stays to (link_says from (read_of bytes))
     (record progress { net = line_counted progress.net })
 
-pub all_heard_stay : (from to : ℕ) (progress : Progress) (lines : List (List ℕ))
+pub all_heard_stay : (from to : ℕ) (progress : Progress Network) (lines : List (List ℕ))
     → servers (all_heard from to progress lines).net ≡ servers progress.net
 all_heard_stay from to progress [] = refl
 all_heard_stay from to progress (bytes ∷ lines) =
     all_heard_stay from to (heard from to progress bytes) lines ∙ heard_stays from to progress bytes
 
-asked_of_stays : (place : Option ℕ) (occurrence : Occurrence) (progress : Progress)
-    → servers (node_asked_if place occurrence progress).net ≡ servers progress.net
-asked_of_stays None occurrence progress = refl
-asked_of_stays (Some place) occurrence progress = asked_stays place occurrence progress
+asked_of_stays : (place : Option ℕ) (read_event : ReadEvent) (progress : Progress Network)
+    → servers (node_asked_if place read_event progress).net ≡ servers progress.net
+asked_of_stays None read_event progress = refl
+asked_of_stays (Some place) read_event progress = asked_stays place read_event progress
 
-twice_asked : (far near : ℕ) (one other : Occurrence) (progress : Progress)
+twice_asked : (far near : ℕ) (one other : ReadEvent) (progress : Progress Network)
     → servers (node_asked far one (node_asked near other progress)).net ≡ servers progress.net
 twice_asked far near one other progress = asked_stays far one (node_asked near other progress)
     ∙ asked_stays near other progress

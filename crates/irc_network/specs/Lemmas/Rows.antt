@@ -53,12 +53,12 @@ rows_after_item old item net wires rows net_is wires_are =
     ∙ sym (ap (λ (n : Network). length n.nodes) net_is ∙ given_stays item old.network)
 
 pub rows_after_lines : (old : ByteNetwork) (from to count : ℕ) (lines : List (List ℕ))
-    (before : List Receipt) (last : Progress) (wires : Wires) → HasRows old
+    (before : List Receipt) (last : Progress Network) (wires : Wires) → HasRows old
     → last ≡ all_heard from to (record { net = old.network; receipts = before }) lines
     → wires ≡ with_wire from to (advanced count (wire_at old.wires from to)) old.wires
     → length wires ≡ length last.net.nodes
 rows_after_lines old from to count lines before last wires rows last_is wires_are =
     ap (λ (ws : Wires). length ws) wires_are
     ∙ rows_stay from to (advanced count (wire_at old.wires from to)) old.wires ∙ rows
-    ∙ sym (ap (λ (c : Progress). length c.net.nodes) last_is
+    ∙ sym (ap (λ (c : Progress Network). length c.net.nodes) last_is
     ∙ all_heard_stay from to (record { net = old.network; receipts = before }) lines)

@@ -5,8 +5,8 @@ use Rattle.std.specs.List.{slice_get}
 use Rattle.std.specs.declared.alloc.Global.{Global}
 use Rattle.irc_batch.specs.Batches.{Sent, line_to, end_of, line_on, end_of_link}
 use Rattle.irc_line.specs.Reading.{read_of}
-use Rattle.irc_server.specs.Happening.{occurrence_of}
-use Rattle.irc_server.specs.Served.{Occurrence, link_says}
+use Rattle.irc_server.specs.ReadEvents.{read_event_of}
+use Rattle.irc_server.specs.Served.{ReadEvent, link_says}
 use Rattle.irc_server.specs.declared.event.Event.{Event}
 use Rattle.irc_relay.specs.Links.{Name}
 use Rattle.irc_wires.specs.Wires.{Wires, without_wire, written_at}
@@ -15,9 +15,9 @@ use Rattle.irc_forest.specs.Forests.{name_at}
 use Rattle.irc_network.specs.declared.receipt.Receipt.{Receipt as KeptReceipt}
 use Rattle.irc_forest.specs.declared.places.EndPlaces.{EndPlaces}
 use Rattle.irc_network.specs.declared.call_output.CallOutput.{CallOutput}
-use Rattle.irc_network.specs.ByteNetwork.{ByteProgress, ByteNetwork, progress_without_wires}
+use Rattle.irc_network.specs.ByteNetwork.{ByteNetwork, progress_without_wires}
 use Rattle.irc_network.specs.ByteNetwork.{progress_written, wires_after}
-use Rattle.irc_network.specs.Calls.{byte_progress_at}
+use Rattle.irc_network.specs.Calls.{progress_at}
 use Rattle.irc_network.specs.Network.{Progress, LinkPlaces, Network, all_sent_out, done_by}
 use Rattle.irc_network.specs.Network.{has_received, home_place, line_body, line_counted, sent_out}
 use Rattle.irc_network.specs.Network.{node_asked, node_asked_if, node_changed_at, with_way}
@@ -25,11 +25,8 @@ use Rattle.irc_network.specs.Network.{without_way}
 use Rattle.irc_network.specs.Views.{receipts_of}
 use Rattle.irc_network.specs.Whole.{has_way}
 
-abbrev pub byte_progress : ByteNetwork → List KeptReceipt → ByteProgress
-byte_progress net lines = record { net = net; receipts = receipts_of lines }
-
-abbrev pub progress : Network → List KeptReceipt → Progress
-progress net lines = record { net = net; receipts = receipts_of lines }
+abbrev pub progress_of : {Net : Type 0} → Net → List KeptReceipt → Progress Net
+progress_of net lines = record { net = net; receipts = receipts_of lines }
 
 -- ---- places
 
@@ -56,7 +53,7 @@ inbox_of net (suc earlier) = slice_get net.received earlier
 -- ---- what goes its way
 
 -- nothing, where nothing is put out at a place
-abbrev pub sent_at : ℕ → Option Sent → Progress → Progress
+abbrev pub sent_at : ℕ → Option Sent → Progress Network → Progress Network
 sent_at place None progress = progress
 sent_at place (Some sent) progress = sent_out place sent progress
 
@@ -67,11 +64,11 @@ line_sent from to text net =
     then record net { wires = written_at from to (line_body text) net.wires } else net
 
 -- with these wires, whatever was done beside them
-abbrev pub with_wires : Wires → Progress → ByteProgress
+abbrev pub with_wires : Wires → Progress Network → Progress ByteNetwork
 with_wires wires progress =
     record { net = record { network = progress.net; wires = wires }; receipts = progress.receipts }
 
-abbrev pub byte_sent : ℕ → Sent → ByteProgress → ByteProgress
+abbrev pub byte_sent : ℕ → Sent → Progress ByteNetwork → Progress ByteNetwork
 byte_sent place (line_to client text) progress =
     with_wires progress.net.wires (has_received client text (progress_without_wires progress))
 byte_sent place (end_of client) progress = progress
@@ -79,28 +76,28 @@ byte_sent place (line_on to text) progress =
     record progress { net = line_sent place to text progress.net }
 byte_sent place (end_of_link to reason) progress = progress
 
-abbrev pub byte_sent_at : ℕ → Option Sent → ByteProgress → ByteProgress
+abbrev pub byte_sent_at : ℕ → Option Sent → Progress ByteNetwork → Progress ByteNetwork
 byte_sent_at place None progress = progress
 byte_sent_at place (Some sent) progress = byte_sent place sent progress
 
 -- ---- what servers are asked for
 
 -- what a server that is asked puts out is written at once
-abbrev pub asked_out : ℕ → Occurrence → ByteProgress → ByteProgress
-asked_out place occurrence progress =
+abbrev pub asked_out : ℕ → ReadEvent → Progress ByteNetwork → Progress ByteNetwork
+asked_out place read_event progress =
     progress_written
-    (node_asked place occurrence (progress_without_wires progress)) progress.net.wires
+    (node_asked place read_event (progress_without_wires progress)) progress.net.wires
 
 abbrev pub byte_counted : ByteNetwork → ByteNetwork
 byte_counted net = record net { network = line_counted net.network }
 
 -- a server is asked for a line that has come from another, and the line is counted
-abbrev pub heard_out : ℕ → ℕ → ByteProgress → List ℕ → ByteProgress
+abbrev pub heard_out : ℕ → ℕ → Progress ByteNetwork → List ℕ → Progress ByteNetwork
 heard_out from to progress line =
     asked_out to (link_says from (read_of line))
     (record progress { net = byte_counted progress.net })
 
-abbrev pub all_heard_out : ℕ → ℕ → ByteProgress → List (List ℕ) → ByteProgress
+abbrev pub all_heard_out : ℕ → ℕ → Progress ByteNetwork → List (List ℕ) → Progress ByteNetwork
 all_heard_out from to progress [] = progress
 all_heard_out from to progress (line ∷ lines) =
     all_heard_out from to (heard_out from to progress line) lines
@@ -123,13 +120,13 @@ way_closed from to net = record {
 -- to
 abbrev pub IsAskedOut : ℕ → Event → ByteNetwork → CallOutput → ByteNetwork → CallOutput → Type 0
 IsAskedOut place event old before new after =
-    byte_progress_at new after ≡ asked_out place (occurrence_of event) (byte_progress_at old before)
+    progress_at new after ≡ asked_out place (read_event_of event) (progress_at old before)
 
 abbrev pub IsAskedIf : Option ℕ → Event → ByteNetwork → CallOutput → ByteNetwork → CallOutput
     → Type 0
 IsAskedIf place event old before new after =
-    byte_progress_at new after ≡ progress_written (node_asked_if place (occurrence_of event)
-    (progress_without_wires (byte_progress_at old before))) old.wires
+    progress_at new after ≡ progress_written (node_asked_if place (read_event_of event)
+    (progress_without_wires (progress_at old before))) old.wires
 
 abbrev pub IsHomeAsked : ℕ → Event → ByteNetwork → CallOutput → ByteNetwork → CallOutput → Type 0
 IsHomeAsked client event old before new after =
@@ -138,30 +135,30 @@ IsHomeAsked client event old before new after =
 -- all that was put out in the output went its way
 abbrev pub AreSentOut : ℕ → ByteNetwork → CallOutput → ByteNetwork → CallOutput → Type 0
 AreSentOut place old before new after =
-    byte_progress_at new after ≡ progress_written (all_sent_out place before.out.outs
-    (progress_without_wires (byte_progress_at old before))) old.wires
+    progress_at new after ≡ progress_written (all_sent_out place before.out.outs
+    (progress_without_wires (progress_at old before))) old.wires
 
 -- what was put out at one place there went its way
 abbrev pub IsSentAt : ℕ → ℕ → ByteNetwork → CallOutput → ByteNetwork → CallOutput → Type 0
 IsSentAt place at old before new after =
-    byte_progress_at new after ≡ byte_sent_at place (slice_get before.out.outs at)
-    (byte_progress_at old before)
+    progress_at new after ≡ byte_sent_at place (slice_get before.out.outs at)
+    (progress_at old before)
 
 -- a client received a line, which is among the lines of the call
 abbrev pub IsReceived : ℕ → List ℕ → ByteNetwork → Vec KeptReceipt Global → ByteNetwork
     → Vec KeptReceipt Global → Type 0
 IsReceived client text old before new after =
-    byte_progress new after.items ≡ with_wires old.wires
-    (has_received client text (progress old.network before.items))
+    progress_of new after.items ≡ with_wires old.wires
+    (has_received client text (progress_of old.network before.items))
 
 -- an item was done, and nothing was in the output before
 abbrev pub IsDone : Item → ByteNetwork → ByteNetwork → CallOutput → Type 0
 IsDone item old new after =
-    byte_progress_at new after ≡ progress_written (done_by item old.network)
+    progress_at new after ≡ progress_written (done_by item old.network)
     (wires_after old.network item old.wires)
 
 -- a server was asked for a line that has come from another, and the line was counted
 abbrev pub IsLineHeard : ℕ → ℕ → List ℕ → ByteNetwork → CallOutput → ByteNetwork → CallOutput
     → Type 0
 IsLineHeard from to bytes old before new after =
-    byte_progress_at new after ≡ heard_out from to (byte_progress_at old before) bytes
+    progress_at new after ≡ heard_out from to (progress_at old before) bytes

@@ -9,7 +9,7 @@ use Rattle.irc_names.specs.Tables.{row}
 use Rattle.irc_users.specs.declared.user.User.{User}
 use Rattle.irc_channels.specs.declared.flags.Flags.{Flags}
 use Rattle.irc_channels.specs.declared.channel.Channel.{Channel}
-use Rattle.irc_numerics.specs.declared.replies.Mark.TheVariants.{Plain}
+use Rattle.irc_numerics.specs.declared.replies.MemberMark.TheVariants.{Plain}
 use Rattle.irc_room.specs.Room.{Room}
 use Rattle.irc_routes.specs.Place.{Place}
 use Rattle.irc_acts.specs.declared.act.Act.{Act}

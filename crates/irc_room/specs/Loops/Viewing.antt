@@ -11,6 +11,8 @@ use Rattle.irc_names.specs.Tables.{Table, row}
 use Rattle.irc_names.specs.TableLaws.{same_fold}
 use Rattle.irc_tables.specs.declared.table.Row.{Row}
 use Rattle.irc_users.specs.declared.user.User.{User}
+use Rattle.irc_users.specs.declared.user_change.UserChange.{UserChange}
+use Rattle.irc_users.specs.UserTable.{is_shown}
 use Rattle.irc_channels.specs.declared.channel.Channel.{Channel}
 use Rattle.irc_channels.specs.declared.flags.Flags.{Flags}
 use Rattle.irc_channels.specs.Channels.{has_member}
@@ -43,6 +45,10 @@ sees_join room nick channel viewer = same nick viewer || is_member room viewer c
 
 abbrev pub hears : Room → List ℕ → List ℕ → List ℕ → Bool
 hears room by channel viewer = not (same by viewer) && is_member room viewer channel
+
+-- who sees a change of a user's own
+abbrev pub sees_change : List ℕ → UserChange → List ℕ → Bool
+sees_change nick change viewer = is_shown change && same nick viewer
 
 -- those that are shown what a user says
 abbrev pub hears_text : Room → List ℕ → Target → List ℕ → Bool

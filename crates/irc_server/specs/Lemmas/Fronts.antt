@@ -29,7 +29,7 @@ use Rattle.irc_commands.specs.Closing.{error_line}
 
 pub came_behind : (arrival : Option ℕ) (effect : Effect)
     → LeavesInFront (effect_came arrival effect)
-came_behind arrival effect out s = by (counts s.view effect)
+came_behind arrival effect out s = by (counts s.state effect)
   where
     by : (b : Bool) → (if b then effect_told arrival effect (behind_sent out s)
         else behind_sent out s) ≡ behind_sent out (if b then effect_told arrival effect s else s)
@@ -37,7 +37,7 @@ came_behind arrival effect out s = by (counts s.view effect)
     by false = refl
 
 pub changed_if_behind : (effect : Effect) → LeavesInFront (changed_if effect)
-changed_if_behind effect out s = by (counts s.view effect)
+changed_if_behind effect out s = by (counts s.state effect)
   where
     by : (b : Bool) → (if b then changed effect (behind_sent out s) else behind_sent out s)
         ≡ behind_sent out (if b then changed effect s else s)
@@ -53,7 +53,7 @@ all_changed_behind (effect ∷ effects) out s =
 -- ---- a user is taken out
 
 pub quit_behind : (nick text : List ℕ) → LeavesInFront (quit_by nick text)
-quit_behind nick text out s = by (has_user s.view.room nick)
+quit_behind nick text out s = by (has_user s.state.room nick)
   where
     by : (b : Bool) → (if b then changed (Quit nick text) (behind_sent out s)
         else behind_sent out s) ≡ behind_sent out (if b then changed (Quit nick text) s else s)
@@ -63,14 +63,14 @@ quit_behind nick text out s = by (has_user s.view.room nick)
 pub end_behind : (nick text : List ℕ) → LeavesInFront (client_ended nick text)
 end_behind nick text out s =
     ap (λ o. record {
-      view = record s.view {
-        clients = retain_keys s.view.clients
-            (is_another s.view.clients nick);
+      state = record s.state {
+        clients = retain_keys s.state.clients
+            (is_another s.state.clients nick);
       };
       out = o;
     })
-    (append_assoc out s.out (to_viewer s.view.clients
-    (record { viewer = nick; line = error_line text }) ++ ends_of nick s.view.clients))
+    (append_assoc out s.out (to_viewer s.state.clients
+    (record { viewer = nick; line = error_line text }) ++ ends_of nick s.state.clients))
 
 pub taken_out_behind : (nick text : List ℕ) → LeavesInFront (taken_out nick text)
 taken_out_behind nick text out s = ap (client_ended nick text) (quit_behind nick text out s)
@@ -81,7 +81,7 @@ taken_out_behind nick text out s = ap (client_ended nick text) (quit_behind nick
 pub on_all_behind : (arrival : Option ℕ) (parts : Written)
     → LeavesInFront (told_on_all arrival parts)
 on_all_behind arrival parts out s =
-    sent_behind (on_links (but arrival (met_links s.view.ends)) parts) out s
+    sent_behind (on_links (but arrival (met_links s.state.ends)) parts) out s
 
 effects_behind : (arrival : Option ℕ) (parts : Written) (effects : List Effect)
     → LeavesInFront (λ s. told_on_all arrival parts (all_changed effects s))
@@ -94,24 +94,24 @@ unfolding deed_told
 deed_behind arrival (does effect) out s = came_behind arrival effect out s
 deed_behind arrival (gains uplink name info) out s = refl
 deed_behind arrival (loses server name text) out s =
-    let parts = deed_parts s.view.room s.view.routes (loses server name text) in
-    let effects = effects_of s.view.room (loses server name text) in
+    let parts = deed_parts s.state.room s.state.routes (loses server name text) in
+    let effects = effects_of s.state.room (loses server name text) in
     ap (λ t. told_on_all arrival parts (forgotten name t)) (all_changed_behind effects out s)
     ∙ on_all_behind arrival parts out (forgotten name (all_changed effects s))
 deed_behind arrival (kills server nick) out s =
-    let parts = deed_parts s.view.room s.view.routes (kills server nick) in
+    let parts = deed_parts s.state.room s.state.routes (kills server nick) in
     ap (told_on_all arrival parts) (taken_out_behind nick collision_text out s)
     ∙ on_all_behind arrival parts out (taken_out nick collision_text s)
 deed_behind arrival (brings server channel members) out s =
-    effects_behind arrival (deed_parts s.view.room s.view.routes (brings server channel members))
-    (effects_of s.view.room (brings server channel members)) out
+    effects_behind arrival (deed_parts s.state.room s.state.routes (brings server channel members))
+    (effects_of s.state.room (brings server channel members)) out
     (titled_view channel s)
 deed_behind arrival (sets server channel changes) out s =
-    effects_behind arrival (deed_parts s.view.room s.view.routes (sets server channel changes))
-    (effects_of s.view.room (sets server channel changes)) out s
+    effects_behind arrival (deed_parts s.state.room s.state.routes (sets server channel changes))
+    (effects_of s.state.room (sets server channel changes)) out s
 deed_behind arrival (tops server channel topic) out s =
-    effects_behind arrival (deed_parts s.view.room s.view.routes (tops server channel topic))
-    (effects_of s.view.room (tops server channel topic)) out s
+    effects_behind arrival (deed_parts s.state.room s.state.routes (tops server channel topic))
+    (effects_of s.state.room (tops server channel topic)) out s
 
 pub deeds_behind : (arrival : Option ℕ) (deeds : List Deed)
     → LeavesInFront (deeds_told arrival deeds)
@@ -124,17 +124,18 @@ deeds_behind arrival (deed ∷ deeds) out s = ap (deeds_told arrival deeds)
 gain_behind : (link : ℕ) (uplink name info : List ℕ)
     → LeavesInFront (gain_told link uplink name info)
 gain_behind link uplink name info out s =
-    on_all_behind (Some link) (deed_parts s.view.room s.view.routes (gains uplink name info)) out s
+    on_all_behind (Some link)
+    (deed_parts s.state.room s.state.routes (gains uplink name info)) out s
 
 pub told_by_behind : (link : ℕ) (told : Told) → LeavesInFront (told_by link told)
 unfolding told_by
 told_by_behind link (a_deed deed) out s =
-    deed_behind (arrival_of s.view.routes.name link deed) deed out s
+    deed_behind (arrival_of s.state.routes.name link deed) deed out s
 told_by_behind link (a_server uplink name distance token info) out s =
-    by (is_taken s.view.routes link name token)
+    by (is_taken s.state.routes link name token)
   where
     more : Served → Served
-    more s = record s { view = with_row link uplink name distance token info s.view }
+    more s = record s { state = with_row link uplink name distance token info s.state }
 
     by : (b : Bool) → (if b then gain_told link uplink name info (more (behind_sent out s))
         else behind_sent out s)
@@ -149,7 +150,7 @@ all_told_behind link (told ∷ later) out s = ap (all_told link later)
 
 -- what lines tell goes behind what was put out before
 pub told_in_front : (link : ℕ) (told : List Told) (view : View) (out : List Sent)
-    → all_told link told (record { view = view; out = out }) ≡ behind_sent out
+    → all_told link told (record { state = view; out = out }) ≡ behind_sent out
     (all_told link told (in_silence view))
 told_in_front link told view out = ap (all_told link told) (nothing_behind view out)
     ∙ all_told_behind link told out (in_silence view)
@@ -158,5 +159,5 @@ told_in_front link told view out = ap (all_told link told) (nothing_behind view 
 
 pub lost_link_behind : (link : ℕ) → LeavesInFront (link_lost link)
 lost_link_behind link out s =
-    ap (λ (t : Served). record t { view = unlinked link t.view })
-    (deeds_behind (Some link) (lost_behind s.view link (get s.view.ends link)) out s)
+    ap (λ (t : Served). record t { state = unlinked link t.state })
+    (deeds_behind (Some link) (lost_behind s.state link (get s.state.ends link)) out s)

@@ -57,7 +57,7 @@ all_changed_stays (effect ∷ effects) s holds =
 forgotten_stays : (name : List ℕ) → StaysSo (forgotten name)
 forgotten_stays name s holds = record {
   matched =
-      moved (machine_of s.view) (place_of (without_server name s.view.routes)) refl holds.matched;
+      moved (machine_of s.state) (place_of (without_server name s.state.routes)) refl holds.matched;
   well = holds.well;
 }
 
@@ -70,11 +70,11 @@ titled_stays channel s holds = record {
     spelled = holds.matched.spelled;
     user_has_client = holds.matched.user_has_client;
   };
-  well = respelled_is_well_formed channel s.view.room holds.well;
+  well = respelled_is_well_formed channel s.state.room holds.well;
 }
 
 -- lines on links change nothing of it
-same_view : (s t : Served) → s.view ≡ t.view → Holds s → Holds t
+same_view : (s t : Served) → s.state ≡ t.state → Holds s → Holds t
 same_view s t is holds = record {
   matched = subst (λ (view : View). IsMatched (machine_of view)) is holds.matched;
   well = subst (λ (view : View). IsWellFormed view.room) is holds.well;
@@ -85,25 +85,25 @@ unfolding deed_told
 deed_stays arrival (does effect) s holds = came_stays arrival effect s holds
 deed_stays arrival (gains uplink name info) s holds = holds
 deed_stays arrival (loses server name text) s holds =
-    let left = all_changed (effects_of s.view.room (loses server name text)) s in
+    let left = all_changed (effects_of s.state.room (loses server name text)) s in
     same_view (forgotten name left) (deed_told arrival (loses server name text) s) refl
     (forgotten_stays name left
-    (all_changed_stays (effects_of s.view.room (loses server name text)) s holds))
+    (all_changed_stays (effects_of s.state.room (loses server name text)) s holds))
 deed_stays arrival (kills server nick) s holds =
     same_view (taken_out nick collision_text s) (deed_told arrival (kills server nick) s) refl
     (taken_out_stays nick collision_text s holds)
 deed_stays arrival (brings server channel members) s holds =
-    let effects = effects_of s.view.room (brings server channel members) in
+    let effects = effects_of s.state.room (brings server channel members) in
     let spelled = titled_view channel s in
     same_view (all_changed effects spelled)
     (deed_told arrival (brings server channel members) s) refl
     (all_changed_stays effects spelled (titled_stays channel s holds))
 deed_stays arrival (sets server channel changes) s holds =
-    let effects = effects_of s.view.room (sets server channel changes) in
+    let effects = effects_of s.state.room (sets server channel changes) in
     same_view (all_changed effects s) (deed_told arrival (sets server channel changes) s) refl
     (all_changed_stays effects s holds)
 deed_stays arrival (tops server channel topic) s holds =
-    let effects = effects_of s.view.room (tops server channel topic) in
+    let effects = effects_of s.state.room (tops server channel topic) in
     same_view (all_changed effects s) (deed_told arrival (tops server channel topic) s) refl
     (all_changed_stays effects s holds)
 
@@ -116,22 +116,22 @@ deeds_stay arrival (deed ∷ deeds) s holds =
 
 gain_stays : (link : ℕ) (uplink name : List ℕ) (distance token : ℕ) (info : List ℕ) (s : Served)
     → Holds s → Holds (gain_told link uplink name info
-    (record s { view = with_row link uplink name distance token info s.view }))
+    (record s { state = with_row link uplink name distance token info s.state }))
 gain_stays link uplink name distance token info s holds = record {
-  matched = moved (machine_of s.view)
-      (place_of (added link uplink name distance token info s.view.routes)) refl holds.matched;
+  matched = moved (machine_of s.state)
+      (place_of (added link uplink name distance token info s.state.routes)) refl holds.matched;
   well = holds.well;
 }
 
 pub told_by_stays : (link : ℕ) (told : Told) → StaysSo (told_by link told)
 unfolding told_by
 told_by_stays link (a_deed deed) s holds =
-    deed_stays (arrival_of s.view.routes.name link deed) deed s holds
+    deed_stays (arrival_of s.state.routes.name link deed) deed s holds
 told_by_stays link (a_server uplink name distance token info) s holds =
-    by (is_taken s.view.routes link name token)
+    by (is_taken s.state.routes link name token)
   where
     more : Served
-    more = record s { view = with_row link uplink name distance token info s.view }
+    more = record s { state = with_row link uplink name distance token info s.state }
 
     by : (b : Bool) → Holds (if b then gain_told link uplink name info more else s)
     by true = gain_stays link uplink name distance token info s holds
@@ -149,12 +149,12 @@ link_lost_stays link s holds =
     by (deeds_told (Some link) deeds s) (deeds_stay (Some link) deeds s holds)
   where
     deeds : List Deed
-    deeds = lost_behind s.view link (get s.view.ends link)
+    deeds = lost_behind s.state link (get s.state.ends link)
 
-    by : (left : Served) → Holds left → Holds (record left { view = unlinked link left.view })
+    by : (left : Served) → Holds left → Holds (record left { state = unlinked link left.state })
     by left held = record {
-      matched = moved (machine_of left.view)
-          (place_of (without_link link left.view.routes)) refl held.matched;
+      matched = moved (machine_of left.state)
+          (place_of (without_link link left.state.routes)) refl held.matched;
       well = held.well;
     }
 
@@ -214,17 +214,17 @@ opened_stays view link (Some name) holds = by (is_none (password_for view name))
 
 pub line_served_matched : (view : View) (link : ℕ) (read : Result Parsed LineFault)
     (end : Option End) → IsMatched (machine_of view) → IsWellFormed view.room
-    → IsMatched (machine_of (line_served view link read end).view)
+    → IsMatched (machine_of (line_served view link read end).state)
 line_served_matched view link read end matched well =
     (line_stays view link read end (record { matched = matched; well = well })).matched
 
 pub link_opened_matched : (view : View) (link : ℕ) (starts : Option (List ℕ))
     → IsMatched (machine_of view) → IsWellFormed view.room
-    → IsMatched (machine_of (link_opened view link starts).view)
+    → IsMatched (machine_of (link_opened view link starts).state)
 link_opened_matched view link starts matched well =
     (opened_stays view link starts (record { matched = matched; well = well })).matched
 
 pub link_lost_matched : (view : View) (link : ℕ) → IsMatched (machine_of view)
-    → IsWellFormed view.room → IsMatched (machine_of (link_lost link (in_silence view)).view)
+    → IsWellFormed view.room → IsMatched (machine_of (link_lost link (in_silence view)).state)
 link_lost_matched view link matched well =
     (link_lost_stays link (in_silence view) (record { matched = matched; well = well })).matched

@@ -37,6 +37,6 @@ IsHearable end other = ⊤
 -- the server at the other end has named itself: it is answered, and then told to all others
 abbrev pub met_in : ℕ → List ℕ → List ℕ → Served → Served
 met_in link name info s =
-    told_by link (a_server s.view.routes.name name 1 1 info)
-    (where_it_is (with_far link name s.view)
-    (with_sent (on_link link (owes s.view link name)) s))
+    told_by link (a_server s.state.routes.name name 1 1 info)
+    (where_it_is (with_far link name s.state)
+    (with_sent (on_link link (owes s.state link name)) s))

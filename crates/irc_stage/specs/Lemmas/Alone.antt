@@ -18,8 +18,8 @@ use Rattle.irc_stage.specs.Lemmas.Listed.{listed}
 use Rattle.irc_stage.specs.Ways.{but, met_links, told_homes, ways_toward}
 use Rattle.irc_numerics.specs.Replies.{reply_text}
 use Rattle.irc_room.specs.effect.Effect.{Effect}
-use Rattle.irc_room.specs.effect.Effect.TheVariants.{AddUser, Rename, Quit, Join, Part, Kick}
-use Rattle.irc_room.specs.effect.Effect.TheVariants.{ChangeModes, SetTopic, Say, Invite, UserMode}
+use Rattle.irc_room.specs.effect.Effect.TheVariants.{Quit}
+use Rattle.irc_room.specs.effect.Effect.TheVariants.{Invite}
 use Rattle.irc_room.specs.After.{after}
 use Rattle.irc_room.specs.Readers.{home_under}
 use Rattle.irc_room.specs.Seen.{seen}
@@ -36,7 +36,7 @@ use Rattle.irc_stage.specs.declared.clients.Client.{Client}
 use Rattle.irc_stage.specs.declared.clients.Client.TheVariants.{Registering, Registered}
 use Rattle.irc_stage.specs.RoomMachine.{RoomMachine, client_of, with_client, without_client}
 use Rattle.irc_stage.specs.View.{View, machine_of, IsAlone}
-use Rattle.irc_stage.specs.Handle.{Handled, Happening, connects, says, goes, all_stepped}
+use Rattle.irc_stage.specs.Handle.{Handled, ClientEvent, connects, says, goes, all_stepped}
 use Rattle.irc_stage.specs.Handle.{clients_after, client_after, closing, handled, lost_text, quits}
 use Rattle.irc_stage.specs.Handle.{said_by, stepped, to_viewer, unchanged, user_decided, user_of}
 use Rattle.irc_stage.specs.Handle.{with_effect}
@@ -77,16 +77,7 @@ none_elsewhere view nowhere (Invite who nick channel) = by (home_under view.room
     by : (o : Option (List ℕ)) → is_some (option_and_then (next_hop view.routes) o) ≡ false
     by None = refl
     by (Some home) = ap is_some (nowhere home)
-none_elsewhere view nowhere (AddUser user) = refl
-none_elsewhere view nowhere (Rename nick new) = refl
-none_elsewhere view nowhere (Quit nick text) = refl
-none_elsewhere view nowhere (Join nick channel op) = refl
-none_elsewhere view nowhere (Part nick channel text) = refl
-none_elsewhere view nowhere (Kick by channel nick text) = refl
-none_elsewhere view nowhere (ChangeModes by channel changes) = refl
-none_elsewhere view nowhere (SetTopic by channel text) = refl
-none_elsewhere view nowhere (Say by notice target text) = refl
-none_elsewhere view nowhere (UserMode nick invisible) = refl
+none_elsewhere view nowhere other = refl
 
 -- a server that was not linked yet knows no other
 pub knows_no_other : (name info created : List ℕ) → others (alone_known name info created) ≡ []
@@ -111,22 +102,22 @@ no_next_hop known none name = by (row known.rows name) refl
 
 -- what a decision may know of its server is never changed
 abbrev pub KeepsPlace : RoomMachine → Handled → Type 0
-KeepsPlace machine after = after.machine.place ≡ machine.place
+KeepsPlace machine after = after.state.place ≡ machine.place
 
 step_keeps : (conn : ℕ) (name : Option (List ℕ)) (act : Act) (before : Handled)
-    → KeepsPlace before.machine (stepped conn name act before)
+    → KeepsPlace before.state (stepped conn name act before)
 step_keeps conn name (Answer reply) before = refl
 step_keeps conn name (Raw line) before = refl
 step_keeps conn name (Do effect) before = refl
 
 steps_keep : (conn : ℕ) (name : Option (List ℕ)) (acts : List Act) (before : Handled)
-    → KeepsPlace before.machine (all_stepped conn name acts before)
+    → KeepsPlace before.state (all_stepped conn name acts before)
 steps_keep conn name [] before = refl
 steps_keep conn name (act ∷ acts) before = steps_keep conn name acts (stepped conn name act before)
     ∙ step_keeps conn name act before
 
 close_keeps : (close : Bool) (conn : ℕ) (before : Handled)
-    → KeepsPlace before.machine (closing close conn before)
+    → KeepsPlace before.state (closing close conn before)
 close_keeps true conn before = refl
 close_keeps false conn before = refl
 
@@ -138,7 +129,7 @@ carried_keeps close conn name acts machine =
     ∙ steps_keep conn name acts (unchanged machine)
 
 quits_keep : (nick : Option (List ℕ)) (before : Handled)
-    → KeepsPlace before.machine (quits nick before)
+    → KeepsPlace before.state (quits nick before)
 quits_keep None before = refl
 quits_keep (Some nick) before = refl
 
@@ -160,8 +151,8 @@ said_keeps machine conn (Some (Registering pending)) message =
 said_keeps machine conn (Some (Registered nick)) message =
     user_keeps machine conn (row machine.room.users (key nick)) message
 
-pub place_is_kept : (machine : RoomMachine) (happening : Happening)
-    → KeepsPlace machine (handled machine happening)
+pub place_is_kept : (machine : RoomMachine) (client_event : ClientEvent)
+    → KeepsPlace machine (handled machine client_event)
 unfolding handled
 place_is_kept machine (connects conn host) = refl
 place_is_kept machine (says conn (Err fault)) = refl
@@ -179,44 +170,44 @@ module _ (view : View) (alone : IsAlone view) where
   effect_back effect h = told_nowhere ∙ kept_here
     where
       now : View
-      now = record view { clients = h.machine.clients; room = h.machine.room }
+      now = record view { clients = h.state.clients; room = h.state.room }
 
       -- nothing goes on a link, ..
       told_nowhere : effect_told None effect (put_back view h) ≡ changed effect (put_back view h)
       told_nowhere =
-          ap (λ links. with_sent (on_links links (wire h.machine.room view.routes effect))
+          ap (λ links. with_sent (on_links links (wire h.state.room view.routes effect))
           (changed effect (put_back view h)))
           (no_ways view.ends view.routes None (none_met view.ends alone.no_ends) nowhere
-          (told_homes h.machine.room effect))
-          ∙ ap (λ out. record { view = (changed effect (put_back view h)).view; out = out })
+          (told_homes h.state.room effect))
+          ∙ ap (λ out. record { state = (changed effect (put_back view h)).state; out = out })
           (append-nil (changed effect (put_back view h)).out)
 
       -- .. and no user is another server's
       kept_here : changed effect (put_back view h) ≡ put_back view (with_effect effect h)
       kept_here =
           ap (λ (b : Bool). record {
-            view = record view {
-              clients = clients_after effect h.machine.clients;
+            state = record view {
+              clients = clients_after effect h.state.clients;
               room = if b
-                  then h.machine.room else after h.machine.room effect;
+                  then h.state.room else after h.state.room effect;
             };
             out = h.out ++ (if b then []
-                else flat_map (to_viewer h.machine.clients) (seen h.machine.room effect));
+                else flat_map (to_viewer h.state.clients) (seen h.state.room effect));
           }) (none_elsewhere now nowhere effect)
 
   step_back : (conn : ℕ) (name : Option (List ℕ)) (act : Act) (h : Handled)
-      → h.machine.place ≡ place_of view.routes
+      → h.state.place ≡ place_of view.routes
       → step_told conn name act (put_back view h) ≡ put_back view (stepped conn name act h)
   step_back conn name (Answer reply) h same =
       ap (λ (p : Place). record {
-        view = (put_back view h).view;
+        state = (put_back view h).state;
         out = h.out ++ line_to conn (reply_text p.name name reply) ∷ [];
       }) (sym same)
   step_back conn name (Raw line) h same = refl
   step_back conn name (Do effect) h same = effect_back effect h
 
   steps_back : (conn : ℕ) (name : Option (List ℕ)) (acts : List Act) (h : Handled)
-      → h.machine.place ≡ place_of view.routes
+      → h.state.place ≡ place_of view.routes
       → steps_told conn name acts (put_back view h) ≡ put_back view (all_stepped conn name acts h)
   steps_back conn name [] h same = refl
   steps_back conn name (act ∷ acts) h same =
@@ -261,8 +252,8 @@ module _ (view : View) (alone : IsAlone view) where
   quit_back conn (Some nick) =
       effect_back (Quit nick lost_text) (unchanged (without_client (machine_of view) conn))
 
-  pub told_back : (happening : Happening)
-      → client_told view happening ≡ put_back view (handled (machine_of view) happening)
+  pub told_back : (client_event : ClientEvent)
+      → client_told view client_event ≡ put_back view (handled (machine_of view) client_event)
   unfolding handled client_told
   told_back (connects conn host) = refl
   told_back (says conn (Ok message)) = message_back conn (client_of (machine_of view) conn) message

@@ -12,8 +12,8 @@ use Rattle.irc_names.specs.TableLaws.{same_fold, same_fold-refl, one_fold, row-a
 use Rattle.irc_users.specs.declared.user.User.{User}
 use Rattle.irc_users.specs.UserTable.{is_home}
 use Rattle.irc_room.specs.effect.Effect.{Effect}
-use Rattle.irc_room.specs.effect.Effect.TheVariants.{AddUser, Rename, Quit, Join, Part, Kick}
-use Rattle.irc_room.specs.effect.Effect.TheVariants.{ChangeModes, SetTopic, Say, Invite, UserMode}
+use Rattle.irc_room.specs.effect.Effect.TheVariants.{AddUser, Rename, Quit}
+use Rattle.irc_room.specs.effect.Effect.TheVariants.{Say}
 use Rattle.irc_room.specs.fault.RoomFault.TheVariants.{NoSuchUser, NoSuchChannel}
 use Rattle.irc_room.specs.After.{after}
 use Rattle.irc_room.specs.Applying.{does, missing_fault}
@@ -37,8 +37,8 @@ use Rattle.irc_stage.specs.Lemmas.Matching.{quiet_matched, same_by_key}
 
 -- what always holds of a server that serves
 pub record Holds (s : Served) : Type 0 where
-  pub matched : IsMatched (machine_of s.view)
-  pub well : IsWellFormed s.view.room
+  pub matched : IsMatched (machine_of s.state)
+  pub well : IsWellFormed s.state.room
 
 both : (a b : Bool) → (a && b) ≡ true → (a ≡ true) × (b ≡ true)
 both true true is = (refl, refl)
@@ -181,74 +181,49 @@ counted_matched view (AddUser user) matched possible abroad =
     newcomer_matched (machine_of view) user matched possible.nick_free abroad
 counted_matched view (Quit nick text) matched possible abroad =
     leaver_matched (machine_of view) nick text matched abroad
-counted_matched view (Rename nick new) matched possible abroad =
-    quiet_matched (machine_of view) (Rename nick new) matched possible refl
-counted_matched view (Join nick channel op) matched possible abroad =
-    quiet_matched (machine_of view) (Join nick channel op) matched possible refl
-counted_matched view (Part nick channel text) matched possible abroad =
-    quiet_matched (machine_of view) (Part nick channel text) matched possible refl
-counted_matched view (Kick by channel nick text) matched possible abroad =
-    quiet_matched (machine_of view) (Kick by channel nick text) matched possible refl
-counted_matched view (ChangeModes by channel changes) matched possible abroad =
-    quiet_matched (machine_of view) (ChangeModes by channel changes) matched possible refl
-counted_matched view (SetTopic by channel text) matched possible abroad =
-    quiet_matched (machine_of view) (SetTopic by channel text) matched possible refl
-counted_matched view (Say by notice target text) matched possible abroad =
-    quiet_matched (machine_of view) (Say by notice target text) matched possible refl
-counted_matched view (Invite by nick channel) matched possible abroad =
-    quiet_matched (machine_of view) (Invite by nick channel) matched possible refl
-counted_matched view (UserMode nick invisible) matched possible abroad =
-    quiet_matched (machine_of view) (UserMode nick invisible) matched possible refl
+counted_matched view other matched possible abroad =
+    quiet_matched (machine_of view) other matched possible refl
 
 -- an invitation of another server's user changes no client
 pub same_clients_elsewhere : (view : View) (effect : Effect) → is_elsewhere view effect ≡ true
     → clients_after effect view.clients ≡ view.clients
 same_clients_elsewhere view (Rename nick new) is = cc is
-same_clients_elsewhere view (Invite by nick channel) is = refl
-same_clients_elsewhere view (AddUser user) is = refl
-same_clients_elsewhere view (Quit nick text) is = refl
-same_clients_elsewhere view (Join nick channel op) is = refl
-same_clients_elsewhere view (Part nick channel text) is = refl
-same_clients_elsewhere view (Kick by channel nick text) is = refl
-same_clients_elsewhere view (ChangeModes by channel changes) is = refl
-same_clients_elsewhere view (SetTopic by channel text) is = refl
-same_clients_elsewhere view (Say by notice target text) is = refl
-same_clients_elsewhere view (UserMode nick invisible) is = refl
+same_clients_elsewhere view other is = refl
 
 abbrev with_parts : View → Clients → Room → RoomMachine
 with_parts view clients room = machine_of (record view { clients = clients; room = room })
 
-changed_holds : (effect : Effect) (s : Served) → Holds s → IsPossible s.view.room effect
-    → IsMatched (machine_after (machine_of s.view) effect) → Holds (changed effect s)
-changed_holds effect s holds possible after_matched = by (is_elsewhere s.view effect) refl
+changed_holds : (effect : Effect) (s : Served) → Holds s → IsPossible s.state.room effect
+    → IsMatched (machine_after (machine_of s.state) effect) → Holds (changed effect s)
+changed_holds effect s holds possible after_matched = by (is_elsewhere s.state effect) refl
   where
     HoldsBy : Bool → Type 0
     HoldsBy b = Holds (record {
-      view = record s.view {
-        clients = clients_after effect s.view.clients;
+      state = record s.state {
+        clients = clients_after effect s.state.clients;
         room = if b
-            then s.view.room else after s.view.room effect;
+            then s.state.room else after s.state.room effect;
       };
-      out = s.out ++ shown_at s.view effect;
+      out = s.out ++ shown_at s.state effect;
     })
 
-    by : (b : Bool) → is_elsewhere s.view effect ≡ b → HoldsBy b
+    by : (b : Bool) → is_elsewhere s.state effect ≡ b → HoldsBy b
     by true is = record {
-      matched = subst (λ clients. IsMatched (with_parts s.view clients s.view.room))
-          (sym (same_clients_elsewhere s.view effect is)) holds.matched;
+      matched = subst (λ clients. IsMatched (with_parts s.state clients s.state.room))
+          (sym (same_clients_elsewhere s.state effect is)) holds.matched;
       well = holds.well;
     }
     by false is = record {
       matched = after_matched;
-      well = after_is_well_formed s.view.room effect holds.well possible;
+      well = after_is_well_formed s.state.room effect holds.well possible;
     }
 
-pub changed_stays : (effect : Effect) (s : Served) → Holds s → counts s.view effect ≡ true
+pub changed_stays : (effect : Effect) (s : Served) → Holds s → counts s.state effect ≡ true
     → Holds (changed effect s)
 changed_stays effect s holds is =
-    let parts = counted s.view effect is in
+    let parts = counted s.state effect is in
     changed_holds effect s holds parts.0
-    (counted_matched s.view effect holds.matched parts.0 parts.1)
+    (counted_matched s.state effect holds.matched parts.0 parts.1)
 
 -- the links are no part of what holds
 pub told_holds : (arrival : Option ℕ) (effect : Effect) (s : Served) → Holds (changed effect s)
@@ -256,17 +231,17 @@ pub told_holds : (arrival : Option ℕ) (effect : Effect) (s : Served) → Holds
 told_holds arrival effect s holds = record { matched = holds.matched; well = holds.well }
 
 pub changed_if_stays : (effect : Effect) (s : Served) → Holds s → Holds (changed_if effect s)
-changed_if_stays effect s holds = by (counts s.view effect) refl
+changed_if_stays effect s holds = by (counts s.state effect) refl
   where
-    by : (b : Bool) → counts s.view effect ≡ b → Holds (if b then changed effect s else s)
+    by : (b : Bool) → counts s.state effect ≡ b → Holds (if b then changed effect s else s)
     by true is = changed_stays effect s holds is
     by false is = holds
 
 pub came_stays : (arrival : Option ℕ) (effect : Effect) (s : Served) → Holds s
     → Holds (effect_came arrival effect s)
-came_stays arrival effect s holds = by (counts s.view effect) refl
+came_stays arrival effect s holds = by (counts s.state effect) refl
   where
-    by : (b : Bool) → counts s.view effect ≡ b
+    by : (b : Bool) → counts s.state effect ≡ b
         → Holds (if b then effect_told arrival effect s else s)
     by true is = told_holds arrival effect s (changed_stays effect s holds is)
     by false is = holds
@@ -387,13 +362,14 @@ quit_possible room nick text there =
     record { users_there = ap (λ b. b && true) there; channel_there = refl; nick_free = refl }
 
 pub taken_out_stays : (nick text : List ℕ) (s : Served) → Holds s → Holds (taken_out nick text s)
-taken_out_stays nick text s holds = by (has_user s.view.room nick) refl
+taken_out_stays nick text s holds = by (has_user s.state.room nick) refl
   where
-    by : (b : Bool) → has_user s.view.room nick ≡ b
+    by : (b : Bool) → has_user s.state.room nick ≡ b
         → Holds (client_ended nick text (if b then changed (Quit nick text) s else s))
     by true there =
-        let one = ended_matched (machine_of s.view) nick (after s.view.room (Quit nick text)).users
-        (quit_users s.view.room nick text) holds.matched in
+        let one =
+        ended_matched (machine_of s.state) nick (after s.state.room (Quit nick text)).users
+        (quit_users s.state.room nick text) holds.matched in
         record {
           matched =
               record {
@@ -402,12 +378,12 @@ taken_out_stays nick text s holds = by (has_user s.view.room nick) refl
                 spelled = one.spelled;
                 user_has_client = one.user_has_client;
               };
-          well = after_is_well_formed s.view.room (Quit nick text) holds.well
-              (quit_possible s.view.room nick text there);
+          well = after_is_well_formed s.state.room (Quit nick text) holds.well
+              (quit_possible s.state.room nick text there);
         }
     by false none = record {
-      matched = ended_matched (machine_of s.view) nick s.view.room.users
-          (no_users s.view.room nick none) holds.matched;
+      matched = ended_matched (machine_of s.state) nick s.state.room.users
+          (no_users s.state.room nick none) holds.matched;
       well = holds.well;
     }
 
@@ -419,13 +395,4 @@ said_elsewhere view (Say by notice target text) matched abroad = λ conn named.
     named_is (key by) (client_of (machine_of view) conn) named (λ nick is one.
     absurd (cc (sym (ap (λ f. option_map_or (is_home view.routes.name) (row view.room.users f)
     false) (sym one) ∙ matched.registered_is_user conn nick is) ∙ abroad)))
-said_elsewhere view (AddUser user) matched abroad = tt
-said_elsewhere view (Rename nick new) matched abroad = tt
-said_elsewhere view (Quit nick text) matched abroad = tt
-said_elsewhere view (Join nick channel op) matched abroad = tt
-said_elsewhere view (Part nick channel text) matched abroad = tt
-said_elsewhere view (Kick by channel nick text) matched abroad = tt
-said_elsewhere view (ChangeModes by channel changes) matched abroad = tt
-said_elsewhere view (SetTopic by channel text) matched abroad = tt
-said_elsewhere view (Invite by nick channel) matched abroad = tt
-said_elsewhere view (UserMode nick invisible) matched abroad = tt
+said_elsewhere view other matched abroad = tt

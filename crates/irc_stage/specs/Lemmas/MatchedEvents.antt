@@ -72,10 +72,10 @@ decided_fit possible stays closes machine matched well who message acts are =
 quit_first : (machine : RoomMachine) (conn : ℕ) (name : Option (List ℕ)) (nick who : List ℕ)
     (steps : List Act) → IsMatched machine → IsWellFormed machine.room → client_of machine conn
     ≡ Some (Registered nick) → key who ≡ key nick → QuitFirst machine.room who steps
-    → IsMatched (without_client (all_stepped conn name steps (unchanged machine)).machine conn)
+    → IsMatched (without_client (all_stepped conn name steps (unchanged machine)).state conn)
 quit_first machine conn name nick who steps matched well mine who_is quits =
     subst (λ (v : RoomMachine). IsMatched (without_client v conn))
-    (sym (ap (λ acts. (all_stepped conn name acts (unchanged machine)).machine) quits.steps_are
+    (sym (ap (λ acts. (all_stepped conn name acts (unchanged machine)).state) quits.steps_are
     ∙ still_steps conn name quits.behind
     (with_effect (Quit quits.me.nick quits.reason) (unchanged machine)) quits.no_more))
     (quit_matched machine conn nick quits.me.nick quits.reason matched mine
@@ -85,7 +85,7 @@ pub user_matched : DecidedIsPossible → WhoStaysIsUser → WhoIsClosedQuits
     → (machine : RoomMachine) → IsMatched machine → IsWellFormed machine.room
     → (conn : ℕ) (nick : List ℕ) → client_of machine conn ≡ Some (Registered nick)
     → (message : Parsed) → (o : Option User) → row machine.room.users (key nick) ≡ o
-    → IsMatched (user_decided machine conn o message).machine
+    → IsMatched (user_decided machine conn o message).state
 user_matched possible stays closes machine matched well conn nick mine message None there = matched
 user_matched possible stays closes machine matched well conn nick mine message (Some user) there =
     by
@@ -93,7 +93,7 @@ user_matched possible stays closes machine matched well conn nick mine message (
   where
     by : (b : Bool) → (decide machine.room machine.place user.nick message).close ≡ b
         → IsMatched (closing b conn (all_stepped conn (Some user.nick) (decide machine.room
-        machine.place user.nick message).steps (unchanged machine))).machine
+        machine.place user.nick message).steps (unchanged machine))).state
     by true is =
         quit_first machine conn (Some user.nick) nick user.nick
         (decide machine.room machine.place user.nick message).steps matched well mine
@@ -153,12 +153,12 @@ module _ (machine : RoomMachine) (conn : ℕ) (given : Given) (matched : IsMatch
         (free_of machine conn first.user matched add_possible first.is_home)
 
     new_matched : IsNoUser (client_of machine conn)
-        → IsMatched (pending_decided machine conn given).machine
+        → IsMatched (pending_decided machine conn given).state
     new_matched none =
         subst (λ b. IsMatched (closing b conn (all_stepped conn given.pending.nick given.steps
-        (unchanged given_machine))).machine) (sym (stays is))
+        (unchanged given_machine))).state) (sym (stays is))
         (subst (λ acts. IsMatched (all_stepped conn given.pending.nick acts
-        (unchanged given_machine)).machine) (sym first.steps_are)
+        (unchanged given_machine)).state) (sym first.steps_are)
         (subst IsMatched (sym (still_steps conn given.pending.nick first.behind
         (with_effect (AddUser first.user) (unchanged given_machine)) first.no_more))
         (subst (λ client. IsMatched (machine_after (with_client machine conn client)
@@ -187,7 +187,7 @@ module _ (machine : RoomMachine) (conn : ℕ) (given : Given) (matched : IsMatch
         (subst (λ client. IsNoUser (Some client)) (sym waits) tt)
 
     closed : IsNoUser (client_of machine conn) → (b : Bool) → IsMatched (closing b conn
-        (all_stepped conn given.pending.nick given.steps (unchanged given_machine))).machine
+        (all_stepped conn given.pending.nick given.steps (unchanged given_machine))).state
     closed none true =
         subst (λ (v : RoomMachine). IsMatched (without_client v conn))
         (sym (still_steps conn given.pending.nick given.steps (unchanged given_machine) (still is)))
@@ -211,11 +211,11 @@ module _ (machine : RoomMachine) (conn : ℕ) (given : Given) (matched : IsMatch
       by false is = still_free is
 
   pub given_matched : IsNoUser (client_of machine conn)
-      → IsMatched (pending_decided machine conn given).machine
+      → IsMatched (pending_decided machine conn given).state
   given_matched none = by given.registered refl
     where
       by : (b : Bool) → given.registered ≡ b
-          → IsMatched (pending_decided machine conn given).machine
+          → IsMatched (pending_decided machine conn given).state
       by true is = new_matched is none
       by false is = closed is none given.close
 
@@ -250,7 +250,7 @@ gone_fit machine conn nick text matched well is =
 
 gone_matched : (machine : RoomMachine) (conn : ℕ) → IsMatched machine
     → IsWellFormed machine.room → (client : Option Client) → client_of machine conn ≡ client
-    → IsMatched (gone machine conn client).machine
+    → IsMatched (gone machine conn client).state
 gone_matched machine conn matched well None is =
     left_matched machine conn (subst IsNoUser (sym is) tt) matched
 gone_matched machine conn matched well (Some (Registering pending)) is =
@@ -260,7 +260,7 @@ gone_matched machine conn matched well (Some (Registered name)) is =
   where
     by_row : (o : Option User) → row machine.room.users (key name) ≡ o
         → IsMatched (quits (option_map (λ (user : User). user.nick) o)
-        (unchanged (without_client machine conn))).machine
+        (unchanged (without_client machine conn))).state
     by_row None there =
         let here = matched.registered_is_user conn name is in
         let nobody = ap (λ o. option_map_or (is_home machine.place.name) o false) there in absurd cc
@@ -284,7 +284,7 @@ stays_matched possible stays closes register_possible added unchanging kept mach
     (says conn (Ok message)) due = by (client_of machine conn) refl
   where
     by : (o : Option Client) → client_of machine conn ≡ o
-        → IsMatched (said_by machine conn o message).machine
+        → IsMatched (said_by machine conn o message).state
     by None is = matched
     by (Some (Registering pending)) is =
         given_matched machine conn (register machine.room machine.place pending message) matched

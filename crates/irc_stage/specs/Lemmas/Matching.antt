@@ -12,10 +12,11 @@ use Rattle.irc_names.specs.Fold.{key, same}
 use Rattle.irc_names.specs.Tables.{row, alter}
 use Rattle.irc_names.specs.TableLaws.{same_fold, same_fold-refl, one_fold, row-alter, row-moved}
 use Rattle.irc_users.specs.declared.user.User.{User}
-use Rattle.irc_users.specs.UserTable.{is_home, with_nick, with_invisible}
+use Rattle.irc_users.specs.declared.user_change.UserChange.{UserChange}
+use Rattle.irc_users.specs.UserTable.{is_home, with_nick, with_change}
 use Rattle.irc_room.specs.effect.Effect.{Effect}
-use Rattle.irc_room.specs.effect.Effect.TheVariants.{AddUser, Rename, Quit, Join, Part, Kick}
-use Rattle.irc_room.specs.effect.Effect.TheVariants.{ChangeModes, SetTopic, Say, Invite, UserMode}
+use Rattle.irc_room.specs.effect.Effect.TheVariants.{AddUser, Rename, Quit}
+use Rattle.irc_room.specs.effect.Effect.TheVariants.{ChangeUser}
 use Rattle.irc_room.specs.Effects.{IsPossible, has_user}
 use Rattle.irc_room.specs.After.{after}
 use Rattle.irc_room.specs.Lemmas.Rows.{same_some}
@@ -181,17 +182,8 @@ free_new machine nick new matched possible conn name is same_new =
 
 apart_by : (machine : RoomMachine) (effect : Effect) → IsMatched machine
     → IsPossible machine.room effect → LeavesApart effect machine.clients
-apart_by machine (AddUser user) matched possible = tt
 apart_by machine (Rename nick new) matched possible = free_new machine nick new matched possible
-apart_by machine (Quit nick text) matched possible = tt
-apart_by machine (Join nick channel op) matched possible = tt
-apart_by machine (Part nick channel text) matched possible = tt
-apart_by machine (Kick by channel nick text) matched possible = tt
-apart_by machine (ChangeModes by channel changes) matched possible = tt
-apart_by machine (SetTopic by channel text) matched possible = tt
-apart_by machine (Say by notice target text) matched possible = tt
-apart_by machine (Invite by nick channel) matched possible = tt
-apart_by machine (UserMode nick invisible) matched possible = tt
+apart_by machine other matched possible = tt
 
 pub fit_by : (machine : RoomMachine) (effect : Effect) → IsMatched machine
     → IsPossible machine.room effect → IsFit machine effect
@@ -394,35 +386,35 @@ module _ (machine : RoomMachine) (nick new : List ℕ) (matched : IsMatched mach
 
 -- A user whose mode changes.
 
-mode_here : (home : List ℕ) (invisible : Bool) (o : Option User) → option_map_or (is_home home)
-    (option_map (with_invisible invisible) o) false ≡ option_map_or (is_home home) o false
-mode_here home invisible None = refl
-mode_here home invisible (Some user) = refl
+mode_here : (home : List ℕ) (change : UserChange) (o : Option User) → option_map_or (is_home home)
+    (option_map (with_change change) o) false ≡ option_map_or (is_home home) o false
+mode_here home change None = refl
+mode_here home change (Some user) = refl
 
-mode_matched : (machine : RoomMachine) (nick : List ℕ) (invisible : Bool) → IsMatched machine
-    → IsMatched (machine_after machine (UserMode nick invisible))
+mode_matched : (machine : RoomMachine) (nick : List ℕ) (change : UserChange) → IsMatched machine
+    → IsMatched (machine_after machine (ChangeUser nick change))
 unfolding after
-mode_matched machine nick invisible matched = record {
+mode_matched machine nick change matched = record {
   registered_is_user = λ conn name is. by conn name is (same_fold (key name) (key nick)) refl;
   user_has_one = matched.user_has_one;
   spelled = λ conn name user is there.
       still_spelled conn name user is (same_fold (key name) (key nick)) refl
-      (sym (row-alter (key nick) (option_map (with_invisible invisible)) machine.room.users
+      (sym (row-alter (key nick) (option_map (with_change change)) machine.room.users
       (key name)) ∙ there);
   user_has_client = λ fold user is home.
       had fold user home (same_fold fold (key nick)) refl (sym (row-alter (key nick)
-      (option_map (with_invisible invisible)) machine.room.users fold) ∙ is);
+      (option_map (with_change change)) machine.room.users fold) ∙ is);
 }
   where
     same_nick : (name : List ℕ) (user : User) (o : Option User) → ((x : User) → o ≡ Some x
-        → x.nick ≡ name) → option_map (with_invisible invisible) o ≡ Some user → user.nick ≡ name
+        → x.nick ≡ name) → option_map (with_change change) o ≡ Some user → user.nick ≡ name
     same_nick name user None was is = cc is
     same_nick name user (Some x) was is = ap (λ (u : User). u.nick)
-        (sym (same_some (with_invisible invisible x) user is)) ∙ was x refl
+        (sym (same_some (with_change change x) user is)) ∙ was x refl
 
     still_spelled : (conn : ℕ) (name : List ℕ) (user : User) → get machine.clients conn
         ≡ Some (Registered name) → (b : Bool) → same_fold (key name) (key nick) ≡ b
-        → cond b (option_map (with_invisible invisible) (row machine.room.users (key nick)))
+        → cond b (option_map (with_change change) (row machine.room.users (key nick)))
         (row machine.room.users (key name)) ≡ Some user → user.nick ≡ name
     still_spelled conn name user was true one is =
         same_nick name user (row machine.room.users (key nick))
@@ -431,16 +423,16 @@ mode_matched machine nick invisible matched = record {
     still_spelled conn name user was false two is = matched.spelled conn name user was is
 
     was_there : (user : User) → user.home ≡ machine.place.name → (o : Option User)
-        → row machine.room.users (key nick) ≡ o → option_map (with_invisible invisible) o
+        → row machine.room.users (key nick) ≡ o → option_map (with_change change) o
         ≡ Some user → has_client machine.clients (key nick) ≡ true
     was_there user home None there is = cc is
     was_there user home (Some x) there is =
         matched.user_has_client (key nick) x there
-        (ap (λ (u : User). u.home) (same_some (with_invisible invisible x) user is) ∙ home)
+        (ap (λ (u : User). u.home) (same_some (with_change change x) user is) ∙ home)
 
     had : (fold : List ℕ) (user : User) → user.home ≡ machine.place.name
         → (b : Bool) → same_fold fold (key nick) ≡ b
-        → cond b (option_map (with_invisible invisible) (row machine.room.users (key nick)))
+        → cond b (option_map (with_change change) (row machine.room.users (key nick)))
         (row machine.room.users fold) ≡ Some user → has_client machine.clients fold ≡ true
     had fold user home true one is =
         ap (has_client machine.clients) (one_fold fold (key nick) one)
@@ -449,21 +441,21 @@ mode_matched machine nick invisible matched = record {
 
     by : (conn : ℕ) (name : List ℕ) → get machine.clients conn ≡ Some (Registered name) → (b : Bool)
         → same_fold (key name) (key nick) ≡ b → option_map_or (is_home machine.place.name)
-        (row (alter (key nick) (option_map (with_invisible invisible)) machine.room.users)
+        (row (alter (key nick) (option_map (with_change change)) machine.room.users)
         (key name)) false ≡ true
     by conn name is true one =
         ap (λ o. option_map_or (is_home machine.place.name) o false)
-        (row-alter (key nick) (option_map (with_invisible invisible)) machine.room.users (key name)
-        ∙ ap (λ b. cond b (option_map (with_invisible invisible)
+        (row-alter (key nick) (option_map (with_change change)) machine.room.users (key name)
+        ∙ ap (λ b. cond b (option_map (with_change change)
         (row machine.room.users (key nick))) (row machine.room.users (key name))) one)
-        ∙ mode_here machine.place.name invisible (row machine.room.users (key nick))
+        ∙ mode_here machine.place.name change (row machine.room.users (key nick))
         ∙ ap (λ q. option_map_or (is_home machine.place.name) (row machine.room.users q) false)
         (sym (one_fold (key name) (key nick) one))
         ∙ matched.registered_is_user conn name is
     by conn name is false two =
         ap (λ o. option_map_or (is_home machine.place.name) o false)
-        (row-alter (key nick) (option_map (with_invisible invisible)) machine.room.users (key name)
-        ∙ ap (λ b. cond b (option_map (with_invisible invisible)
+        (row-alter (key nick) (option_map (with_change change)) machine.room.users (key name)
+        ∙ ap (λ b. cond b (option_map (with_change change)
         (row machine.room.users (key nick))) (row machine.room.users (key name))) two)
         ∙ matched.registered_is_user conn name is
 
@@ -476,57 +468,15 @@ quiet_matched machine (AddUser user) matched possible quiet = absurd (cc quiet)
 quiet_matched machine (Rename nick new) matched possible quiet =
     renamed_matched machine nick new matched possible
 quiet_matched machine (Quit nick text) matched possible quiet = absurd (cc quiet)
-quiet_matched machine (Join nick channel op) matched possible quiet =
+quiet_matched machine (ChangeUser nick change) matched possible quiet =
+    mode_matched machine nick change matched
+quiet_matched machine other matched possible quiet =
     record {
       registered_is_user = matched.registered_is_user;
       user_has_one = matched.user_has_one;
       spelled = matched.spelled;
       user_has_client = matched.user_has_client;
     }
-quiet_matched machine (Part nick channel text) matched possible quiet =
-    record {
-      registered_is_user = matched.registered_is_user;
-      user_has_one = matched.user_has_one;
-      spelled = matched.spelled;
-      user_has_client = matched.user_has_client;
-    }
-quiet_matched machine (Kick by channel nick text) matched possible quiet =
-    record {
-      registered_is_user = matched.registered_is_user;
-      user_has_one = matched.user_has_one;
-      spelled = matched.spelled;
-      user_has_client = matched.user_has_client;
-    }
-quiet_matched machine (ChangeModes by channel changes) matched possible quiet =
-    record {
-      registered_is_user = matched.registered_is_user;
-      user_has_one = matched.user_has_one;
-      spelled = matched.spelled;
-      user_has_client = matched.user_has_client;
-    }
-quiet_matched machine (SetTopic by channel text) matched possible quiet =
-    record {
-      registered_is_user = matched.registered_is_user;
-      user_has_one = matched.user_has_one;
-      spelled = matched.spelled;
-      user_has_client = matched.user_has_client;
-    }
-quiet_matched machine (Say by notice target text) matched possible quiet =
-    record {
-      registered_is_user = matched.registered_is_user;
-      user_has_one = matched.user_has_one;
-      spelled = matched.spelled;
-      user_has_client = matched.user_has_client;
-    }
-quiet_matched machine (Invite by nick channel) matched possible quiet =
-    record {
-      registered_is_user = matched.registered_is_user;
-      user_has_one = matched.user_has_one;
-      spelled = matched.spelled;
-      user_has_client = matched.user_has_client;
-    }
-quiet_matched machine (UserMode nick invisible) matched possible quiet =
-    mode_matched machine nick invisible matched
 
 -- steps by which nobody comes and nobody goes
 
@@ -550,8 +500,8 @@ quiet_fit machine (Do effect ∷ acts) matched possible quiet =
     }
 
 pub quiet_steps : (conn : ℕ) (name : Option (List ℕ)) (acts : List Act) (h : Handled)
-    → IsMatched h.machine → ArePossible h.machine.room acts → list_any adds_or_ends acts ≡ false
-    → IsMatched (all_stepped conn name acts h).machine
+    → IsMatched h.state → ArePossible h.state.room acts → list_any adds_or_ends acts ≡ false
+    → IsMatched (all_stepped conn name acts h).state
 quiet_steps conn name [] h matched possible quiet = matched
 quiet_steps conn name (Answer reply ∷ acts) h matched possible quiet =
     quiet_steps conn name acts (stepped conn name (Answer reply) h) matched possible quiet
@@ -560,7 +510,7 @@ quiet_steps conn name (Raw line ∷ acts) h matched possible quiet =
 quiet_steps conn name (Do effect ∷ acts) h matched possible quiet =
     let parts = neither (adds_or_ends (Do effect)) (list_any adds_or_ends acts) quiet in
     quiet_steps conn name acts (stepped conn name (Do effect) h)
-    (quiet_matched h.machine effect matched possible.now parts.0) possible.later parts.1
+    (quiet_matched h.state effect matched possible.now parts.0) possible.later parts.1
 
 -- steps that change nothing
 pub still_so : (IsSo : RoomMachine → Effect → Type 0) (machine : RoomMachine) (acts : List Act)
@@ -571,7 +521,7 @@ still_so IsSo machine (Raw line ∷ acts) still = still_so IsSo machine acts sti
 still_so IsSo machine (Do effect ∷ acts) still = absurd (cc still)
 
 pub still_steps : (conn : ℕ) (name : Option (List ℕ)) (acts : List Act) (h : Handled)
-    → list_any is_effect acts ≡ false → (all_stepped conn name acts h).machine ≡ h.machine
+    → list_any is_effect acts ≡ false → (all_stepped conn name acts h).state ≡ h.state
 still_steps conn name [] h still = refl
 still_steps conn name (Answer reply ∷ acts) h still =
     still_steps conn name acts (stepped conn name (Answer reply) h) still

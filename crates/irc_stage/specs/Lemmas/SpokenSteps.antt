@@ -9,11 +9,12 @@ use Rattle.irc_names.specs.Fold.{key}
 use Rattle.irc_names.specs.Tables.{row}
 use Rattle.irc_names.specs.TableLaws.{same_fold, same_fold-refl, one_fold, row-alter, row-moved}
 use Rattle.irc_users.specs.declared.user.User.{User}
-use Rattle.irc_users.specs.UserTable.{is_home, with_nick, with_invisible}
+use Rattle.irc_users.specs.declared.user_change.UserChange.{UserChange}
+use Rattle.irc_users.specs.UserTable.{is_home, with_nick, with_change}
 use Rattle.irc_routes.specs.Place.{Place}
 use Rattle.irc_room.specs.effect.Effect.{Effect}
-use Rattle.irc_room.specs.effect.Effect.TheVariants.{AddUser, Rename, Quit, Join, Part, Kick}
-use Rattle.irc_room.specs.effect.Effect.TheVariants.{ChangeModes, SetTopic, Say, Invite, UserMode}
+use Rattle.irc_room.specs.effect.Effect.TheVariants.{AddUser, Rename, Quit}
+use Rattle.irc_room.specs.effect.Effect.TheVariants.{Say, ChangeUser}
 use Rattle.irc_room.specs.Room.{Room}
 use Rattle.irc_room.specs.Effects.{IsPossible, has_user, target_users}
 use Rattle.irc_room.specs.After.{after}
@@ -94,17 +95,17 @@ module _ (conn : ℕ) (me : User) where
       ∙ ap is_some (sym (row-alter (key nick) (λ _. None) machine.room.users (key me.nick)))
       ∙ there_now)
 
-  follows_mode : (machine : RoomMachine) (nick : List ℕ) (invisible : Bool) → Follows machine
-      → nick ≡ me.nick → Follows (machine_after machine (UserMode nick invisible))
+  follows_mode : (machine : RoomMachine) (nick : List ℕ) (change : UserChange) → Follows machine
+      → nick ≡ me.nick → Follows (machine_after machine (ChangeUser nick change))
   unfolding after
-  follows_mode machine nick invisible follows is = λ there_now.
+  follows_mode machine nick change follows is = λ there_now.
       follows
       (ap (has_user machine.room) (sym is)
-      ∙ sym (is_some_map (with_invisible invisible) (row machine.room.users (key nick)))
-      ∙ ap (λ b. is_some (cond b (option_map (with_invisible invisible) (row machine.room.users
+      ∙ sym (is_some_map (with_change change) (row machine.room.users (key nick)))
+      ∙ ap (λ b. is_some (cond b (option_map (with_change change) (row machine.room.users
       (key nick))) (row machine.room.users (key me.nick)))) (sym (its_own nick is))
       ∙ ap is_some (sym (row-alter (key nick)
-      (option_map (with_invisible invisible)) machine.room.users (key me.nick)))
+      (option_map (with_change change)) machine.room.users (key me.nick)))
       ∙ there_now)
 
   follows_on : (machine : RoomMachine) (effect : Effect) → Follows machine
@@ -116,33 +117,18 @@ module _ (conn : ℕ) (me : User) where
       (has_user machine.room nick) true possible.users_there) (same_some nick me.nick is)
   follows_on machine (Quit nick text) follows possible is =
       follows_quit machine nick text (same_some nick me.nick is)
-  follows_on machine (Join nick channel op) follows possible is = follows
-  follows_on machine (Part nick channel text) follows possible is = follows
-  follows_on machine (Kick by channel nick text) follows possible is = follows
-  follows_on machine (ChangeModes by channel changes) follows possible is = follows
-  follows_on machine (SetTopic by channel text) follows possible is = follows
-  follows_on machine (Say by notice to text) follows possible is = follows
-  follows_on machine (Invite by nick channel) follows possible is = follows
-  follows_on machine (UserMode nick invisible) follows possible is =
-      follows_mode machine nick invisible follows (same_some nick me.nick is)
+  follows_on machine (ChangeUser nick change) follows possible is =
+      follows_mode machine nick change follows (same_some nick me.nick is)
+  follows_on machine other follows possible is = follows
 
   said_by_it : (machine : RoomMachine) (effect : Effect) → Follows machine
       → IsPossible machine.room effect → IsDoneBy me effect → IsSaidByClient conn machine effect
-  said_by_it machine (AddUser user) follows possible is = tt
-  said_by_it machine (Rename nick new) follows possible is = tt
-  said_by_it machine (Quit nick text) follows possible is = tt
-  said_by_it machine (Join nick channel op) follows possible is = tt
-  said_by_it machine (Part nick channel text) follows possible is = tt
-  said_by_it machine (Kick by channel nick text) follows possible is = tt
-  said_by_it machine (ChangeModes by channel changes) follows possible is = tt
-  said_by_it machine (SetTopic by channel text) follows possible is = tt
   said_by_it machine (Say by notice to text) follows possible is =
       let by_is : by ≡ me.nick = same_some by me.nick is in
       subst (λ n. IsRegisteredAs (key n) (client_of machine conn)) (sym by_is)
       (follows (ap (has_user machine.room) (sym by_is) ∙ first_true (has_user machine.room by)
       (list_all (has_user machine.room) (target_users to)) possible.users_there))
-  said_by_it machine (Invite by nick channel) follows possible is = tt
-  said_by_it machine (UserMode nick invisible) follows possible is = tt
+  said_by_it machine other follows possible is = tt
 
   spoken_in_turn : (machine : RoomMachine) (acts : List Act) → Follows machine → AreFit machine acts
       → AllByRecursion (IsDoneBy me) (effects_among acts) → AreSpoken conn machine acts

@@ -19,22 +19,23 @@ LeavesInFront serve =
     (out : List Sent) (s : Served) → serve (behind_sent out s) ≡ behind_sent out (serve s)
 
 pub sent_behind : (sent : List Sent) → LeavesInFront (with_sent sent)
-sent_behind sent out s = ap (λ o. record { view = s.view; out = o }) (append_assoc out s.out sent)
+sent_behind sent out s = ap (λ o. record { state = s.state; out = o }) (append_assoc out s.out sent)
 
 pub changed_behind : (effect : Effect) → LeavesInFront (changed effect)
-changed_behind effect out s = ap (λ o. record { view = view_after s.view effect; out = o })
-    (append_assoc out s.out (shown_at s.view effect))
+changed_behind effect out s = ap (λ o. record { state = view_after s.state effect; out = o })
+    (append_assoc out s.out (shown_at s.state effect))
 
 pub told_behind : (arrival : Option ℕ) (effect : Effect)
     → LeavesInFront (effect_told arrival effect)
 told_behind arrival effect out s =
-    let lines = on_links (ways_at s.view arrival effect) (wire s.view.room s.view.routes effect) in
+    let lines =
+    on_links (ways_at s.state arrival effect) (wire s.state.room s.state.routes effect) in
     ap (with_sent lines) (changed_behind effect out s) ∙ sent_behind lines out (changed effect s)
 
 step_behind : (conn : ℕ) (name : Option (List ℕ)) (act : Act)
     → LeavesInFront (step_told conn name act)
 step_behind conn name (Answer reply) out s =
-    sent_behind (line_to conn (reply_text s.view.routes.name name reply) ∷ []) out s
+    sent_behind (line_to conn (reply_text s.state.routes.name name reply) ∷ []) out s
 step_behind conn name (Raw line) out s = sent_behind (line_to conn line.items ∷ []) out s
 step_behind conn name (Do effect) out s = told_behind None effect out s
 
@@ -46,16 +47,16 @@ steps_behind conn name (act ∷ acts) out s = ap (steps_told conn name acts)
 
 close_behind : (close : Bool) (conn : ℕ) → LeavesInFront (closed_told close conn)
 close_behind true conn out s =
-    sent_behind (end_of conn ∷ []) out (record s { view = unseated conn s.view })
+    sent_behind (end_of conn ∷ []) out (record s { state = unseated conn s.state })
 close_behind false conn out s = refl
 
 pub nothing_behind : (view : View) (out : List Sent)
-    → record { view = view; out = out } ≡ behind_sent out (in_silence view)
-nothing_behind view out = ap (λ o. record { view = view; out = o }) (sym (append-nil out))
+    → record { state = view; out = out } ≡ behind_sent out (in_silence view)
+nothing_behind view out = ap (λ o. record { state = view; out = o }) (sym (append-nil out))
 
 pub carried_behind : (out : List Sent) (conn : ℕ) (name : Option (List ℕ))
     (acts : List Act) (close : Bool) (view : View)
-    → closed_told close conn (steps_told conn name acts (record { view = view; out = out }))
+    → closed_told close conn (steps_told conn name acts (record { state = view; out = out }))
     ≡ behind_sent out (closed_told close conn (steps_told conn name acts (in_silence view)))
 carried_behind out conn name acts close view =
     ap (λ s. closed_told close conn (steps_told conn name acts s)) (nothing_behind view out)

@@ -12,7 +12,7 @@ use Rattle.irc_channels.specs.Channels.{invited_too}
 use Rattle.irc_users.specs.declared.user.User.{User}
 use Rattle.irc_room.specs.effect.Effect.{Effect}
 use Rattle.irc_room.specs.effect.Effect.TheVariants.{AddUser, Rename, Quit, Join, Part, Kick}
-use Rattle.irc_room.specs.effect.Effect.TheVariants.{ChangeModes, SetTopic, Say, Invite, UserMode}
+use Rattle.irc_room.specs.effect.Effect.TheVariants.{ChangeModes, SetTopic, Say, Invite, ChangeUser}
 use Rattle.irc_room.specs.After.{after}
 use Rattle.irc_room.specs.OtherInvitations.{uninviting, AlikeStayAlike, AlikeTakeAlike, AreAlike}
 use Rattle.irc_room.specs.Room.{Room}
@@ -24,7 +24,7 @@ use Rattle.irc_commands.specs.Register.{register}
 use Rattle.irc_stage.specs.declared.clients.Client.{Client}
 use Rattle.irc_stage.specs.declared.clients.Client.TheVariants.{Registering, Registered}
 use Rattle.irc_stage.specs.RoomMachine.{Clients, RoomMachine, client_of}
-use Rattle.irc_stage.specs.Handle.{Handled, Happening, connects, says, goes, all_stepped}
+use Rattle.irc_stage.specs.Handle.{Handled, ClientEvent, connects, says, goes, all_stepped}
 use Rattle.irc_stage.specs.Handle.{clients_after, client_after, closing, handled}
 use Rattle.irc_stage.specs.Handle.{lost_text, machine_after, quits, said_by, stepped, unchanged}
 use Rattle.irc_stage.specs.Handle.{user_decided, user_of}
@@ -97,7 +97,7 @@ module _ (stay : AlikeStayAlike) where
       elsewhere (ChangeModes by channel changes) is = absurd (cc is)
       elsewhere (SetTopic by channel text) is = absurd (cc is)
       elsewhere (Say by notice target text) is = absurd (cc is)
-      elsewhere (UserMode nick invisible) is = absurd (cc is)
+      elsewhere (ChangeUser nick change) is = absurd (cc is)
 
       by : (b : Bool) → is_elsewhere view effect ≡ b
           → AreAlike (after room effect) (if b then view.room else after view.room effect)
@@ -144,16 +144,7 @@ module _ (stay : AlikeStayAlike) where
       → IsSaidByClient conn one effect → IsSaidByClient conn other effect
   said_there conn one other (Say by notice to words) twins said =
       subst (λ (cs : Clients). IsRegisteredAs (key by) (get cs conn)) twins.clients said
-  said_there conn one other (AddUser user) twins said = tt
-  said_there conn one other (Rename nick new) twins said = tt
-  said_there conn one other (Quit nick text) twins said = tt
-  said_there conn one other (Join nick channel op) twins said = tt
-  said_there conn one other (Part nick channel text) twins said = tt
-  said_there conn one other (Kick by channel nick text) twins said = tt
-  said_there conn one other (ChangeModes by channel changes) twins said = tt
-  said_there conn one other (SetTopic by channel text) twins said = tt
-  said_there conn one other (Invite by nick channel) twins said = tt
-  said_there conn one other (UserMode nick invisible) twins said = tt
+  said_there conn one other effect twins said = tt
 
   pub fit_along : AlikeTakeAlike → (view : View) (acts : List Act) → AreFit (machine_of view) acts
       → AreFitAt view acts
@@ -169,8 +160,8 @@ module _ (stay : AlikeStayAlike) where
   -- ---- whatever happens by a client
 
   steps_twins : (conn : ℕ) (name : Option (List ℕ)) (acts : List Act) (h : Handled) (s : Served)
-      → AreTwins h.machine (machine_of s.view) → AreTwins (all_stepped conn name acts h).machine
-      (machine_of (steps_told conn name acts s).view)
+      → AreTwins h.state (machine_of s.state) → AreTwins (all_stepped conn name acts h).state
+      (machine_of (steps_told conn name acts s).state)
   steps_twins conn name [] h s twins = twins
   steps_twins conn name (Answer reply ∷ acts) h s twins = steps_twins conn name acts
       (stepped conn name (Answer reply) h) (step_told conn name (Answer reply) s) twins
@@ -178,11 +169,11 @@ module _ (stay : AlikeStayAlike) where
       (stepped conn name (Raw line) h) (step_told conn name (Raw line) s) twins
   steps_twins conn name (Do effect ∷ acts) h s twins =
       steps_twins conn name acts (stepped conn name (Do effect) h)
-      (step_told conn name (Do effect) s) (effect_twins h.machine s.view effect twins)
+      (step_told conn name (Do effect) s) (effect_twins h.state s.state effect twins)
 
   close_twins : (close : Bool) (conn : ℕ) (h : Handled) (s : Served)
-      → AreTwins h.machine (machine_of s.view)
-      → AreTwins (closing close conn h).machine (machine_of (closed_told close conn s).view)
+      → AreTwins h.state (machine_of s.state)
+      → AreTwins (closing close conn h).state (machine_of (closed_told close conn s).state)
   close_twins true conn h s twins = record {
     place = twins.place;
     clients = ap (λ (cs : Clients). remove cs conn) twins.clients;
@@ -191,8 +182,8 @@ module _ (stay : AlikeStayAlike) where
   close_twins false conn h s twins = twins
 
   user_twins : (view : View) (conn : ℕ) (user : Option User) (message : Parsed)
-      → AreTwins (user_decided (machine_of view) conn user message).machine
-      (machine_of (user_told view conn user message).view)
+      → AreTwins (user_decided (machine_of view) conn user message).state
+      (machine_of (user_told view conn user message).state)
   user_twins view conn None message = are_its_twins (machine_of view)
   user_twins view conn (Some user) message =
       let decision = decide view.room (place_of view.routes) user.nick message in
@@ -203,8 +194,8 @@ module _ (stay : AlikeStayAlike) where
       (in_silence view) (are_its_twins (machine_of view)))
 
   message_twins : (view : View) (conn : ℕ) (client : Option Client) (message : Parsed)
-      → AreTwins (said_by (machine_of view) conn client message).machine
-      (machine_of (message_told view conn client message).view)
+      → AreTwins (said_by (machine_of view) conn client message).state
+      (machine_of (message_told view conn client message).state)
   message_twins view conn None message = are_its_twins (machine_of view)
   message_twins view conn (Some (Registering pending)) message =
       let given = register view.room (place_of view.routes) pending message in
@@ -220,13 +211,14 @@ module _ (stay : AlikeStayAlike) where
       user_twins view conn (row view.room.users (key nick)) message
 
   quit_twins : (view : View) (user : Option (List ℕ)) → AreTwins (quits user
-      (unchanged (machine_of view))).machine (machine_of (quit_told user (in_silence view)).view)
+      (unchanged (machine_of view))).state (machine_of (quit_told user (in_silence view)).state)
   quit_twins view None = are_its_twins (machine_of view)
   quit_twins view (Some nick) =
       effect_twins (machine_of view) view (Quit nick lost_text) (are_its_twins (machine_of view))
 
-  pub told_twins : (view : View) (happening : Happening) → AreTwins
-      (handled (machine_of view) happening).machine (machine_of (client_told view happening).view)
+  pub told_twins : (view : View) (client_event : ClientEvent) → AreTwins
+      (handled (machine_of view) client_event).state
+      (machine_of (client_told view client_event).state)
   unfolding handled client_told
   told_twins view (connects conn host) = are_its_twins _
   told_twins view (says conn (Ok message)) =

@@ -1,7 +1,9 @@
 -- What an effect meets at a server that it is still to change, as the code keeps it.
 use Rattle.std.specs.Prelude.{◌≡◌, ℕ, ⊤, Option, List, [], ◌++◌}
+use Rattle.std.specs.Global.{Vec}
 use Rattle.std.specs.List.{flat_map}
 use Rattle.std.specs.Option.{option_and_then, option_copied, option_map}
+use Rattle.arrayvec.specs.ArrayVec.{ArrayVec}
 use Rattle.irc_names.specs.Fold.{key}
 use Rattle.irc_names.specs.Tables.{row}
 use Rattle.irc_users.specs.declared.user.User.{User as Person}
@@ -73,10 +75,10 @@ AreSoIn lists around = AreSo lists around.room.now.room around.clients.now.by_ni
 abbrev pub hop_of : Known → Option Person → Option ℕ
 hop_of known user = option_and_then (next_hop known) (option_map (λ (u : Person). u.home) user)
 
--- The line of an effect is at hand, with the links on which it goes.
-abbrev pub IsAtHand : Around → Option ℕ → Effect → Ways → Type 0
-IsAtHand around arrival effect ways =
-    lines_on ways.links.items ways.line.items ≡ on_links (ways_around around arrival effect)
+-- The links on which an effect goes are at hand, and its line, where there is such a link.
+abbrev pub IsAtHand : Around → Option ℕ → Effect → Vec ℕ → ArrayVec ℕ → Type 0
+IsAtHand around arrival effect links line =
+    lines_on links.items line.items ≡ on_links (ways_around around arrival effect)
     (wire around.room.now.room around.routes.now effect)
 
 -- It is shown to the clients among its viewers, ..

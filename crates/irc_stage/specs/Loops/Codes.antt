@@ -44,5 +44,5 @@ view_code routes client users channel =
 -- with what it has put out
 abbrev pub served_code : Coded View → Coded Batch → Coded Served
 served_code view batch =
-    code_by (View × Batch) (coded× view batch) (λ s. (s.view, batch_of s.out []))
-    (λ p. record { view = p.0; out = p.1.outs }) (λ _. refl)
+    code_by (View × Batch) (coded× view batch) (λ s. (s.state, batch_of s.out []))
+    (λ p. record { state = p.0; out = p.1.outs }) (λ _. refl)

@@ -27,26 +27,26 @@ pub record IsAtRest (parts : Parts) (out : Batch) : Type 0 where
 
 -- the server is another, and what is put out is the same
 abbrev pub where_it_is : View → Served → Served
-where_it_is view s = record s { view = view }
+where_it_is view s = record s { state = view }
 
 -- a connection is this client from now on, or is none
 abbrev pub seated_in : ℕ → Client → Served → Served
-seated_in conn client s = where_it_is (seated conn client s.view) s
+seated_in conn client s = where_it_is (seated conn client s.state) s
 
 abbrev pub unseated_in : ℕ → Served → Served
-unseated_in conn s = where_it_is (unseated conn s.view) s
+unseated_in conn s = where_it_is (unseated conn s.state) s
 
 -- a user is told what it asks, if it asks something
 abbrev pub answered_to : Speaker → Option Query → List (List ℕ) → Served → Served
 answered_to speaker query params s =
-    let place = place_of s.view.routes in
+    let place = place_of s.state.routes in
     let nick = optional_now speaker.nick in
-    with_sent (all_said place (nick_under s.view.room nick) speaker.conn
-    (asked_steps s.view.room place (user_under s.view.room nick) params query)) s
+    with_sent (all_said place (nick_under s.state.room nick) speaker.conn
+    (asked_steps s.state.room place (user_under s.state.room nick) params query)) s
 
 -- a line on every link that counts, but for one
 abbrev pub told_to_all : Option ℕ → List ℕ → Served → Served
-told_to_all arrival line s = with_sent (lines_on (but arrival (met_links s.view.ends)) line) s
+told_to_all arrival line s = with_sent (lines_on (but arrival (met_links s.state.ends)) line) s
 
 -- a line on one link, and the end of one
 abbrev pub told_on : ℕ → List ℕ → Served → Served
@@ -58,5 +58,5 @@ closed_for link reason s = with_sent (end_of_link link reason ∷ []) s
 -- A server more is known from now on, where it is taken.
 pub record IsGained (newcomer : Newcomer) (old : Served) (taken : Bool) (new : Served)
     : Type 0 where
-  pub taken_is : taken ≡ takes_newcomer newcomer old.view
-  pub new_is : new ≡ where_it_is (view_with taken newcomer old.view) old
+  pub taken_is : taken ≡ takes_newcomer newcomer old.state
+  pub new_is : new ≡ where_it_is (view_with taken newcomer old.state) old

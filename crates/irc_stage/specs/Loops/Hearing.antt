@@ -8,10 +8,11 @@ use Rattle.std.specs.Cmp.Lexicographic.{pointwise}
 use Rattle.irc_names.specs.Fold.{key}
 use Rattle.irc_names.specs.Tables.{Table}
 use Rattle.irc_users.specs.declared.user.User.{User as Person}
+use Rattle.irc_users.specs.UserTable.{is_shown}
 use Rattle.irc_batch.specs.Batches.{Batch, Sent, batch_of, is_number, line_to}
 use Rattle.irc_room.specs.effect.Effect.{Effect}
 use Rattle.irc_room.specs.effect.Effect.TheVariants.{AddUser, Rename, Quit, Join, Part, Kick}
-use Rattle.irc_room.specs.effect.Effect.TheVariants.{ChangeModes, SetTopic, Say, Invite, UserMode}
+use Rattle.irc_room.specs.effect.Effect.TheVariants.{ChangeModes, SetTopic, Say, Invite, ChangeUser}
 use Rattle.irc_room.specs.effect.Target.{Target}
 use Rattle.irc_room.specs.effect.Target.TheVariants.{Channel, User}
 use Rattle.irc_room.specs.Applying.{Kept}
@@ -48,7 +49,7 @@ sees_fold room (ChangeModes by channel changes) fold = is_in room fold (key chan
 sees_fold room (SetTopic by channel text) fold = is_in room fold (key channel)
 sees_fold room (Say by notice target text) fold = is_told room by target fold
 sees_fold room (Invite by nick channel) fold = is_nick_of nick fold
-sees_fold room (UserMode nick invisible) fold = is_nick_of nick fold
+sees_fold room (ChangeUser nick change) fold = is_shown change && is_nick_of nick fold
 
 -- ---- their connections
 
@@ -62,6 +63,10 @@ conns_who room by_nick test =
 -- those of the users that see an effect
 abbrev pub hearers : Room → Table ℕ → Effect → List ℕ
 hearers room by_nick effect = conns_who room by_nick (sees_fold room effect)
+
+-- some connections, or none
+abbrev pub conns_if : Bool → List ℕ → List ℕ
+conns_if shown conns = if shown then conns else []
 
 -- a line to each of some connections, and the line at hand
 abbrev pub to_each : List ℕ → List ℕ → List Sent

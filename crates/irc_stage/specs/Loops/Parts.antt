@@ -83,7 +83,7 @@ pub record Keeps (old new : Parts) : Type 0 where
 
 -- the server now, and what has been put out
 abbrev pub served_at : Parts → List Sent → Served
-served_at stage out = record { view = view_of stage; out = out }
+served_at stage out = record { state = view_of stage; out = out }
 
 -- a line on each of these links
 abbrev pub lines_on : List ℕ → List ℕ → List Sent
@@ -140,7 +140,7 @@ CarriesOut speaker acts close old out new out_after =
 
 -- what was put out before stands in front
 abbrev pub behind_sent : List Sent → Served → Served
-behind_sent out s = record { view = s.view; out = out ++ s.out }
+behind_sent out s = record { state = s.state; out = out ++ s.out }
 
 -- a room that serves
 pub record IsSound (kept : Kept) : Type 0 where

@@ -8,15 +8,17 @@ use Rattle.std.specs.Prelude.{◌≤◌, ◌&&◌}
 use Rattle.std.proofs.lemmas.List.Folds.{list_all-append}
 use Rattle.irc_line.specs.Carried.{is_carried, is_carried_byte, AreCarriedParts, IsCarried}
 use Rattle.irc_users.specs.declared.user.User.{User}
+use Rattle.irc_users.specs.declared.user_change.UserChange.{UserChange}
+use Rattle.irc_users.specs.declared.user_change.UserChange.TheVariants.{Invisible}
 use Rattle.irc_modes.specs.declared.modes.ModeChange.{ModeChange}
 use Rattle.irc_room.specs.effect.By.TheVariants as by
 use Rattle.irc_room.specs.effect.Effect.{Effect}
 use Rattle.irc_room.specs.effect.Effect.TheVariants.{AddUser, Rename, Quit, Join, Part, Kick}
-use Rattle.irc_room.specs.effect.Effect.TheVariants.{ChangeModes, SetTopic, Say, Invite, UserMode}
+use Rattle.irc_room.specs.effect.Effect.TheVariants.{ChangeModes, SetTopic, Say, Invite, ChangeUser}
 use Rattle.irc_room.specs.effect.Target.{Target}
 use Rattle.irc_room.specs.effect.Target.TheVariants as target
 use Rattle.irc_room.specs.Laws.{NamesAreLineWords}
-use Rattle.irc_room.specs.Limits.{IsWithinLimits}
+use Rattle.irc_room.specs.Limits.{IsChangeWithin, IsWithinLimits}
 use Rattle.irc_room.specs.Room.{Room}
 use Rattle.irc_room.specs.Seen.{changes_words, names_member, stored_channel, stored_nick}
 use Rattle.irc_room.specs.Seen.{target_name}
@@ -26,7 +28,8 @@ use Rattle.irc_routes.specs.Known.{Known}
 use Rattle.irc_wire.specs.ReadBack.{IsPlainEffect}
 use Rattle.irc_wire.specs.WholeLines.{IsTellable, IsToldUser, ToldIsCarried}
 use Rattle.irc_link_words.specs.Words.{marked, no_mode, op_mark, with_i, without_i}
-use Rattle.irc_link_writer.specs.Written.{from, introduction, next_distance, wire, written_token}
+use Rattle.irc_link_writer.specs.Written.{from, introduction, next_distance, wire, wire_change}
+use Rattle.irc_link_writer.specs.Written.{written_token}
 use Rattle.irc_wire.specs.Lemmas.ModeWords.{digits_carried, letters_carried}
 use Rattle.irc_wire.specs.Lemmas.ModesRead.{words_written}
 use Rattle.irc_wire.specs.Lemmas.NumberText.{number_digits}
@@ -133,6 +136,12 @@ module _ (names : NamesAreLineWords) (room : Room) (within : IsWithinLimits room
   say_some true e = cc e
   say_some false e = cc e
 
+  change_carried : (nick : List ℕ) (change : UserChange) → IsCarried nick → IsChangeWithin change
+      → AreCarriedParts (wire_change nick change)
+  change_carried nick (Invisible invisible) named keeps =
+      from_carried nick (codes "MODE") (nick ∷ (if invisible then with_i else without_i) ∷ []) None
+      named refl (λ e. cc e) (named, (own_mode_carried invisible, tt)) refl
+
   pub told_carried : (known : Known) (effect : Effect) → IsTellable room known effect
       → AreCarriedParts (wire room known effect)
   told_carried known (AddUser user) told = user_carried known user told
@@ -200,10 +209,8 @@ module _ (names : NamesAreLineWords) (room : Room) (within : IsWithinLimits room
         nick_word nick told.nick_stored,
         (channel_word channel told.channel_named, tt),
       ) refl
-  told_carried known (UserMode nick invisible) told =
-      from_carried (stored_nick room nick) (codes "MODE") (stored_nick room nick
-      ∷ (if invisible then with_i else without_i) ∷ []) None (nick_word nick told)
-      refl (λ e. cc e) (nick_word nick told, (own_mode_carried invisible, tt)) refl
+  told_carried known (ChangeUser nick change) told =
+      change_carried (stored_nick room nick) change (nick_word nick told.nick_stored) told.keeps
 
 pub told_is_carried : NamesAreLineWords → ToldIsCarried
 told_is_carried names room known effect within told =
@@ -215,12 +222,4 @@ pub plain_tellable : (room : Room) (known : Known) (effect : Effect) → IsPlain
 plain_tellable room known (AddUser user) plain sent = absurd plain
 plain_tellable room known (ChangeModes by channel changes) plain sent = absurd plain
 plain_tellable room known (SetTopic by.Home channel text) plain sent = absurd sent
-plain_tellable room known (SetTopic (by.User nick) channel text) plain sent = sent
-plain_tellable room known (Rename nick new) plain sent = sent
-plain_tellable room known (Quit nick text) plain sent = sent
-plain_tellable room known (Join nick channel op) plain sent = sent
-plain_tellable room known (Part nick channel text) plain sent = sent
-plain_tellable room known (Kick by channel nick text) plain sent = sent
-plain_tellable room known (Say by notice to text) plain sent = sent
-plain_tellable room known (Invite by nick channel) plain sent = sent
-plain_tellable room known (UserMode nick invisible) plain sent = sent
+plain_tellable room known other plain sent = sent

@@ -19,22 +19,24 @@ use Rattle.irc_names.specs.Limits.{max_nick, max_channel}
 use Rattle.irc_names.specs.Names.{IsNick, IsChannel, is_nick, is_channel}
 use Rattle.irc_names.specs.Tables.{row}
 use Rattle.irc_users.specs.declared.user.User.{User}
+use Rattle.irc_users.specs.declared.user_change.UserChange.{UserChange}
+use Rattle.irc_users.specs.declared.user_change.UserChange.TheVariants.{Invisible}
 use Rattle.irc_room.specs.effect.By.TheVariants as by
 use Rattle.irc_room.specs.effect.Effect.{Effect}
 use Rattle.irc_room.specs.effect.Effect.TheVariants.{AddUser, Rename, Quit, Join, Part, Kick}
-use Rattle.irc_room.specs.effect.Effect.TheVariants.{ChangeModes, SetTopic, Say, Invite, UserMode}
+use Rattle.irc_room.specs.effect.Effect.TheVariants.{ChangeModes, SetTopic, Say, Invite, ChangeUser}
 use Rattle.irc_room.specs.effect.Target.{Target}
 use Rattle.irc_room.specs.effect.Target.TheVariants as target
 use Rattle.irc_room.specs.Laws.{IsWhole, NamedIsWholeToo, NamesAreLineWords, SentFitsItsLine}
-use Rattle.irc_room.specs.Limits.{IsWithinLimits}
+use Rattle.irc_room.specs.Limits.{IsChangeWithin, IsWithinLimits}
 use Rattle.irc_room.specs.Room.{Room}
 use Rattle.irc_room.specs.Seen.{full_sender, from_nick, parts_of, stored_nick, stored_channel}
-use Rattle.irc_room.specs.Seen.{target_name}
+use Rattle.irc_room.specs.Seen.{change_parts, target_name}
 use Rattle.irc_room.specs.Sendable.{IsChannelOrNew, IsSendable, IsStoredNick, IsSentTarget}
 use Rattle.irc_routes.specs.Known.{Known}
 use Rattle.irc_wire.specs.ReadBack.{IsPlainEffect}
 use Rattle.irc_link_words.specs.Words.{op_mark, marked, with_i, without_i}
-use Rattle.irc_link_writer.specs.Written.{from, wire}
+use Rattle.irc_link_writer.specs.Written.{from, wire, wire_change}
 use Rattle.irc_wire.specs.Lemmas.StoredNames.{nick_kept, channel_kept, channel_there}
 
 -- ---- what a line cannot carry is not in a text that it can
@@ -127,6 +129,12 @@ mode_plain : (invisible : Bool) → IsPlainWord (if invisible then with_i else w
 mode_plain true = command_plain _ _ refl refl refl
 mode_plain false = command_plain _ _ refl refl refl
 
+change_plain : (nick : List ℕ) (change : UserChange) → IsPlainWord nick → IsChangeWithin change
+    → IsPlain (wire_change nick change)
+change_plain nick (Invisible invisible) named keeps =
+    from_plain nick (codes "MODE") (nick ∷ (if invisible then with_i else without_i) ∷ []) None
+    named (command_plain _ _ refl refl refl) (named, (mode_plain invisible, tt)) refl (lit≤ tt)
+
 wire_plain : NamesAreLineWords → (room : Room) (known : Known) (effect : Effect)
     → IsPlainEffect effect → IsWithinLimits room → IsSendable room effect
     → IsPlain (wire room known effect)
@@ -188,12 +196,9 @@ wire_plain names room known (Invite by nick channel) plain within sent =
       nick_plain names room nick within sent.nick_stored,
       (channel_plain names room channel within sent.channel_named, tt),
     ) refl (lit≤ tt)
-wire_plain names room known (UserMode nick invisible) plain within sent =
-    from_plain (stored_nick room nick) (codes "MODE")
-    (stored_nick room nick ∷ (if invisible then with_i else without_i) ∷ []) None
-    (nick_plain names room nick within sent) (command_plain _ _ refl refl refl)
-    (nick_plain names room nick within sent, (mode_plain invisible, tt)) refl
-    (lit≤ tt)
+wire_plain names room known (ChangeUser nick change) plain within sent =
+    change_plain (stored_nick room nick) change
+    (nick_plain names room nick within sent.nick_stored) sent.keeps
 
 -- ---- nothing of the line is cut: with more in front of it, as clients are shown it, it is not
 
@@ -260,6 +265,16 @@ join_whole name channel op short fits =
     (middle_text (word ∷ [])) []) (named_length name) (word_length word)
     short (marked_short channel op fits)
 
+-- What a client is shown of a change has more in front of it than what is written. A change that is
+-- shown to nobody is as long as its limits let it be.
+change_whole : NamedIsWholeToo → (room : Room) (nick : List ℕ) (change : UserChange)
+    → IsStoredNick room nick → IsChangeWithin change
+    → IfSome (change_parts (stored_nick room nick) change (from_nick room nick)) IsWhole
+    → IsWhole (wire_change (stored_nick room nick) change)
+change_whole shorter room nick (Invisible invisible) stored keeps fits =
+    by_nickname shorter room nick (codes "MODE")
+    (stored_nick room nick ∷ (if invisible then with_i else without_i) ∷ []) None stored fits
+
 pub wire_whole : SentFitsItsLine → NamedIsWholeToo → (room : Room) (known : Known) (effect : Effect)
     → IsPlainEffect effect → IsWithinLimits room → IsSendable room effect
     → IsWhole (wire room known effect)
@@ -299,10 +314,9 @@ wire_whole shown shorter room known (Invite by nick channel) plain within sent =
     by_nickname shorter room by (codes "INVITE")
     (stored_nick room nick ∷ stored_channel room channel ∷ []) None sent.by_stored
     (shown room (Invite by nick channel) viewer within sent)
-wire_whole shown shorter room known (UserMode nick invisible) plain within sent =
-    by_nickname shorter room nick (codes "MODE")
-    (stored_nick room nick ∷ (if invisible then with_i else without_i) ∷ []) None sent
-    (shown room (UserMode nick invisible) viewer within sent)
+wire_whole shown shorter room known (ChangeUser nick change) plain within sent =
+    change_whole shorter room nick change sent.nick_stored sent.keeps
+    (shown room (ChangeUser nick change) viewer within sent)
 
 -- ---- what is written, and was not cut, is read again
 

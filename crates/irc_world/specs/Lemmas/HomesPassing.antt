@@ -6,10 +6,9 @@ use Rattle.irc_names.specs.Fold.{key}
 use Rattle.irc_names.specs.Tables.{Table, row, alter, moved}
 use Rattle.irc_names.specs.TableLaws.{same_fold, row-alter, row-moved, row-moved_none}
 use Rattle.irc_users.specs.declared.user.User.{User}
-use Rattle.irc_users.specs.UserTable.{with_nick, with_invisible}
+use Rattle.irc_users.specs.UserTable.{with_nick, with_change}
 use Rattle.irc_room.specs.effect.Effect.{Effect}
-use Rattle.irc_room.specs.effect.Effect.TheVariants.{AddUser, Rename, Quit, Join, Part, Kick}
-use Rattle.irc_room.specs.effect.Effect.TheVariants.{ChangeModes, SetTopic, Say, Invite, UserMode}
+use Rattle.irc_room.specs.effect.Effect.TheVariants.{AddUser, Rename, Quit, ChangeUser}
 use Rattle.irc_room.specs.Room.{Room}
 use Rattle.irc_room.specs.After.{after}
 use Rattle.irc_room.specs.Lemmas.Rows.{same_some}
@@ -67,14 +66,8 @@ module _ (passes : List ℕ → Bool) where
       put_elsewhere room.users (key nick) (key new) new all (row room.users (key nick)) refl
   pass_after room (Quit nick reason) all _ =
       altered room.users (key nick) (λ _. None) all (λ one is. absurd (cc is))
-  pass_after room (Join nick channel op) all _ = all
-  pass_after room (Part nick channel reason) all _ = all
-  pass_after room (Kick by channel nick reason) all _ = all
-  pass_after room (ChangeModes by channel changes) all _ = all
-  pass_after room (SetTopic by channel topic) all _ = all
-  pass_after room (Say by notice target words) all _ = all
-  pass_after room (Invite by nick channel) all _ = all
-  pass_after room (UserMode nick invisible) all _ =
-      altered room.users (key nick) (option_map (with_invisible invisible)) all
-      (changed (with_invisible invisible) (λ user. refl) (row room.users (key nick))
+  pass_after room (ChangeUser nick change) all _ =
+      altered room.users (key nick) (option_map (with_change change)) all
+      (changed (with_change change) (λ user. refl) (row room.users (key nick))
       (all (key nick)))
+  pass_after room other all _ = all

@@ -4,10 +4,9 @@ use Rattle.irc_outbox.specs.Calls.{Call}
 use Rattle.irc_late.specs.declared.late_wire.LateWire.{LateWire}
 use Rattle.irc_sockets.specs.declared.mio_wire.MioWire.{MioWire}
 use Rattle.irc_engine.specs.declared.engine.Engine.{Engine}
-use Rattle.irc_engine.specs.Turning.{EngineView}
+use Rattle.irc_engine.specs.EngineView.{EngineView, engine_view}
 use Rattle.irc_engine.specs.Telling.{ToldTurns}
 use Rattle.irc_journal.specs.Saying.{AreSomeSaid}
-use Rattle.irc_engine.specs.Loops.Engines.{engine_view}
 use Rattle.irc_endings.specs.declared.fault.Stop.{Stop}
 use Rattle.irc_endings.specs.declared.fault.Stop.TheVariants.{BadConfiguration, Failed}
 use Rattle.ircd.specs.declared.setup.Setup.{Setup}

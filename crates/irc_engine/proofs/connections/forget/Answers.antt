@@ -1,5 +1,5 @@
 use Rattle.std.proofs.Common.{false, ◌∙◌}
-use Rattle.irc_engine.specs.Loops.Connections.{has}
+use Rattle.irc_engine.specs.Moments.{has}
 use Rattle.irc_engine.proofs.TableLaws.{set_at}
 use Rattle.irc_engine.proofs.connections.forget.Goals as goal
 

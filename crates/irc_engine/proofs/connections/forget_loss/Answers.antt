@@ -1,5 +1,5 @@
 use Rattle.std.proofs.Common.{None, ◌∙◌}
-use Rattle.irc_engine.specs.Loops.Connections.{lost_at}
+use Rattle.irc_engine.specs.Moments.{lost_at}
 use Rattle.irc_engine.proofs.TableLaws.{set_at}
 use Rattle.irc_engine.proofs.connections.forget_loss.Goals as goal
 

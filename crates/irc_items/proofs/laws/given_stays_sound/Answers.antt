@@ -79,9 +79,11 @@ returns c = given_stays_sound (record {
         only_connected = c.only_connected_receive.ensures;
       };
       home = record { decisions = decisions; sound = c.side_at_rest_is_sound.ensures };
-      tells = λ s world after routes h view happening same_links fixed forest streams among is_world
+      tells =
+          λ s world after routes h view client_event same_links fixed forest streams among is_world
           of_world right fits place due.
-          tells_from_home telling s world routes h view happening fixed forest streams is_world fits
+          tells_from_home telling s world routes h view client_event fixed forest streams
+          is_world fits
           place due after same_links;
       place = c.place_is_worlds.ensures;
       kept = c.keeps_its_setting.ensures;

@@ -19,7 +19,7 @@ returns-in_default c =
 
 pub apply-requires-clause-fit : goal.apply-requires-clause-fit
 apply-requires-clause-fit c =
-    subst (λ (s : Served). IsFit (machine_of s.view) (Quit c.in-Some.nick c.cut-text.result))
+    subst (λ (s : Served). IsFit (machine_of s.state) (Quit c.in-Some.nick c.cut-text.result))
     (sym (c.take_out-handling.ensures
     ∙ ap (unseated_in c.args.conn) (c.handling.ensures ∙ c.begin.ensures)))
     (gone_fit (machine_of c.args.stage) c.args.conn c.in-Some.nick c.cut-text.result

@@ -11,12 +11,12 @@ use Rattle.irc_server.proofs.acting.on_registration.Goals as goal
 
 pub seat-requires-clause-no_user : goal.seat-requires-clause-no_user
 seat-requires-clause-no_user c =
-    subst (λ (s : Served). IsNoUser (client_of (machine_of s.view) c.args.conn))
+    subst (λ (s : Served). IsNoUser (client_of (machine_of s.state) c.args.conn))
     (sym (c.handling.ensures ∙ c.begin.ensures)) c.requires.no_user
 
 pub seat-requires-clause-free : goal.seat-requires-clause-free
 seat-requires-clause-free c =
-    subst (λ (s : Served). IsFreeOf c.in_ok-client.client s.view.clients)
+    subst (λ (s : Served). IsFreeOf c.in_ok-client.client s.state.clients)
     (sym (c.handling.ensures ∙ c.begin.ensures))
     (subst (λ client. IsFreeOf client c.args.stage.clients) (sym c.in_ok-client.ensures)
     c.requires.free)
@@ -24,7 +24,7 @@ seat-requires-clause-free c =
 pub carry_out-requires-clause-fit : goal.carry_out-requires-clause-fit
 carry_out-requires-clause-fit c =
     subst (AreFitAt _) (sym c.deref.ensures.value)
-    (subst (λ (s : Served). AreFitAt s.view c.args.given.now.steps.items)
+    (subst (λ (s : Served). AreFitAt s.state c.args.given.now.steps.items)
     (sym (given_seat c.args.stage c.args.conn c.in_ok-client.client _ c.handling.result
     c.in_ok-handling.handling c.in_ok-handling.ensures (c.handling.ensures ∙ c.begin.ensures)
     c.in_ok-client.ensures))
@@ -32,10 +32,10 @@ carry_out-requires-clause-fit c =
 
 pub carry_out-requires-clause-spoken : goal.carry_out-requires-clause-spoken
 carry_out-requires-clause-spoken c =
-    subst (λ (speaker : Speaker). AreSpokenAt speaker.conn c.in_ok-handling.handling.view
+    subst (λ (speaker : Speaker). AreSpokenAt speaker.conn c.in_ok-handling.handling.state
     c.deref.result.now) (sym c.new.ensures)
     (subst (AreSpokenAt c.args.conn _) (sym c.deref.ensures.value)
-    (subst (λ (s : Served). AreSpokenAt c.args.conn s.view c.args.given.now.steps.items)
+    (subst (λ (s : Served). AreSpokenAt c.args.conn s.state c.args.given.now.steps.items)
     (sym (given_seat c.args.stage c.args.conn c.in_ok-client.client _ c.handling.result
     c.in_ok-handling.handling c.in_ok-handling.ensures (c.handling.ensures ∙ c.begin.ensures)
     c.in_ok-client.ensures))

@@ -31,7 +31,7 @@ carry_out-requires-clause-fit c =
     (c.routes.ensures ∙ ap (λ (v : View). v.routes) c.view-view.ensures)
     c.new-speaker.ensures (ap words_now c.as_slice.ensures.value) c.in_ok-decision.ensures
     (c.handling-handling.ensures ∙ c.begin.ensures) c.in_ok-handling.ensures in
-    subst (λ (s : Served). AreFitAt s.view c.deref.result.now) (sym part.new_is)
+    subst (λ (s : Served). AreFitAt s.state c.deref.result.now) (sym part.new_is)
     (fit_along c.alike_stay_alike.ensures c.alike_take_alike.ensures view c.deref.result.now
     (so_left IsFit machine part.told _ part.is_only_said
     (decided_fit c.decided_is_possible.ensures c.who_stays_is_user.ensures
@@ -53,9 +53,9 @@ carry_out-requires-clause-spoken c =
     (c.handling-handling.ensures ∙ c.begin.ensures) c.in_ok-handling.ensures in
     let whole = ap (λ (acts : List Act). part.told ++ acts) c.deref.ensures.value
     ∙ sym (ap (λ (d : Decided). d.steps) part.want_is) in
-    subst (λ (who : Speaker). AreSpokenAt who.conn c.in_ok-handling.handling.view
+    subst (λ (who : Speaker). AreSpokenAt who.conn c.in_ok-handling.handling.state
     c.deref.result.now) (sym c.new-speaker.ensures)
-    (subst (λ (s : Served). AreSpokenAt c.args.conn s.view c.deref.result.now) (sym part.new_is)
+    (subst (λ (s : Served). AreSpokenAt c.args.conn s.state c.deref.result.now) (sym part.new_is)
     (spoken_along c.alike_stay_alike.ensures c.args.conn view c.deref.result.now
     (so_left (IsSaidByClient c.args.conn) machine part.told _ part.is_only_said
     (decided_spoken c.decided_by_itself.ensures machine c.know_serving.ensures.matched c.args.conn

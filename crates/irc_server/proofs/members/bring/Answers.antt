@@ -3,7 +3,7 @@ use Rattle.irc_line.specs.Messages.{text}
 use Rattle.irc_burst_lines.specs.DeedLines.{njoin_parts}
 use Rattle.irc_burst_lines.specs.Loops.Telling.{told_members}
 use Rattle.irc_stage.specs.EffectTold.{all_changed}
-use Rattle.irc_server.specs.DeedTold.{deed_told, titled_view}
+use Rattle.irc_server.specs.DeedTold.{deed_told}
 use Rattle.irc_server.specs.Loops.Telling.{all_come}
 use Rattle.irc_server.proofs.DeedsDone.{told_last}
 use Rattle.irc_server.proofs.members.bring.Goals as goal

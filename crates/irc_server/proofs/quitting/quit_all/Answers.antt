@@ -25,4 +25,4 @@ returns c =
     (c.room.ensures ∙ ap (λ (view : View). view.room) c.view-view.ensures)
     ∙ ap (λ effects. all_changed effects old)
     (map-map (λ nick. Quit nick loss.text) (λ (user : User). user.nick)
-    (users_at loss.name old.view.room))
+    (users_at loss.name old.state.room))

@@ -16,7 +16,7 @@ returns-in_default c = nothing_owed c.args.link c.args.name.now c.args.serving
 
 pub returns : goal.returns
 returns c =
-    let view = c.args.serving.view in
+    let view = c.args.serving.state in
     found_also c.put_all.result
     (λ done put. answered c.args.link c.args.name.now c.in-Some.end.now c.is_none-is_called.result _
     c.args.serving c.in_ok-greeted.greeted done

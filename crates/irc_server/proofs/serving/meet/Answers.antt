@@ -15,13 +15,13 @@ gain-requires c =
     let answered = c.in_ok-answer.field-0 in
     record {
       met =
-          subst (λ (s : Served). IsMetEnd (get s.view.ends c.args.link))
+          subst (λ (s : Served). IsMetEnd (get s.state.ends c.args.link))
           (sym (c.meet-serving.ensures
-          ∙ ap (λ name. where_it_is (with_far c.args.link name answered.view) answered)
+          ∙ ap (λ name. where_it_is (with_far c.args.link name answered.state) answered)
           c.copy.ensures
-          ∙ ap (λ (s : Served). where_it_is (with_far c.args.link c.args.name s.view) s)
+          ∙ ap (λ (s : Served). where_it_is (with_far c.args.link c.args.name s.state) s)
           c.in_ok-answer.ensures))
-          (met_now c.args.serving.view c.args.link c.args.name c.requires.there);
+          (met_now c.args.serving.state c.args.link c.args.name c.requires.there);
     }
 
 pub returns : goal.returns
@@ -31,7 +31,7 @@ returns c =
     (λ done told. met_served c.args.link c.args.name c.copy-uplink.result c.args.info c.args.serving
     answered c.meet-serving.result done c.in_ok-answer.ensures
     (c.meet-serving.ensures
-    ∙ ap (λ name. where_it_is (with_far c.args.link name answered.view) answered) c.copy.ensures)
+    ∙ ap (λ name. where_it_is (with_far c.args.link name answered.state) answered) c.copy.ensures)
     (c.copy-uplink.ensures ∙ c.name.ensures
     ∙ ap (λ (known : Known). known.name) c.routes.ensures
     ∙ ap (λ (view : View). view.routes.name) c.view.ensures) told)

@@ -1,4 +1,4 @@
-use Rattle.std.proofs.Common.{Some, None, ◌≡◌, ◌∙◌, ap, sym, if◌then◌else◌}
+use Rattle.std.proofs.Common.{Some, None, ◌∙◌, ap, sym, if◌then◌else◌}
 use Rattle.irc_names.specs.Spellings.{exactly_same}
 use Rattle.irc_routes.specs.Known.{Known}
 use Rattle.irc_burst_lines.specs.DeedLines.{kill_parts}

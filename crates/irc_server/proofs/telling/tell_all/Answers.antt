@@ -10,7 +10,7 @@ pub loop-deed-preserved : goal.loop-deed-preserved
 loop-deed-preserved c = record {
   completes = grind (arith, common_steps);
   met = subst (λ ends. IsMetEnd (get ends c.args.link))
-      (sym (ap (λ (s : Served). s.view.ends) c.in_ok-serving.ensures
+      (sym (ap (λ (s : Served). s.state.ends) c.in_ok-serving.ensures
       ∙ told_by_keeps_ends c.args.link _ c.loop-deed.serving))
       c.loop-deed.invariant.met;
 }

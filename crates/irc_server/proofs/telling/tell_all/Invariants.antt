@@ -10,5 +10,5 @@ abbrev pub invariant-loop-deed : goal.invariant-loop-deed
 invariant-loop-deed l = record {
   completes : all_told l.link (told_of_deeds (drop l.deed-index l.deeds)) l.serving
       ≡ all_told l.link (told_of_deeds l.deeds) l.initial.serving;
-  met : IsMetEnd (get l.serving.view.ends l.link);
+  met : IsMetEnd (get l.serving.state.ends l.link);
 }

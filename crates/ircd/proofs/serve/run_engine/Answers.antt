@@ -1,4 +1,4 @@
-use Rattle.irc_engine.specs.Loops.Engines.{engine_view}
+use Rattle.irc_engine.specs.EngineView.{engine_view}
 use Rattle.ircd.proofs.Ready.{ready_cut, ready_said}
 use Rattle.ircd.proofs.serve.run_engine.Goals as goal
 

@@ -2,7 +2,7 @@ use Rattle.std.proofs.Common.{false, ◌∙◌, ap}
 use Rattle.std.specs.BTreeMap.{is_at}
 use Rattle.std.specs.List.{list_any}
 use Rattle.std.specs.Ordering.{nat_cmp}
-use Rattle.irc_engine.specs.Loops.Connections.{has}
+use Rattle.irc_engine.specs.Moments.{has}
 use Rattle.irc_engine.proofs.FlushLaws.{never, emptied, flushes_none, flushes_one, flushes_all}
 use Rattle.irc_engine.proofs.FlushLaws.{in_order_again}
 use Rattle.irc_engine.proofs.KnowingLaws.{at_one_carried}

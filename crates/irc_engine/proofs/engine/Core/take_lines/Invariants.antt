@@ -2,7 +2,8 @@ use Rattle.std.proofs.Common.{[], ◌≡◌, ◌≤◌, ◌-◌, take}
 use Rattle.irc_engine.specs.Hearing.{only_of}
 use Rattle.irc_engine.specs.Running.{Ran}
 use Rattle.irc_engine.specs.Loops.Connections.{KeepsMarks}
-use Rattle.irc_engine.specs.Loops.Moments.{moment_of, IsAtOneIn, KeepsTold}
+use Rattle.irc_engine.specs.Loops.Moments.{IsAtOneIn, KeepsTold}
+use Rattle.irc_engine.specs.Moments.{moment_of}
 use Rattle.irc_engine.proofs.engine.Core.take_lines.Given as goal
 
 -- the bytes so far are heard

@@ -3,13 +3,11 @@ use Rattle.std.specs.BTreeMap.{is_at}
 use Rattle.std.specs.Map.{lookup}
 use Rattle.std.specs.Ordering.{nat_cmp}
 use Rattle.std.proofs.lemmas.Map.Keys.{le_from_not_gt}
-use Rattle.irc_engine.specs.Loops.Connections.{lost_at}
+use Rattle.irc_engine.specs.Moments.{lost_at, moment_of, connection_of}
 use Rattle.irc_engine.specs.declared.kind.ConnectionKind.{ConnectionKind}
-use Rattle.irc_engine.specs.Loops.Moments.{moment_of}
 use Rattle.irc_engine.specs.Running.{RanOn, TellsLosses, none_so_far, tells_lowest}
 use Rattle.irc_engine.proofs.TableLaws.{set_at}
 use Rattle.irc_engine.specs.Knowing.{IsAtOne}
-use Rattle.irc_engine.specs.Loops.Tables.{connection_of}
 use Rattle.irc_engine.proofs.KnowingLaws.{hears_end}
 use Rattle.irc_engine.proofs.RunLaws.{ran_none, ran_on, ran_gone}
 use Rattle.irc_engine.proofs.engine.Core.tell_losses.Goals as goal

@@ -2,7 +2,8 @@ use Rattle.std.proofs.Common.{◌≡◌}
 use Rattle.irc_engine.specs.Loops.Connections.{KeepsMarks}
 use Rattle.irc_engine.specs.Loops.Counts.{count_of}
 use Rattle.irc_engine.specs.Running.{RanOn, TellsLosses}
-use Rattle.irc_engine.specs.Loops.Moments.{moment_of, IsAtOneIn}
+use Rattle.irc_engine.specs.Loops.Moments.{IsAtOneIn}
+use Rattle.irc_engine.specs.Moments.{moment_of}
 use Rattle.irc_engine.proofs.engine.Core.tell_losses.Given as goal
 
 abbrev pub invariant-loop-conn : goal.invariant-loop-conn

@@ -1,6 +1,6 @@
 use Rattle.std.proofs.Common.{refl, sym, ◌∙◌, subst, arith}
 use Rattle.irc_engine.specs.Turning.{HasFailed, Turned, Turns, no_turn, one_more, all_taken}
-use Rattle.irc_engine.specs.Loops.Engines.{engine_view}
+use Rattle.irc_engine.specs.EngineView.{engine_view}
 use Rattle.irc_engine.proofs.TurnLaws.{stops_by}
 use Rattle.irc_engine.proofs.engine.Engine.run.Goals as goal
 

@@ -1,5 +1,5 @@
 use Rattle.std.proofs.Common.{subst, arith}
-use Rattle.irc_engine.specs.Loops.Engines.{engine_view}
+use Rattle.irc_engine.specs.EngineView.{engine_view}
 use Rattle.irc_engine.specs.Telling.{TellsTurned, ToldTurns, no_told, told_more, all_told}
 use Rattle.irc_engine.proofs.TellingLaws.{told_stops}
 use Rattle.irc_engine.proofs.engine.Engine.run_telling.Goals as goal

@@ -1,4 +1,4 @@
-use Rattle.irc_engine.specs.Loops.Engines.{engine_view}
+use Rattle.irc_engine.specs.EngineView.{engine_view}
 use Rattle.irc_engine.specs.Telling.{ToldTurns}
 use Rattle.irc_engine.proofs.engine.Engine.run_telling.Given as goal
 

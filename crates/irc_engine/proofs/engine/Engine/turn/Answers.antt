@@ -1,9 +1,8 @@
 use Rattle.std.proofs.Common.{◌≡◌, false, ap, refl, subst}
 use Rattle.irc_outbox.specs.Calls.{asks, Adds}
 use Rattle.irc_engine.specs.Knowing.{IsSettled}
-use Rattle.irc_engine.specs.Loops.Connections.{lost_at}
-use Rattle.irc_engine.specs.Loops.Engines.{with_wire}
-use Rattle.irc_engine.specs.Loops.Tables.{connection_of}
+use Rattle.irc_engine.specs.Moments.{lost_at, connection_of}
+use Rattle.irc_engine.specs.EngineView.{with_wire}
 use Rattle.irc_engine.specs.Turning.{device_failed, has_failed}
 use Rattle.irc_engine.proofs.KnowingLaws.{settled_once}
 use Rattle.irc_engine.proofs.TurnLaws.{kept_then, told_ready, turned_from}

@@ -1,9 +1,10 @@
+use Rattle.irc_network.specs.ByteNetwork.{ByteNetwork}
 use Rattle.std.proofs.Common.{◌∙◌, Ok, ap, sym, subst, refl}
 use Rattle.irc_net.specs.declared.answer.Answer.{Answer}
 use Rattle.irc_net.specs.Calls.{IsGiven, NetView, given_it, given_refused, given_to_failed}
 use Rattle.irc_net.specs.Calls.{standing}
 use Rattle.irc_net.specs.Faults.{item_fault}
-use Rattle.irc_network.specs.ByteNetwork.{ByteProgress}
+use Rattle.irc_network.specs.Network.{Progress}
 use Rattle.irc_network.specs.Views.{item_of}
 use Rattle.irc_net.proofs.Calling.{given_wants}
 use Rattle.irc_net.proofs.StaysOneRoom.{kept_item, refuses}
@@ -74,7 +75,7 @@ returns-clause-given g c =
     subst (λ (old : NetView). IsGiven old item (Ok answer) new) c.self.view_is
     (given_it c.if-self.false (record {
       none = sym c.in_default.ensures;
-      after = ap (λ (last : ByteProgress). standing last.net) c.in_ok-give.ensures;
+      after = ap (λ (last : Progress ByteNetwork). standing last.net) c.in_ok-give.ensures;
       client = c.number_given-client.ensures;
-      receipts = ap (λ (last : ByteProgress). last.receipts) c.in_ok-give.ensures;
+      receipts = ap (λ (last : Progress ByteNetwork). last.receipts) c.in_ok-give.ensures;
     }))

@@ -1,5 +1,5 @@
 use Rattle.std.proofs.Common.{◌∙◌, Ok, ap, sym, subst, refl}
-use Rattle.irc_network.specs.Loops.Coming.{byte_progress}
+use Rattle.irc_network.specs.Loops.Coming.{progress_of}
 use Rattle.irc_net.specs.Calls.{IsSettled, NetView, settles_it, settling_by_failed, standing}
 use Rattle.irc_net.specs.Loops.Settling.{SettlesAt}
 use Rattle.irc_network.specs.Views.{receipts_of}
@@ -22,8 +22,8 @@ invariant_of-self-2 g c =
     λ _. c.networks_stay_sound.ensures.settled net c.take_all.new.network c.in_ok-count.count
     (receipts_of lines) (c.self.invariant c.if-self.false)
     (settles_by net c.take_all.new.network lines c.in_ok-count.count
-    (subst (λ ls. SettlesAt c.in_ok-count.count (byte_progress net ls)
-    (byte_progress c.take_all.new.network lines)) c.new-output.ensures c.in_ok-count.ensures))
+    (subst (λ ls. SettlesAt c.in_ok-count.count (progress_of net ls)
+    (progress_of c.take_all.new.network lines)) c.new-output.ensures c.in_ok-count.ensures))
 
 pub returns-clause-rest : goal.returns-clause-rest
 returns-clause-rest g c = c.in_ok-count.ensures.rest
@@ -36,5 +36,5 @@ returns-clause-settled g c =
     (standing c.take_all.new.network)) c.self.view_is
     (settles_it c.if-self.false
     (settles_by net c.take_all.new.network lines c.in_ok-count.count
-    (subst (λ ls. SettlesAt c.in_ok-count.count (byte_progress net ls)
-    (byte_progress c.take_all.new.network lines)) c.new-output.ensures c.in_ok-count.ensures)))
+    (subst (λ ls. SettlesAt c.in_ok-count.count (progress_of net ls)
+    (progress_of c.take_all.new.network lines)) c.new-output.ensures c.in_ok-count.ensures)))

@@ -1,10 +1,10 @@
 use Rattle.std.proofs.Common.{◌≡◌, ◌∙◌, Some, None, ap, subst, sym}
 use Rattle.std.specs.List.{slice_get, slice_set}
-use Rattle.irc_server.specs.Happening.{occurrence_of}
+use Rattle.irc_server.specs.ReadEvents.{read_event_of}
 use Rattle.irc_network.specs.ByteNetwork.{ByteNetwork, progress_without_wires, progress_written}
 use Rattle.irc_network.specs.Lemmas.FoundAtPlaces.{found_at}
 use Rattle.irc_network.specs.Lemmas.Outcomes.{on_ok}
-use Rattle.irc_network.specs.Loops.Progress.{asked_out, byte_progress}
+use Rattle.irc_network.specs.Loops.Progress.{asked_out, progress_of}
 use Rattle.irc_network.specs.Network.{Node, all_sent_out}
 use Rattle.irc_network.specs.Whole.{IsTidy}
 use Rattle.irc_network.proofs.Places.{none_here, whole}
@@ -18,9 +18,9 @@ returns-in_default g c =
     let i = c.self.inside in
     let old = whole i.forest i.nodes.items i.wires i.homes.items (g.H.History.past i.history)
     i.taken in
-    subst (λ (net : ByteNetwork). byte_progress old lines ≡ asked_out c.args.place
-    (occurrence_of c.args.event.now) (byte_progress net lines)) c.self.view_is
-    (nobody_asked c.args.place (occurrence_of c.args.event.now) (byte_progress old lines)
+    subst (λ (net : ByteNetwork). progress_of old lines ≡ asked_out c.args.place
+    (read_event_of c.args.event.now) (progress_of net lines)) c.self.view_is
+    (nobody_asked c.args.place (read_event_of c.args.event.now) (progress_of old lines)
     (subst IsTidy (sym c.self.view_is) c.requires.tidy)
     (subst (λ place. slice_get old.network.nodes place ≡ None) c.index.ensures
     (none_here old.network.nodes c.index.result c.in_default.ensures.item.3)))
@@ -48,12 +48,12 @@ returns g c =
     on_ok c.send_out.result c.send_out.ensures (λ sent.
     sent
     ∙ ap (λ place. progress_written (all_sent_out c.args.place outs (progress_without_wires
-    (byte_progress (whole i.forest (slice_set i.nodes.items place c.serve.new.self) i.wires
+    (progress_of (whole i.forest (slice_set i.nodes.items place c.serve.new.self) i.wires
     i.homes.items (g.H.History.past i.history) i.taken) lines))) i.wires) c.index.ensures
-    ∙ somebody_asked c.args.place (occurrence_of c.args.event.now)
-    (byte_progress old lines) c.in-Some.node.now c.serve.new.self outs
+    ∙ somebody_asked c.args.place (read_event_of c.args.event.now)
+    (progress_of old lines) c.in-Some.node.now c.serve.new.self outs
     (subst (λ place. slice_get old.network.nodes place ≡ Some c.in-Some.node.now) c.index.ensures
     (found_at old.network.nodes c.index.result c.in-Some.node.now c.in-Some.ensures.item.3.0
     c.in-Some.ensures.item.1)) c.in_ok-serve.ensures
-    ∙ ap (λ (net : ByteNetwork). asked_out c.args.place (occurrence_of c.args.event.now)
-    (byte_progress net lines)) c.self.view_is)
+    ∙ ap (λ (net : ByteNetwork). asked_out c.args.place (read_event_of c.args.event.now)
+    (progress_of net lines)) c.self.view_is)

@@ -3,7 +3,7 @@ use Rattle.irc_line.specs.Framed.{bytes_of}
 use Rattle.irc_wires.specs.Wires.{Wires, lines_by, wire_at}
 use Rattle.irc_network.specs.ByteNetwork.{ByteNetwork}
 use Rattle.irc_network.specs.Loops.Coming.{come_between}
-use Rattle.irc_network.specs.Loops.Progress.{all_heard_out, byte_progress}
+use Rattle.irc_network.specs.Loops.Progress.{all_heard_out, progress_of}
 use Rattle.irc_network.specs.Whole.{IsTidy}
 use Rattle.irc_network.proofs.Calls.{come_tidy, have_come}
 use Rattle.irc_network.proofs.Places.{whole}
@@ -31,15 +31,15 @@ returns-clause-come g c =
     i.taken in
     c.in_ok-hear_all.ensures
     ∙ ap (λ (wires : Wires). all_heard_out near far
-    (byte_progress (record old { wires = wires }) before) (bytes_of c.take.new.lines.items))
+    (progress_of (record old { wires = wires }) before) (bytes_of c.take.new.lines.items))
     c.in_ok-bytes.ensures.wires
-    ∙ ap (all_heard_out near far (byte_progress (record old {
+    ∙ ap (all_heard_out near far (progress_of (record old {
       wires = _;
     }) before))
     (c.in_ok-bytes.ensures.lines
     ∙ ap (λ items. bytes_of items ++ lines_by c.args.count (wire_at i.wires near far))
     c.new-lines.ensures.items)
-    ∙ have_come c.same_wires.ensures near far c.args.count (byte_progress old before)
+    ∙ have_come c.same_wires.ensures near far c.args.count (progress_of old before)
     (subst IsTidy (sym c.self.view_is) c.requires.tidy)
-    ∙ ap (λ (net : ByteNetwork). come_between c.args.ends c.args.count (byte_progress net before))
+    ∙ ap (λ (net : ByteNetwork). come_between c.args.ends c.args.count (progress_of net before))
     c.self.view_is

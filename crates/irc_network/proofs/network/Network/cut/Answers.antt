@@ -1,8 +1,9 @@
+use Rattle.irc_network.specs.ByteNetwork.{ByteNetwork}
 use Rattle.std.proofs.Common.{◌≡◌, ◌∙◌, ap, subst, sym}
 use Rattle.irc_server.specs.Served.{link_down}
-use Rattle.irc_network.specs.ByteNetwork.{ByteProgress}
+use Rattle.irc_network.specs.Network.{Progress}
 use Rattle.irc_network.specs.Lemmas.Outcomes.{on_ok}
-use Rattle.irc_network.specs.Loops.Progress.{asked_out, byte_progress, ends_now}
+use Rattle.irc_network.specs.Loops.Progress.{asked_out, ends_now, progress_of}
 use Rattle.irc_network.specs.Whole.{IsTidy}
 use Rattle.irc_network.proofs.ItemsDone.{closed, closed_so, closed_tidily, none_parted}
 use Rattle.irc_network.proofs.ItemsDone.{servers_were_parted}
@@ -11,7 +12,7 @@ use Rattle.irc_network.proofs.network.Network.cut.Goals as goal
 
 pub returns-in_default : goal.returns-in_default
 returns-in_default g c =
-    ap (byte_progress c.args.self.now) c.requires.begins
+    ap (progress_of c.args.self.now) c.requires.begins
     ∙ none_parted c.args.near.now c.args.far.now c.args.self.now c.requires.tidy
     (sym c.in_default.ensures.ends)
 
@@ -34,9 +35,10 @@ ask-requires-2 g c =
     let ends = c.in-Some.ends in
     let past = g.H.History.past i.history in
     record {
-      tidy = subst (λ (progress : ByteProgress). IsTidy progress.net) (sym c.in_ok-ask.ensures)
+      tidy =
+          subst (λ (progress : Progress ByteNetwork). IsTidy progress.net) (sym c.in_ok-ask.ensures)
           (asked_tidy ends.near (link_down c.link.result)
-          (byte_progress c.close_way-2.new.self c.args.output.now.lines.items)
+          (progress_of c.close_way-2.new.self c.args.output.now.lines.items)
           (closed_tidily c.args.near.now c.args.far.now ends i.forest c.cut.new.self i.nodes.items
           i.wires i.homes.items past i.taken c.args.self.now c.close_way.new.self
           c.close_way-2.new.self
@@ -55,11 +57,11 @@ returns g c =
     i.wires i.homes.items past i.taken c.args.self.now c.close_way.new.self c.close_way-2.new.self
     c.self.view_is c.cut.ensures c.in-Some.ensures.named c.close_way.ensures c.close_way-2.ensures
     in
-    let middle = byte_progress c.ask.new.self c.ask.new.output.lines.items in
+    let middle = progress_of c.ask.new.self c.ask.new.output.lines.items in
     on_ok c.ask-2.result c.ask-2.ensures (λ last.
     servers_were_parted c.same_wires.ensures c.args.near.now c.args.far.now (ends_now ends)
-    c.args.self.now middle (byte_progress c.ask-2.new.self c.ask-2.new.output.lines.items)
+    c.args.self.now middle (progress_of c.ask-2.new.self c.ask-2.new.output.lines.items)
     c.requires.tidy (sym c.in-Some.ensures.ends)
     (c.in_ok-ask.ensures ∙ (λ j. asked_out ends.near (link_down (c.link.ensures j))
-    (byte_progress (before j) (c.requires.begins j))))
+    (progress_of (before j) (c.requires.begins j))))
     (last ∙ ap (λ link. asked_out ends.far (link_down link) middle) c.link-2.ensures))

@@ -1,8 +1,9 @@
+use Rattle.irc_network.specs.ByteNetwork.{ByteNetwork}
 use Rattle.std.proofs.Common.{◌≡◌, ◌∙◌, Some, None, ap, subst, sym}
 use Rattle.irc_server.specs.Served.{link_up}
-use Rattle.irc_network.specs.ByteNetwork.{ByteProgress}
+use Rattle.irc_network.specs.Network.{Progress}
 use Rattle.irc_network.specs.Lemmas.Outcomes.{on_ok}
-use Rattle.irc_network.specs.Loops.Progress.{asked_out, byte_progress, ends_now}
+use Rattle.irc_network.specs.Loops.Progress.{asked_out, ends_now, progress_of}
 use Rattle.irc_network.specs.Whole.{IsTidy}
 use Rattle.irc_network.proofs.ItemsDone.{none_linked, opened, opened_so, opened_tidily}
 use Rattle.irc_network.proofs.ItemsDone.{servers_were_linked}
@@ -11,7 +12,7 @@ use Rattle.irc_network.proofs.network.Network.link.Goals as goal
 
 pub returns-in_default : goal.returns-in_default
 returns-in_default g c =
-    ap (byte_progress c.args.self.now) c.requires.begins
+    ap (progress_of c.args.self.now) c.requires.begins
     ∙ none_linked c.args.near.now c.args.far.now c.args.self.now c.requires.tidy
     (sym c.in_default.ensures.ends)
 
@@ -35,9 +36,10 @@ ask-requires-2 g c =
     let ends = c.in-Some.ends in
     let past = g.H.History.past i.history in
     record {
-      tidy = subst (λ (progress : ByteProgress). IsTidy progress.net) (sym c.in_ok-ask.ensures)
+      tidy =
+          subst (λ (progress : Progress ByteNetwork). IsTidy progress.net) (sym c.in_ok-ask.ensures)
           (asked_tidy ends.near (link_up c.link-2.result (Some c.copy.result))
-          (byte_progress c.open_way-2.new.self c.args.output.now.lines.items)
+          (progress_of c.open_way-2.new.self c.args.output.now.lines.items)
           (opened_tidily c.args.near.now c.args.far.now ends i.forest c.link.new.self i.nodes.items
           i.wires i.homes.items past i.taken c.args.self.now c.open_way.new.self
           c.open_way-2.new.self
@@ -56,12 +58,12 @@ returns g c =
     i.wires i.homes.items past i.taken c.args.self.now c.open_way.new.self c.open_way-2.new.self
     c.self.view_is c.in_ok-link.ensures.ok c.in-Some.ensures.named c.in_ok-open_way.ensures
     c.in_ok-open_way-2.ensures in
-    let middle = byte_progress c.ask.new.self c.ask.new.output.lines.items in
+    let middle = progress_of c.ask.new.self c.ask.new.output.lines.items in
     on_ok c.ask-2.result c.ask-2.ensures (λ last.
     servers_were_linked c.same_wires.ensures c.args.near.now c.args.far.now (ends_now ends)
-    c.args.self.now middle (byte_progress c.ask-2.new.self c.ask-2.new.output.lines.items)
+    c.args.self.now middle (progress_of c.ask-2.new.self c.ask-2.new.output.lines.items)
     c.requires.tidy (sym c.in-Some.ensures.ends)
     (c.in_ok-ask.ensures
     ∙ (λ j. asked_out ends.near (link_up (c.link-2.ensures j) (Some (c.copy.ensures j)))
-    (byte_progress (before j) (c.requires.begins j))))
+    (progress_of (before j) (c.requires.begins j))))
     (last ∙ ap (λ link. asked_out ends.far (link_up link None) middle) c.link-3.ensures))

@@ -3,7 +3,7 @@ use Rattle.std.specs.Vec.Iter.{into_iter_items, into_iter_len}
 use Rattle.irc_batch.specs.Batches.{Sent}
 use Rattle.irc_server.specs.declared.event.ServerFault.{ServerFault}
 use Rattle.irc_stage.specs.View.{View}
-use Rattle.irc_server.specs.Happening.{AreHandled}
+use Rattle.irc_server.specs.ReadEvents.{AreHandled}
 use Rattle.irc_server.proofs.server.Server.handle_all.Given as goal
 
 -- whatever comes of the events that are left completes what comes of all

@@ -20,5 +20,5 @@ change-requires-clause-fit c =
     ∙ some_there c.user.result
     (row room.users (key c.as_bytes.result.now)) c.user.ensures c.if-is_none.ensures in
     fit_by (machine_at c.self.inside.parts) (Quit c.copy.result c.copy-2.result)
-    (subst (λ (s : Served). IsMatched (machine_of s.view)) (sym c.self.view_is) c.requires.matched)
+    (subst (λ (s : Served). IsMatched (machine_of s.state)) (sym c.self.view_is) c.requires.matched)
     (quit_possible room c.copy.result c.copy-2.result there)

@@ -11,6 +11,6 @@ invariant-loop-act l = record {
   completes : steps_told l.speaker.conn (optional_now l.speaker.nick) (drop l.act-index l.steps)
       l.self
       ≡ steps_told l.speaker.conn (optional_now l.speaker.nick) l.steps l.initial.self;
-  fit : AreFitAt l.self.view (drop l.act-index l.steps);
-  spoken : AreSpokenAt l.speaker.conn l.self.view (drop l.act-index l.steps);
+  fit : AreFitAt l.self.state (drop l.act-index l.steps);
+  spoken : AreSpokenAt l.speaker.conn l.self.state (drop l.act-index l.steps);
 }

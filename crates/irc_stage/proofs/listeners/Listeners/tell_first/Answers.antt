@@ -3,8 +3,8 @@ use Rattle.std.specs.List.{list_all}
 use Rattle.irc_tables.specs.Lemmas.RowsAsTable.{ok_also}
 use Rattle.irc_room.specs.Effects.{has_user, needs_users}
 use Rattle.irc_stage.specs.Loops.Hearing.{hearers, told_to}
-use Rattle.irc_stage.proofs.Hearing.{doer_there, one_heard, other_there, quit_heard, told_in}
-use Rattle.irc_stage.proofs.Hearing.{unseen}
+use Rattle.irc_stage.proofs.Hearing.{doer_there, itself_heard, one_heard, other_there, quit_heard}
+use Rattle.irc_stage.proofs.Hearing.{told_in, unseen}
 use Rattle.irc_stage.proofs.listeners.Listeners.tell_first.Goals as goal
 
 pub returns-in-Rename : goal.returns-in-Rename
@@ -78,17 +78,17 @@ returns-in-Invite c =
     ∙ ap (hearers c.args.room.now.room c.args.clients.now.by_nick) (sym c.in-Invite.is)))
     c.tell_one.ensures
 
-pub returns-in-UserMode : goal.returns-in-UserMode
-returns-in-UserMode c =
-    ok_also c.tell_one-in-UserMode.result
+pub returns-in-ChangeUser : goal.returns-in-ChangeUser
+returns-in-ChangeUser c =
+    ok_also c.tell_itself.result
     (λ is. is
     ∙ ap (λ conns. told_to c.args.line.now.items conns c.args.out.now)
-    (one_heard c.args.room.now.room c.own.ensures.well_formed c.args.clients.now.by_nick
-    c.in-UserMode.nick
+    (itself_heard c.args.room.now.room c.own.ensures.well_formed c.args.clients.now.by_nick
+    c.in-ChangeUser.nick c.in-ChangeUser.change
     (doer_there _ (sym (ap (λ e. list_all (has_user c.args.room.now.room)
-    (needs_users e)) c.in-UserMode.is) ∙ c.requires.possible.users_there))
-    ∙ ap (hearers c.args.room.now.room c.args.clients.now.by_nick) (sym c.in-UserMode.is)))
-    c.tell_one-in-UserMode.ensures
+    (needs_users e)) c.in-ChangeUser.is) ∙ c.requires.possible.users_there))
+    ∙ ap (hearers c.args.room.now.room c.args.clients.now.by_nick) (sym c.in-ChangeUser.is)))
+    c.tell_itself.ensures
 
 pub returns-in_default : goal.returns-in_default
 returns-in_default c =

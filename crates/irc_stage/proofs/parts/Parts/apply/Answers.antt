@@ -33,7 +33,7 @@ returns-clause-ok c =
     let effect = c.args.effect.now in
     on_ok c.tell-2.result _ _
     (λ is. told_behind (record {
-      view = record view {
+      state = record view {
         clients = clients_of c.settle.new.clients;
         room = c.settle.new.room.room;
       };
@@ -44,7 +44,7 @@ returns-clause-ok c =
     c.hear.new.out.outs c.in_ok-hear.ensures.shown
     (sym (c.is_elsewhere.ensures view.peers c.named.ensures) ∙ c.if-is_elsewhere.false)) _ _
     (still_at_hand c.settle.new.ways c.ready.new.self c.in_ok-settle.ensures.at_hand
-    c.in_ok-settle.ensures.same_line _
+    c.ready.new.line _
     (c.in_ok-ready.ensures.at_hand
     ∙ ap (λ arrival. on_links (ways_at view arrival effect) (wire view.room view.routes effect))
     c.arrival.ensures)) _ is)
@@ -57,6 +57,5 @@ returns-clause-ready c =
     c.in_ok-settle.ensures.after c.requires.ready c.in_ok-settle.ensures.sound
     c.settle.new.clients c.in_ok-settle.ensures.indexed c.in_ok-settle.ensures.by_nick
     c.hear.new.self c.in_ok-hear.ensures.so c.settle.new.ways
-    (c.in_ok-settle.ensures.right c.args.self.now.routes c.in_ok-ready.ensures.so)
-    c.hear.new.line)
+    (c.in_ok-settle.ensures.right c.args.self.now.routes c.in_ok-ready.ensures.so))
     c.tell-2.ensures

@@ -26,4 +26,3 @@ returns-clause-ready c =
     c.settle.new.clients c.in_ok-settle.ensures.indexed c.in_ok-settle.ensures.by_nick
     c.hear.new.self c.in_ok-hear.ensures.so c.settle.new.ways
     (c.in_ok-settle.ensures.right c.args.self.now.routes c.requires.ready.branches)
-    c.hear.new.line

@@ -91,7 +91,7 @@ returns-clause-ok c =
     let old = served_at c.args.self.now c.args.out.now.outs in
     on_ok c.tell-2.result _ _
     (λ is. told_behind (record {
-      view = record view {
+      state = record view {
         clients = clients_of c.settle.new.clients;
         room = c.settle.new.room.room;
       };
@@ -102,7 +102,7 @@ returns-clause-ok c =
     c.hear.new.out.outs c.in_ok-hear.ensures.shown
     (sym (c.is_elsewhere.ensures view.peers c.named.ensures) ∙ c.if-is_elsewhere.false)) _ _
     (still_at_hand c.settle.new.ways c.ready.new.self c.in_ok-settle.ensures.at_hand
-    c.in_ok-settle.ensures.same_line _ c.in_ok-ready.ensures.at_hand) _ is
+    c.ready.new.line _ c.in_ok-ready.ensures.at_hand) _ is
     ∙ sym (ap (λ b. if b then effect_told (Some c.args.link) effect old else old)
     (sym (c.counts.ensures view.peers c.named.ensures) ∙ c.if-not-counts.false)))
     c.tell-2.ensures
@@ -121,10 +121,9 @@ returns-clause-serving c =
     c.in_ok-settle.ensures.after c.requires.serving.ready c.in_ok-settle.ensures.sound
     c.settle.new.clients c.in_ok-settle.ensures.indexed c.in_ok-settle.ensures.by_nick
     c.hear.new.self c.in_ok-hear.ensures.so c.settle.new.ways
-    (c.in_ok-settle.ensures.right c.args.self.now.routes c.in_ok-ready.ensures.so)
-    c.hear.new.line)
+    (c.in_ok-settle.ensures.right c.args.self.now.routes c.in_ok-ready.ensures.so))
     (told_behind (record {
-      view = record view {
+      state = record view {
         clients = clients_of c.settle.new.clients;
         room = c.settle.new.room.room;
       };
@@ -135,5 +134,5 @@ returns-clause-serving c =
     c.hear.new.out.outs c.in_ok-hear.ensures.shown
     (sym (c.is_elsewhere.ensures view.peers c.named.ensures) ∙ c.if-is_elsewhere.false)) _ _
     (still_at_hand c.settle.new.ways c.ready.new.self c.in_ok-settle.ensures.at_hand
-    c.in_ok-settle.ensures.same_line _ c.in_ok-ready.ensures.at_hand) _ is))
+    c.ready.new.line _ c.in_ok-ready.ensures.at_hand) _ is))
     c.tell-2.ensures

@@ -24,5 +24,5 @@ invariant_of-self c =
     (added_met (numbered stage.ends) stage.routes newcomer.link newcomer.uplink.now
     newcomer.name.now newcomer.distance newcomer.token newcomer.info.now
     c.self.invariant.ready.met
-    (subst (λ (s : Served). IsMetEnd (get s.view.ends newcomer.link)) (sym c.self.view_is)
+    (subst (λ (s : Served). IsMetEnd (get s.state.ends newcomer.link)) (sym c.self.view_is)
     c.requires.met)))

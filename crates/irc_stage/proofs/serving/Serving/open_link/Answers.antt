@@ -10,7 +10,7 @@ use Rattle.irc_stage.proofs.serving.Serving.open_link.Goals as goal
 pub invariant_of-self : goal.invariant_of-self
 invariant_of-self c =
     let stage = c.self.inside.parts in
-    let new = subst (λ (s : Served). get s.view.ends c.args.link ≡ None) (sym c.self.view_is)
+    let new = subst (λ (s : Served). get s.state.ends c.args.link ≡ None) (sym c.self.view_is)
     c.requires.new in
     serves_with_ends stage c.self.invariant c.put_end.new.ends
     (subst (λ (es : Ends). AreEnds es stage.routes) (sym c.in_ok-put_end.ensures)

@@ -8,7 +8,7 @@ use Rattle.irc_stage.proofs.serving.Serving.remove_user.Goals as goal
 
 pub settle-requires : goal.settle-requires
 settle-requires c = record {
-  matched = subst (λ (s : Served). IsMatched (machine_of s.view))
+  matched = subst (λ (s : Served). IsMatched (machine_of s.state))
       (sym (c.in_ok-end_client.ensures
       ∙ ap (client_ended c.args.nick.now c.args.text.now)
       (c.in_ok-left.ensures

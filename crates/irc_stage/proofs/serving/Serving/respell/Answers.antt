@@ -10,12 +10,12 @@ use Rattle.irc_stage.proofs.serving.Serving.respell.Goals as goal
 
 pub returns : goal.returns
 returns c =
-    ap (λ (view : View). record { view = view; out = c.self.inside.out.outs }) (
+    ap (λ (view : View). record { state = view; out = c.self.inside.out.outs }) (
     ap (λ (kept : Kept). record (view_of c.self.inside.parts) { room = kept.room })
     (room_respelled c.respell.result c.self.inside.parts.room c.respell.new.self c.args.channel.now
     c.self.invariant.ready.sound.serves
     c.respell.ensures.fault c.respell.ensures.ok c.respell.ensures.refused))
-    ∙ ap (λ (s : Served). where_it_is (with_title c.args.channel.now s.view) s) c.self.view_is
+    ∙ ap (λ (s : Served). where_it_is (with_title c.args.channel.now s.state) s) c.self.view_is
 
 pub invariant_of-self : goal.invariant_of-self
 invariant_of-self c =

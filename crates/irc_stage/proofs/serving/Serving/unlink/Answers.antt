@@ -13,7 +13,7 @@ use Rattle.irc_stage.proofs.serving.Serving.unlink.Goals as goal
 
 pub returns : goal.returns
 returns c =
-    ap (λ (view : View). record { view = view; out = c.self.inside.out.outs }) (
+    ap (λ (view : View). record { state = view; out = c.self.inside.out.outs }) (
     ap (λ (known : Known). record (view_of c.self.inside.parts) {
       routes = known;
       ends = numbered c.remove.new.self;
@@ -22,7 +22,7 @@ returns c =
     { routes = without_link c.args.link c.self.inside.parts.routes; ends = ends })
     (taken-numbered c.self.inside.parts.ends c.remove.new.self c.args.link
     c.remove.ensures.updates))
-    ∙ ap (λ (s : Served). where_it_is (unlinked c.args.link s.view) s) c.self.view_is
+    ∙ ap (λ (s : Served). where_it_is (unlinked c.args.link s.state) s) c.self.view_is
 
 pub invariant_of-self : goal.invariant_of-self
 invariant_of-self c =

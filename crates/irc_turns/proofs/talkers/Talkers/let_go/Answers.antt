@@ -2,7 +2,7 @@ use Rattle.std.proofs.Common.{◌≡◌, ◌<◌, ℕ, true, false, length, get_
 use Rattle.std.proofs.Common.{arith}
 use Rattle.std.specs.List.{slice_get, swap_remove}
 use Rattle.irc_turns.specs.HeldBack.{held_at}
-use Rattle.irc_turns.specs.declared.holding.Held.{Held}
+use Rattle.irc_turns.specs.declared.holding.HeldClient.{HeldClient}
 use Rattle.irc_turns.specs.Numbered.{NumberedTalkers, only, tried_again, is_due, nobody, one_more}
 use Rattle.irc_turns.proofs.LettingGo.{before_place, due_by_room, due_by_time, not_due, fuller}
 use Rattle.irc_turns.proofs.LettingGo.{gone, one_further}
@@ -31,7 +31,7 @@ loop-place-preserved-then-is_full c =
     ∙ sym c.at.ensures ∙ c.in-Some.is in
     record {
       one_by_one = c.loop-place.invariant.one_by_one;
-      all = one_further (λ k. (d : Held) → is_due c.args.self.now
+      all = one_further (λ k. (d : HeldClient) → is_due c.args.self.now
           (get_or c.loop-place.self.holding.held k d) ≡ false) place c.loop-place.invariant.all
           (λ d. not_due c.args.self.now c.loop-place.self place c.in-Some.by d within held
           (sym c.is_full.ensures ∙ c.if-is_full.true)
@@ -51,7 +51,7 @@ loop-place-preserved c =
     let others = c.let_go-held.ensures.others
     ∙ ap (λ (s : NumberedTalkers). swap_remove s.holding.held place held) c.self.view_is in
     let passed = c.let_go-held.ensures.passed
-    ∙ ap (λ (s : NumberedTalkers). s.holding.passed) c.self.view_is in
+    ∙ ap (λ (s : NumberedTalkers). s.holding.rounds_passed) c.self.view_is in
     let tried = c.try_again.ensures ∙ ap (λ (s : NumberedTalkers).
     only tried_again held.by (record s { holding = holding })) c.self.view_is in
     let left = ap (λ (s : NumberedTalkers). s.holding) c.ask_again.ensures
@@ -81,5 +81,5 @@ loop-place-preserved c =
           (fuller between c.try_again.new.self c.ask_again.new.self held.by held.who
           (ap (λ (s : NumberedTalkers). s.by_number) tried)
           (ap (λ (s : NumberedTalkers). s.by_number) c.ask_again.ensures) number full);
-      passed = ap (λ h. h.passed) left ∙ passed ∙ c.loop-place.invariant.passed;
+      passed = ap (λ h. h.rounds_passed) left ∙ passed ∙ c.loop-place.invariant.passed;
     }

@@ -1,5 +1,5 @@
 use Rattle.std.proofs.Common.{◌≡◌, ◌-◌, ◌<◌, ℕ, true, false, length, get_or}
-use Rattle.irc_turns.specs.declared.holding.Held.{Held}
+use Rattle.irc_turns.specs.declared.holding.HeldClient.{HeldClient}
 use Rattle.irc_turns.specs.Numbered.{talker_at, is_full_one, is_due, LetsGo}
 use Rattle.irc_turns.proofs.talkers.Talkers.let_go.Given as goal
 
@@ -7,11 +7,11 @@ use Rattle.irc_turns.proofs.talkers.Talkers.let_go.Given as goal
 abbrev pub invariant-loop-place : goal.invariant-loop-place
 invariant-loop-place l = record {
   one_by_one : LetsGo l.fn.self l.self;
-  all : (k : ℕ) → k < l.place → (d : Held)
+  all : (k : ℕ) → k < l.place → (d : HeldClient)
       → is_due l.fn.self (get_or l.self.holding.held k d) ≡ false;
   full : (number : ℕ) → is_full_one (talker_at l.self number) ≡ true
       → is_full_one (talker_at l.fn.self number) ≡ true;
-  passed : l.self.holding.passed ≡ l.fn.self.holding.passed;
+  passed : l.self.holding.rounds_passed ≡ l.fn.self.holding.rounds_passed;
 }
 
 -- each client that was looked at is held back still, or let go

@@ -1,11 +1,20 @@
 -- An engine as those who have one see it.
-use Rattle.std.specs.Prelude.{◌≡◌, ⊤, Result, Err}
+use Rattle.std.specs.Prelude.{◌≡◌, ⊤, Bool, Result, Err}
 use Rattle.irc_engine.specs.declared.engine.Engine.{Engine}
 use Rattle.irc_engine.specs.declared.engine.EngineFault.{EngineFault}
 use Rattle.irc_engine.specs.declared.engine.EngineFault.TheVariants.{Device}
-use Rattle.irc_engine.specs.Turning.{EngineView}
-use Rattle.irc_engine.specs.Loops.Moments.{moment_of}
+use Rattle.irc_engine.specs.declared.engine.OutboxSizes.{OutboxSizes}
+use Rattle.irc_engine.specs.Moments.{moment_of}
+use Rattle.irc_engine.specs.Running.{Moment}
 
+-- An engine, as those who have one see it: whether memory ran out for it, how many bytes its
+-- outboxes have room for, and how it is now.
+pub record EngineView (W : Type 0) : Type 0 where
+  pub failed : Bool
+  pub sizes : OutboxSizes
+  pub now : Moment W
+
+-- what that is in the code
 abbrev pub engine_view : {W : Type 0} → Engine W → EngineView W
 engine_view engine =
     record { failed = engine.failed; sizes = engine.sizes; now = moment_of engine.core }

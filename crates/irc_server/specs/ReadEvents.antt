@@ -9,23 +9,23 @@ use Rattle.irc_server.specs.declared.event.ServerFault.{ServerFault}
 use Rattle.irc_server.specs.declared.event.ServerFault.TheVariants.{Memory, Failed}
 use Rattle.irc_stage.specs.View.{View}
 use Rattle.irc_stage.specs.Handle.{connects, says, goes}
-use Rattle.irc_server.specs.Served.{Occurrence, of_client, link_up, link_says, link_down, served}
+use Rattle.irc_server.specs.Served.{ReadEvent, of_client, link_up, link_says, link_down, served}
 use Rattle.irc_server.specs.Served.{fault_of}
 
 -- what happens by an event; of a line, what it is read as
-abbrev pub occurrence_of : Event → Occurrence
-occurrence_of (Connect conn host) = of_client (connects conn host)
-occurrence_of (Line conn line) = of_client (says conn (read_of line.items))
-occurrence_of (Gone conn) = of_client (goes conn)
-occurrence_of (LinkUp link starts) = link_up link starts
-occurrence_of (LinkLine link line) = link_says link (read_of line.items)
-occurrence_of (LinkDown link) = link_down link
+abbrev pub read_event_of : Event → ReadEvent
+read_event_of (Connect conn host) = of_client (connects conn host)
+read_event_of (Line conn line) = of_client (says conn (read_of line.items))
+read_event_of (Gone conn) = of_client (goes conn)
+read_event_of (LinkUp link starts) = link_up link starts
+read_event_of (LinkLine link line) = link_says link (read_of line.items)
+read_event_of (LinkDown link) = link_down link
 
 -- an event is handled: the server is the one after it, and what it puts out is appended
 pub record Does (old : View) (event : Event) (out : List Sent) (new : View)
     (out_after : List Sent) : Type 0 where
-  pub view_is : new ≡ (served old (occurrence_of event)).view
-  pub out_is : out_after ≡ out ++ (served old (occurrence_of event)).out
+  pub view_is : new ≡ (served old (read_event_of event)).state
+  pub out_is : out_after ≡ out ++ (served old (read_event_of event)).out
 
 -- What comes of asking a server for an event: it is handled, it is refused and nothing changes,
 -- memory runs out, or memory ran out before.

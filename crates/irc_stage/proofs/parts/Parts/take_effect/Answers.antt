@@ -6,7 +6,7 @@ use Rattle.irc_stage.specs.Loops.Parts.{clients_of, machine_at, served_at, view_
 use Rattle.irc_stage.proofs.EffectsShown.{changed_by, ready_after}
 use Rattle.irc_stage.proofs.ServesStill.{holds_at, serves_by}
 use Rattle.irc_stage.proofs.ToldOnLinks.{elsewhere_stays, spoken_by_link}
-use Rattle.irc_stage.proofs.parts.Parts.take.Goals as goal
+use Rattle.irc_stage.proofs.parts.Parts.take_effect.Goals as goal
 
 pub hear-requires-clause-lent : goal.hear-requires-clause-lent
 hear-requires-clause-lent c =
@@ -83,8 +83,7 @@ returns-clause-serving c =
     c.in_ok-settle.ensures.after c.requires.serving.ready c.in_ok-settle.ensures.sound
     c.settle.new.clients c.in_ok-settle.ensures.indexed c.in_ok-settle.ensures.by_nick
     c.hear.new.self c.in_ok-hear.ensures.so c.settle.new.ways
-    (c.in_ok-settle.ensures.right c.args.self.now.routes c.requires.serving.ready.branches)
-    c.hear.new.line)
+    (c.in_ok-settle.ensures.right c.args.self.now.routes c.requires.serving.ready.branches))
     (changed_by c.args.self.now effect c.settle.new.room c.in_ok-settle.ensures.after
     (clients_of c.settle.new.clients) c.in_ok-settle.ensures.clients c.args.out.now.outs
     c.hear.new.out.outs c.in_ok-hear.ensures.shown

@@ -2,7 +2,7 @@ use Rattle.std.proofs.Common.{◌∙◌, ap}
 use Rattle.irc_line.specs.PartViews.{words_now}
 use Rattle.irc_numerics.specs.Replies.{numbered, saying}
 use Rattle.irc_numerics.specs.Lemmas.Cutting.{numbered-cut}
-use Rattle.irc_numerics.proofs.writing.Head.cut_text.Goals as goal
+use Rattle.irc_numerics.proofs.writing.ReplyHead.cut_text.Goals as goal
 
 pub returns : goal.returns
 returns c whole is =

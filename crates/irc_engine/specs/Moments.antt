@@ -1,0 +1,43 @@
+-- What an engine is made of, as one moment.
+use Rattle.std.specs.Prelude.{ℕ, Bool, nat_eq, Option, Some, None}
+use Rattle.std.specs.List.{slice_get}
+use Rattle.std.specs.Vec.{vec_len}
+use Rattle.std.specs.HashMap.{get}
+use Rattle.std.specs.BTreeMap.{BTreeMap, get as get_in_tree}
+use Rattle.std.specs.BTreeSet.{BTreeSet, contains}
+use Rattle.std.specs.Ordering.{nat_cmp}
+use Rattle.irc_engine.specs.declared.kind.ConnectionKind.{ConnectionKind}
+use Rattle.irc_engine.specs.declared.connection_table.Connection.{Connection}
+use Rattle.irc_engine.specs.declared.connection_table.ConnectionTable.{ConnectionTable}
+use Rattle.irc_engine.specs.declared.engine.Core.{Core}
+use Rattle.irc_engine.specs.Running.{Moment}
+
+-- a number among the dense ones has the connection that is there, and another that of the other map
+abbrev pub connection_at : Option (Option Connection) → Option Connection → Option Connection
+connection_at (Some dense) sparse = dense
+connection_at None sparse = sparse
+
+-- the connection of a number, if there is one
+abbrev pub connection_of : ConnectionTable → ℕ → Option Connection
+connection_of table conn =
+    connection_at (slice_get table.dense.items conn) (get nat_eq table.sparse conn)
+
+-- whether a number is in a set
+abbrev pub has : BTreeSet ℕ → ℕ → Bool
+has numbers conn = contains nat_cmp numbers conn
+
+-- the kind of a connection that was lost
+abbrev pub lost_at : BTreeMap ℕ ConnectionKind → ℕ → Option ConnectionKind
+lost_at lost conn = get_in_tree nat_cmp lost conn
+
+-- all of that as one moment
+abbrev pub moment_of : {W : Type 0} → Core W → Moment W
+moment_of core = record {
+  server = core.server;
+  journal = core.journal;
+  wire = core.connections.wire;
+  connections = connection_of core.connections.table;
+  lost = lost_at core.connections.lost;
+  waiting = has core.connections.waiting;
+  read_room = vec_len core.buffer;
+}
