@@ -33,4 +33,7 @@ moved_on (Err e) own old outs place out there is = tt
 pub never_none : {A : Type 0} (outs : List Sent) (place : ℕ) → place < length outs
     → None ≡ slice_get outs place → A
 never_none outs place within is =
-    absurd (none-some (get_or outs place (end_of 0)) (is ∙ slice_get-get_or outs place (end_of 0) within))
+    absurd (none-some (get_or outs place (end_of 0)) (is ∙ found))
+  where
+    found : slice_get outs place ≡ Some (get_or outs place (end_of 0))
+    found = slice_get-get_or outs place (end_of 0) within

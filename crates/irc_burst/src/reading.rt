@@ -123,34 +123,12 @@ fn tell_server(
         (parsed message.now).prefix (parsed message.now).params)) }
 {
     let params = Params::new(message.params.as_slice());
-    match command {
-        ServerCommand::Server => Ok(server_line(at, message.prefix, params)),
-        ServerCommand::Pass => Ok(pass_line(message.prefix, params)),
-        _ => match message.prefix {
-            Some(server) => line_of_server(alloc, at, command, server, params),
-            None => Ok(Err(CloseReason::Parameters)),
-        },
-    }
-}
-
-/// The same of a line that is from `server`.
-fn line_of_server(
-    alloc: Global,
-    at: Arrival<'_>,
-    command: ServerCommand,
-    server: &[u8],
-    params: Params<'_>,
-) -> Result<Result<Option<Deed>, CloseReason>, AllocError>
-    ensures told { IfOk result (λ told.
-        told_found told ≡ comes_to command at.entry (Some server.now) params.entry) }
-    ensures memory { OnErr result
-        (IsOk (comes_to command at.entry (Some server.now) params.entry)) }
-{
-    match command {
-        ServerCommand::Server => Ok(server_line(at, Some(server), params)),
-        ServerCommand::Squit => Ok(squit_line(at, server, params)),
-        ServerCommand::Kill => Ok(kill_line(at, server, params)),
-        ServerCommand::Njoin => njoin_line(alloc, at, server, params),
-        ServerCommand::Pass => Ok(pass_line(Some(server), params)),
+    match (command, message.prefix) {
+        (ServerCommand::Server, prefix) => Ok(server_line(at, prefix, params)),
+        (ServerCommand::Pass, prefix) => Ok(pass_line(prefix, params)),
+        (_, None) => Ok(Err(CloseReason::Parameters)),
+        (ServerCommand::Squit, Some(server)) => Ok(squit_line(at, server, params)),
+        (ServerCommand::Kill, Some(server)) => Ok(kill_line(at, server, params)),
+        (ServerCommand::Njoin, Some(server)) => njoin_line(alloc, at, server, params),
     }
 }

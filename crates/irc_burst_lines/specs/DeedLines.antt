@@ -1,10 +1,10 @@
 -- A server's deeds as lines of a link (RFC 2813 sections 4.1, 4.2 and 5.3.2):
--- :a.net SERVER b.net 2 3 :B b.net, linked to a.net, is two links from the reader, and has number 3
--- on this link
+--   :a.net SERVER b.net 2 3 :B              b.net, linked to a.net, is two links from the reader,
+--                                           and has number 3 on this link
 --   :a.net SQUIT b.net :a.net b.net         b.net is lost, and its users quit with this text
 --   :a.net KILL zed :Nick collision         the holder of zed quits
--- :a.net NJOIN #c :@al,+bo,@+cy,dee members of #c: an operator, one who may speak, one who is both,
--- one who is neither
+--   :a.net NJOIN #c :@al,+bo,@+cy,dee       members of #c: an operator, one who may speak, one who
+--                                           is both, one who is neither
 --   :a.net MODE #c +ntl 5                   modes of #c
 --   :a.net TOPIC #c :hello                  its topic
 use Rattle.std.specs.Prelude.{ℕ, Some, None, List, [], ◌∷◌, ◌++◌, codes, decimal, if◌then◌else◌}

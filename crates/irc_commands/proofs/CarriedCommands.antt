@@ -26,16 +26,16 @@ use Rattle.irc_acts.specs.ByTest.{by_test}
 use Rattle.irc_acts.specs.CarriedWords.{nick_carried, cut_carried}
 use Rattle.irc_acts.specs.Sendable.{CarriesSendable, CarrySendable}
 use Rattle.irc_acts.specs.Standing.{is_known}
-use Rattle.irc_membership.specs.Invite.{invite_steps}
-use Rattle.irc_membership.specs.Join.{join_steps}
-use Rattle.irc_membership.specs.Kick.{kick_steps}
-use Rattle.irc_membership.specs.Part.{part_steps}
-use Rattle.irc_membership.specs.Laws.InviteSendable.{invite_carries}
-use Rattle.irc_membership.specs.Laws.JoinSendable.{join_carries}
-use Rattle.irc_membership.specs.Laws.KickSendable.{kick_carries}
-use Rattle.irc_membership.specs.Laws.PartSendable.{part_carries}
-use Rattle.irc_moderation.specs.Mode.{mode_steps}
-use Rattle.irc_moderation.specs.Laws.ModeSendable.{mode_carries}
+use Rattle.irc_channel_commands.specs.Invite.{invite_steps}
+use Rattle.irc_channel_commands.specs.Join.{join_steps}
+use Rattle.irc_channel_commands.specs.Kick.{kick_steps}
+use Rattle.irc_channel_commands.specs.Part.{part_steps}
+use Rattle.irc_channel_commands.specs.Laws.InviteSendable.{invite_carries}
+use Rattle.irc_channel_commands.specs.Laws.JoinSendable.{join_carries}
+use Rattle.irc_channel_commands.specs.Laws.KickSendable.{kick_carries}
+use Rattle.irc_channel_commands.specs.Laws.PartSendable.{part_carries}
+use Rattle.irc_channel_commands.specs.Mode.{mode_steps}
+use Rattle.irc_channel_commands.specs.Laws.ModeSendable.{mode_carries}
 use Rattle.irc_commands.specs.declared.say.Verb.{Verb}
 use Rattle.irc_commands.specs.Say.{say_steps}
 use Rattle.irc_commands.specs.Topic.{topic_told, topic_set, topic_known, topic_of, topic_steps}

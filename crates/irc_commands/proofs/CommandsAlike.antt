@@ -22,11 +22,11 @@ use Rattle.irc_acts.specs.CommaLists.{entries}
 use Rattle.irc_acts.specs.OtherInvitations.{uninviting, AreAlike, AreAlikeFor}
 use Rattle.irc_acts.specs.Standing.{is_known}
 use Rattle.irc_acts.specs.Words.{names_channel, word_at}
-use Rattle.irc_membership.specs.Laws.InviteDoes.{invite_looks_at_no_invitation}
-use Rattle.irc_membership.specs.Laws.JoinDoes.{join_looks_at_own_invitations}
-use Rattle.irc_membership.specs.Laws.KickDoes.{kick_looks_at_no_invitation}
-use Rattle.irc_membership.specs.Laws.PartDoes.{part_looks_at_no_invitation}
-use Rattle.irc_moderation.specs.Laws.InvitationsLaw.{mode_looks_at_no_invitations}
+use Rattle.irc_channel_commands.specs.Laws.InviteDoes.{invite_looks_at_no_invitation}
+use Rattle.irc_channel_commands.specs.Laws.JoinDoes.{join_looks_at_own_invitations}
+use Rattle.irc_channel_commands.specs.Laws.KickDoes.{kick_looks_at_no_invitation}
+use Rattle.irc_channel_commands.specs.Laws.PartDoes.{part_looks_at_no_invitation}
+use Rattle.irc_channel_commands.specs.Laws.InvitationsLaw.{mode_looks_at_no_invitations}
 use Rattle.irc_commands.specs.declared.say.Verb.{Verb}
 use Rattle.irc_commands.specs.declared.say.Verb.TheVariants as verb
 use Rattle.irc_commands.specs.declared.command_names.Command.{Command}

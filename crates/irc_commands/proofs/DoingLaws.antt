@@ -5,8 +5,8 @@ use Rattle.irc_acts.specs.Doing.{AreDoing}
 use Rattle.irc_acts.specs.DoingLaws.{own_are_doing}
 use Rattle.irc_acts.specs.Moves.{own_channels}
 use Rattle.irc_acts.specs.OwnLaws.{stored_there}
-use Rattle.irc_membership.specs.Join.{leaves}
-use Rattle.irc_membership.specs.Laws.JoinLaw.{leaving_all_is_own}
+use Rattle.irc_channel_commands.specs.Join.{leaves}
+use Rattle.irc_channel_commands.specs.Laws.JoinLaw.{leaving_all_is_own}
 use Rattle.irc_commands.specs.Doing.{DecidedDoes, RegisteringDoes}
 use Rattle.irc_commands.proofs.TableCases.{decided_so, registering_so}
 

@@ -12,7 +12,7 @@ use Rattle.irc_room.specs.After.{after}
 use Rattle.irc_acts.specs.declared.act.Act.{Act}
 use Rattle.irc_acts.specs.declared.act.Act.TheVariants.{Answer, Raw, Do}
 use Rattle.irc_acts.specs.Own.{IsOwn, to_user, AreOwn}
-use Rattle.irc_membership.specs.Join.{leaves}
+use Rattle.irc_channel_commands.specs.Join.{leaves}
 use Rattle.irc_commands.specs.Comings.{adds_user, adds_or_ends, renames_other}
 
 -- a test that fails for all such steps

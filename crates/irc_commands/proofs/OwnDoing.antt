@@ -13,7 +13,7 @@ use Rattle.irc_acts.specs.Acts.{effects_among}
 use Rattle.irc_acts.specs.Moves.{own_channels}
 use Rattle.irc_acts.specs.Own.{IsOwn, to_user, to_channel, makes, enters, parts, sets_topic, kicks}
 use Rattle.irc_acts.specs.Own.{invites, changes_modes, changes_itself}
-use Rattle.irc_membership.specs.Join.{leaves}
+use Rattle.irc_channel_commands.specs.Join.{leaves}
 use Rattle.irc_commands.specs.Doers.{IsDoneBy, DecidedByItself}
 use Rattle.irc_commands.proofs.TableCases.{decided_so}
 

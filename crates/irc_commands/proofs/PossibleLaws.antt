@@ -10,8 +10,8 @@ use Rattle.irc_acts.specs.Possible.{ArePossible}
 use Rattle.irc_commands.specs.Possible.{DecidedIsPossible, RegisteringIsPossible}
 use Rattle.irc_acts.specs.OwnLaws.{stored_there, one_there, own_are_possible}
 use Rattle.irc_acts.specs.Moves.{own_channels}
-use Rattle.irc_membership.specs.Join.{leaves}
-use Rattle.irc_membership.specs.Laws.JoinLaw.{leaving_all_is_own}
+use Rattle.irc_channel_commands.specs.Join.{leaves}
+use Rattle.irc_channel_commands.specs.Laws.JoinLaw.{leaving_all_is_own}
 use Rattle.irc_commands.proofs.TableCases.{decided_so, registering_so}
 
 -- a nickname that is not another's is nobody's, or the user's own

@@ -11,9 +11,9 @@ use Rattle.irc_acts.specs.CarriedWords.{nick_carried, reason_carried}
 use Rattle.irc_acts.specs.Moves.{own_channels}
 use Rattle.irc_acts.specs.Sendable.{AreSendable}
 use Rattle.irc_acts.specs.SendableLaws.{nick_stored, own_are_sendable}
-use Rattle.irc_membership.specs.Join.{leaves}
-use Rattle.irc_membership.specs.Laws.JoinLaw.{leaving_all_is_own}
-use Rattle.irc_membership.specs.Laws.JoinSendable.{leaving_carries}
+use Rattle.irc_channel_commands.specs.Join.{leaves}
+use Rattle.irc_channel_commands.specs.Laws.JoinLaw.{leaving_all_is_own}
+use Rattle.irc_channel_commands.specs.Laws.JoinSendable.{leaving_carries}
 use Rattle.irc_commands.specs.Sendable.{DecidedIsSendable}
 use Rattle.irc_commands.proofs.TableCases.{decided_so}
 

@@ -27,15 +27,15 @@ use Rattle.irc_acts.specs.Moves.{own_channels}
 use Rattle.irc_acts.specs.Own.{IsOwn, AreOwn}
 use Rattle.irc_acts.specs.Sendable.{CarriesSendable}
 use Rattle.irc_acts.specs.Words.{reason_given, word_at}
-use Rattle.irc_membership.specs.Join.{leaves, join_steps}
-use Rattle.irc_membership.specs.Invite.{invite_steps}
-use Rattle.irc_membership.specs.Kick.{kick_steps}
-use Rattle.irc_membership.specs.Laws.InviteLaw.{invite_is_own}
-use Rattle.irc_moderation.specs.Mode.{mode_steps}
-use Rattle.irc_moderation.specs.Laws.ModeLaw.{mode_is_own}
-use Rattle.irc_membership.specs.Laws.JoinLaw.{join_is_own_or_leaves}
-use Rattle.irc_membership.specs.Laws.KickLaw.{kick_is_own}
-use Rattle.irc_membership.specs.Laws.PartLaw.{part_is_own}
+use Rattle.irc_channel_commands.specs.Join.{leaves, join_steps}
+use Rattle.irc_channel_commands.specs.Invite.{invite_steps}
+use Rattle.irc_channel_commands.specs.Kick.{kick_steps}
+use Rattle.irc_channel_commands.specs.Laws.InviteLaw.{invite_is_own}
+use Rattle.irc_channel_commands.specs.Mode.{mode_steps}
+use Rattle.irc_channel_commands.specs.Laws.ModeLaw.{mode_is_own}
+use Rattle.irc_channel_commands.specs.Laws.JoinLaw.{join_is_own_or_leaves}
+use Rattle.irc_channel_commands.specs.Laws.KickLaw.{kick_is_own}
+use Rattle.irc_channel_commands.specs.Laws.PartLaw.{part_is_own}
 use Rattle.irc_acts.specs.Names.{names_steps}
 use Rattle.irc_acts.specs.Laws.NamesLaw.{names_only_answers}
 use Rattle.irc_queries.specs.Ison.{ison_steps}
@@ -49,7 +49,7 @@ use Rattle.irc_queries.specs.Laws.WhoisLaw.{whois_only_answers}
 use Rattle.irc_queries.specs.Who.{who_steps}
 use Rattle.irc_queries.specs.Laws.WhoLaw.{who_only_answers}
 use Rattle.irc_commands.specs.Nick.{is_anothers, nick_taken, nick_steps}
-use Rattle.irc_membership.specs.Part.{part_steps}
+use Rattle.irc_channel_commands.specs.Part.{part_steps}
 use Rattle.irc_commands.specs.Ping.{ping_steps}
 use Rattle.irc_commands.specs.Say.{say_steps}
 use Rattle.irc_commands.specs.Topic.{topic_steps}

@@ -17,10 +17,10 @@ use Rattle.irc_acts.specs.Words.{word_at}
 use Rattle.irc_commands.specs.Decisions.{Decided, nothing, does}
 use Rattle.irc_commands.specs.Ping.{ping_steps}
 use Rattle.irc_commands.specs.Quit.{quit_decided}
-use Rattle.irc_membership.specs.Invite.{invite_steps}
-use Rattle.irc_moderation.specs.Mode.{mode_steps}
-use Rattle.irc_membership.specs.Join.{join_steps}
-use Rattle.irc_membership.specs.Kick.{kick_steps}
+use Rattle.irc_channel_commands.specs.Invite.{invite_steps}
+use Rattle.irc_channel_commands.specs.Mode.{mode_steps}
+use Rattle.irc_channel_commands.specs.Join.{join_steps}
+use Rattle.irc_channel_commands.specs.Kick.{kick_steps}
 use Rattle.irc_acts.specs.Names.{names_steps}
 use Rattle.irc_queries.specs.Ison.{ison_steps}
 use Rattle.irc_queries.specs.Lusers.{lusers_steps}
@@ -28,7 +28,7 @@ use Rattle.irc_queries.specs.List.{list_steps}
 use Rattle.irc_queries.specs.Whois.{whois_steps}
 use Rattle.irc_queries.specs.Who.{who_steps}
 use Rattle.irc_commands.specs.Nick.{nick_steps}
-use Rattle.irc_membership.specs.Part.{part_steps}
+use Rattle.irc_channel_commands.specs.Part.{part_steps}
 use Rattle.irc_commands.specs.Say.{say_steps}
 use Rattle.irc_commands.specs.Topic.{topic_steps}
 use Rattle.irc_commands.specs.CommandNames.{CommandRow, row_named}

@@ -25,7 +25,7 @@ pub use command_names::{Command, CommandRow};
 pub use deciding::decide;
 pub use decision::Decision;
 pub use irc_acts::Act;
-pub use irc_membership::MAX_JOINED;
+pub use irc_channel_commands::MAX_JOINED;
 pub use own_lines::is_own;
 pub use pending::{Pending, Registration};
 pub use registering::register;

@@ -97,7 +97,7 @@ module _ (side : ℕ → Bool) (place : ℕ) (next : Served) (along : Wires) (ol
 
 abbrev written_out : ℕ → ReadEvent → ByteNetwork → ByteNetwork
 written_out place read_event base =
-    queues_written (node_asked place read_event (begun base.network)).net base.wires
+    queues_written (node_asked place read_event (begun base.network)).state base.wires
 
 module _ (item : Item) (n : ℕ) (read_event : ReadEvent) (base : ByteNetwork) (view : View)
     (tidy : IsTidy base) (all : AllStill base)
@@ -158,11 +158,11 @@ no_lines count = ap (completed nothing_begun) (take-nil count) ∙ none_complete
 
 pub aside_still : (side : ℕ → Bool) (from to count : ℕ) (net : ByteNetwork) (view : View)
     → IsAside side net → IsTidy net → server_at net.network to ≡ Some (Some view)
-    → IsAside side (bytes_come from to count (begun net)).net
+    → IsAside side (bytes_come from to count (begun net)).state
 aside_still side from to count net view aside tidy at =
     aside_then side to (all_replies from view (completed_in net from to count))
     (wires_come net from to count) net
-    (bytes_come from to count (begun net)).net
+    (bytes_come from to count (begun net)).state
     (bytes_go_on from to count net view tidy at) aside.stays
     (λ x y there. still_along x y (aside.still x y there))
     (λ x y none. still_along x y (aside.no_way x y none))

@@ -70,7 +70,7 @@ pub leads_both : (old mid new : ByteNetwork) (before items : List Item) → Lead
 leads_both old mid new before items one no_more =
     subst (λ xs. LeadsTo old xs mid) (sym (append-nil before)) one
 leads_both old mid new before items one (is_given front item between first fault within) =
-    subst (λ xs. LeadsTo old xs (item_given item between).net)
+    subst (λ xs. LeadsTo old xs (item_given item between).state)
     (append_assoc before front (item ∷ []))
     (is_given (before ++ front) item between
     (leads_both old mid between before front one first) fault within)
@@ -108,24 +108,24 @@ none_refused net item rest none =
 -- ---- what the network is asked for
 
 pub given_line : (net : ByteNetwork) (place client : ℕ) (text : List ℕ)
-    → home_place net.network client ≡ Some place → (item_given (line client text) net).net
+    → home_place net.network client ≡ Some place → (item_given (line client text) net).state
     ≡ queues_written (item_kept (line client text) (node_asked place
-    (of_client (says client (read_of text))) (begun net.network))).net net.wires
+    (of_client (says client (read_of text))) (begun net.network))).state net.wires
 unfolding item_given given
 given_line net place client text home =
     ap
     (λ o. queues_written
     (item_kept (line client text) (node_asked_if o (of_client (says client (read_of text)))
-    (begun net.network))).net net.wires) home
+    (begun net.network))).state net.wires) home
 
 pub given_gone : (net : ByteNetwork) (place client : ℕ) → home_place net.network client ≡ Some place
-    → (item_given (gone client) net).net
+    → (item_given (gone client) net).state
     ≡ queues_written (item_kept (gone client)
-    (node_asked place (of_client (goes client)) (begun net.network))).net net.wires
+    (node_asked place (of_client (goes client)) (begun net.network))).state net.wires
 unfolding item_given given
 given_gone net place client home =
     ap (λ o. queues_written (item_kept (gone client)
-    (node_asked_if o (of_client (goes client)) (begun net.network))).net net.wires) home
+    (node_asked_if o (of_client (goes client)) (begun net.network))).state net.wires) home
 
 view_there : (o : Option Node) (view : View) → option_map (λ (s : Node). s.server) o
     ≡ Some (Some view) → option_and_then (λ (s : Node). s.server) o ≡ Some view
@@ -415,12 +415,12 @@ module _ (lines_end : ServedLinesEnd) (own_law : ServedGoesToItsOwn) (stay : Cli
                 (client_comes q (read_event_of event)) (connects_none q) is
 
         pub one_went : (item : Item) → Went place numbers mine.state mine.out net (queues_written
-            (item_kept item (node_asked place read_event (begun net.network))).net net.wires)
+            (item_kept item (node_asked place read_event (begun net.network))).state net.wires)
         one_went item =
             subst
             (λ (o : ReadEvent). Went place numbers (reply own o).state (reply own o).out net
             (queues_written
-            (item_kept item (node_asked place read_event (begun net.network))).net net.wires))
+            (item_kept item (node_asked place read_event (begun net.network))).state net.wires))
             (sym is_it)
             (item_went lines_end own_law alike_law place numbers apart own at.other read_event conn
             happens at.alike net at.tidy at.server at.ways item)
@@ -449,8 +449,8 @@ module _ (lines_end : ServedLinesEnd) (own_law : ServedGoesToItsOwn) (stay : Cli
         pub one_more : (last : View) (events : List Event) (first more : List Sent)
             (item : Item) (items : List Item) (later rest : Bool) → first ≡ mine.out
             → AllStill net → fault_at_rest net.network item ≡ None
-            → IsItemWithin item → (item_given item net).net ≡ queues_written
-            (item_kept item (node_asked place read_event (begun net.network))).net net.wires
+            → IsItemWithin item → (item_given item net).state ≡ queues_written
+            (item_kept item (node_asked place read_event (begun net.network))).state net.wires
             → ((y q : ℕ) → numbers.link y ≡ Some q → is_closed_by q (first ++ more) ≡ false)
             → (rest ≡ true → list_any is_on_link first ≡ false) → ((after : ByteNetwork)
             → IsAt place numbers mine.state after → (rest ≡ true → AllStill after)
@@ -459,7 +459,7 @@ module _ (lines_end : ServedLinesEnd) (own_law : ServedGoesToItsOwn) (stay : Cli
             → Goes place numbers own last (event ∷ events) (first ++ more) (item ∷ items) later net
         one_more last events first more item items later rest first_is still not_faulty within
             given_is opened spaced others =
-            let given_net : ByteNetwork = (item_given item net).net in
+            let given_net : ByteNetwork = (item_given item net).state in
             let went : Went place numbers mine.state mine.out net given_net =
             subst (Went place numbers mine.state mine.out net) (sym given_is) (one_went item) in
             let went_first : Went place numbers mine.state first net given_net =
@@ -547,8 +547,8 @@ module _ (lines_end : ServedLinesEnd) (own_law : ServedGoesToItsOwn) (stay : Cli
             → asked.between.server ≡ Some (reply own (read_event_of event)).state
             → asked.first ≡ (reply own (read_event_of event)).out
             → AllStill net → fault_at_rest net.network item ≡ None
-            → IsItemWithin item → (item_given item net).net ≡ queues_written
-            (item_kept item (node_asked place read_event (begun net.network))).net net.wires
+            → IsItemWithin item → (item_given item net).state ≡ queues_written
+            (item_kept item (node_asked place read_event (begun net.network))).state net.wires
             → AreItems names daemons place events more → Others
             → Goes place numbers own last (event ∷ events) outs (item ∷ more) later net
         item_goes read_event conn item more is_it happens connects_none no_link_comes server_is

@@ -1392,10 +1392,10 @@ module _ {W : Type 0} (is_after : W → List Call → Type 0) (pieces : PiecesCo
             item = connect name host
 
             abbrev given_net : ByteNetwork
-            given_net = (item_given item net).net
+            given_net = (item_given item net).state
 
             given_so : given_net ≡ queues_written
-                (item_kept item (node_asked place read_event (begun base.network))).net base.wires
+                (item_kept item (node_asked place read_event (begun base.network))).state base.wires
             given_so = given_connect net place (suc old.came) name host at_name
                 (next_is net.network.homes old.came came_is)
 

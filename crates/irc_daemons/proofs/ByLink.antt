@@ -144,7 +144,7 @@ pub record BytesCame {W : Type 0} (names : List Name) (from to : ℕ) (net : Byt
   pub way : has_way net.network from to ≡ true
   pub state : View
   pub at : server_at net.network to ≡ Some (Some state)
-  pub is_as : IsAsNetwork names new (bytes_come from to (length front) (begun net)).net
+  pub is_as : IsAsNetwork names new (bytes_come from to (length front) (begun net)).state
 
 -- ---- the turn
 
@@ -327,7 +327,7 @@ module _ {W : Type 0} (is_after : W → List Call → Type 0) (pieces : PiecesCo
     came_first = all_heard from to (begun net.network) (lines_told conn events)
 
     hears_first : Listens to numbers begin_view.state mid_view.state events first.outs net.network
-        came_first.net
+        came_first.state
     hears_first =
         listening lines_end own_law stay alike_law numbers apart from to conn reads.is_end events
         (asked_at part.begin) (asked_at mid) first.outs
@@ -336,10 +336,10 @@ module _ {W : Type 0} (is_after : W → List Call → Type 0) (pieces : PiecesCo
         mid_view.is served_none.0 told_first views.alike at
 
     hears_second : Listens to numbers mid_view.state last.state second.events second.outs
-        came_first.net came_first.net
+        came_first.state came_first.state
     hears_second =
         subst (λ lines. Listens to numbers mid_view.state last.state second.events second.outs
-        came_first.net (all_heard from to came_first lines).net)
+        came_first.state (all_heard from to came_first lines).state)
         (none_hear conn)
         (listening lines_end own_law stay alike_law numbers apart from to conn reads.is_end
         second.events (asked_at mid) (asked_at end) second.outs
@@ -355,10 +355,10 @@ module _ {W : Type 0} (is_after : W → List Call → Type 0) (pieces : PiecesCo
 
     hears_all :
         Listens to numbers begin_view.state last.state all_events all_outs net.network
-        came_first.net
+        came_first.state
     hears_all =
         listens_both to numbers begin_view.state mid_view.state last.state events second.events
-        first.outs second.outs net.network came_first.net came_first.net
+        first.outs second.outs net.network came_first.state came_first.state
         hears_first hears_second
 
     -- ---- how much was read
@@ -615,27 +615,28 @@ module _ {W : Type 0} (is_after : W → List Call → Type 0) (pieces : PiecesCo
     completed_is = ap (lines_by count) old_wire_is
         ∙ ap (completed begun_there) (take_front bytes behind) ∙ sym lines_are
 
-    net_is : (bytes_come from to count (begun net)).net
-        ≡ queues_written came_first.net wires_now
+    net_is : (bytes_come from to count (begun net)).state
+        ≡ queues_written came_first.state wires_now
     unfolding bytes_come
     net_is = ap
-        (λ ls. queues_written (all_heard from to (begun net.network) ls).net wires_now) completed_is
+        (λ ls. queues_written (all_heard from to (begun net.network) ls).state wires_now)
+        completed_is
 
-    is_so : IsWritten came_first.net wires_now (queues_written came_first.net wires_now)
+    is_so : IsWritten came_first.state wires_now (queues_written came_first.state wires_now)
     is_so =
-        is_written came_first.net wires_now (lean_with from to
+        is_written came_first.state wires_now (lean_with from to
         (advanced count (wire_at net.wires from to)) net.wires same.as_bytes.tidy.lean)
         (rows_after_lines net from to count
         (lines_told conn events) [] came_first wires_now same.as_bytes.tidy.rows refl refl)
 
-    went : Went to numbers last.state all_outs off (queues_written came_first.net wires_now)
+    went : Went to numbers last.state all_outs off (queues_written came_first.state wires_now)
     went =
-        listened to numbers begin_view.state last.state all_events all_outs off came_first.net
+        listened to numbers begin_view.state last.state all_events all_outs off came_first.state
         off_tidy
         ways_here hears_all is_so
 
     abbrev after : ByteNetwork
-    after = queues_written came_first.net wires_now
+    after = queues_written came_first.state wires_now
 
     -- ---- seats stay
 
@@ -730,7 +731,7 @@ module _ {W : Type 0} (is_after : W → List Call → Type 0) (pieces : PiecesCo
 link_followed : {W : Type 0} (names : List Name) (from to : ℕ) (net : ByteNetwork) (new : Daemons W)
     → BytesCame names from to net new → HasFollowed names [] net new
 link_followed names from to net new came = record {
-  last = (bytes_come from to (length came.front) (begun net)).net;
+  last = (bytes_come from to (length came.front) (begun net)).state;
   leads = has_come [] from to (length came.front) net no_more came.way;
   is_as = came.is_as;
 }

@@ -198,7 +198,7 @@ module _ {W : Type 0} (is_after : W → List Call → Type 0) (pieces : PiecesCo
             (tidy : IsTidy base)
             (lacks : LacksOne other (read_event_by theirs place)
             (one_asked item place (read_event_by mine other) base) full)
-            (full_is : (item_given item net).net ≡ full) (taken : item_fault net item ≡ None)
+            (full_is : (item_given item net).state ≡ full) (taken : item_fault net item ≡ None)
             (within : IsItemWithin item)
             (still_then : IsStillFor (record { place = other; other = place; tidings = theirs })
             (one_asked item place (read_event_by mine other) base))
@@ -244,9 +244,10 @@ module _ {W : Type 0} (is_after : W → List Call → Type 0) (pieces : PiecesCo
                 (record { place = other; other = place; tidings = theirs }) new
             half_told = record {
               less = one_asked item place (read_event_by mine other) base;
-              more = (item_given item net).net;
+              more = (item_given item net).state;
               going = goes_on stays set_up settings items net (item ∷ [])
-                  (item_given item net).net whole.going (is_given [] item net no_more taken within);
+                  (item_given item net).state whole.going
+                  (is_given [] item net no_more taken within);
               same =
                   told_followed is_after pieces lines_end own_law stay connected alike_law names
                   mine place other old new telling two net whole.same once base servers
@@ -523,7 +524,7 @@ module _ {W : Type 0} (is_after : W → List Call → Type 0) (pieces : PiecesCo
 
         abbrev asked_alone : ByteNetwork
         asked_alone = queues_written (node_asked of_place (read_event_by owing.tidings of_other)
-            (begun half.less.network)).net half.less.wires
+            (begun half.less.network)).state half.less.wires
 
         same_asked : IsAsNetwork names new asked_then
         same_asked =

@@ -69,20 +69,20 @@ home_kept homes name (suc earlier) there = get_front homes name earlier there
 
 pub given_connect : (net : ByteNetwork) (place client : ℕ) (name host : List ℕ)
     → server_place net.network name ≡ Some place → next_client net.network ≡ client
-    → (item_given (connect name host) net).net
+    → (item_given (connect name host) net).state
     ≡ queues_written (item_kept (connect name host) (node_asked place (of_client
-    (connects client host)) (begun (with_client name net.network)))).net net.wires
+    (connects client host)) (begun (with_client name net.network)))).state net.wires
 unfolding item_given given
 given_connect net place client name host at next =
     ap
     (λ o. queues_written
     (item_kept (connect name host) (node_asked_if o (of_client (connects (next_client net.network)
-    host)) (begun (with_client name net.network)))).net net.wires)
+    host)) (begun (with_client name net.network)))).state net.wires)
     at
     ∙ ap
     (λ n. queues_written
     (item_kept (connect name host) (node_asked place (of_client (connects n host))
-    (begun (with_client name net.network)))).net net.wires) next
+    (begun (with_client name net.network)))).state net.wires) next
 
 pub not_refused_here : (net : Network) (place : ℕ) (name host : List ℕ)
     → server_place net name ≡ Some place → fault_at_rest net (connect name host) ≡ None

@@ -187,7 +187,7 @@ module _ (lines_end : ServedLinesEnd) (own_law : ServedGoesToItsOwn) (alike_law 
     asked = node_asked place read_event (begun old.network)
 
     abbrev kept : Network
-    kept = (item_kept item asked).net
+    kept = (item_kept item asked).state
 
     abbrev now : ByteNetwork
     now = queues_written kept old.wires
@@ -195,10 +195,10 @@ module _ (lines_end : ServedLinesEnd) (own_law : ServedGoesToItsOwn) (alike_law 
     said : ServeAlike before own (renumbered conn read_event) other read_event
     said = alike_law before own other read_event conn apart alike happens
 
-    here : Replies place theirs.state (λ y. bodies y theirs.out) old.network asked.net
+    here : Replies place theirs.state (λ y. bodies y theirs.out) old.network asked.state
     here = asked_replies place read_event other (begun old.network) at
 
-    gets : Gets (λ q. client_bytes q theirs.out) old.network asked.net
+    gets : Gets (λ q. client_bytes q theirs.out) old.network asked.state
     gets = asked_gets place read_event other (begun old.network) at
 
     is_so : IsWritten kept old.wires now
@@ -232,12 +232,12 @@ module _ (lines_end : ServedLinesEnd) (own_law : ServedGoesToItsOwn) (alike_law 
         ∙ sym (said.say.on_links y q (then_are.links y q link) opened))
 
     come_now : (client : ℕ) → has_come now.network client ≡ has_come old.network client
-    come_now client = come_of_nodes asked.net now.network refl client ∙ gets.come client
+    come_now client = come_of_nodes asked.state now.network refl client ∙ gets.come client
 
     bytes_now : (client : ℕ) → has_come old.network client ≡ true
         → bytes_received now.network client ≡ bytes_received old.network client
         ++ client_bytes client theirs.out
-    bytes_now client has = bytes_of_nodes asked.net now.network refl client ∙ gets.more client has
+    bytes_now client has = bytes_of_nodes asked.state now.network refl client ∙ gets.more client has
 
     keeps_now : KeepsHomes old.network now.network
     keeps_now =
@@ -303,7 +303,7 @@ module _ (lines_end : ServedLinesEnd) (own_law : ServedGoesToItsOwn) (alike_law 
     pub item_went : Went place numbers (reply own (renumbered conn read_event)).state
         (reply own (renumbered conn read_event)).out old
         (queues_written
-        (item_kept item (node_asked place read_event (begun old.network))).net old.wires)
+        (item_kept item (node_asked place read_event (begun old.network))).state old.wires)
     item_went =
         asked_went lines_end own_law alike_law place numbers apart own other read_event conn happens
         alike old tidy at numbers same_then item

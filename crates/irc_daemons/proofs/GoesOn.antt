@@ -87,8 +87,8 @@ both_replied place first rest old mid new one two = record {
 }
 
 asked_replied : (place : ℕ) (read_event : ReadEvent) (view : View) (progress : Progress Network)
-    → server_at progress.net place ≡ Some (Some view) → HasReplied place
-    (reply view read_event) progress.net (node_asked place read_event progress).net
+    → server_at progress.state place ≡ Some (Some view) → HasReplied place
+    (reply view read_event) progress.state (node_asked place read_event progress).state
 asked_replied place read_event view progress at = record {
   replies = asked_replies place read_event view progress at;
   gets = asked_gets place read_event view progress at;
@@ -96,26 +96,26 @@ asked_replied place read_event view progress at = record {
 }
 
 line_replied : (from to : ℕ) (line : List ℕ) (view : View) (progress : Progress Network)
-    → server_at progress.net to ≡ Some (Some view) → HasReplied to
-    (reply view (link_says from (read_of line))) progress.net (heard from to progress line).net
+    → server_at progress.state to ≡ Some (Some view) → HasReplied to
+    (reply view (link_says from (read_of line))) progress.state (heard from to progress line).state
 line_replied from to line view progress at =
     let keeps = asked_keeps to (link_says from (read_of line))
-    (record progress { net = line_counted progress.net }) in record {
+    (record progress { state = line_counted progress.state }) in record {
       replies = heard_replies from to line view progress at;
       gets = heard_gets from to line view progress at;
       keeps = record { names = keeps.names; homes = keeps.homes; inboxes = keeps.inboxes };
     }
 
 lines_replied : (from to : ℕ) (lines : List (List ℕ)) (view : View) (progress : Progress Network)
-    → server_at progress.net to ≡ Some (Some view) → HasReplied to
-    (all_replies from view lines) progress.net (all_heard from to progress lines).net
-lines_replied from to [] view progress at = nothing_replied to view progress.net at
+    → server_at progress.state to ≡ Some (Some view) → HasReplied to
+    (all_replies from view lines) progress.state (all_heard from to progress lines).state
+lines_replied from to [] view progress at = nothing_replied to view progress.state at
 lines_replied from to (line ∷ lines) view progress at =
     let first : Served = reply view (link_says from (read_of line)) in
     let one = line_replied from to line view progress at in
-    both_replied to first (all_replies from first.state lines) progress.net
-    (heard from to progress line).net
-    (all_heard from to (heard from to progress line) lines).net one
+    both_replied to first (all_replies from first.state lines) progress.state
+    (heard from to progress line).state
+    (all_heard from to (heard from to progress line) lines).state one
     (lines_replied from to lines first.state (heard from to progress line) one.replies.server)
 
 -- ---- once it is written
@@ -194,10 +194,10 @@ module _ (place : ℕ) (next : Served) (along : Wires) (old : ByteNetwork) (mid 
 pub asked_goes_on : (place : ℕ) (read_event : ReadEvent) (view : View) (net : ByteNetwork)
     → IsTidy net → server_at net.network place ≡ Some (Some view)
     → GoesOn place (reply view read_event) net.wires net
-    (queues_written (node_asked place read_event (begun net.network)).net net.wires)
+    (queues_written (node_asked place read_event (begun net.network)).state net.wires)
 asked_goes_on place read_event view net tidy at =
     goes_on place (reply view read_event) net.wires net
-    (node_asked place read_event (begun net.network)).net tidy tidy.lean
+    (node_asked place read_event (begun net.network)).state tidy tidy.lean
     (tidy.rows ∙ sym (asked_stays place read_event (begun net.network)))
     (asked_replied place read_event view (begun net.network) at)
 
@@ -242,21 +242,22 @@ module _ (from to count : ℕ) (net : ByteNetwork) where
           is ∙ ap (λ b. come_if count b (wire_at net.wires x y))
           (sym (none_and (nat_eq x from)) ∙ ap (λ b. nat_eq x from && b) (sym two))
 
-  come_is : (bytes_come from to count (begun net)).net
-      ≡ queues_written (all_heard from to (begun net.network) (completed_in net from to count)).net
+  come_is : (bytes_come from to count (begun net)).state
+      ≡ queues_written
+      (all_heard from to (begun net.network) (completed_in net from to count)).state
       (wires_come net from to count)
   unfolding bytes_come
   come_is = refl
 
   pub bytes_go_on : (view : View) → IsTidy net → server_at net.network to ≡ Some (Some view)
       → GoesOn to (all_replies from view (completed_in net from to count))
-      (wires_come net from to count) net (bytes_come from to count (begun net)).net
+      (wires_come net from to count) net (bytes_come from to count (begun net)).state
   bytes_go_on view tidy at =
       let lines : List (List ℕ) = completed_in net from to count in
       let last : Progress Network = all_heard from to (begun net.network) lines in
       subst (GoesOn to (all_replies from view lines) (wires_come net from to count) net)
       (sym come_is)
-      (goes_on to (all_replies from view lines) (wires_come net from to count) net last.net tidy
+      (goes_on to (all_replies from view lines) (wires_come net from to count) net last.state tidy
       (lean_with from to (advanced count (wire_at net.wires from to)) net.wires tidy.lean)
       (rows_after_lines net from to count lines [] last
       (wires_come net from to count) tidy.rows refl refl)

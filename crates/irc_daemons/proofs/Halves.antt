@@ -48,10 +48,10 @@ record IsOut (net : Network) (wires : Wires) (out : ByteNetwork) : Type 0 where
   pub tidy : IsTidy out
 
 is_out : (item : Item) (progress : Progress Network) (wires : Wires)
-    → AreLean wires → length wires ≡ length progress.net.nodes
-    → IsOut progress.net wires (queues_written (item_kept item progress).net wires)
+    → AreLean wires → length wires ≡ length progress.state.nodes
+    → IsOut progress.state wires (queues_written (item_kept item progress).state wires)
 is_out item progress wires lean long =
-    let kept : Network = (item_kept item progress).net in
+    let kept : Network = (item_kept item progress).state in
     let is_so = is_written kept wires lean long in record {
       servers = λ x. emptied_server kept x;
       ways = λ x y. emptied_ways kept x y;
@@ -95,8 +95,8 @@ record IsAsked (place : ℕ) (read_event : ReadEvent) (view : View)
   pub gets : Gets (λ client. client_bytes client (reply view read_event).out) old new
 
 is_asked : (place : ℕ) (read_event : ReadEvent) (view : View) (progress : Progress Network)
-    → server_at progress.net place ≡ Some (Some view)
-    → IsAsked place read_event view progress.net (node_asked place read_event progress).net
+    → server_at progress.state place ≡ Some (Some view)
+    → IsAsked place read_event view progress.state (node_asked place read_event progress).state
 is_asked place read_event view progress at =
     let replies = asked_replies place read_event view progress at in record {
       here = at;
@@ -111,11 +111,11 @@ is_asked place read_event view progress at =
     }
   where
     way_at : (x y : ℕ) (b : Bool) → nat_eq x place ≡ b
-        → has_way (node_asked place read_event progress).net x y ≡ has_way progress.net x y
+        → has_way (node_asked place read_event progress).state x y ≡ has_way progress.state x y
     way_at x y true one =
-        ap (λ v. has_way (node_asked place read_event progress).net v y) (eqb-true x place one)
+        ap (λ v. has_way (node_asked place read_event progress).state v y) (eqb-true x place one)
         ∙ (asked_replies place read_event view progress at).ways y
-        ∙ ap (λ v. has_way progress.net v y) (sym (eqb-true x place one))
+        ∙ ap (λ v. has_way progress.state v y) (sym (eqb-true x place one))
     way_at x y false two =
         ap (λ o. is_some (option_and_then (λ (node : Node). get node.queues y) o))
         ((asked_replies place read_event view progress at).others x two)
@@ -252,11 +252,11 @@ pub record AreHalves (n f : ℕ) (on off : ReadEvent)
 -- only the one of n was asked, only that of f, or both
 abbrev pub one_asked : Item → ℕ → ReadEvent → ByteNetwork → ByteNetwork
 one_asked item place read_event base = queues_written
-    (item_kept item (node_asked place read_event (begun base.network))).net base.wires
+    (item_kept item (node_asked place read_event (begun base.network))).state base.wires
 
 abbrev pub both_asked : Item → ℕ → ℕ → ReadEvent → ReadEvent → ByteNetwork → ByteNetwork
 both_asked item n f on off base = queues_written
-    (item_kept item (node_asked f off (node_asked n on (begun base.network)))).net base.wires
+    (item_kept item (node_asked f off (node_asked n on (begun base.network)))).state base.wires
 
 module _ (own_law : ServedGoesToItsOwn) (item : Item) (n f : ℕ) (on off : ReadEvent)
     (base : ByteNetwork) (tidy : IsTidy base) (vn vf : View)
@@ -272,24 +272,24 @@ module _ (own_law : ServedGoesToItsOwn) (item : Item) (n f : ℕ) (on off : Read
     abbrev last_progress : Progress Network
     last_progress = node_asked f off near_progress
 
-    near_asked : IsAsked n on vn base.network near_progress.net
+    near_asked : IsAsked n on vn base.network near_progress.state
     near_asked = is_asked n on vn (begun base.network) near_there
 
-    far_asked : IsAsked f off vf base.network far_progress.net
+    far_asked : IsAsked f off vf base.network far_progress.state
     far_asked = is_asked f off vf (begun base.network) far_there
 
-    far_after : IsAsked f off vf near_progress.net last_progress.net
+    far_after : IsAsked f off vf near_progress.state last_progress.state
     far_after = is_asked f off vf near_progress (near_asked.others f (turned f n ∙ two) ∙ far_there)
 
-    near_out : IsOut near_progress.net base.wires (one_asked item n on base)
+    near_out : IsOut near_progress.state base.wires (one_asked item n on base)
     near_out = is_out item near_progress base.wires tidy.lean
         (tidy.rows ∙ sym (asked_stays n on (begun base.network)))
 
-    far_out : IsOut far_progress.net base.wires (one_asked item f off base)
+    far_out : IsOut far_progress.state base.wires (one_asked item f off base)
     far_out = is_out item far_progress base.wires tidy.lean
         (tidy.rows ∙ sym (asked_stays f off (begun base.network)))
 
-    last_out : IsOut last_progress.net base.wires (both_asked item n f on off base)
+    last_out : IsOut last_progress.state base.wires (both_asked item n f on off base)
     last_out =
         is_out item last_progress base.wires tidy.lean (tidy.rows
         ∙ sym (asked_stays f off near_progress ∙ asked_stays n on (begun base.network)))
@@ -332,22 +332,22 @@ module _ (own_law : ServedGoesToItsOwn) (item : Item) (n f : ℕ) (on off : Read
           (one_asked item f off base) (both_asked item n f on off base)
       half_lacks = record {
         near_last =
-            lacks_one n on vn far_progress.net last_progress.net base.wires
+            lacks_one n on vn far_progress.state last_progress.state base.wires
             (one_asked item f off base)
             (both_asked item n f on off base)
-            (asked_last n f on off vn vf base.network near_progress.net last_progress.net
-            far_progress.net
+            (asked_last n f on off vn vf base.network near_progress.state last_progress.state
+            far_progress.state
             two near_asked far_after far_asked either_first)
             far_out last_out;
         far_last =
-            lacks_one f off vf near_progress.net last_progress.net base.wires
+            lacks_one f off vf near_progress.state last_progress.state base.wires
             (one_asked item n on base)
             (both_asked item n f on off base)
             far_after near_out last_out;
         near_alone =
-            lacks_one n on vn base.network near_progress.net base.wires base
+            lacks_one n on vn base.network near_progress.state base.wires base
             (one_asked item n on base) near_asked (out_at_once base tidy) near_out;
         far_alone =
-            lacks_one f off vf base.network far_progress.net base.wires base
+            lacks_one f off vf base.network far_progress.state base.wires base
             (one_asked item f off base) far_asked (out_at_once base tidy) far_out;
       }

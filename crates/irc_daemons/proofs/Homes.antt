@@ -29,17 +29,17 @@ keeps_both old mid new first second = record {
 }
 
 keeps_received : (client : ℕ) (text : List ℕ) (progress : Progress Network)
-    → KeepsHomes progress.net (has_received client text progress).net
-keeps_received zero text progress = keeps_same progress.net
-keeps_received (suc earlier) text progress = by (slice_get progress.net.received earlier)
+    → KeepsHomes progress.state (has_received client text progress).state
+keeps_received zero text progress = keeps_same progress.state
+keeps_received (suc earlier) text progress = by (slice_get progress.state.received earlier)
   where
-    by : (o : Option Lines) → KeepsHomes progress.net
-        (option_map_or (has_received_at earlier text progress) o progress).net
-    by None = keeps_same progress.net
+    by : (o : Option Lines) → KeepsHomes progress.state
+        (option_map_or (has_received_at earlier text progress) o progress).state
+    by None = keeps_same progress.state
     by (Some lines) = record {
       names = refl;
       homes = refl;
-      inboxes = length_set progress.net.received earlier (lines ++ text ∷ []);
+      inboxes = length_set progress.state.received earlier (lines ++ text ∷ []);
     }
 
 keeps_queued : (place to : ℕ) (text : List ℕ) (net : Network)
@@ -52,42 +52,42 @@ keeps_queued place to text net = by (node_at net place)
     by (Some node) = record { names = refl; homes = refl; inboxes = refl }
 
 keeps_one : (place : ℕ) (sent : Sent) (progress : Progress Network)
-    → KeepsHomes progress.net (sent_out place sent progress).net
+    → KeepsHomes progress.state (sent_out place sent progress).state
 keeps_one place (line_to client text) progress = keeps_received client text progress
-keeps_one place (end_of client) progress = keeps_same progress.net
-keeps_one place (line_on link text) progress = keeps_queued place link text progress.net
-keeps_one place (end_of_link link reason) progress = keeps_same progress.net
+keeps_one place (end_of client) progress = keeps_same progress.state
+keeps_one place (line_on link text) progress = keeps_queued place link text progress.state
+keeps_one place (end_of_link link reason) progress = keeps_same progress.state
 
 keeps_all : (place : ℕ) (outs : List Sent) (progress : Progress Network)
-    → KeepsHomes progress.net (all_sent_out place outs progress).net
-keeps_all place [] progress = keeps_same progress.net
+    → KeepsHomes progress.state (all_sent_out place outs progress).state
+keeps_all place [] progress = keeps_same progress.state
 keeps_all place (sent ∷ outs) progress =
-    keeps_both progress.net (sent_out place sent progress).net
-    (all_sent_out place outs (sent_out place sent progress)).net (keeps_one place sent progress)
+    keeps_both progress.state (sent_out place sent progress).state
+    (all_sent_out place outs (sent_out place sent progress)).state (keeps_one place sent progress)
     (keeps_all place outs (sent_out place sent progress))
 
 pub asked_keeps : (place : ℕ) (read_event : ReadEvent) (progress : Progress Network)
-    → KeepsHomes progress.net (node_asked place read_event progress).net
+    → KeepsHomes progress.state (node_asked place read_event progress).state
 unfolding node_asked
-asked_keeps place read_event progress = by (node_at progress.net place)
+asked_keeps place read_event progress = by (node_at progress.state place)
   where
     at_node : (node : Node) (view : View)
-        → KeepsHomes progress.net (with_reply place progress node (reply view read_event)).net
+        → KeepsHomes progress.state (with_reply place progress node (reply view read_event)).state
     at_node node view =
         let between : Progress Network = record progress {
-          net = with_node place
-              (record node { server = Some (reply view read_event).state }) progress.net;
+          state = with_node place
+              (record node { server = Some (reply view read_event).state }) progress.state;
         } in
-        keeps_both progress.net between.net (all_sent_out place (reply view read_event).out
-        between).net (record { names = refl; homes = refl; inboxes = refl })
+        keeps_both progress.state between.state (all_sent_out place (reply view read_event).out
+        between).state (record { names = refl; homes = refl; inboxes = refl })
         (keeps_all place (reply view read_event).out between)
 
-    by_view : (node : Node) (o : Option View) → KeepsHomes progress.net (option_map_or
-        (λ (v : View). with_reply place progress node (reply v read_event)) o progress).net
-    by_view node None = keeps_same progress.net
+    by_view : (node : Node) (o : Option View) → KeepsHomes progress.state (option_map_or
+        (λ (v : View). with_reply place progress node (reply v read_event)) o progress).state
+    by_view node None = keeps_same progress.state
     by_view node (Some view) = at_node node view
 
-    by : (o : Option Node) → KeepsHomes progress.net
-        (option_map_or (asked_at place read_event progress) o progress).net
-    by None = keeps_same progress.net
+    by : (o : Option Node) → KeepsHomes progress.state
+        (option_map_or (asked_at place read_event progress) o progress).state
+    by None = keeps_same progress.state
     by (Some node) = by_view node node.server

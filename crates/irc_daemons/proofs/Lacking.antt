@@ -264,22 +264,22 @@ module _ (own_law : ServedGoesToItsOwn) (stay : ClientsStay) (keeps : ServedKeep
           ∙ ap (λ bs. bs ++ client_bytes client (reply lacks.state read_event).out) (sym none)
 
       goes_more : GoesOn to next (wires_come more from to count) more
-          (bytes_come from to count (begun more)).net
+          (bytes_come from to count (begun more)).state
       goes_more =
           subst
           (λ ls. GoesOn to (all_replies from other ls) (wires_come more from to count) more
-          (bytes_come from to count (begun more)).net)
+          (bytes_come from to count (begun more)).state)
           (same_lines place read_event less more lacks from to count enough)
           (bytes_go_on from to count more other lacks.tidy_more (lacks.others to away ∙ at))
 
-      pub lacks_still : LacksOne place read_event (bytes_come from to count (begun less)).net
-          (bytes_come from to count (begun more)).net
+      pub lacks_still : LacksOne place read_event (bytes_come from to count (begun less)).state
+          (bytes_come from to count (begun more)).state
       lacks_still =
           lacks_then place to read_event less more lacks away next (wires_come less from to count)
           (wires_come more from to count)
           (still_behind place read_event less more lacks from to count enough)
-          (bytes_come from to count (begun less)).net
-          (bytes_come from to count (begun more)).net
+          (bytes_come from to count (begun less)).state
+          (bytes_come from to count (begun more)).state
           (bytes_go_on from to count less other lacks.tidy_less at) goes_more
           (λ client. turns client (is_some (get other.clients client)) refl)
 
@@ -288,13 +288,13 @@ module _ (own_law : ServedGoesToItsOwn) (stay : ClientsStay) (keeps : ServedKeep
 module _ (place : ℕ) (read_event : ReadEvent) (less more : ByteNetwork)
     (lacks : LacksOne place read_event less more) where
   abbrev asked_too : ByteNetwork
-  asked_too = queues_written (node_asked place read_event (begun less.network)).net less.wires
+  asked_too = queues_written (node_asked place read_event (begun less.network)).state less.wires
 
   goes : GoesOn place (reply lacks.state read_event) less.wires less asked_too
   goes = asked_goes_on place read_event lacks.state less lacks.tidy_less lacks.here
 
   pub lacks_nothing : IsSameAs
-      (queues_written (node_asked place read_event (begun less.network)).net less.wires) more
+      (queues_written (node_asked place read_event (begun less.network)).state less.wires) more
   lacks_nothing = record {
     servers = λ x. same_server x (nat_eq x place) refl;
     ways = λ x y. lacks.ways x y ∙ sym (goes.ways x y);

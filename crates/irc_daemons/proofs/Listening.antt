@@ -142,7 +142,7 @@ module _ (lines_end : ServedLinesEnd) (own_law : ServedGoesToItsOwn) (stay : Cli
   where
     module _ (line : ArrayVec ℕ) (own other : View)
         (progress : Progress Network) (alike : AreServersAlike numbers own other)
-        (at : server_at progress.net to ≡ Some (Some other)) where
+        (at : server_at progress.state to ≡ Some (Some other)) where
       abbrev it : ReadEvent
       it = link_says conn (read_of line.items)
 
@@ -158,12 +158,12 @@ module _ (lines_end : ServedLinesEnd) (own_law : ServedGoesToItsOwn) (stay : Cli
       said : ServeAlike numbers own it other there
       said = alike_law numbers own other there conn apart alike is_link
 
-      here : Replies to theirs.state (λ y. bodies y theirs.out) progress.net
-          (heard from to progress line.items).net
+      here : Replies to theirs.state (λ y. bodies y theirs.out) progress.state
+          (heard from to progress line.items).state
       here = heard_replies from to line.items other progress at
 
-      gets_it : Gets (λ q. client_bytes q theirs.out) progress.net
-          (heard from to progress line.items).net
+      gets_it : Gets (λ q. client_bytes q theirs.out) progress.state
+          (heard from to progress line.items).state
       gets_it = heard_gets from to line.items other progress at
 
       no_client : (client : ℕ) → numbers.client client ≡ None
@@ -185,9 +185,10 @@ module _ (lines_end : ServedLinesEnd) (own_law : ServedGoesToItsOwn) (stay : Cli
             };
       }
 
-      keeps_it : KeepsHomes progress.net (heard from to progress line.items).net
+      keeps_it : KeepsHomes progress.state (heard from to progress line.items).state
       keeps_it =
-          let keeps = asked_keeps to there (record progress { net = line_counted progress.net }) in
+          let keeps =
+          asked_keeps to there (record progress { state = line_counted progress.state }) in
           record {
             names = keeps.names;
             homes = keeps.homes;
@@ -195,8 +196,8 @@ module _ (lines_end : ServedLinesEnd) (own_law : ServedGoesToItsOwn) (stay : Cli
           }
 
       listens_one : Listens to numbers own mine.state
-          (LinkLine conn line ∷ []) mine.out progress.net
-          (heard from to progress line.items).net
+          (LinkLine conn line ∷ []) mine.out progress.state
+          (heard from to progress line.items).state
       listens_one = record {
         state = theirs.state;
         alike = said.views;
@@ -210,14 +211,14 @@ module _ (lines_end : ServedLinesEnd) (own_law : ServedGoesToItsOwn) (stay : Cli
         keeps = keeps_it;
         come = gets_it.come;
         gets = λ client q seat has.
-            gets_it.more client has ∙ ap (λ bs. bytes_received progress.net client ++ bs)
+            gets_it.more client has ∙ ap (λ bs. bytes_received progress.state client ++ bs)
             (sym (said.say.to_clients client q seat));
         gets_nothing = λ client none has.
             gets_it.more client has
-            ∙ ap (λ bs. bytes_received progress.net client ++ bs)
+            ∙ ap (λ bs. bytes_received progress.state client ++ bs)
             (nobody_gets own_law other there (other_ends numbers own other alike) client
             (no_client client none))
-            ∙ append-nil (bytes_received progress.net client);
+            ∙ append-nil (bytes_received progress.state client);
         clients = serves_it;
       }
 
@@ -228,17 +229,17 @@ module _ (lines_end : ServedLinesEnd) (own_law : ServedGoesToItsOwn) (stay : Cli
         (progress : Progress Network) (asked : AreAsked old events outs new)
         → old.server ≡ Some own → new.server ≡ Some last → has_item events ≡ false
         → AllByRecursion (IsToldOf conn) events
-        → AreServersAlike numbers own other → server_at progress.net to ≡ Some (Some other)
-        → Listens to numbers own last events outs progress.net
-        (all_heard from to progress (lines_by conn events)).net
+        → AreServersAlike numbers own other → server_at progress.state to ≡ Some (Some other)
+        → Listens to numbers own last events outs progress.state
+        (all_heard from to progress (lines_by conn events)).state
 
     hears_none : Listening []
     hears_none old new outs own last other progress asked was is no_item told alike at =
         let same : own ≡ last =
         inside own last (sym was ∙ ap (λ (a : ServerAsked). a.server) (sym asked.1) ∙ is) in
-        subst (λ os. Listens to numbers own last [] os progress.net progress.net) (sym asked.0)
-        (subst (λ v. Listens to numbers own v [] [] progress.net progress.net) same
-        (listens_none to numbers own other progress.net alike at))
+        subst (λ os. Listens to numbers own last [] os progress.state progress.state) (sym asked.0)
+        (subst (λ v. Listens to numbers own v [] [] progress.state progress.state) same
+        (listens_none to numbers own other progress.state alike at))
 
     module _ (event : Event) (events : List Event) (later : Listening events)
         (old new : ServerAsked)
@@ -248,24 +249,24 @@ module _ (lines_end : ServedLinesEnd) (own_law : ServedGoesToItsOwn) (stay : Cli
         (no_item : has_item (event ∷ events) ≡ false)
         (told : AllByRecursion (IsToldOf conn) (event ∷ events))
         (alike : AreServersAlike numbers own other)
-        (at : server_at progress.net to ≡ Some (Some other))
+        (at : server_at progress.state to ≡ Some (Some other))
       where
         -- what the others make of a network
         abbrev heard_then : Progress Network → Network
-        heard_then c = (all_heard from to c (lines_by conn events)).net
+        heard_then c = (all_heard from to c (lines_by conn events)).state
 
         no_item_then : has_item events ≡ false
         no_item_then = (or_parts (not (is_link_line event)) (has_item events) no_item).1
 
         as_outs : (net : Network) → Listens to numbers own last
-            (event ∷ events) (asked.first ++ asked.more) progress.net net
-            → Listens to numbers own last (event ∷ events) outs progress.net net
+            (event ∷ events) (asked.first ++ asked.more) progress.state net
+            → Listens to numbers own last (event ∷ events) outs progress.state net
         as_outs net listens = subst (λ os. Listens to numbers own last
-            (event ∷ events) os progress.net net) (sym asked.outs_are) listens
+            (event ∷ events) os progress.state net) (sym asked.outs_are) listens
 
         -- it is a line of the link
-        heard_line : (line : ArrayVec ℕ) → event ≡ LinkLine conn line
-            → Listens to numbers own last (event ∷ events) (asked.first ++ asked.more) progress.net
+        heard_line : (line : ArrayVec ℕ) → event ≡ LinkLine conn line → Listens to numbers own last
+            (event ∷ events) (asked.first ++ asked.more) progress.state
             (heard_then (heard from to progress line.items))
         heard_line line event_is =
             let took_it =
@@ -280,18 +281,18 @@ module _ (lines_end : ServedLinesEnd) (own_law : ServedGoesToItsOwn) (stay : Cli
             (heard from to progress line.items) asked.rest_is server_is is no_item_then told.1
             one.alike one.server in
             subst (λ e. Listens to numbers own last (e ∷ events) (asked.first
-            ++ asked.more) progress.net (heard_then (heard from to progress line.items)))
+            ++ asked.more) progress.state (heard_then (heard from to progress line.items)))
             (sym event_is)
             (subst
             (λ os. Listens to numbers own last (LinkLine conn line ∷ events)
-            (os ++ asked.more) progress.net (heard_then (heard from to progress line.items)))
+            (os ++ asked.more) progress.state (heard_then (heard from to progress line.items)))
             (sym first_is)
             (listens_both to numbers own mine.state last (LinkLine conn line ∷ []) events mine.out
-            asked.more progress.net (heard from to progress line.items).net
+            asked.more progress.state (heard from to progress line.items).state
             (heard_then (heard from to progress line.items)) one two))
 
-        hears_more : Listens to numbers own last (event ∷ events) outs progress.net
-            (all_heard from to progress (lines_by conn (event ∷ events))).net
+        hears_more : Listens to numbers own last (event ∷ events) outs progress.state
+            (all_heard from to progress (lines_by conn (event ∷ events))).state
         hears_more = by told.0
           where
             first_line : (line : ArrayVec ℕ) → event ≡ LinkLine conn line
@@ -302,11 +303,11 @@ module _ (lines_end : ServedLinesEnd) (own_law : ServedGoesToItsOwn) (stay : Cli
                 (eq-eqb conn conn refl)
 
             by : IsToldOf conn event
-                → Listens to numbers own last (event ∷ events) outs progress.net
-                (all_heard from to progress (lines_by conn (event ∷ events))).net
+                → Listens to numbers own last (event ∷ events) outs progress.state
+                (all_heard from to progress (lines_by conn (event ∷ events))).state
             by (its_line line event_is) =
-                subst (λ lines. Listens to numbers own last (event ∷ events) outs progress.net
-                (all_heard from to progress lines).net) (sym (first_line line event_is))
+                subst (λ lines. Listens to numbers own last (event ∷ events) outs progress.state
+                (all_heard from to progress lines).state) (sym (first_line line event_is))
                 (as_outs (heard_then (heard from to progress line.items))
                 (heard_line line event_is))
             by (no_line not_line none) =

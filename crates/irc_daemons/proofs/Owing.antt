@@ -176,12 +176,12 @@ module _ {W : Type 0} (is_after : W → List Call → Type 0) (pieces : PiecesCo
     -- bytes come to another server
     comes : (from : ℕ) → nat_eq place owing.place ≡ false
         → (came : BytesCame names from place half.less new)
-        → IsStillFor owing (bytes_come from place (length came.front) (begun half.less)).net
+        → IsStillFor owing (bytes_come from place (length came.front) (begun half.less)).state
         → IsHalf settings names items owing new
     comes from away came still =
         let count : ℕ = length came.front in
-        let less : ByteNetwork = (bytes_come from place count (begun half.less)).net in
-        let more : ByteNetwork = (bytes_come from place count (begun half.more)).net in
+        let less : ByteNetwork = (bytes_come from place count (begun half.less)).state in
+        let more : ByteNetwork = (bytes_come from place count (begun half.more)).state in
         let enough = front_enough came.front came.rest
         (wire_at half.less.wires from place).bytes came.bytes_are in
         let lacks = lacks_still own_law stay keeps owing.place from place count

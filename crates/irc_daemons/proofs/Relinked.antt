@@ -61,29 +61,29 @@ places_are net near far n f near_at far_at =
     ∙ ap (option_map (λ other. both_places n other)) far_at
 
 pub given_link : (net : ByteNetwork) (near far : Name) (n f : ℕ) → server_place net.network near
-    ≡ Some n → server_place net.network far ≡ Some f → (item_given (link near far) net).net
+    ≡ Some n → server_place net.network far ≡ Some f → (item_given (link near far) net).state
     ≡ queues_written
     (item_kept (link near far) (node_asked f (link_up n None) (node_asked n (link_up f (Some far))
-    (begun (linked_net near far n f net).network)))).net
+    (begun (linked_net near far n f net).network)))).state
     (linked_net near far n f net).wires
 unfolding item_given given
 given_link net near far n f near_at far_at =
     ap
     (λ o. queues_written (item_kept (link near far) (option_map_or
-    (servers_linked near far net.network) o (begun net.network))).net net.wires)
+    (servers_linked near far net.network) o (begun net.network))).state net.wires)
     (places_are net.network near far n f near_at far_at)
 
 pub given_cut : (net : ByteNetwork) (near far : Name) (n f : ℕ) → server_place net.network near
-    ≡ Some n → server_place net.network far ≡ Some f → (item_given (cut near far) net).net
+    ≡ Some n → server_place net.network far ≡ Some f → (item_given (cut near far) net).state
     ≡ queues_written
     (item_kept (cut near far) (node_asked f (link_down n)
-    (node_asked n (link_down f) (begun (parted_net near far n f net).network)))).net
+    (node_asked n (link_down f) (begun (parted_net near far n f net).network)))).state
     (parted_net near far n f net).wires
 unfolding item_given given
 given_cut net near far n f near_at far_at =
     ap
     (λ o. queues_written (item_kept (cut near far)
-    (option_map_or (servers_parted near far net.network) o (begun net.network))).net
+    (option_map_or (servers_parted near far net.network) o (begun net.network))).state
     (lost_along o net.wires))
     (places_are net.network near far n f near_at far_at)
 

@@ -109,17 +109,17 @@ puts_none place net = record {
 }
 
 puts_received : (place client : ℕ) (text : List ℕ) (progress : Progress Network)
-    → PutsOut place (λ y. []) progress.net (has_received client text progress).net
-puts_received place zero text progress = puts_none place progress.net
-puts_received place (suc earlier) text progress = by (slice_get progress.net.received earlier)
+    → PutsOut place (λ y. []) progress.state (has_received client text progress).state
+puts_received place zero text progress = puts_none place progress.state
+puts_received place (suc earlier) text progress = by (slice_get progress.state.received earlier)
   where
-    by : (o : Option Lines) → PutsOut place (λ y. []) progress.net
-        (option_map_or (has_received_at earlier text progress) o progress).net
-    by None = puts_none place progress.net
+    by : (o : Option Lines) → PutsOut place (λ y. []) progress.state
+        (option_map_or (has_received_at earlier text progress) o progress).state
+    by None = puts_none place progress.state
     by (Some lines) = record {
       servers = λ x. refl;
       ways = λ y. refl;
-      waits = λ y way. sym (append-nil (waiting_at progress.net place y));
+      waits = λ y way. sym (append-nil (waiting_at progress.state place y));
       others = λ x two. refl;
     }
 
@@ -167,11 +167,11 @@ puts_queued place to text net = by (node_at net place) refl
             (set_elsewhere net.nodes place x (line_queued to text node) two)
 
 puts_one : (place : ℕ) (sent : Sent) (progress : Progress Network)
-    → PutsOut place (λ y. body_on y sent) progress.net (sent_out place sent progress).net
+    → PutsOut place (λ y. body_on y sent) progress.state (sent_out place sent progress).state
 puts_one place (line_to client text) progress = puts_received place client text progress
-puts_one place (end_of client) progress = puts_none place progress.net
-puts_one place (line_on link text) progress = puts_queued place link text progress.net
-puts_one place (end_of_link link reason) progress = puts_none place progress.net
+puts_one place (end_of client) progress = puts_none place progress.state
+puts_one place (line_on link text) progress = puts_queued place link text progress.state
+puts_one place (end_of_link link reason) progress = puts_none place progress.state
 
 -- ---- all that is put out
 
@@ -187,11 +187,11 @@ puts_both place one other old mid new first second = record {
 }
 
 pub puts_all : (place : ℕ) (outs : List Sent) (progress : Progress Network)
-    → PutsOut place (λ y. bodies y outs) progress.net (all_sent_out place outs progress).net
-puts_all place [] progress = puts_none place progress.net
+    → PutsOut place (λ y. bodies y outs) progress.state (all_sent_out place outs progress).state
+puts_all place [] progress = puts_none place progress.state
 puts_all place (sent ∷ outs) progress =
-    puts_both place (λ y. body_on y sent) (λ y. bodies y outs) progress.net
-    (sent_out place sent progress).net (all_sent_out place (sent ∷ outs) progress).net
+    puts_both place (λ y. body_on y sent) (λ y. bodies y outs) progress.state
+    (sent_out place sent progress).state (all_sent_out place (sent ∷ outs) progress).state
     (puts_one place sent progress) (puts_all place outs (sent_out place sent progress))
 
 -- ---- a line is heard
@@ -208,14 +208,15 @@ module _ (place : ℕ) (read_event : ReadEvent) (view : View) where
   abbrev it : Served
   it = reply view read_event
 
-  replies_at : (progress : Progress Network) (node : Node) → node_at progress.net place ≡ Some node
-      → Replies
-      place it.state (λ y. bodies y it.out) progress.net (with_reply place progress node it).net
+  replies_at : (progress : Progress Network) (node : Node)
+      → node_at progress.state place ≡ Some node → Replies
+      place it.state (λ y. bodies y it.out) progress.state (with_reply place progress node it).state
   replies_at progress node at =
       let now : Node = record node { server = Some it.state } in
-      let between : Progress Network = record progress { net = with_node place now progress.net } in
-      let here : node_at between.net place ≡ Some now =
-      set_here progress.net.nodes place node now at in
+      let between : Progress Network =
+      record progress { state = with_node place now progress.state } in
+      let here : node_at between.state place ≡ Some now =
+      set_here progress.state.nodes place node now at in
       let puts = puts_all place it.out between in record {
         server = puts.servers place ∙ ap (option_map (λ (s : Node). s.server)) here;
         ways = λ y.
@@ -227,40 +228,41 @@ module _ (place : ℕ) (read_event : ReadEvent) (view : View) where
             ∙ ap (λ o. is_some (option_and_then (λ (s : Node). get s.queues y) o)) (sym at) ∙ way)
             ∙ ap (λ o. option_map_or (λ s. waiting s y) o [] ++ bodies y it.out) here
             ∙ ap (λ o. option_map_or (λ s. waiting s y) o [] ++ bodies y it.out) (sym at);
-        others = λ x two. puts.others x two ∙ set_elsewhere progress.net.nodes place x now two;
+        others = λ x two. puts.others x two ∙ set_elsewhere progress.state.nodes place x now two;
       }
 
   pub asked_replies : (progress : Progress Network)
-      → server_at progress.net place ≡ Some (Some view) → Replies
-      place it.state (λ y. bodies y it.out) progress.net (node_asked place read_event progress).net
+      → server_at progress.state place ≡ Some (Some view) → Replies
+      place it.state (λ y. bodies y it.out) progress.state
+      (node_asked place read_event progress).state
   unfolding node_asked
-  asked_replies progress is = by_node (node_at progress.net place) refl is
+  asked_replies progress is = by_node (node_at progress.state place) refl is
     where
-      by_view : (node : Node) → node_at progress.net place ≡ Some node → (o : Option View)
-          → o ≡ Some view → Replies place it.state (λ y. bodies y it.out) progress.net
+      by_view : (node : Node) → node_at progress.state place ≡ Some node → (o : Option View)
+          → o ≡ Some view → Replies place it.state (λ y. bodies y it.out) progress.state
           (option_map_or
-          (λ (v : View). with_reply place progress node (reply v read_event)) o progress).net
+          (λ (v : View). with_reply place progress node (reply v read_event)) o progress).state
       by_view node at None none = cc none
       by_view node at (Some v) one =
-          subst (λ (w : View). Replies place it.state (λ y. bodies y it.out) progress.net
-          (with_reply place progress node (reply w read_event)).net)
+          subst (λ (w : View). Replies place it.state (λ y. bodies y it.out) progress.state
+          (with_reply place progress node (reply w read_event)).state)
           (sym (ap (λ o. unwrap_or o v) one)) (replies_at progress node at)
 
-      by_node : (o : Option Node) → node_at progress.net place ≡ o
+      by_node : (o : Option Node) → node_at progress.state place ≡ o
           → option_map (λ (s : Node). s.server) o ≡ Some (Some view)
-          → Replies place it.state (λ y. bodies y it.out) progress.net
-          (option_map_or (asked_at place read_event progress) o progress).net
+          → Replies place it.state (λ y. bodies y it.out) progress.state
+          (option_map_or (asked_at place read_event progress) o progress).state
       by_node None at none = cc none
       by_node (Some node) at some = by_view node at node.server (ap (λ o. unwrap_or o None) some)
 
 pub heard_replies : (from to : ℕ) (line : List ℕ) (view : View) (progress : Progress Network)
-    → server_at progress.net to ≡ Some (Some view)
+    → server_at progress.state to ≡ Some (Some view)
     → Replies to (reply view (link_says from (read_of line))).state
-    (λ y. bodies y (reply view (link_says from (read_of line))).out) progress.net
-    (heard from to progress line).net
+    (λ y. bodies y (reply view (link_says from (read_of line))).out) progress.state
+    (heard from to progress line).state
 heard_replies from to line view progress is =
     let now = asked_replies to (link_says from (read_of line)) view
-    (record progress { net = line_counted progress.net }) is in record {
+    (record progress { state = line_counted progress.state }) is in record {
       server = now.server;
       ways = now.ways;
       waits = now.waits;

@@ -95,19 +95,19 @@ module _ (from to count : ℕ) (net : ByteNetwork) (tidy : IsTidy net) (view : V
     next = all_replies from view (completed_in net from to count)
 
     abbrev last : ByteNetwork
-    last = (bytes_come from to count (begun net)).net
+    last = (bytes_come from to count (begun net)).state
 
     goes_on_so : GoesOn to next (wires_come net from to count) net last
     goes_on_so = bytes_go_on from to count net view tidy at
 
     pub ends_still : ServedKeepsEnds → AreAllEnds net.network
-        → AreAllEnds (bytes_come from to count (begun net)).net.network
+        → AreAllEnds (bytes_come from to count (begun net)).state.network
     ends_still keeps ends =
         ends_then to next (wires_come net from to count) net last goes_on_so view at
         (all_keep_ends keeps from view (completed_in net from to count) (ends to view at)) ends
 
     pub own_still : ClientsStay → AreOwn net.network
-        → AreOwn (bytes_come from to count (begun net)).net.network
+        → AreOwn (bytes_come from to count (begun net)).state.network
     own_still stay own =
         own_then to next (wires_come net from to count) net last goes_on_so view at
         (all_bring_nobody stay from view (completed_in net from to count)) own

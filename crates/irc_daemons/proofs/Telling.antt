@@ -625,7 +625,8 @@ module _ {W : Type 0} (is_after : W → List Call → Type 0) (pieces : PiecesCo
       where
         abbrev asked_net : ByteNetwork
         asked_net = queues_written
-            (item_kept item (node_asked place read_event (begun mid_net.network))).net mid_net.wires
+            (item_kept item (node_asked place read_event (begun mid_net.network))).state
+            mid_net.wires
 
         -- ---- wires
 
@@ -966,7 +967,7 @@ module _ {W : Type 0} (is_after : W → List Call → Type 0) (pieces : PiecesCo
 
         pub told_followed : IsAsNetwork names new
             (queues_written (item_kept item (node_asked place (read_event_by tidings other)
-            (begun mid_net.network))).net mid_net.wires)
+            (begun mid_net.network))).state mid_net.wires)
         told_followed =
             assembled is_after pieces names place base new telling.step not_itself same.clients_open
             here.of.in_order here.of.framers joined_now ends_begin mid_net

@@ -28,10 +28,10 @@ pub data LeadsTo (old : ByteNetwork) : List Item → ByteNetwork → Type 0 wher
   no_more : LeadsTo old [] old
   is_given : (before : List Item) (item : Item) (between : ByteNetwork)
       → LeadsTo old before between → item_fault between item ≡ None → IsItemWithin item
-      → LeadsTo old (before ++ item ∷ []) (item_given item between).net
+      → LeadsTo old (before ++ item ∷ []) (item_given item between).state
   has_come : (items : List Item) (from to count : ℕ) (between : ByteNetwork)
       → LeadsTo old items between → has_way between.network from to ≡ true
-      → LeadsTo old items (bytes_come from to count (begun between)).net
+      → LeadsTo old items (bytes_come from to count (begun between)).state
 
 -- ---- clients
 

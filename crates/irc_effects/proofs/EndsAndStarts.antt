@@ -14,8 +14,7 @@ use Rattle.irc_channels.specs.declared.channel.Channel.{Channel}
 use Rattle.irc_channels.specs.Channels.{has_member, is_invited, new_channel, joined, left}
 use Rattle.irc_channels.specs.Channels.{without_user, while_members}
 use Rattle.irc_modes.specs.Modes.{is_nil}
-use Rattle.irc_effects.specs.declared.effect.Effect.TheVariants.{Quit, Join, Part}
-use Rattle.irc_effects.specs.declared.effect.Effect.TheVariants.{Kick}
+use Rattle.irc_effects.specs.declared.effect.Effect.TheVariants.{Quit, Part, Kick}
 use Rattle.irc_effects.specs.After.{after}
 use Rattle.irc_effects.specs.Laws.{LastMemberEndsChannel, JoinMakesChannel, InvitationUsedUp}
 use Rattle.irc_effects.specs.Lemmas.Rows.{no_row, if_not}

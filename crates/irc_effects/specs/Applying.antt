@@ -19,7 +19,7 @@ use Rattle.irc_effects.specs.After.{after}
 use Rattle.irc_effects.specs.Seen.{Showing, seen, shown_line}
 
 -- whose room it is, whether memory ran out, and the room
-pub record Kept : Type 0 where
+pub record ServerRoom : Type 0 where
   pub own : List ℕ
   pub failed : Bool
   pub room : Room
@@ -33,11 +33,11 @@ missing_fault room effect =
     else None)
 
 -- why an effect is refused, if it is: the causes in the order in which they are looked for
-abbrev pub room_fault : Kept → Effect → Option RoomFault
+abbrev pub room_fault : ServerRoom → Effect → Option RoomFault
 room_fault kept effect = if kept.failed then Some Failed else missing_fault kept.room effect
 
 -- why a channel's name is not spelled anew, if it is not: in the same order
-abbrev pub respelling_fault : Kept → List ℕ → Option RoomFault
+abbrev pub respelling_fault : ServerRoom → List ℕ → Option RoomFault
 respelling_fault kept channel =
     if kept.failed then Some Failed
     else (if has_channel kept.room channel then None
@@ -49,7 +49,7 @@ abbrev pub does : Room → Effect → Bool
 does room effect = is_none (missing_fault room effect) && not (is_idle room effect)
 
 -- whether a viewer is connected to the server whose room it is
-abbrev pub is_own : Kept → Showing → Bool
+abbrev pub is_own : ServerRoom → Showing → Bool
 is_own kept showing =
     option_map_or (is_home kept.own) (row kept.room.users (key showing.viewer)) false
 
@@ -58,11 +58,11 @@ abbrev pub handed : Showing → List ℕ × ArrayVec ℕ
 handed showing = (showing.viewer, record { items = showing.line })
 
 -- what an effect shows to the server's own users, in folded order
-abbrev pub shown_here : Kept → Effect → List (List ℕ × ArrayVec ℕ)
+abbrev pub shown_here : ServerRoom → Effect → List (List ℕ × ArrayVec ℕ)
 shown_here kept effect = map handed (filter (is_own kept) (seen kept.room effect))
 
 -- the line that an effect shows to each of the server's own users who sees it
-abbrev pub ShowsHere : Kept → Effect → Option (List ℕ) → Type 0
+abbrev pub ShowsHere : ServerRoom → Effect → Option (List ℕ) → Type 0
 ShowsHere kept effect line = (viewer : User) → viewer.home ≡ kept.own
     → shown_line kept.room effect viewer ≡ line
 
@@ -73,7 +73,8 @@ pairs_of shown = map (λ viewer. (viewer, shown.line)) shown.viewers.items
 -- An effect is applied: the room is the one after it, and what it shows is put out. Where it is
 -- refused nothing changes and nothing is shown, save that a room for which memory ran out answers
 -- Failed from then on.
-abbrev pub Applied : Kept → Effect → Result (Unit {0}) RoomFault → Kept → ShownLine → Type 0
+abbrev pub Applied : ServerRoom → Effect → Result (Unit {0}) RoomFault → ServerRoom → ShownLine
+    → Type 0
 Applied old effect (Ok done) new shown =
     (room_fault old effect ≡ None) × (new ≡ record old { room = after old.room effect })
     × (pairs_of shown ≡ shown_here old effect)
@@ -84,14 +85,15 @@ Applied old effect (Err fault) new shown =
 
 -- An effect that does nothing is refused for the same causes. Where there is none it is done: it
 -- takes no memory, changes nothing and shows nothing.
-abbrev pub IdleStays : Kept → Effect → Result (Unit {0}) RoomFault → Kept → ShownLine → Type 0
+abbrev pub IdleStays : ServerRoom → Effect → Result (Unit {0}) RoomFault → ServerRoom → ShownLine
+    → Type 0
 IdleStays old effect result new shown =
     is_idle old.room effect ≡ true → room_fault old effect ≡ None
     → (result ≡ Ok tt) × (new ≡ old) × (pairs_of shown ≡ [])
 
 -- An effect is made, and shown to nobody: the room is the one after it. Where it is refused nothing
 -- changes, save that a room for which memory ran out answers Failed from then on.
-abbrev pub Changed : Kept → Effect → Result (Unit {0}) RoomFault → Kept → Type 0
+abbrev pub Changed : ServerRoom → Effect → Result (Unit {0}) RoomFault → ServerRoom → Type 0
 Changed old effect (Ok done) new =
     (room_fault old effect ≡ None) × (new ≡ record old { room = after old.room effect })
 Changed old effect (Err Memory) new =
@@ -100,6 +102,6 @@ Changed old effect (Err fault) new = (room_fault old effect ≡ Some fault) × (
 
 -- An effect that does nothing is refused for the same causes. Where there is none it is done: it
 -- takes no memory and changes nothing.
-abbrev pub IdleKeeps : Kept → Effect → Result (Unit {0}) RoomFault → Kept → Type 0
+abbrev pub IdleKeeps : ServerRoom → Effect → Result (Unit {0}) RoomFault → ServerRoom → Type 0
 IdleKeeps old effect result new =
     is_idle old.room effect ≡ true → room_fault old effect ≡ None → (result ≡ Ok tt) × (new ≡ old)

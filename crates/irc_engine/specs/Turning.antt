@@ -6,7 +6,6 @@ use Rattle.irc_outbox.specs.declared.wire.Ready.{Ready}
 use Rattle.irc_outbox.specs.declared.wire.Ready.TheVariants.{Idle, Writable}
 use Rattle.irc_outbox.specs.Calls.{Call, asks, Adds}
 use Rattle.irc_stage.specs.View.{View}
-use Rattle.irc_engine.specs.declared.engine.OutboxSizes.{OutboxSizes}
 use Rattle.irc_engine.specs.declared.engine.EngineFault.{EngineFault}
 use Rattle.irc_engine.specs.declared.engine.EngineFault.TheVariants.{Memory, Failed, Device}
 use Rattle.irc_engine.specs.Carrying.{has_some_at}

@@ -17,7 +17,7 @@ pub record AreReceivingLaws : Type 0 where
   pub rest : RestIsOneRoom
   pub given_settings : GivenKeepsSettings
   pub delivered_settings : DeliveryKeepsSettings
-  pub items : (item : Item) (net : Network) → (given item net).net.items ≡ net.items ++ item ∷ []
+  pub items : (item : Item) (net : Network) → (given item net).state.items ≡ net.items ++ item ∷ []
 
 -- what is so of a network once lines of it are delivered
 pub record IsLater (first last : Network) : Type 0 where
@@ -45,14 +45,14 @@ module _ (laws : AreReceivingLaws) where
   pub item_is_received : ItemIsReceived
   item_is_received net new item client through =
       (laws.rest new after.sound through.rest).received client
-      ∙ owed_alike (given item net).net new client after.settings after.items
-      ∙ ap (λ ss. owed_by_network ss (given item net).net.items client)
+      ∙ owed_alike (given item net).state new client after.settings after.items
+      ∙ ap (λ ss. owed_by_network ss (given item net).state.items client)
       (laws.given_settings net item)
       ∙ ap (λ is. owed_by_network (settings_of net) is client) (laws.items item net)
       ∙ owed_more (settings_of net) net.items item client
-      ∙ ap (λ before. before ++ (step (settings_of net) (world_now net) item).lines client)
+      ∙ ap (λ before. before ++ (step (settings_of net) (world_now net) item).out client)
       (sym ((laws.rest net through.sound through.given_so.at_rest).received client))
     where
-      after : IsLater (given item net).net new
-      after = later (given item net).net new
+      after : IsLater (given item net).state new
+      after = later (given item net).state new
           (laws.stays net item through.sound through.given_so) through.reached

@@ -42,11 +42,12 @@ changed_keeps place change same net = by (node_at net place) refl
 
 module _ (kept : ServedKeepsItsSetting) where
   replied_keeps : (place : ℕ) (read_event : ReadEvent) (progress : Progress Network) (node : Node)
-      (view : View) → node_at progress.net place ≡ Some node → node.server ≡ Some view → settings_of
-      (with_reply place progress node (reply view read_event)).net ≡ settings_of progress.net
+      (view : View) → node_at progress.state place ≡ Some node → node.server ≡ Some view
+      → settings_of (with_reply place progress node (reply view read_event)).state
+      ≡ settings_of progress.state
   replied_keeps place read_event progress node view is server =
       (all_sent place answer.out replied mid is_there).changed.settings
-      ∙ set_alike place node replied progress.net is alike
+      ∙ set_alike place node replied progress.state is alike
     where
       answer : Served
       answer = reply view read_event
@@ -56,8 +57,8 @@ module _ (kept : ServedKeepsItsSetting) where
 
       mid : Progress Network
       mid = record progress {
-        net = with_node place
-            (record node { server = Some (reply view read_event).state }) progress.net;
+        state = with_node place
+            (record node { server = Some (reply view read_event).state }) progress.state;
       }
 
       alike : IsAlikeNode node (record node { server = Some (reply view read_event).state })
@@ -69,47 +70,48 @@ module _ (kept : ServedKeepsItsSetting) where
       }
 
       is_there : node_at (with_node place
-          (record node { server = Some (reply view read_event).state }) progress.net) place ≡ Some
+          (record node { server = Some (reply view read_event).state }) progress.state) place ≡ Some
           (record node { server = Some (reply view read_event).state })
       is_there = (node_set place node
-          (record node { server = Some (reply view read_event).state }) progress.net
+          (record node { server = Some (reply view read_event).state }) progress.state
           (with_node place
-          (record node { server = Some (reply view read_event).state }) progress.net)
+          (record node { server = Some (reply view read_event).state }) progress.state)
           is alike refl).is_after
 
   asked_keeps : (place : ℕ) (read_event : ReadEvent) (progress : Progress Network)
-      → settings_of (node_asked place read_event progress).net ≡ settings_of progress.net
+      → settings_of (node_asked place read_event progress).state ≡ settings_of progress.state
   unfolding node_asked
-  asked_keeps place read_event progress = by (node_at progress.net place) refl
+  asked_keeps place read_event progress = by (node_at progress.state place) refl
     where
-      at : (node : Node) → node_at progress.net place ≡ Some node → (o : Option View) → node.server
-          ≡ o → settings_of (asked_at place read_event progress node).net ≡ settings_of progress.net
+      at : (node : Node) → node_at progress.state place ≡ Some node → (o : Option View)
+          → node.server ≡ o
+          → settings_of (asked_at place read_event progress node).state ≡ settings_of progress.state
       at node is None e = ap (λ o. settings_of (option_map_or (λ (view : View).
-          with_reply place progress node (reply view read_event)) o progress).net) e
+          with_reply place progress node (reply view read_event)) o progress).state) e
       at node is (Some view) e =
           ap (λ o. settings_of (option_map_or (λ (view : View).
-          with_reply place progress node (reply view read_event)) o progress).net) e
+          with_reply place progress node (reply view read_event)) o progress).state) e
           ∙ replied_keeps place read_event progress node view is e
 
-      by : (o : Option Node) → node_at progress.net place ≡ o → settings_of
+      by : (o : Option Node) → node_at progress.state place ≡ o → settings_of
           (option_map_or (asked_at place read_event progress)
-          (node_at progress.net place) progress).net
-          ≡ settings_of progress.net
+          (node_at progress.state place) progress).state
+          ≡ settings_of progress.state
       by None e =
           ap (λ o. settings_of
-          (option_map_or (asked_at place read_event progress) o progress).net) e
+          (option_map_or (asked_at place read_event progress) o progress).state) e
       by (Some node) e =
           ap (λ o. settings_of
-          (option_map_or (asked_at place read_event progress) o progress).net) e
+          (option_map_or (asked_at place read_event progress) o progress).state) e
           ∙ at node e node.server refl
 
   asked_of_keeps : (o : Option ℕ) (read_event : ReadEvent) (progress : Progress Network)
-      → settings_of (node_asked_if o read_event progress).net ≡ settings_of progress.net
+      → settings_of (node_asked_if o read_event progress).state ≡ settings_of progress.state
   asked_of_keeps None read_event progress = refl
   asked_of_keeps (Some place) read_event progress = asked_keeps place read_event progress
 
   made_keeps : (near far : Name) (net : Network) (ends : LinkPlaces)
-      → settings_of (servers_linked near far net ends).net ≡ settings_of net
+      → settings_of (servers_linked near far net ends).state ≡ settings_of net
   made_keeps near far net ends =
       asked_keeps ends.far (link_up ends.near None) _
       ∙ asked_keeps ends.near (link_up ends.far (Some far)) _
@@ -117,13 +119,14 @@ module _ (kept : ServedKeepsItsSetting) where
       ∙ changed_keeps ends.near (with_way ends.far) (λ node. refl) _
 
   lost_keeps : (near far : Name) (net : Network) (ends : LinkPlaces)
-      → settings_of (servers_parted near far net ends).net ≡ settings_of net
+      → settings_of (servers_parted near far net ends).state ≡ settings_of net
   lost_keeps near far net ends =
       asked_keeps ends.far (link_down ends.near) _ ∙ asked_keeps ends.near (link_down ends.far) _
       ∙ changed_keeps ends.far (without_way ends.near) (λ node. refl) _
       ∙ changed_keeps ends.near (without_way ends.far) (λ node. refl) _
 
-  done_keeps : (item : Item) (net : Network) → settings_of (done_by item net).net ≡ settings_of net
+  done_keeps : (item : Item) (net : Network)
+      → settings_of (done_by item net).state ≡ settings_of net
   done_keeps (connect server host) net = asked_of_keeps (server_place net server)
       (of_client (connects (next_client net) host)) (begun (with_client server net))
   done_keeps (line client bytes) net =
@@ -133,13 +136,13 @@ module _ (kept : ServedKeepsItsSetting) where
   done_keeps (link near far) net = by (link_places net near far)
     where
       by : (o : Option LinkPlaces) → settings_of
-          (option_map_or (servers_linked near far net) o (begun net)).net ≡ settings_of net
+          (option_map_or (servers_linked near far net) o (begun net)).state ≡ settings_of net
       by None = refl
       by (Some ends) = made_keeps near far net ends
   done_keeps (cut near far) net = by (link_places net near far)
     where
       by : (o : Option LinkPlaces) → settings_of
-          (option_map_or (servers_parted near far net) o (begun net)).net ≡ settings_of net
+          (option_map_or (servers_parted near far net) o (begun net)).state ≡ settings_of net
       by None = refl
       by (Some ends) = lost_keeps near far net ends
 
@@ -149,21 +152,23 @@ module _ (kept : ServedKeepsItsSetting) where
 
   pub delivery_keeps_settings : DeliveryKeepsSettings
   unfolding delivered
-  delivery_keeps_settings from to old new is = by (node_at old.net from) refl
+  delivery_keeps_settings from to old new is = by (node_at old.state from) refl
     where
-      taken : (node : Node) → node_at old.net from ≡ Some node → (lines : List (List ℕ))
-          → taken_of from to old node lines ≡ Some new → settings_of new.net ≡ settings_of old.net
+      taken : (node : Node) → node_at old.state from ≡ Some node
+          → (lines : List (List ℕ)) → taken_of from to old node lines ≡ Some new
+          → settings_of new.state ≡ settings_of old.state
       taken node there [] e = absurd (cc e)
       taken node there (first ∷ rest) e =
           ap (λ (o : Option (Progress Network)). option_map_or
-          (λ (c : Progress Network). settings_of c.net) o
-          (settings_of new.net)) (sym e)
+          (λ (c : Progress Network). settings_of c.state) o
+          (settings_of new.state)) (sym e)
           ∙ asked_keeps to (link_says from (read_of first))
-          (record old { net = line_counted (with_node from (left to rest node) old.net) })
-          ∙ set_alike from node (left to rest node) old.net there
+          (record old { state = line_counted (with_node from (left to rest node) old.state) })
+          ∙ set_alike from node (left to rest node) old.state there
           (same_server node (left to rest node) refl)
 
-      by : (o : Option Node) → node_at old.net from ≡ o → settings_of new.net ≡ settings_of old.net
+      by : (o : Option Node) → node_at old.state from ≡ o
+          → settings_of new.state ≡ settings_of old.state
       by None e = absurd (let no = sym (ap (option_and_then
           (λ (node : Node). taken_of from to old node (waiting node to))) e) ∙ is in cc no)
       by (Some node) e = taken node e (waiting node to) (sym (ap (option_and_then

@@ -23,9 +23,9 @@ record IsAfter (settings : List Setting) (world : World) (item : Item)
     (net new : Network) : Type 0 where
   sound : IsSound new
   settings_are : settings_of new ≡ settings
-  world_is : world_now new ≡ (step settings world item).world
+  world_is : world_now new ≡ (step settings world item).state
   received : (client : ℕ) → received_by new client ≡ received_by net client
-      ++ (step settings world item).lines client
+      ++ (step settings world item).out client
 
 -- an item that the world of a network takes, and lines that are delivered then until none is on its
 -- way
@@ -34,7 +34,7 @@ module _ (laws : AreReceivingLaws) (refusals : RefusalsAreTheWorlds) (settings :
     (sound : IsSound net) (at_rest : is_at_rest net ≡ true)
     (settings_are : settings_of net ≡ settings) (world_is : world_now net ≡ world)
     (taken : refused settings world item ≡ None) (within : IsItemWithin item)
-    (reached : IsReached (given item net).net new) (rest : is_at_rest new ≡ true)
+    (reached : IsReached (given item net).state new) (rest : is_at_rest new ≡ true)
   where
     given_so : IsGivenAtRest net item
     given_so = record {
@@ -44,8 +44,8 @@ module _ (laws : AreReceivingLaws) (refusals : RefusalsAreTheWorlds) (settings :
       within = within;
     }
 
-    so : IsLater (given item net).net new
-    so = later laws (given item net).net new (laws.stays net item sound given_so) reached
+    so : IsLater (given item net).state new
+    so = later laws (given item net).state new (laws.stays net item sound given_so) reached
 
     set : settings_of new ≡ settings
     set = so.settings ∙ laws.given_settings net item ∙ settings_are
@@ -56,11 +56,11 @@ module _ (laws : AreReceivingLaws) (refusals : RefusalsAreTheWorlds) (settings :
       settings_are = set;
       world_is = (λ i. world_of (set i) ((so.items ∙ laws.items item net) i))
           ∙ world_more settings net.items item
-          ∙ ap (λ w. (step settings w item).world)
+          ∙ ap (λ w. (step settings w item).state)
           (ap (λ ss. world_of ss net.items) (sym settings_are) ∙ world_is);
       received = λ client. item_is_received laws net new item client
           (record { sound = sound; given_so = given_so; reached = reached; rest = rest })
-          ∙ (λ i. received_by net client ++ (step (settings_are i) (world_is i) item).lines client);
+          ∙ (λ i. received_by net client ++ (step (settings_are i) (world_is i) item).out client);
     }
 
 -- ---- bursts that cross
@@ -112,8 +112,8 @@ rejoin_joins_the_rooms laws refusals example net new parted reached rest = recor
   to_cy = after.received 3 ∙ ap (λ lines. received_by net 3 ++ lines) example.to_cy;
 }
   where
-    after : IsAfter three_peers cut_off.world (link (codes "a.net") (codes "b.net")) net new
-    after = by_item laws refusals three_peers cut_off.world
+    after : IsAfter three_peers cut_off.state (link (codes "a.net") (codes "b.net")) net new
+    after = by_item laws refusals three_peers cut_off.state
         (link (codes "a.net") (codes "b.net")) net new
         parted.sound parted.rest parted.settings parted.world example.taken tt reached rest
 

@@ -36,19 +36,19 @@ pub data IsReached : Network → Network → Type 0 where
   none_yet : {net : Network} → IsReached net net
   one_more : {first between : Network} {last : Progress Network} (from to : ℕ)
       → IsReached first between → delivered from to (begun between) ≡ Some last
-      → IsReached first last.net
+      → IsReached first last.state
 
 -- an item is given, and lines are delivered until none is on its way
 pub record IsThrough (net new : Network) (item : Item) : Type 0 where
   pub sound : IsSound net
   pub given_so : IsGivenAtRest net item
-  pub reached : IsReached (given item net).net new
+  pub reached : IsReached (given item net).state new
   pub rest : is_at_rest new ≡ true
 
 abbrev pub ItemIsReceived : Type 0
 ItemIsReceived = (net new : Network) (item : Item) (client : ℕ) → IsThrough net new item
     → received_by new client ≡ received_by net client
-    ++ (step (settings_of net) (world_now net) item).lines client
+    ++ (step (settings_of net) (world_now net) item).out client
 
 -- ---- bursts that cross
 
@@ -70,7 +70,7 @@ pub record HavePeopleMet (net new : Network) : Type 0 where
 
 abbrev pub CrossingBurstsMeet : Type 0
 CrossingBurstsMeet = (net new : Network) → ArePeopleApart net
-    → IsReached (given (link (codes "a.net") (codes "b.net")) net).net new → is_at_rest new ≡ true
+    → IsReached (given (link (codes "a.net") (codes "b.net")) net).state new → is_at_rest new ≡ true
     → HavePeopleMet net new
 
 -- ---- a link that is lost, and is back
@@ -87,7 +87,7 @@ pub record ArePeopleParted (net : Network) : Type 0 where
   pub sound : IsSound net
   pub rest : is_at_rest net ≡ true
   pub settings : settings_of net ≡ three_peers
-  pub world : world_now net ≡ cut_off.world
+  pub world : world_now net ≡ cut_off.state
 
 -- what each receives by the loss, and what is left
 pub record IsRoomParted (net new : Network) : Type 0 where
@@ -101,7 +101,7 @@ pub record IsRoomParted (net new : Network) : Type 0 where
 
 abbrev pub SplitPartsTheRoom : Type 0
 SplitPartsTheRoom = (net new : Network) → ArePeopleInALine net
-    → IsReached (given (cut (codes "a.net") (codes "b.net")) net).net new → is_at_rest new ≡ true
+    → IsReached (given (cut (codes "a.net") (codes "b.net")) net).state new → is_at_rest new ≡ true
     → IsRoomParted net new
 
 -- what each receives by the link that is back
@@ -120,7 +120,7 @@ pub record AreRoomsJoined (net new : Network) : Type 0 where
 
 abbrev pub RejoinJoinsTheRooms : Type 0
 RejoinJoinsTheRooms = (net new : Network) → ArePeopleParted net
-    → IsReached (given (link (codes "a.net") (codes "b.net")) net).net new → is_at_rest new ≡ true
+    → IsReached (given (link (codes "a.net") (codes "b.net")) net).state new → is_at_rest new ≡ true
     → AreRoomsJoined net new
 
 -- ---- a nickname on both sides
@@ -145,5 +145,5 @@ pub record AreZedsGone (net new : Network) : Type 0 where
 
 abbrev pub ClashingNicknamesGo : Type 0
 ClashingNicknamesGo = (net new : Network) → AreZedsApart net
-    → IsReached (given (link (codes "a.net") (codes "b.net")) net).net new → is_at_rest new ≡ true
+    → IsReached (given (link (codes "a.net") (codes "b.net")) net).state new → is_at_rest new ≡ true
     → AreZedsGone net new

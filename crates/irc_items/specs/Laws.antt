@@ -32,11 +32,11 @@ pub record IsGivenAtRest (net : Network) (item : Item) : Type 0 where
 
 abbrev pub GivenStaysSound : Type 0
 GivenStaysSound = (net : Network) (item : Item) → IsSound net → IsGivenAtRest net item
-    → IsSound (given item net).net
+    → IsSound (given item net).state
 
 abbrev pub DeliveryStaysSound : Type 0
-DeliveryStaysSound = (from to : ℕ) (old new : Progress Network) → IsSound old.net
-    → delivered from to old ≡ Some new → IsSound new.net
+DeliveryStaysSound = (from to : ℕ) (old new : Progress Network) → IsSound old.state
+    → delivered from to old ≡ Some new → IsSound new.state
 
 abbrev pub RestIsOneRoom : Type 0
 RestIsOneRoom = (net : Network) → IsSound net → is_at_rest net ≡ true → IsOneRoom net
@@ -54,12 +54,12 @@ RefusalsAreTheWorlds = (net : Network) (item : Item) → IsSound net → is_at_r
 -- What servers are configured to be stays.
 abbrev pub GivenKeepsSettings : Type 0
 GivenKeepsSettings =
-    (net : Network) (item : Item) → settings_of (given item net).net ≡ settings_of net
+    (net : Network) (item : Item) → settings_of (given item net).state ≡ settings_of net
 
 abbrev pub DeliveryKeepsSettings : Type 0
 DeliveryKeepsSettings =
     (from to : ℕ) (old new : Progress Network) → delivered from to old ≡ Some new
-    → settings_of new.net ≡ settings_of old.net
+    → settings_of new.state ≡ settings_of old.state
 
 -- Each line that waits on a way is one: 1 to 510 bytes, none of them NUL, CR or LF. So a stream
 -- that carries it with its CR LF gives it as it was put out (RFC 2812 section 2.3).

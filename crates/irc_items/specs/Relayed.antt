@@ -5,7 +5,7 @@ use Rattle.std.specs.FinMap.{get}
 use Rattle.std.specs.Option.{option_and_then, option_map_or}
 use Rattle.irc_line.specs.Messages.{line_text}
 use Rattle.irc_relay.specs.Links.{Name}
-use Rattle.irc_relay.specs.Relay.{Net, Streams}
+use Rattle.irc_relay.specs.Relay.{RelayState, Streams}
 use Rattle.irc_stage.specs.View.{End, View}
 use Rattle.irc_stage.specs.Ends.{is_met}
 use Rattle.irc_server.specs.LinkServed.{owed_by}
@@ -38,7 +38,7 @@ abbrev pub is_met_with : ItemSetting → View → Name → Bool
 is_met_with s view other = option_map_or is_met (get view.ends (number s other)) false
 
 -- as one client of it sees it
-abbrev pub relayed : ItemSetting → Network → ℕ → Net View (List ℕ) (List ℕ)
+abbrev pub relayed : ItemSetting → Network → ℕ → RelayState View (List ℕ) (List ℕ)
 relayed s net client = record {
   state = view_at net;
   shown = λ t. if is_home_of s.homes t client then received_by net client else [];

@@ -40,7 +40,7 @@ abbrev pub most_of_last : List Setting → World → List Item → ℕ
 most_of_last settings world [] = 0
 most_of_last settings world (item ∷ []) = most settings world item
 most_of_last settings world (item ∷ next ∷ items) =
-    most_of_last settings (step settings world item).world (next ∷ items)
+    most_of_last settings (step settings world item).state (next ∷ items)
 
 abbrev pub most_now : Network → ℕ
 most_now net = most_of_last (settings_of net) new_world net.items

@@ -220,3 +220,15 @@ own_told reader name target words read told is done =
     done ∙ ap done_told is
     ∙ done_judged (Some name) (user_mode_line reader name target words)
     (own_plain reader name target words)
+
+-- the same of a line that is from a name, by other words for its prefix and its parameters
+pub named_told : (which given : EffectCommand) (at : Arrival) (prefix : Option (List ℕ))
+    (name : List ℕ) (words these : List (List ℕ)) (read : Result (Option Effect) CloseReason)
+    (told : Result (Option Code) CloseReason) → Some name ≡ prefix → these ≡ words
+    → given ≡ which → IsOfUser which
+    → found read ≡ first_effect (check_of which (reader at) (Some name) these)
+    → told_found told ≡ done_told (found read) → TellsRow given at prefix words told
+named_told which given at prefix name words these read told named are is user reads done =
+    subst (λ from. TellsRow given at from words told) named
+    (subst (λ by. TellsRow given at (Some name) by told) are
+    (row_told which given at (Some name) these read told is user reads done))

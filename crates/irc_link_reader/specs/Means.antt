@@ -4,29 +4,35 @@
 --
 -- Lines by the link to b.net, as a.net reads them. bo is a user of b.net, al one of a.net; the
 -- neighbour's number 1 is b.net itself.
--- a user comes: `NICK bo 1 u b.example 1 + :Bo` comes, one link away; with `+i` in place of `+` it
--- comes with mode i
--- `NICK bo 2 u b.example 1 + :Bo` Parameters: a.net knows b.net to be one link away
--- `NICK bo 1 u b.example 9 + :Bo` BadToken: the neighbour has no server under 9
---   a line of it:    `:bo QUIT :gone`                   is done
---                    `:bo QUIT`, `:bo QUIT a b`         Parameters, as is a text of 161 bytes
---                    `:zz QUIT :gone`                   nothing: zz is nobody (see Reader.antt)
--- its channels: `:bo JOIN #c`, `:bo JOIN #c^Go` joins; with the byte 7 and `o` behind the name it
--- becomes an operator
--- `:bo KICK #c al :out` is done, whether al is in #c or not: a room does nothing where al is not
---                    `:bo PART c :gone`                 BadName: `c` is no channel's name
---   what it says:    `:bo PRIVMSG al :hi`, `:bo NOTICE #c :hi`
---                    `:bo INVITE al #c`
--- modes: `:bo MODE #c +ol al 5` is done: letters first, then their words in order
--- `:bo MODE #c +l 007` Parameters: a limit has no leading zeros; so is `+k a,b`, as a key has no
--- comma
---                    `:bo MODE #c +o 9d`                BadName: the word of o is no nickname
--- `:bo MODE bo +i` its own mode; `:bo MODE al +i` is Parameters
--- a server's: `:b.net TOPIC #c :x` counts where #c is there and has a member behind this link; else
--- it means nothing:
--- of a channel that has none b.net has nothing to tell The first that is wrong is told: of `:al
--- KICK #c bo` (no text) by this link Parameters and not WrongDirection, of `:al NICK 9d`
--- WrongDirection and not BadName.
+--   a user comes:   `NICK bo 1 u b.example 1 + :Bo`   comes, one link away; with `+i` in place of
+--                                                     `+` it comes with mode i
+--                   `NICK bo 2 u b.example 1 + :Bo`   Parameters: a.net knows b.net to be one
+--                                                     link away
+--                   `NICK bo 1 u b.example 9 + :Bo`   BadToken: the neighbour has no server
+--                                                     under 9
+--   a line of it:   `:bo QUIT :gone`                  is done
+--                   `:bo QUIT`, `:bo QUIT a b`        Parameters, as is a text of 161 bytes
+--                   `:zz QUIT :gone`                  nothing: zz is nobody (see Reader.antt)
+--   its channels:   `:bo JOIN #c`, `:bo JOIN #c^Go`   joins; with the byte 7 and `o` behind the
+--                                                     name it becomes an operator
+--                   `:bo KICK #c al :out`             is done, whether al is in #c or not: a
+--                                                     room does nothing where al is not
+--                   `:bo PART c :gone`                BadName: `c` is no channel's name
+--   what it says:   `:bo PRIVMSG al :hi`, `:bo NOTICE #c :hi`
+--                   `:bo INVITE al #c`
+--   modes:          `:bo MODE #c +ol al 5`            is done: letters first, then their words in
+--                                                     order
+--                   `:bo MODE #c +l 007`              Parameters: a limit has no leading zeros;
+--                                                     so is `+k a,b`, as a key has no comma
+--                   `:bo MODE #c +o 9d`               BadName: the word of o is no nickname
+--                   `:bo MODE bo +i`                  its own mode; `:bo MODE al +i` is
+--                                                     Parameters
+--   a server's:     `:b.net TOPIC #c :x`              counts where #c is there and has a member
+--                                                     behind this link; else it means nothing:
+--                                                     of a channel that has none b.net has
+--                                                     nothing to tell
+-- The first that is wrong is told: of `:al KICK #c bo` (no text) by this link Parameters and not
+-- WrongDirection, of `:al NICK 9d` WrongDirection and not BadName.
 use Rattle.std.specs.Prelude.{◌≡◌, ◌⊎◌, IsOk, ℕ, Bool, true, false, not, ◌&&◌, ◌||◌, is_some}
 use Rattle.std.specs.Prelude.{Option, Some, None, Result, Ok, Err, List, [], ◌∷◌, codes, nat_eq}
 use Rattle.std.specs.Prelude.{unwrap_or, if◌then◌else◌}

@@ -8,20 +8,20 @@
 --
 -- What b.net makes of lines that come by its link to a.net:
 --   `:al QUIT :x`          may come: al is a user of a.net, which is behind this link.
--- `:cy QUIT :x` WrongDirection: cy is behind the other link. Were it taken, b.net would tell c.net
--- that c.net's own user has left, and
--- the two would no longer have the same room. A sound server never sends it, so nothing is mended
--- by reading on.
--- `:bo QUIT :x` WrongDirection: what b.net's own users do, b.net tells the others. So is `:b.net
--- TOPIC #c :x`.
--- `:d.net TOPIC #c :x` WrongDirection: nobody has told b.net of d.net, and a server is told of
--- before it speaks.
--- `:zz QUIT :x` may come, and means nothing. That nobody has this nickname is no fault of a.net: zz
--- may have been taken out by the other
--- side while the line was on its way. To close the link for it would be to lose links in the normal
--- run of things.
--- `:9d QUIT :x` is from nobody that could be looked for. It is let pass here, and is BadName once
--- all else is right.
+--   `:cy QUIT :x`          WrongDirection: cy is behind the other link. Were it taken, b.net would
+--                          tell c.net that c.net's own user has left, and the two would no longer
+--                          have the same room. A sound server never sends it, so nothing is mended
+--                          by reading on.
+--   `:bo QUIT :x`          WrongDirection: what b.net's own users do, b.net tells the others. So
+--                          is `:b.net TOPIC #c :x`.
+--   `:d.net TOPIC #c :x`   WrongDirection: nobody has told b.net of d.net, and a server is told of
+--                          before it speaks.
+--   `:zz QUIT :x`          may come, and means nothing. That nobody has this nickname is no fault
+--                          of a.net: zz may have been taken out by the other side while the line
+--                          was on its way. To close the link for it would be to lose links in the
+--                          normal run of things.
+--   `:9d QUIT :x`          is from nobody that could be looked for. It is let pass here, and is
+--                          BadName once all else is right.
 use Rattle.std.specs.Prelude.{ℕ, Bool, true, false, Option, List, nat_eq, if◌then◌else◌}
 use Rattle.std.specs.List.{list_any}
 use Rattle.std.specs.Option.{option_map_or}

@@ -31,37 +31,17 @@ pub fn tell_effect(
     ensures memory { OnErr result (takes_memory command ≡ true) }
 {
     let params = Params::new(message.params.as_slice());
-    if let EffectCommand::Nick = command {
-        return Ok(done(nick_line(at, message.prefix, params)));
-    }
-    match message.prefix {
-        Some(name) => named_line(alloc, at, command, name, params),
-        None => Ok(Err(CloseReason::Parameters)),
-    }
-}
-
-/// What a line of a command tells that is from a name.
-fn named_line(
-    alloc: Global,
-    at: Arrival<'_>,
-    command: EffectCommand,
-    name: &[u8],
-    params: Params<'_>,
-) -> Result<Result<Option<Deed>, CloseReason>, AllocError>
-    ensures told { IfOk result (λ told.
-        TellsRow command at.entry (Some name.now) params.entry told) }
-    ensures memory { OnErr result (takes_memory command ≡ true) }
-{
-    match command {
-        EffectCommand::Nick => Ok(done(nick_line(at, Some(name), params))),
-        EffectCommand::Quit => Ok(done(quit_line(at, name, params))),
-        EffectCommand::Join => Ok(done(join_line(at, name, params))),
-        EffectCommand::Part => Ok(done(part_line(at, name, params))),
-        EffectCommand::Kick => Ok(done(kick_line(at, name, params))),
-        EffectCommand::Mode => mode_line(alloc, at, name, params),
-        EffectCommand::Topic => Ok(topic_line(at, name, params)),
-        EffectCommand::Say(notice) => Ok(done(say_line(at, notice, name, params))),
-        EffectCommand::Invite => Ok(done(invite_line(at, name, params))),
+    match (command, message.prefix) {
+        (EffectCommand::Nick, prefix) => Ok(done(nick_line(at, prefix, params))),
+        (_, None) => Ok(Err(CloseReason::Parameters)),
+        (EffectCommand::Quit, Some(name)) => Ok(done(quit_line(at, name, params))),
+        (EffectCommand::Join, Some(name)) => Ok(done(join_line(at, name, params))),
+        (EffectCommand::Part, Some(name)) => Ok(done(part_line(at, name, params))),
+        (EffectCommand::Kick, Some(name)) => Ok(done(kick_line(at, name, params))),
+        (EffectCommand::Mode, Some(name)) => mode_line(alloc, at, name, params),
+        (EffectCommand::Topic, Some(name)) => Ok(topic_line(at, name, params)),
+        (EffectCommand::Say(notice), Some(name)) => Ok(done(say_line(at, notice, name, params))),
+        (EffectCommand::Invite, Some(name)) => Ok(done(invite_line(at, name, params))),
     }
 }
 

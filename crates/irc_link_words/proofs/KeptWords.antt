@@ -18,7 +18,7 @@ use Rattle.irc_modes.specs.declared.modes.ModeLetter.{ModeLetter}
 use Rattle.irc_modes.specs.declared.modes.ModeChange.{ModeChange}
 use Rattle.irc_modes.specs.declared.modes.ModeLetter.TheVariants as letter
 use Rattle.irc_modes.specs.ModeViews.{all_asked, asked}
-use Rattle.irc_modes.specs.ModeWords.{Asked, Reading, change, counted, counts, is_sign}
+use Rattle.irc_modes.specs.ModeWords.{Asked, ReadLetter, change, counted, counts, is_sign}
 use Rattle.irc_modes.specs.ModeWords.{letter_asks, letters_read, list, mode_of, modes_read}
 use Rattle.irc_modes.specs.ModeWords.{next_word, no_word, reading, reading_of, unknown}
 use Rattle.irc_modes.specs.ModeWords.{words_after}
@@ -82,7 +82,7 @@ both_so : (a b : Bool) → a ≡ true → b ≡ true → (a && b) ≡ true
 both_so a b one other = ap (λ t. t && b) one ∙ other
 
 letters_kept : (plus : Bool) (letters : List ℕ) (words : List (List ℕ)) → list_all is_short words
-    ≡ true → list_all (λ (r : Reading). is_kept r.asked) (letters_read plus letters words) ≡ true
+    ≡ true → list_all (λ (r : ReadLetter). is_kept r.asked) (letters_read plus letters words) ≡ true
 letters_kept plus [] words short = refl
 letters_kept plus (byte ∷ letters) words short =
     by_sign (is_sign byte) _ _ (letters_kept (nat_eq byte plus_byte) letters words short)
@@ -91,14 +91,14 @@ letters_kept plus (byte ∷ letters) words short =
     (letters_kept plus letters (words_after plus byte words)
     (rest_short (letter_asks plus (mode_of byte)) words short)))
   where
-    by_sign : (b : Bool) (one other : List Reading) → list_all (λ (r : Reading).
-        is_kept r.asked) one ≡ true → list_all (λ (r : Reading). is_kept r.asked) other ≡ true
-        → list_all (λ (r : Reading). is_kept r.asked) (if b then one else other) ≡ true
+    by_sign : (b : Bool) (one other : List ReadLetter) → list_all (λ (r : ReadLetter).
+        is_kept r.asked) one ≡ true → list_all (λ (r : ReadLetter). is_kept r.asked) other ≡ true
+        → list_all (λ (r : ReadLetter). is_kept r.asked) (if b then one else other) ≡ true
     by_sign true one other first second = first
     by_sign false one other first second = second
 
-counted_kept : (earlier readings : List Reading)
-    → list_all (λ (r : Reading). is_kept r.asked) readings ≡ true
+counted_kept : (earlier readings : List ReadLetter)
+    → list_all (λ (r : ReadLetter). is_kept r.asked) readings ≡ true
     → list_all is_kept (counted earlier readings) ≡ true
 counted_kept earlier [] kept = refl
 counted_kept earlier (reading ∷ later) kept =

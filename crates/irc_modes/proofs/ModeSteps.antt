@@ -5,7 +5,7 @@ use Rattle.std.proofs.Common.{append_assoc}
 use Rattle.std.proofs.lemmas.List.{drop_more, drop_all, drop-drop, drop-map, append-nil, map-append}
 use Rattle.irc_modes.specs.declared.TheConstants.{MAX_MODE_PARAMETERS}
 use Rattle.irc_modes.specs.declared.mode_words.Limits.{Limits}
-use Rattle.irc_modes.specs.ModeWords.{Asked, Reading, next_word, letter_asks, mode_of}
+use Rattle.irc_modes.specs.ModeWords.{Asked, ReadLetter, next_word, letter_asks, mode_of}
 use Rattle.irc_modes.specs.ModeWords.{words_after, is_sign, reading, letters_read, counted}
 use Rattle.irc_modes.specs.declared.mode_words.ModeItem.{ModeItem}
 use Rattle.irc_modes.specs.ModeViews.{asked, all_asked}
@@ -54,7 +54,7 @@ pub ruleset word_places = (next_at, next_past, after_none, after_one, after_past
 -- What was read so far: with what the letters that are left give, it is the whole.
 pub record Standing (plus : Bool) (letters : List ℕ) (words : List (List ℕ)) (limits : Limits)
     (items whole : List Asked) : Type 0 where
-  pub earlier : List Reading
+  pub earlier : List ReadLetter
   pub remembers : Remembers limits earlier
   pub completes : items ++ counted earlier (letters_read plus letters words) ≡ whole
 
@@ -97,7 +97,7 @@ one_more false item before after is = ap all_asked is ∙ map-append asked befor
 -- another letter was read
 pub after_letter : (plus : Bool) (letters : List ℕ) (i : ℕ) (words left : List (List ℕ))
     (limits later : Limits) (items more whole : List Asked)
-    (read : Reading) (verdict : Bool)
+    (read : ReadLetter) (verdict : Bool)
     → i < length letters → is_sign (get_or letters i 0) ≡ false
     → read ≡ reading plus (get_or letters i 0) (next_word words)
     → left ≡ words_after plus (get_or letters i 0) words

@@ -22,7 +22,7 @@ pub data Asked : Type 0 where
 
 -- a letter as it was read: whether it is one of those that take a parameter, whether only the first
 -- such letter of a command counts, and what it asks for if it counts
-pub record Reading : Type 0 where
+pub record ReadLetter : Type 0 where
   pub byte : ℕ
   pub takes : Bool
   pub once : Bool
@@ -85,7 +85,7 @@ once letter.Voice has_next = false
 once other has_next = true
 
 -- what a mode's letter is read as; any other takes no parameter, and counts each time
-abbrev pub reading_of : Bool → ℕ → Option ModeLetter → Option (List ℕ) → Reading
+abbrev pub reading_of : Bool → ℕ → Option ModeLetter → Option (List ℕ) → ReadLetter
 reading_of plus byte None next =
     record { byte = byte; takes = false; once = false; asked = unknown byte }
 reading_of plus byte (Some letter) next = record {
@@ -96,7 +96,7 @@ reading_of plus byte (Some letter) next = record {
 }
 
 -- what a letter is read as, before the next parameter
-abbrev pub reading : Bool → ℕ → Option (List ℕ) → Reading
+abbrev pub reading : Bool → ℕ → Option (List ℕ) → ReadLetter
 reading plus byte next = reading_of plus byte (mode_of byte) next
 
 -- the parameter that stands next, if one is left
@@ -123,7 +123,7 @@ abbrev pub is_sign : ℕ → Bool
 is_sign byte = nat_eq byte plus_byte || nat_eq byte minus_byte
 
 -- the letters in turn, from a sign on
-abbrev pub letters_read : Bool → List ℕ → List (List ℕ) → List Reading
+abbrev pub letters_read : Bool → List ℕ → List (List ℕ) → List ReadLetter
 letters_read plus [] words = []
 letters_read plus (byte ∷ letters) words =
     if is_sign byte then letters_read (nat_eq byte plus_byte) letters words
@@ -133,19 +133,19 @@ letters_read plus (byte ∷ letters) words =
 -- ---- then the limits drop letters
 
 -- whether it is of this letter, and only the first such letter counts
-abbrev pub is_once_with : ℕ → Reading → Bool
+abbrev pub is_once_with : ℕ → ReadLetter → Bool
 is_once_with byte reading = reading.once && nat_eq byte reading.byte
 
 -- Whether a letter counts after those that were written before it, whether they counted or not. Of
 -- the letters that take a parameter the first three do (RFC 2812 section 3.2.3), and of those that
 -- count once the first (our own choice).
-abbrev pub counts : List Reading → Reading → Bool
+abbrev pub counts : List ReadLetter → ReadLetter → Bool
 counts earlier reading =
     (not reading.takes || nat_lt (count_by (λ r. r.takes) earlier) max_mode_parameters)
     && not (reading.once && list_any (is_once_with reading.byte) earlier)
 
 -- what comes of the letters that count, after some that were written before them
-abbrev pub counted : List Reading → List Reading → List Asked
+abbrev pub counted : List ReadLetter → List ReadLetter → List Asked
 counted earlier [] = []
 counted earlier (reading ∷ later) =
     (if counts earlier reading then reading.asked ∷ [] else [])

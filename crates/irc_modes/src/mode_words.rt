@@ -40,7 +40,7 @@ enum Asks {
 
 /// A letter as it was read.
 #[derive(Clone, Copy)]
-struct Reading<'a> {
+struct ReadLetter<'a> {
     /// The letter itself.
     byte: u8,
     /// Whether it is one of the letters that take a parameter.
@@ -109,7 +109,7 @@ fn read_letters<'a>(
 }
 
 /// Whether a letter counts; it is remembered, whether it does or not.
-fn judge(limits: &mut Limits, reading: &Reading<'_>) -> Result<bool, AllocError>
+fn judge(limits: &mut Limits, reading: &ReadLetter<'_>) -> Result<bool, AllocError>
     ensures { IfOk result
         (λ verdict. Judges limits.old (letter_read reading.now) verdict limits.new) }
 {
@@ -147,20 +147,20 @@ fn add_if<'a>(
 }
 
 /// What a letter is read as, before the next parameter.
-fn read_letter(plus: bool, byte: u8, next: Option<&[u8]>) -> Reading<'_>
+fn read_letter(plus: bool, byte: u8, next: Option<&[u8]>) -> ReadLetter<'_>
     ensures { letter_read result ≡ reading plus byte (option_copied next.entry) }
 {
     match mode_of(byte) {
         Some(letter) => {
             let asks = needs(plus, letter);
-            Reading {
+            ReadLetter {
                 byte,
                 takes: takes(asks, next.is_some()),
                 once: once(letter, next.is_some()),
                 item: answer(asks, plus, letter, next),
             }
         }
-        None => Reading {
+        None => ReadLetter {
             byte,
             takes: false,
             once: false,

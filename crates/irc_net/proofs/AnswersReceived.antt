@@ -35,11 +35,11 @@ emptied_received net zero = refl
 emptied_received net (suc earlier) = refl
 
 as_progress : (old new : NetView) (receipts : List Receipt) (last : Progress ByteNetwork)
-    → new ≡ standing last.net → receipts ≡ last.receipts → IsTold old.network.network last
+    → new ≡ standing last.state → receipts ≡ last.out → IsTold old.network.network last
     → HasReceived old.network new.network receipts
 as_progress old new receipts last after same told =
     subst (λ (n : NetView). HasReceived old.network n.network receipts) (sym after)
-    (subst (HasReceived old.network last.net) (sym same) told)
+    (subst (HasReceived old.network last.state) (sym same) told)
 
 none_received : (old new : NetView) (receipts : List Receipt) → new ≡ standing old.network
     → receipts ≡ [] → HasReceived old.network new.network receipts
@@ -61,19 +61,20 @@ module _ (law : ReceiptsAreReceived) where
   unfolding bytes_come
   come_told net from to count progress told client =
       let last =
-      all_heard from to (progress_without_wires progress) (completed_in progress.net from to count)
+      all_heard from to (progress_without_wires progress)
+      (completed_in progress.state from to count)
       in
-      emptied_received last.net client ∙ heard_told net from to
-      (completed_in progress.net from to count) (progress_without_wires progress) told client
+      emptied_received last.state client ∙ heard_told net from to
+      (completed_in progress.state from to count) (progress_without_wires progress) told client
 
   item_told : (net : ByteNetwork) (item : Item) → IsTold net.network (item_given item net)
   unfolding item_given
   item_told net item client =
-      emptied_received (given item net.network).net client ∙ law.given item net.network client
+      emptied_received (given item net.network).state client ∙ law.given item net.network client
 
   turn_told : (net : Network) (old new : Progress ByteNetwork) → turn_taken old ≡ Some new
       → IsTold net old → IsTold net new
-  turn_told net old new turn told = by (first_direction old.net.wires) turn
+  turn_told net old new turn told = by (first_direction old.state.wires) turn
     where
       same_some : (a b : Progress ByteNetwork) → Some a ≡ Some b → a ≡ b
       same_some a b is = cc is

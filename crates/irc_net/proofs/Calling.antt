@@ -183,8 +183,8 @@ pieces_came old new from to ends count (Ok pair) are comes =
       none = are.none;
       taken_is = comes.taken_is
           ∙ sym (ap (λ o. option_map_or (count_between count old.network) o 0) are.ends_are);
-      received = comes.received ∙ sym (ap (λ (c : Progress ByteNetwork). c.receipts) at);
-      after = comes.after ∙ sym (ap (λ (c : Progress ByteNetwork). standing c.net) at);
+      received = comes.received ∙ sym (ap (λ (c : Progress ByteNetwork). c.out) at);
+      after = comes.after ∙ sym (ap (λ (c : Progress ByteNetwork). standing c.state) at);
     })
   where
     at : piece count old.network from to ≡ piece_between count old.network (ends_now ends)
@@ -201,8 +201,8 @@ pub came_to : (old : NetView) (net new : ByteNetwork) (ends : EndPlaces)
     (progress_of net none) → ComesTo old ends count taken (receipts_of lines) (standing new)
 came_to old net new ends count taken lines none same begins taken_is comes = record {
   taken_is = taken_is ∙ ap (λ n. min count (bytes_between n ends)) same;
-  received = ap (λ (c : Progress ByteNetwork). c.receipts) so;
-  after = ap (λ (c : Progress ByteNetwork). standing c.net) so;
+  received = ap (λ (c : Progress ByteNetwork). c.out) so;
+  after = ap (λ (c : Progress ByteNetwork). standing c.state) so;
 }
   where
     so : progress_of new lines ≡ piece_between count old.network (ends_now ends)

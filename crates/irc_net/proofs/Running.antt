@@ -60,9 +60,9 @@ module _ (stays : StaysKept) (set_up : SettingsStay) (configs : List Config) whe
   }
 
   come_run : {items : List Item} (net : ByteNetwork) (from to count : ℕ) → IsRun configs items net
-      → IsRun configs items (bytes_come from to count (begun net)).net
+      → IsRun configs items (bytes_come from to count (begun net)).state
   come_run net from to count before =
-      stays_run net (bytes_come from to count (begun net)).net before
+      stays_run net (bytes_come from to count (begun net)).state before
       (stays.come net from to count before.kept) (set_up.come net from to count)
 
   made_run : (net : NetView) → IsNetMade configs (Ok net) → IsStanding configs [] net
@@ -94,7 +94,7 @@ module _ (stays : StaysKept) (set_up : SettingsStay) (configs : List Config) whe
       run_at takes.after (by (link_places old.network.network from to))
     where
       by : (o : Option LinkPlaces) → IsRun configs items
-          (option_map_or (piece_between count old.network) o (begun old.network)).net
+          (option_map_or (piece_between count old.network) o (begun old.network)).state
       by None = before.is_run
       by (Some ends) = come_run old.network ends.near ends.far count before.is_run
 
@@ -124,11 +124,11 @@ module _ (stays : StaysKept) (set_up : SettingsStay) (configs : List Config) whe
       → IsSettled old (Ok (counted, receipts)) new → IsStanding configs items old
       → IsStanding configs items new
   settled_run old new counted receipts (settles_it stands settles) before =
-      let so : Settles old.network counted receipts (standing settles.last.net) =
+      let so : Settles old.network counted receipts (standing settles.last.state) =
       subst (Settles old.network counted receipts) settles.after settles in
-      run_at settles.after (stays_run old.network settles.last.net before.is_run
-      (stays.settled old.network settles.last.net counted receipts before.is_run.kept so)
-      (set_up.settled old.network settles.last.net counted receipts so))
+      run_at settles.after (stays_run old.network settles.last.state before.is_run
+      (stays.settled old.network settles.last.state counted receipts before.is_run.kept so)
+      (set_up.settled old.network settles.last.state counted receipts so))
 
   run : {items : List Item} {net : NetView} → HasRun configs items net
       → IsStanding configs items net

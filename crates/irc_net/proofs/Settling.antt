@@ -28,14 +28,14 @@ turns_both {other = other} {a = a} {c = c} none_yet more =
     subst (λ n. TurnsGo n a c) (none_first other) more
 turns_both {one = one} {other = other} {a = a} {c = c}
     (turn_first {count = count} turn all_is rest) more =
-    turn_first turn (behind one (lines_in_turn a.net) count other all_is) (turns_both rest more)
+    turn_first turn (behind one (lines_in_turn a.state) count other all_is) (turns_both rest more)
   where
     behind : (x y n m : ℕ) → x ≡ y + n → x + m ≡ y + (n + m)
     behind x y n m is = omega (arith, is)
 
 pub one_turn : (lines : ℕ) (old new : Progress ByteNetwork) → turn_taken old ≡ Some new
-    → lines ≡ lines_in_turn old.net → TurnsGo lines old new
-one_turn lines old new turn is = turn_first turn (is ∙ alone (lines_in_turn old.net)) none_yet
+    → lines ≡ lines_in_turn old.state → TurnsGo lines old new
+one_turn lines old new turn is = turn_first turn (is ∙ alone (lines_in_turn old.state)) none_yet
   where
     alone : (n : ℕ) → n ≡ n + 0
     alone n = omega arith
@@ -67,16 +67,16 @@ lines_counted old new counted lines more turns goes is = record {
 -- ---- no byte is left
 
 no_direction : (progress : Progress ByteNetwork) → turn_taken progress ≡ None
-    → first_direction progress.net.wires ≡ None
-no_direction progress none = by (first_direction progress.net.wires) none
+    → first_direction progress.state.wires ≡ None
+no_direction progress none = by (first_direction progress.state.wires) none
   where
     by : (o : Option Direction) → option_map (turn_in progress) o ≡ None → o ≡ None
     by None is = refl
     by (Some d) is = cc is
 
-pub rests : NoByteRests → (progress : Progress ByteNetwork) → IsKeptSound progress.net
-    → turn_taken progress ≡ None → is_byte_rest progress.net ≡ true
-rests no_byte progress kept none = no_byte progress.net kept.whole (no_direction progress none)
+pub rests : NoByteRests → (progress : Progress ByteNetwork) → IsKeptSound progress.state
+    → turn_taken progress ≡ None → is_byte_rest progress.state ≡ true
+rests no_byte progress kept none = no_byte progress.state kept.whole (no_direction progress none)
 
 -- ---- each line leaves fewer
 
@@ -86,22 +86,22 @@ none_then n m is = (omega (arith, is), omega (arith, is))
 module _ (laws : AreTurning) where
   -- turns that complete nothing change nothing where links carry lines
   pub same_lines : {count : ℕ} {old new : Progress ByteNetwork} → TurnsGo count old new → count ≡ 0
-      → IsKeptSound old.net → progress_in_lines new ≡ progress_in_lines old
+      → IsKeptSound old.state → progress_in_lines new ≡ progress_in_lines old
   same_lines none_yet is kept = refl
   same_lines {old = old} {new = new}
       (turn_first {count = left} {between = between} turn all_is rest) is kept =
-      let none = none_then (lines_in_turn old.net) left (sym is ∙ all_is) in
+      let none = none_then (lines_in_turn old.state) left (sym is ∙ all_is) in
       same_lines rest none.1
-      (turns_kept laws (one_turn (lines_in_turn old.net) old between turn refl) kept).kept
+      (turns_kept laws (one_turn (lines_in_turn old.state) old between turn refl) kept).kept
       ∙ by (turn_is laws old between kept turn) none.0
     where
-      by : IsTurnOf old between → lines_in_turn old.net ≡ 0
+      by : IsTurnOf old between → lines_in_turn old.state ≡ 0
           → progress_in_lines between ≡ progress_in_lines old
       by (nothing none same) zero_is = same
       by (next_line one next) zero_is = cc (sym one ∙ zero_is)
 
   pub leaves_fewer : TurnLeavesFewer → (most lines : ℕ) (old new : Progress ByteNetwork)
-      → IsKeptSound old.net → most_now (net_in_lines old.net) ≤ most → GoesToLine lines old new
+      → IsKeptSound old.state → most_now (net_in_lines old.state) ≤ most → GoesToLine lines old new
       → lines_left most (progress_in_lines new) < lines_left most (progress_in_lines old)
   leaves_fewer fewer most lines old new kept few goes =
       by (turn_is laws goes.between new (turns_kept laws goes.goes kept).kept goes.turn)
@@ -126,26 +126,27 @@ module _ (laws : AreTurning) where
   -- ---- as the code counts them
 
   pub counted_kept : {first : Progress ByteNetwork} (now : Progress ByteNetwork) (counted : ℕ)
-      → IsKeptSound first.net → GoesCounted counted first now → IsKeptSound now.net
+      → IsKeptSound first.state → GoesCounted counted first now → IsKeptSound now.state
   counted_kept now counted kept turns = (turns_kept laws turns.goes kept).kept
 
   pub counted_fewer : TurnLeavesFewer → {first : Progress ByteNetwork}
       (old new : Progress ByteNetwork)
-      (counted lines : ℕ) → IsKeptSound first.net → GoesCounted counted first old
-      → GoesToLine lines old new → lines_left (most_now (net_in_lines first.net))
-      (progress_in_lines new) < lines_left (most_now (net_in_lines first.net))
+      (counted lines : ℕ) → IsKeptSound first.state → GoesCounted counted first old
+      → GoesToLine lines old new → lines_left (most_now (net_in_lines first.state))
+      (progress_in_lines new) < lines_left (most_now (net_in_lines first.state))
       (progress_in_lines old)
   counted_fewer fewer {first = first} old new counted lines kept turns goes =
       let now = turns_kept laws turns.goes kept in
-      leaves_fewer fewer (most_now (net_in_lines first.net)) lines old new now.kept (same (most_now
-      (net_in_lines old.net)) (most_now (net_in_lines first.net)) now.keeps.most) goes
+      leaves_fewer fewer (most_now (net_in_lines first.state)) lines old new now.kept
+      (same (most_now (net_in_lines old.state)) (most_now (net_in_lines first.state))
+      now.keeps.most) goes
     where
       same : (a b : ℕ) → a ≡ b → a ≤ b
       same a b is = omega (arith, is)
 
   -- none is left
   pub settles_at : NoByteRests → {first : Progress ByteNetwork} (old new : Progress ByteNetwork)
-      (counted : ℕ) → IsKeptSound first.net → GoesCounted counted first old
+      (counted : ℕ) → IsKeptSound first.state → GoesCounted counted first old
       → ComesToLine None old new → SettlesAt counted first new
   settles_at no_byte {first = first} old new counted kept turns so = record {
     turns = record {
@@ -165,11 +166,11 @@ module _ (laws : AreTurning) where
     count : ℕ
     last : Progress ByteNetwork
     goes : TurnsGo count progress last
-    rest : is_byte_rest last.net ≡ true
+    rest : is_byte_rest last.state ≡ true
 
   settling : TurnLeavesFewer → EachComesToLine → NoByteRests → (fuel most : ℕ)
-      (progress : Progress ByteNetwork) → IsKeptSound progress.net
-      → most_now (net_in_lines progress.net)
+      (progress : Progress ByteNetwork) → IsKeptSound progress.state
+      → most_now (net_in_lines progress.state)
       ≤ most → lines_left most (progress_in_lines progress) < fuel → Settling progress
   settling fewer comes no_byte zero most progress kept few less =
       absurd (nothing_less (lines_left most (progress_in_lines progress)) less)
@@ -183,7 +184,8 @@ module _ (laws : AreTurning) where
       further a b n one other = omega (arith, one, other)
 
       at : (lines : Option ℕ) (new : Progress ByteNetwork) → ComesToLine lines progress new
-          → ((next : Progress ByteNetwork) → IsKeptSound next.net → most_now (net_in_lines next.net)
+          → ((next : Progress ByteNetwork) → IsKeptSound next.state
+          → most_now (net_in_lines next.state)
           ≤ most → lines_left most (progress_in_lines next) < fuel → Settling next)
           → Settling progress
       at None new so on = record {
@@ -206,7 +208,7 @@ module _ (laws : AreTurning) where
           }
 
       by : ComesToSome progress → ((next : Progress ByteNetwork)
-          → IsKeptSound next.net → most_now (net_in_lines next.net) ≤ most
+          → IsKeptSound next.state → most_now (net_in_lines next.state) ≤ most
           → lines_left most (progress_in_lines next) < fuel → Settling next) → Settling progress
       by some on = at some.lines some.new some.comes on
 
@@ -219,8 +221,8 @@ module _ (laws : AreTurning) where
       most (begun net) kept (same most) (less _) in
       record {
         counted = min so.count max_count;
-        receipts = so.last.receipts;
-        last = so.last.net;
+        receipts = so.last.out;
+        last = so.last.state;
         settles = record {
           count = so.count;
           last = so.last;

@@ -147,7 +147,7 @@ free net item = by (is_byte_rest net) refl (fault_at_rest net.network item) refl
     by true rest (Some refusal) is none = cc none
     by true rest None is none = record { at_rest = rest; none = is }
 
-given_taken : (net : Network) (item : Item) → (given item net).net.taken ≡ 0
+given_taken : (net : Network) (item : Item) → (given item net).state.taken ≡ 0
 unfolding given
 given_taken net item = refl
 
@@ -157,7 +157,7 @@ are_lines waiting net sound place to node is = waiting net place to node sound i
 
 pub kept_given : GivenStaysSound → WaitingAreLines → GivenAsLines → RestAsLines
     → (net : ByteNetwork) (item : Item) → IsKeptSound net → item_fault net item ≡ None
-    → IsItemWithin item → IsKeptSound (item_given item net).net
+    → IsItemWithin item → IsKeptSound (item_given item net).state
 kept_given given_sound waiting as_lines resting net item kept none within =
     let is_free = free net item none in
     let resting_so = resting net kept.whole is_free.at_rest in
@@ -168,12 +168,12 @@ kept_given given_sound waiting as_lines resting net item kept none within =
     } in
     let sound = given_sound (net_in_lines net) item kept.sound at in
     let so = as_lines net item kept.whole is_free.at_rest
-    (are_lines waiting (given item (net_in_lines net)).net sound) in
+    (are_lines waiting (given item (net_in_lines net)).state sound) in
     record {
-      sound = subst IsSound (sym (ap (λ (c : Progress Network). c.net) so.as_lines)) sound;
+      sound = subst IsSound (sym (ap (λ (c : Progress Network). c.state) so.as_lines)) sound;
       whole = so.whole;
       counted =
-          subst (λ n. n ≤ max_count) (sym (ap (λ (c : Progress Network). c.net.taken) so.as_lines
+          subst (λ n. n ≤ max_count) (sym (ap (λ (c : Progress Network). c.state.taken) so.as_lines
           ∙ given_taken (net_in_lines net) item)) (omega arith);
     }
 
@@ -209,31 +209,32 @@ one_more : (n : ℕ) → 1 + n ≡ suc n
 one_more n = omega arith
 
 pub deliveries_keep : DeliveryKeepsSound → {from to count : ℕ} {old new : Progress Network}
-    → Delivers from to count old new → old.net.taken ≤ max_count → KeepsItems count old.net new.net
-deliveries_keep law {old = old} no_more few = none_kept old.net few
+    → Delivers from to count old new → old.state.taken ≤ max_count
+    → KeepsItems count old.state new.state
+deliveries_keep law {old = old} no_more few = none_kept old.state few
 deliveries_keep law {from = from} {to = to} {old = old} {new = new}
     (one_first {count = count} {between = between} is rest) few =
     let first = law from to old between is few in
-    subst (λ n. KeepsItems n old.net new.net) (one_more count)
-    (both_kept 1 count old.net between.net new.net first
-    (deliveries_keep law rest (few_now 1 old.net between.net first)))
+    subst (λ n. KeepsItems n old.state new.state) (one_more count)
+    (both_kept 1 count old.state between.state new.state first
+    (deliveries_keep law rest (few_now 1 old.state between.state first)))
 
 -- ---- bytes that come
 
 pub kept_come : DeliveryKeepsSound → WaitingAreLines → BytesComeAsLines
     → (net : ByteNetwork) (from to count : ℕ) → IsKeptSound net
-    → IsKeptSound (bytes_come from to count (begun net)).net
+    → IsKeptSound (bytes_come from to count (begun net)).state
 kept_come law waiting as_lines net from to count kept =
     let come = as_lines from to count (begun net) kept.whole in
     let keeps = deliveries_keep law come.delivers kept.counted in
     let sound = keeps.sound kept.sound in
-    let are = are_lines waiting come.last.net sound in
+    let are = are_lines waiting come.last.state sound in
     let same = come.as_lines are in
     record {
-      sound = subst IsSound (sym (ap (λ (c : Progress Network). c.net) same)) sound;
+      sound = subst IsSound (sym (ap (λ (c : Progress Network). c.state) same)) sound;
       whole = come.whole are;
-      counted = subst (λ n. n ≤ max_count) (sym (ap (λ (c : Progress Network). c.net.taken) same))
-          (few_now _ (net_in_lines net) come.last.net keeps);
+      counted = subst (λ n. n ≤ max_count) (sym (ap (λ (c : Progress Network). c.state.taken) same))
+          (few_now _ (net_in_lines net) come.last.state keeps);
     }
 
 -- as the code lets them come
@@ -241,7 +242,7 @@ pub kept_by : StaysKept → (net new : ByteNetwork) (ends : EndPlaces)
     (count : ℕ) (none lines : List KeptReceipt) → IsKeptSound net → none ≡ []
     → progress_of new lines ≡ come_between ends count (progress_of net none) → IsKeptSound new
 kept_by stays net new ends count none lines kept begins comes =
-    subst IsKeptSound (sym (ap (λ (c : Progress ByteNetwork). c.net)
+    subst IsKeptSound (sym (ap (λ (c : Progress ByteNetwork). c.state)
     (comes ∙ ap (λ ls. come_between ends count (progress_of net ls)) begins)))
     (stays.come net ends.near ends.far count kept)
 
@@ -249,7 +250,7 @@ pub kept_item : StaysKept → (net new : ByteNetwork) (item : Item) (lines : Lis
     → IsKeptSound net → item_fault net item ≡ None → IsItemWithin item
     → progress_of new lines ≡ item_given item net → IsKeptSound new
 kept_item stays net new item lines kept none within is =
-    subst IsKeptSound (sym (ap (λ (c : Progress ByteNetwork). c.net) is))
+    subst IsKeptSound (sym (ap (λ (c : Progress ByteNetwork). c.state) is))
     (stays.given net item kept none within)
 
 -- ---- turns
@@ -261,18 +262,18 @@ pub record AreTurning : Type 0 where
 
 -- a turn keeps a network sound, and counts for the lines that it completes
 pub record IsTurnKept (old new : Progress ByteNetwork) : Type 0 where
-  pub kept : IsKeptSound new.net
-  pub keeps : KeepsItems (lines_in_turn old.net) (net_in_lines old.net) (net_in_lines new.net)
+  pub kept : IsKeptSound new.state
+  pub keeps : KeepsItems (lines_in_turn old.state) (net_in_lines old.state) (net_in_lines new.state)
 
 pub data IsTurnOf (old new : Progress ByteNetwork) : Type 0 where
-  nothing : lines_in_turn old.net ≡ 0 → progress_in_lines new ≡ progress_in_lines old
+  nothing : lines_in_turn old.state ≡ 0 → progress_in_lines new ≡ progress_in_lines old
       → IsTurnOf old new
-  next_line : lines_in_turn old.net ≡ 1
+  next_line : lines_in_turn old.state ≡ 1
       → next_in_turn (progress_in_lines old) ≡ Some (progress_in_lines new) → IsTurnOf old new
 
 delivery_of : (old new : Progress Network) → next_in_turn old ≡ Some new
     → (d : Direction) × (delivered d.from d.to old ≡ Some new)
-delivery_of old new is = by (first_direction old.net) is
+delivery_of old new is = by (first_direction old.state) is
   where
     by : (o : Option Direction) → option_and_then (λ (d : Direction). delivered d.from d.to old) o
         ≡ Some new → (d : Direction) × (delivered d.from d.to old ≡ Some new)
@@ -280,19 +281,20 @@ delivery_of old new is = by (first_direction old.net) is
     by (Some d) some = (d, some)
 
 module _ (laws : AreTurning) where
-  pub turn_as : (old new : Progress ByteNetwork) → IsKeptSound old.net → turn_taken old ≡ Some new
+  pub turn_as : (old new : Progress ByteNetwork) → IsKeptSound old.state → turn_taken old ≡ Some new
       → TurnsAsLines old new
   turn_as old new kept turn =
-      laws.turns old new kept.whole (are_lines laws.waiting (net_in_lines old.net) kept.sound) turn
+      laws.turns old new kept.whole
+      (are_lines laws.waiting (net_in_lines old.state) kept.sound) turn
 
-  pub turn_kept : (old new : Progress ByteNetwork) → IsKeptSound old.net → turn_taken old ≡ Some new
-      → IsTurnKept old new
+  pub turn_kept : (old new : Progress ByteNetwork) → IsKeptSound old.state
+      → turn_taken old ≡ Some new → IsTurnKept old new
   turn_kept old new kept turn = by (turn_as old new kept turn)
     where
       by : TurnsAsLines old new → IsTurnKept old new
       by (no_line none same whole) =
-          let net_is : net_in_lines old.net ≡ net_in_lines new.net =
-          sym (ap (λ (c : Progress Network). c.net) same) in
+          let net_is : net_in_lines old.state ≡ net_in_lines new.state =
+          sym (ap (λ (c : Progress Network). c.state) same) in
           record {
             kept = record {
               sound = subst IsSound net_is kept.sound;
@@ -300,31 +302,32 @@ module _ (laws : AreTurning) where
               counted = subst (λ (n : Network). n.taken ≤ max_count) net_is kept.counted;
             };
             keeps =
-                subst (λ n. KeepsItems n (net_in_lines old.net) (net_in_lines new.net)) (sym none)
-                (subst (KeepsItems 0 (net_in_lines old.net)) net_is
-                (none_kept (net_in_lines old.net) kept.counted));
+                subst (λ n. KeepsItems n (net_in_lines old.state) (net_in_lines new.state))
+                (sym none)
+                (subst (KeepsItems 0 (net_in_lines old.state)) net_is
+                (none_kept (net_in_lines old.state) kept.counted));
           }
       by (one_line last one next same whole) =
           let d = delivery_of (progress_in_lines old) last next in
           let keeps =
           laws.delivered d.0.from d.0.to (progress_in_lines old) last d.1 kept.counted in
           let sound = keeps.sound kept.sound in
-          let are = are_lines laws.waiting last.net sound in
-          let net_is : last.net ≡ net_in_lines new.net =
-          sym (ap (λ (c : Progress Network). c.net) (same are)) in
+          let are = are_lines laws.waiting last.state sound in
+          let net_is : last.state ≡ net_in_lines new.state =
+          sym (ap (λ (c : Progress Network). c.state) (same are)) in
           record {
             kept = record {
               sound = subst IsSound net_is sound;
               whole = whole are;
               counted = subst (λ (n : Network). n.taken ≤ max_count) net_is
-                  (few_now 1 (net_in_lines old.net) last.net keeps);
+                  (few_now 1 (net_in_lines old.state) last.state keeps);
             };
-            keeps = subst (λ n. KeepsItems n (net_in_lines old.net) (net_in_lines new.net))
-                (sym one) (subst (KeepsItems 1 (net_in_lines old.net)) net_is keeps);
+            keeps = subst (λ n. KeepsItems n (net_in_lines old.state) (net_in_lines new.state))
+                (sym one) (subst (KeepsItems 1 (net_in_lines old.state)) net_is keeps);
           }
 
   -- where links carry lines it is nothing, or the next line in turn
-  pub turn_is : (old new : Progress ByteNetwork) → IsKeptSound old.net → turn_taken old ≡ Some new
+  pub turn_is : (old new : Progress ByteNetwork) → IsKeptSound old.state → turn_taken old ≡ Some new
       → IsTurnOf old new
   turn_is old new kept turn = by (turn_as old new kept turn)
     where
@@ -334,24 +337,25 @@ module _ (laws : AreTurning) where
           let d = delivery_of (progress_in_lines old) last next in
           let sound = (laws.delivered d.0.from d.0.to
           (progress_in_lines old) last d.1 kept.counted).sound kept.sound in
-          next_line one (next ∙ ap Some (sym (same (are_lines laws.waiting last.net sound))))
+          next_line one (next ∙ ap Some (sym (same (are_lines laws.waiting last.state sound))))
 
   -- so do turns one after another
   pub record AreTurnsKept (count : ℕ) (old new : Progress ByteNetwork) : Type 0 where
-    pub kept : IsKeptSound new.net
-    pub keeps : KeepsItems count (net_in_lines old.net) (net_in_lines new.net)
+    pub kept : IsKeptSound new.state
+    pub keeps : KeepsItems count (net_in_lines old.state) (net_in_lines new.state)
 
   pub turns_kept : {count : ℕ} {old new : Progress ByteNetwork} → TurnsGo count old new
-      → IsKeptSound old.net → AreTurnsKept count old new
+      → IsKeptSound old.state → AreTurnsKept count old new
   turns_kept {old = old} none_yet kept =
-      record { kept = kept; keeps = none_kept (net_in_lines old.net) kept.counted }
+      record { kept = kept; keeps = none_kept (net_in_lines old.state) kept.counted }
   turns_kept {old = old} {new = new}
       (turn_first {count = count} {between = between} turn all_is rest) kept =
       let one = turn_kept old between kept turn in
       let more = turns_kept rest one.kept in
       record {
         kept = more.kept;
-        keeps = subst (λ n. KeepsItems n (net_in_lines old.net) (net_in_lines new.net)) (sym all_is)
-            (both_kept (lines_in_turn old.net) count (net_in_lines old.net)
-            (net_in_lines between.net) (net_in_lines new.net) one.keeps more.keeps);
+        keeps =
+            subst (λ n. KeepsItems n (net_in_lines old.state) (net_in_lines new.state)) (sym all_is)
+            (both_kept (lines_in_turn old.state) count (net_in_lines old.state)
+            (net_in_lines between.state) (net_in_lines new.state) one.keeps more.keeps);
       }

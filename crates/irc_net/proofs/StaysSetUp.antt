@@ -134,92 +134,94 @@ module _ {X : Type 0} (read : Network → X) (left : IsLeft read) where
       by (Some node) e = left.set place node (change node) net e (same node)
 
   received_more : (client : ℕ) (text : List ℕ) (progress : Progress Network)
-      → read (has_received client text progress).net ≡ read progress.net
+      → read (has_received client text progress).state ≡ read progress.state
   received_more zero text progress = refl
-  received_more (suc earlier) text progress = by (slice_get progress.net.received earlier)
+  received_more (suc earlier) text progress = by (slice_get progress.state.received earlier)
     where
       by : (o : Option (List (List ℕ))) → read
-          (option_map_or (has_received_at earlier text progress) o progress).net ≡ read progress.net
+          (option_map_or (has_received_at earlier text progress) o progress).state
+          ≡ read progress.state
       by None = refl
       by (Some lines) =
-          left.told progress.net (slice_set progress.net.received earlier (lines ++ text ∷ []))
+          left.told progress.state (slice_set progress.state.received earlier (lines ++ text ∷ []))
 
   sent_keeps : (place : ℕ) (sent : Sent) (progress : Progress Network)
-      → read (sent_out place sent progress).net ≡ read progress.net
+      → read (sent_out place sent progress).state ≡ read progress.state
   sent_keeps place (line_to client text) progress = received_more client text progress
   sent_keeps place (end_of client) progress = refl
   sent_keeps place (line_on to text) progress =
-      changed place (line_queued to text) (queued_alike to text) progress.net
+      changed place (line_queued to text) (queued_alike to text) progress.state
   sent_keeps place (end_of_link to reason) progress = refl
 
   all_sent_keep : (place : ℕ) (out : List Sent) (progress : Progress Network)
-      → read (all_sent_out place out progress).net ≡ read progress.net
+      → read (all_sent_out place out progress).state ≡ read progress.state
   all_sent_keep place [] progress = refl
   all_sent_keep place (sent ∷ out) progress = all_sent_keep place out (sent_out place sent progress)
       ∙ sent_keeps place sent progress
 
   module _ (kept : ServedKeepsItsSetting) where
     replied_keeps : (place : ℕ) (read_event : ReadEvent) (progress : Progress Network) (node : Node)
-        (view : View) → node_at progress.net place ≡ Some node → node.server ≡ Some view
-        → read (with_reply place progress node (reply view read_event)).net ≡ read progress.net
+        (view : View) → node_at progress.state place ≡ Some node → node.server ≡ Some view
+        → read (with_reply place progress node (reply view read_event)).state ≡ read progress.state
     replied_keeps place read_event progress node view is server =
         all_sent_keep place (reply view read_event).out _
         ∙ left.set place node
-        (record node { server = Some (reply view read_event).state }) progress.net is
+        (record node { server = Some (reply view read_event).state }) progress.state is
         (ap Some (reply_alike kept view read_event) ∙ sym (ap (option_map setting_now) server))
 
     asked_keeps : (place : ℕ) (read_event : ReadEvent) (progress : Progress Network)
-        → read (node_asked place read_event progress).net ≡ read progress.net
+        → read (node_asked place read_event progress).state ≡ read progress.state
     unfolding node_asked
-    asked_keeps place read_event progress = by (node_at progress.net place) refl
+    asked_keeps place read_event progress = by (node_at progress.state place) refl
       where
-        at : (node : Node) → node_at progress.net place ≡ Some node → (o : Option View)
+        at : (node : Node) → node_at progress.state place ≡ Some node → (o : Option View)
             → node.server ≡ o → read (option_map_or (λ (view : View). with_reply place progress node
-            (reply view read_event)) o progress).net ≡ read progress.net
+            (reply view read_event)) o progress).state ≡ read progress.state
         at node is None e = refl
         at node is (Some view) e = replied_keeps place read_event progress node view is e
 
-        by : (o : Option Node) → node_at progress.net place ≡ o → read
-            (option_map_or (asked_at place read_event progress) o progress).net ≡ read progress.net
+        by : (o : Option Node) → node_at progress.state place ≡ o → read
+            (option_map_or (asked_at place read_event progress) o progress).state
+            ≡ read progress.state
         by None e = refl
         by (Some node) e = at node e node.server refl
 
     -- ---- bytes come
 
     heard_keep : (from to : ℕ) (lines : List (List ℕ)) (progress : Progress Network)
-        → read (all_heard from to progress lines).net ≡ read progress.net
+        → read (all_heard from to progress lines).state ≡ read progress.state
     heard_keep from to [] progress = refl
     heard_keep from to (line ∷ lines) progress =
         heard_keep from to lines (heard from to progress line)
         ∙ asked_keeps to (link_says from (read_of line))
-        (record progress { net = line_counted progress.net }) ∙ left.counted progress.net
+        (record progress { state = line_counted progress.state }) ∙ left.counted progress.state
 
     come_keeps : (from to count : ℕ) (progress : Progress ByteNetwork)
-        → read (bytes_come from to count progress).net.network ≡ read progress.net.network
+        → read (bytes_come from to count progress).state.network ≡ read progress.state.network
     unfolding bytes_come
     come_keeps from to count progress =
         left.emptied_too (all_heard from to (progress_without_wires progress)
-        (completed_in progress.net from to count)).net
-        ∙ heard_keep from to (completed_in progress.net from to count)
+        (completed_in progress.state from to count)).state
+        ∙ heard_keep from to (completed_in progress.state from to count)
         (progress_without_wires progress)
 
     turn_keeps : (old new : Progress ByteNetwork) → turn_taken old ≡ Some new
-        → read new.net.network ≡ read old.net.network
-    turn_keeps old new turn = by (first_direction old.net.wires) turn
+        → read new.state.network ≡ read old.state.network
+    turn_keeps old new turn = by (first_direction old.state.wires) turn
       where
         same_some : (a b : Progress ByteNetwork) → Some a ≡ Some b → a ≡ b
         same_some a b is = cc is
 
         by : (o : Option Direction) → option_map (turn_in old) o ≡ Some new
-            → read new.net.network ≡ read old.net.network
+            → read new.state.network ≡ read old.state.network
         by None none = absurd (cc none)
         by (Some d) some =
-            ap (λ (c : Progress ByteNetwork). read c.net.network)
+            ap (λ (c : Progress ByteNetwork). read c.state.network)
             (sym (same_some (turn_in old d) new some))
             ∙ come_keeps d.from d.to _ old
 
     turns_keep : {count : ℕ} {old new : Progress ByteNetwork} → TurnsGo count old new
-        → read new.net.network ≡ read old.net.network
+        → read new.state.network ≡ read old.state.network
     turns_keep none_yet = refl
     turns_keep {old = old} (turn_first {between = between} turn all_is rest) = turns_keep rest
         ∙ turn_keeps old between turn
@@ -232,10 +234,10 @@ module _ {X : Type 0} (read : Network → X) (left : IsLeft read) where
 -- ---- an item
 
 given_stays : GivenKeepsSettings → GivenIsKept → (net : ByteNetwork) (item : Item)
-    → StaysSetUp net (item_given item net).net (net.network.items ++ item ∷ [])
+    → StaysSetUp net (item_given item net).state (net.network.items ++ item ∷ [])
 unfolding item_given
 given_stays keeps kept net item = record {
-  settings = emptied_alike (given item net.network).net.nodes ∙ keeps net.network item;
+  settings = emptied_alike (given item net.network).state.nodes ∙ keeps net.network item;
   items_are = (kept item net.network).items;
 }
 

@@ -52,9 +52,9 @@ ArePlayable = AllByRecursion IsPlayable
 -- an item is taken: the answer says which client connected by it, and what clients received
 pub record Gives (net : ByteNetwork) (item : Item) (answer : Answer) (new : NetView) : Type 0 where
   pub none : item_fault net item ≡ None
-  pub after : new ≡ standing (item_given item net).net
+  pub after : new ≡ standing (item_given item net).state
   pub client : answer.client ≡ number_given net.network item
-  pub receipts : receipts_of answer.lines.items ≡ (item_given item net).receipts
+  pub receipts : receipts_of answer.lines.items ≡ (item_given item net).out
 
 pub data IsGiven : NetView → Item → Result Answer NetFault → NetView → Type 0 where
   given_it : {old new : NetView} {item : Item} {answer : Answer} → old.failed ≡ false
@@ -94,8 +94,8 @@ pub record Takes (net : ByteNetwork) (from to : Name) (count taken : ℕ) (recei
     (new : NetView) : Type 0 where
   pub none : deliver_fault net from to ≡ None
   pub taken_is : taken ≡ piece_count count net from to
-  pub received : receipts ≡ (piece count net from to).receipts
-  pub after : new ≡ standing (piece count net from to).net
+  pub received : receipts ≡ (piece count net from to).out
+  pub after : new ≡ standing (piece count net from to).state
 
 pub data BytesTaken : NetView → Name → Name → ℕ → Result (ℕ × List Receipt) NetFault → NetView
     → Type 0 where
@@ -129,7 +129,7 @@ abbrev pub Delivers : Option (Progress ByteNetwork) → ByteNetwork → Bool →
 Delivers None net was_taken receipts new =
     (was_taken ≡ false) × (receipts ≡ []) × (new ≡ standing net)
 Delivers (Some progress) net was_taken receipts new =
-    (was_taken ≡ true) × (receipts ≡ progress.receipts) × (new ≡ standing progress.net)
+    (was_taken ≡ true) × (receipts ≡ progress.out) × (new ≡ standing progress.state)
 
 pub data IsDelivered : NetView → Name → Name → Result (Bool × List Receipt) NetFault → NetView
     → Type 0 where
@@ -154,10 +154,10 @@ pub record Settles (net : ByteNetwork) (counted : ℕ) (receipts : List Receipt)
   pub count : ℕ
   pub last : Progress ByteNetwork
   pub goes : TurnsGo count (begun net) last
-  pub rest : is_byte_rest last.net ≡ true
+  pub rest : is_byte_rest last.state ≡ true
   pub counts : counted ≡ min count max_count
-  pub received : receipts ≡ last.receipts
-  pub after : new ≡ standing last.net
+  pub received : receipts ≡ last.out
+  pub after : new ≡ standing last.state
 
 pub data IsSettled : NetView → Result (ℕ × List Receipt) NetFault → NetView → Type 0 where
   settles_it : {old new : NetView} {counted : ℕ} {receipts : List Receipt} → old.failed ≡ false

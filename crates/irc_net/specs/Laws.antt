@@ -56,9 +56,9 @@ pub record SettingsStay : Type 0 where
   pub made : (configs : List Config) (net : ByteNetwork) → IsMadeOf configs net
       → BeginsSetUp configs net
   pub given : (net : ByteNetwork) (item : Item)
-      → StaysSetUp net (item_given item net).net (net.network.items ++ item ∷ [])
+      → StaysSetUp net (item_given item net).state (net.network.items ++ item ∷ [])
   pub come : (net : ByteNetwork) (from to count : ℕ)
-      → StaysSetUp net (bytes_come from to count (begun net)).net net.network.items
+      → StaysSetUp net (bytes_come from to count (begun net)).state net.network.items
   pub settled : (net last : ByteNetwork) (counted : ℕ) (receipts : List Receipt)
       → Settles net counted receipts (standing last) → StaysSetUp net last net.network.items
 
@@ -69,9 +69,9 @@ pub record SettingsStay : Type 0 where
 pub record StaysKept : Type 0 where
   pub new : (net : Network) → IsNew net → IsKeptSound (no_wires net)
   pub given : (net : ByteNetwork) (item : Item) → IsKeptSound net → item_fault net item ≡ None
-      → IsItemWithin item → IsKeptSound (item_given item net).net
+      → IsItemWithin item → IsKeptSound (item_given item net).state
   pub come : (net : ByteNetwork) (from to count : ℕ) → IsKeptSound net
-      → IsKeptSound (bytes_come from to count (begun net)).net
+      → IsKeptSound (bytes_come from to count (begun net)).state
   pub settled : (net last : ByteNetwork) (counted : ℕ) (receipts : List Receipt) → IsKeptSound net
       → Settles net counted receipts (standing last) → IsKeptSound last
 

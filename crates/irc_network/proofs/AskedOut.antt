@@ -370,9 +370,9 @@ module _ (same : SameWires) (ahead : Ahead) (net : Network) (wires out : Wires)
 module _ (same : SameWires) (place : ℕ) (read_event : ReadEvent) (progress : Progress Network)
     (wires : Wires)
     (lean : AreLean wires)
-    (long : length wires ≡ length progress.net.nodes) where
+    (long : length wires ≡ length progress.state.nodes) where
   abbrev waiting_now : Ahead
-  waiting_now from to = waiting_at progress.net from to
+  waiting_now from to = waiting_at progress.state from to
 
   abbrev start : Progress Network
   start = progress_without_wires (progress_written progress wires)
@@ -381,29 +381,29 @@ module _ (same : SameWires) (place : ℕ) (read_event : ReadEvent) (progress : P
   last = node_asked place read_event start
 
   was_behind : progress ≡ progress_behind waiting_now start
-  was_behind = ap (λ net. record progress { net = net })
-      (sym (refilled (λ from to. []) waiting_now progress.net (λ from to. refl)
-      ∙ alone (λ from to. []) progress.net (λ from to. refl)))
+  was_behind = ap (λ net. record progress { state = net })
+      (sym (refilled (λ from to. []) waiting_now progress.state (λ from to. refl)
+      ∙ alone (λ from to. []) progress.state (λ from to. refl)))
 
   asked_so : node_asked place read_event progress ≡ progress_behind waiting_now last
   asked_so =
       ap (node_asked place read_event) was_behind ∙ asked-behind waiting_now place read_event start
 
-  long_now : length wires ≡ length last.net.nodes
-  long_now = long ∙ sym (map_length progress.net.nodes) ∙ sym (asked_stays place read_event start)
+  long_now : length wires ≡ length last.state.nodes
+  long_now = long ∙ sym (map_length progress.state.nodes) ∙ sym (asked_stays place read_event start)
 
   -- They are written before it is asked or with what it puts out: it is one.
   pub written_between : asked_out place read_event (progress_written progress wires)
       ≡ progress_written (node_asked place read_event progress) wires
   written_between =
-      let written = is_written progress.net wires lean long in
+      let written = is_written progress.state wires lean long in
       sym (ap (λ (c : Progress Network). progress_written c wires) asked_so
-      ∙ ap (λ (net : ByteNetwork). record { net = net; receipts = last.receipts })
-      (written_ahead same waiting_now last.net wires
-      (rows_written progress.net.nodes wires) lean written.lean long_now
-      (as_many progress.net.nodes wires long ∙ sym long ∙ long_now)
-      (λ from to none. none_there progress.net from to
-      (sym (emptied_ways progress.net from to) ∙ sym (asked_keeps place read_event start from to)
+      ∙ ap (λ (net : ByteNetwork). record { state = net; out = last.out })
+      (written_ahead same waiting_now last.state wires
+      (rows_written progress.state.nodes wires) lean written.lean long_now
+      (as_many progress.state.nodes wires long ∙ sym long ∙ long_now)
+      (λ from to none. none_there progress.state from to
+      (sym (emptied_ways progress.state from to) ∙ sym (asked_keeps place read_event start from to)
       ∙ none))
       written.wires_are))
 
@@ -411,14 +411,14 @@ module _ (same : SameWires) (place : ℕ) (read_event : ReadEvent) (progress : P
 
 module _ (same : SameWires) (from to : ℕ) (wires : Wires) (lean : AreLean wires) where
   one_heard : (progress : Progress Network) (line : List ℕ)
-      → length wires ≡ length progress.net.nodes
+      → length wires ≡ length progress.state.nodes
       → heard_out from to (progress_written progress wires) line ≡ progress_written
       (heard from to progress line) wires
   one_heard progress line long = written_between same to (link_says from (read_of line))
-      (record progress { net = line_counted progress.net }) wires lean long
+      (record progress { state = line_counted progress.state }) wires lean long
 
   pub all_heard_written : (lines : List (List ℕ)) (progress : Progress Network)
-      → length wires ≡ length progress.net.nodes → all_heard_out from to
+      → length wires ≡ length progress.state.nodes → all_heard_out from to
       (progress_written progress wires) lines ≡ progress_written
       (all_heard from to progress lines) wires
   all_heard_written [] progress long = refl

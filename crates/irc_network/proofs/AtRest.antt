@@ -72,16 +72,16 @@ quiet_at (first ∷ nodes) zero all node is = ap is_quiet (sym (same_some first 
 quiet_at (first ∷ nodes) (suc place) all node is =
     quiet_at nodes place (both (is_quiet first) (list_all is_quiet nodes) all).1 node is
 
-no_delivery : (progress : Progress Network) → is_at_rest progress.net ≡ true → (from to : ℕ)
+no_delivery : (progress : Progress Network) → is_at_rest progress.state ≡ true → (from to : ℕ)
     → delivered from to progress ≡ None
 unfolding delivered
-no_delivery progress rest from to = by (slice_get progress.net.nodes from) refl
+no_delivery progress rest from to = by (slice_get progress.state.nodes from) refl
   where
-    by : (o : Option Node) → slice_get progress.net.nodes from ≡ o → option_and_then
+    by : (o : Option Node) → slice_get progress.state.nodes from ≡ o → option_and_then
         (λ (node : Node). taken_of from to progress node (waiting node to)) o ≡ None
     by None is = refl
     by (Some node) is = ap (taken_of from to progress node)
-        (quiet_way node to (quiet_at progress.net.nodes from rest node is))
+        (quiet_way node to (quiet_at progress.state.nodes from rest node is))
 
 -- ---- the first way on which a line waits
 
@@ -98,7 +98,7 @@ no_first place (node ∷ nodes) all =
 
 pub rest_stays : RestStays
 rest_stays progress rest =
-    record { no_line = no_delivery progress rest; no_way = no_first 0 progress.net.nodes rest }
+    record { no_line = no_delivery progress rest; no_way = no_first 0 progress.state.nodes rest }
 
 pub given_is_kept : GivenIsKept
 unfolding given

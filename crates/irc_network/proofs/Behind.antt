@@ -84,7 +84,7 @@ module _ (ahead : Ahead) where
       → has_received client text (progress_behind ahead progress) ≡ progress_behind ahead
       (has_received client text progress)
   received-behind zero text progress = refl
-  received-behind (suc earlier) text progress = by (slice_get progress.net.received earlier)
+  received-behind (suc earlier) text progress = by (slice_get progress.state.received earlier)
     where
       by : (o : Option (List (List ℕ))) → option_map_or
           (has_received_at earlier text (progress_behind ahead progress)) o
@@ -99,8 +99,8 @@ module _ (ahead : Ahead) where
   sent-behind place (line_to client text) progress = received-behind client text progress
   sent-behind place (end_of client) progress = refl
   sent-behind place (line_on to text) progress =
-      ap (λ net. record progress { net = net })
-      (changed-behind place (line_queued to text) progress.net
+      ap (λ net. record progress { state = net })
+      (changed-behind place (line_queued to text) progress.state
       (queued_behind (ahead place) to text))
   sent-behind place (end_of_link to reason) progress = refl
 
@@ -118,11 +118,11 @@ module _ (ahead : Ahead) where
       → with_reply place (progress_behind ahead progress) (node_behind (ahead place) node) r
       ≡ progress_behind ahead (with_reply place progress node r)
   reply-behind place progress node r =
-      ap (λ net. all_sent_out place r.out (record progress { net = net }))
-      (put-behind place (record node { server = Some r.state }) progress.net)
+      ap (λ net. all_sent_out place r.out (record progress { state = net }))
+      (put-behind place (record node { server = Some r.state }) progress.state)
       ∙ all-sent-behind place r.out (record progress {
-        net = with_node place
-            (record node { server = Some r.state }) progress.net;
+        state = with_node place
+            (record node { server = Some r.state }) progress.state;
       })
 
   pub asked-behind : (place : ℕ) (read_event : ReadEvent) (progress : Progress Network)
@@ -131,8 +131,8 @@ module _ (ahead : Ahead) where
   unfolding node_asked
   asked-behind place read_event progress =
       ap (λ o. option_map_or (asked_at place read_event (progress_behind ahead progress)) o
-      (progress_behind ahead progress)) (at-behind progress.net place)
-      ∙ by_node (node_at progress.net place)
+      (progress_behind ahead progress)) (at-behind progress.state place)
+      ∙ by_node (node_at progress.state place)
     where
       by_view : (node : Node) (o : Option View) → option_map_or (λ (view : View). with_reply place
           (progress_behind ahead progress) (node_behind (ahead place) node)

@@ -94,12 +94,12 @@ way_of net from to is = by_node (node_at net from) refl is
 
 module _ (from to : ℕ) (ahead : Ahead) (rest : List (List ℕ)) where
   all_delivered : (lines : List (List ℕ)) (progress : Progress Network)
-      → has_way progress.net from to ≡ true → Delivers from to (length lines)
+      → has_way progress.state from to ≡ true → Delivers from to (length lines)
       (progress_behind (ahead_on from to (lines ++ rest) ahead) progress)
       (progress_behind (ahead_on from to rest ahead) (all_heard from to progress lines))
   all_delivered [] progress way = no_more
   all_delivered (line ∷ lines) progress way =
-      let there = way_of progress.net from to way in
+      let there = way_of progress.state from to way in
       one_first
       (one_delivered from to line (lines ++ rest) (ahead_on from to (line ∷ (lines ++ rest)) ahead)
       (ahead_on from to (lines ++ rest) ahead)
@@ -126,7 +126,7 @@ module _ (known : IsKnownOfStreams) (old : ByteNetwork) (from to count : ℕ) (b
   ahead = lines_ahead old.wires
 
   abbrev start : Progress Network
-  start = record { net = old.network; receipts = before }
+  start = record { state = old.network; out = before }
 
   -- the wires once they have come
   abbrev between : Wires
@@ -161,7 +161,7 @@ module _ (known : IsKnownOfStreams) (old : ByteNetwork) (from to count : ℕ) (b
   delivers : Delivers from to (length lines) (progress_behind ahead start)
       (progress_behind now last)
   delivers =
-      subst (λ net. Delivers from to (length lines) (record start { net = net })
+      subst (λ net. Delivers from to (length lines) (record start { state = net })
       (progress_behind now last))
       (ap (λ nodes. record old.network { nodes = nodes })
       (same_nodes (ahead_on from to (lines ++ rest) ahead) ahead old.network.nodes front_is))
@@ -222,54 +222,54 @@ module _ (known : IsKnownOfStreams) (old : ByteNetwork) (from to count : ℕ) (b
   all_behind [] ys all = all
   all_behind (x ∷ xs) ys all = all_behind xs ys all.1
 
-  put_out_are : AreLinesWaiting (net_behind now last.net) → (x y : ℕ)
-      → AllByRecursion IsLine (waiting_at last.net x y)
-  put_out_are are x y = by_node (node_at last.net x) refl
+  put_out_are : AreLinesWaiting (net_behind now last.state) → (x y : ℕ)
+      → AllByRecursion IsLine (waiting_at last.state x y)
+  put_out_are are x y = by_node (node_at last.state x) refl
     where
-      by_way : (node : Node) → node_at last.net x ≡ Some node → (o : Option (List (List ℕ)))
+      by_way : (node : Node) → node_at last.state x ≡ Some node → (o : Option (List (List ℕ)))
           → get node.queues y ≡ o → AllByRecursion IsLine (unwrap_or o [])
       by_way node at None way = tt
       by_way node at (Some lines) way =
           all_behind (now x y) lines
           (subst (AllByRecursion IsLine) (waiting_behind (now x) node y lines way)
-          (are x y (node_behind (now x) node) (at-behind now last.net x
+          (are x y (node_behind (now x) node) (at-behind now last.state x
           ∙ ap (option_map (node_behind (now x))) at)))
 
-      by_node : (o : Option Node) → node_at last.net x ≡ o
+      by_node : (o : Option Node) → node_at last.state x ≡ o
           → AllByRecursion IsLine (option_map_or (λ node. waiting node y) o [])
       by_node None at = tt
       by_node (Some node) at = by_way node at (get node.queues y) refl
 
-  module _ (new : ByteNetwork) (written : IsWritten last.net between new)
-      (are : AreLinesWaiting (net_behind now last.net)) where
+  module _ (new : ByteNetwork) (written : IsWritten last.state between new)
+      (are : AreLinesWaiting (net_behind now last.state)) where
     wire_is : (x y : ℕ)
-        → wire_at new.wires x y ≡ all_written (waiting_at last.net x y) (wire_at between x y)
+        → wire_at new.wires x y ≡ all_written (waiting_at last.state x y) (wire_at between x y)
     wire_is x y = written.wires_are x y
 
-    are_written : (x y : ℕ) → AreWritten known (wire_at between x y) (waiting_at last.net x y)
-    are_written x y = all_are_written known (wire_at between x y) (waiting_at last.net x y)
+    are_written : (x y : ℕ) → AreWritten known (wire_at between x y) (waiting_at last.state x y)
+    are_written x y = all_are_written known (wire_at between x y) (waiting_at last.state x y)
         (wire_ahead x y).ends_lines (put_out_are are x y)
 
-    lines_are : (x y : ℕ) → lines_ahead new.wires x y ≡ now x y ++ waiting_at last.net x y
+    lines_are : (x y : ℕ) → lines_ahead new.wires x y ≡ now x y ++ waiting_at last.state x y
     lines_are x y = ap lines_to_come (wire_is x y) ∙ (are_written x y).lines_are
-        ∙ ap (λ front. front ++ waiting_at last.net x y) (wire_ahead x y).lines_come
+        ∙ ap (λ front. front ++ waiting_at last.state x y) (wire_ahead x y).lines_come
 
-    network_is : new.network ≡ emptied last.net
+    network_is : new.network ≡ emptied last.state
     network_is = written.network_is
 
-    after_is : net_in_lines new ≡ net_behind now last.net
+    after_is : net_in_lines new ≡ net_behind now last.state
     after_is = ap (net_behind (lines_ahead new.wires)) network_is
-        ∙ refilled now (lines_ahead new.wires) last.net lines_are
+        ∙ refilled now (lines_ahead new.wires) last.state lines_are
 
     all_ways : (ls : List (List ℕ)) (progress : Progress Network) (x y : ℕ)
-        → has_way (all_heard from to progress ls).net x y ≡ has_way progress.net x y
+        → has_way (all_heard from to progress ls).state x y ≡ has_way progress.state x y
     all_ways [] progress x y = refl
     all_ways (line ∷ ls) progress x y =
         all_ways ls (heard from to progress line) x y ∙ heard_ways from to progress line x y
 
     same_ways_now : (x y : ℕ) → has_way new.network x y ≡ has_way old.network x y
     same_ways_now x y =
-        ap (λ n. has_way n x y) network_is ∙ emptied_ways last.net x y ∙ all_ways lines start x y
+        ap (λ n. has_way n x y) network_is ∙ emptied_ways last.state x y ∙ all_ways lines start x y
 
     none_now : (x y : ℕ) → has_way old.network x y ≡ false → now x y ≡ []
     none_now x y none = by (nat_eq x from) (nat_eq y to) refl refl
@@ -287,33 +287,34 @@ module _ (known : IsKnownOfStreams) (old : ByteNetwork) (from to count : ℕ) (b
     whole_now = record {
       tidy = record {
         quiet =
-            λ x y. subst (λ n. waiting_at n x y ≡ []) (sym network_is) (emptied_waits last.net x y);
+            λ x y. subst (λ n. waiting_at n x y ≡ []) (sym network_is)
+            (emptied_waits last.state x y);
         rows = written.rows;
         lean = written.lean;
       };
       whole = λ x y. subst IsWhole (sym (wire_is x y)) (are_written x y).whole;
       ways = λ x y none.
           let before = sym (same_ways_now x y) ∙ none in
-          lines_are x y ∙ ap (λ front. front ++ waiting_at last.net x y) (none_now x y before)
-          ∙ none_there last.net x y (all_ways lines start x y ∙ before);
+          lines_are x y ∙ ap (λ front. front ++ waiting_at last.state x y) (none_now x y before)
+          ∙ none_there last.state x y (all_ways lines start x y ∙ before);
     }
 
-  all_is_written : IsWritten last.net between (queues_written last.net between)
+  all_is_written : IsWritten last.state between (queues_written last.state between)
   all_is_written =
-      is_written last.net between
+      is_written last.state between
       (lean_with from to (advanced count wire) old.wires whole.tidy.lean)
       (rows_after_lines old from to count lines before last between whole.tidy.rows refl refl)
 
-  as_lines : ComeAsLines from to count (record { net = old; receipts = before })
+  as_lines : ComeAsLines from to count (record { state = old; out = before })
   unfolding bytes_come
   as_lines = record {
     last = progress_behind now last;
     delivers = delivers;
     as_lines =
-        λ are. ap (with_net last) (after_is (queues_written last.net between) all_is_written are);
-    whole = whole_now (queues_written last.net between) all_is_written;
+        λ are. ap (with_net last) (after_is (queues_written last.state between) all_is_written are);
+    whole = whole_now (queues_written last.state between) all_is_written;
   }
 
 pub bytes_come_as_lines : IsKnownOfStreams → BytesComeAsLines
 bytes_come_as_lines known from to count old whole =
-    as_lines known old.net from to count old.receipts whole
+    as_lines known old.state from to count old.out whole

@@ -21,9 +21,9 @@ use Rattle.irc_network.specs.Turns.{TurnsBy, bytes_in_turn, lines_in, turn_in}
 -- it is kept, and lines are counted anew
 abbrev pub byte_kept : Item → Progress ByteNetwork → Progress ByteNetwork
 byte_kept item progress = record progress {
-  net = record progress.net {
-    network = record progress.net.network {
-      items = progress.net.network.items ++ item ∷ [];
+  state = record progress.state {
+    network = record progress.state.network {
+      items = progress.state.network.items ++ item ∷ [];
       taken = 0;
     };
   };
@@ -50,31 +50,31 @@ come_tidy from to count net tidy = record {
 }
 
 -- what they complete is heard in turn, and what servers put out upon it is written at once
-pub have_come : SameWires → (from to count : ℕ) (old : Progress ByteNetwork) → IsTidy old.net
-    → all_heard_out from to (record old { net = come_in from to count old.net })
-    (completed_in old.net from to count) ≡ bytes_come from to count old
+pub have_come : SameWires → (from to count : ℕ) (old : Progress ByteNetwork) → IsTidy old.state
+    → all_heard_out from to (record old { state = come_in from to count old.state })
+    (completed_in old.state from to count) ≡ bytes_come from to count old
 unfolding bytes_come
 have_come same from to count old tidy =
-    let now = come_tidy from to count old.net tidy in
-    let lines = completed_in old.net from to count in
+    let now = come_tidy from to count old.state tidy in
+    let lines = completed_in old.state from to count in
     ap (λ progress. all_heard_out from to progress lines)
-    (sym (tidy_alone (record old { net = come_in from to count old.net }) now))
-    ∙ all_heard_written same from to (wires_come old.net from to count) now.lean lines
+    (sym (tidy_alone (record old { state = come_in from to count old.state }) now))
+    ∙ all_heard_written same from to (wires_come old.state from to count) now.lean lines
     (progress_without_wires old) now.rows
 
 -- ---- a turn
 
-pub no_turn : (old : Progress ByteNetwork) → None ≡ first_direction old.net.wires
+pub no_turn : (old : Progress ByteNetwork) → None ≡ first_direction old.state.wires
     → TurnsBy None old old
 no_turn old none = (ap (option_map (turn_in old)) (sym none), refl)
 
 pub one_turn : (old new : Progress ByteNetwork) (d : Direction) (count lines : ℕ)
-    → Some d ≡ first_direction old.net.wires
-    → count ≡ bytes_in_turn old.net d → new ≡ bytes_come d.from d.to count old
-    → lines ≡ length (completed_in old.net d.from d.to count) → TurnsBy (Some lines) old new
+    → Some d ≡ first_direction old.state.wires
+    → count ≡ bytes_in_turn old.state d → new ≡ bytes_come d.from d.to count old
+    → lines ≡ length (completed_in old.state d.from d.to count) → TurnsBy (Some lines) old new
 one_turn old new d count lines first count_is new_is lines_are = (
   ap (option_map (turn_in old)) (sym first)
       ∙ ap Some (sym (new_is ∙ ap (λ n. bytes_come d.from d.to n old) count_is)),
-  lines_are ∙ ap (λ n. length (completed_in old.net d.from d.to n)) count_is
-      ∙ ap (λ o. option_map_or (lines_in old.net) o 0) first,
+  lines_are ∙ ap (λ n. length (completed_in old.state d.from d.to n)) count_is
+      ∙ ap (λ o. option_map_or (lines_in old.state) o 0) first,
 )

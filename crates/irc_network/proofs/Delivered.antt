@@ -64,7 +64,7 @@ set_other (suc from) one other (first ∷ nodes) node is alike = λ i.
 module _ (from to : ℕ) (line : List ℕ) (rest : List (List ℕ)) (ahead now : Ahead)
     (first : ahead from to ≡ line ∷ rest)
     (is_left : IsLeftOn from to rest ahead now)
-    (progress : Progress Network) (node : Node) (at : node_at progress.net from ≡ Some node)
+    (progress : Progress Network) (node : Node) (at : node_at progress.state from ≡ Some node)
     (lines : List (List ℕ)) (way : get node.queues to ≡ Some lines) where
   node_left : left to (rest ++ lines) (node_behind (ahead from) node) ≡ node_behind (now from) node
   node_left = ap (λ ways. record node { queues = ways })
@@ -95,10 +95,10 @@ module _ (from to : ℕ) (line : List ℕ) (rest : List (List ℕ)) (ahead now :
       by q false two = others q (get node.queues q) (is_left.same_from q (apart q two))
 
   net_left : with_node from (left to (rest ++ lines) (node_behind (ahead from) node))
-      (net_behind ahead progress.net) ≡ net_behind now progress.net
-  net_left = ap (λ nodes. record progress.net { nodes = nodes })
-      (ap (slice_set (nodes_behind ahead progress.net.nodes) from) node_left
-      ∙ set_other from ahead now progress.net.nodes node at is_left.others)
+      (net_behind ahead progress.state) ≡ net_behind now progress.state
+  net_left = ap (λ nodes. record progress.state { nodes = nodes })
+      (ap (slice_set (nodes_behind ahead progress.state.nodes) from) node_left
+      ∙ set_other from ahead now progress.state.nodes node at is_left.others)
 
   pub one_delivered : delivered from to (progress_behind ahead progress)
       ≡ Some (progress_behind now (heard from to progress line))
@@ -106,10 +106,10 @@ module _ (from to : ℕ) (line : List ℕ) (rest : List (List ℕ)) (ahead now :
   one_delivered =
       ap (option_and_then
       (λ (s : Node). taken_of from to (progress_behind ahead progress) s (waiting s to)))
-      (at-behind ahead progress.net from ∙ ap (option_map (node_behind (ahead from))) at)
+      (at-behind ahead progress.state from ∙ ap (option_map (node_behind (ahead from))) at)
       ∙ ap (taken_of from to (progress_behind ahead progress) (node_behind (ahead from) node))
       (waiting_behind (ahead from) node to lines way ∙ ap (λ front. front ++ lines) first)
       ∙ ap (λ net. Some (node_asked to (link_says from (read_of line))
-      (record progress { net = line_counted net }))) net_left
+      (record progress { state = line_counted net }))) net_left
       ∙ ap Some (asked-behind now to (link_says from (read_of line))
-      (record progress { net = line_counted progress.net }))
+      (record progress { state = line_counted progress.state }))

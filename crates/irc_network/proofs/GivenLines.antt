@@ -24,7 +24,7 @@ use Rattle.irc_network.proofs.WireLines.{IsKnownOfStreams, all_are_written, new_
 use Rattle.irc_network.proofs.WireLines.{new_is_whole}
 
 abbrev pub with_net : Progress Network → Network → Progress Network
-with_net progress net = record progress { net = net }
+with_net progress net = record progress { state = net }
 
 -- what waits at a place are lines
 pub lines_there : (net : Network) → AreLinesWaiting net → (from to : ℕ)
@@ -61,7 +61,7 @@ module _ (known : IsKnownOfStreams) (real_new : HasTaken nothing_begun (stream_f
       ∙ new_has_none known real_new)
 
   abbrev net : Network
-  net = (given item old.network).net
+  net = (given item old.network).state
 
   abbrev wires : Wires
   wires = wires_after old.network item old.wires
@@ -109,11 +109,11 @@ module _ (known : IsKnownOfStreams) (real_new : HasTaken nothing_begun (stream_f
       is_written net wires (lean_along (cut_ends old.network item) old.wires tidy.lean)
       (rows_after_item old item net wires tidy.rows refl refl)
 
-  as_lines : IsTidy old → AreLinesWaiting (given item (net_in_lines old)).net
+  as_lines : IsTidy old → AreLinesWaiting (given item (net_in_lines old)).state
       → IsGivenAsLines old item
   unfolding item_given
   as_lines tidy are =
-      let are_now = subst (λ n. AreLinesWaiting (given item n).net) before are in
+      let are_now = subst (λ n. AreLinesWaiting (given item n).state) before are in
       record {
         as_lines = ap (with_net (given item old.network)) (after (queues_written net wires)
             (all_is_written tidy) are_now) ∙ ap (given item) (sym before);

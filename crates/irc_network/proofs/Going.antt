@@ -13,25 +13,25 @@ use Rattle.irc_network.proofs.NothingWritten.{moves_alone}
 -- ---- one turn more
 
 pub turns_behind : {all : ℕ} {progress last new : Progress ByteNetwork} → TurnsGo all progress last
-    → turn_taken last ≡ Some new → TurnsGo (all + lines_in_turn last.net) progress new
+    → turn_taken last ≡ Some new → TurnsGo (all + lines_in_turn last.state) progress new
 turns_behind {last = last} none_yet taken =
-    turn_first taken (alone (lines_in_turn last.net)) none_yet
+    turn_first taken (alone (lines_in_turn last.state)) none_yet
   where
     alone : (lines : ℕ) → 0 + lines ≡ lines + 0
     alone lines = omega arith
 turns_behind {last = last}
     (turn_first {all = all} {count = count} {progress = progress} first lines_are rest) taken =
-    turn_first first (in_turn all (lines_in_turn progress.net) count
-    (lines_in_turn last.net) lines_are) (turns_behind rest taken)
+    turn_first first (in_turn all (lines_in_turn progress.state) count
+    (lines_in_turn last.state) lines_are) (turns_behind rest taken)
   where
     in_turn : (all first count lines : ℕ) → all ≡ first + count
         → all + lines ≡ first + (count + lines)
     in_turn all first count lines is = omega arith
 
 pub none_behind : {progress last new : Progress ByteNetwork} → TurnsGo 0 progress last
-    → turn_taken last ≡ Some new → lines_in_turn last.net ≡ 0 → TurnsGo 0 progress new
+    → turn_taken last ≡ Some new → lines_in_turn last.state ≡ 0 → TurnsGo 0 progress new
 none_behind {progress = progress} {last = last} {new = new} goes taken none =
-    subst (λ lines. TurnsGo lines progress new) (no_more (lines_in_turn last.net) none)
+    subst (λ lines. TurnsGo lines progress new) (no_more (lines_in_turn last.state) none)
     (turns_behind goes taken)
   where
     no_more : (lines : ℕ) → lines ≡ 0 → 0 + lines ≡ 0
@@ -40,18 +40,18 @@ none_behind {progress = progress} {last = last} {new = new} goes taken none =
 -- ---- a turn by which no line is completed
 
 pub record GoesOn (old new : Progress ByteNetwork) : Type 0 where
-  pub tidy : IsTidy new.net
-  pub fewer : bytes_on_way new.net.wires < bytes_on_way old.net.wires
+  pub tidy : IsTidy new.state
+  pub fewer : bytes_on_way new.state.wires < bytes_on_way old.state.wires
 
-pub goes_on : (old new : Progress ByteNetwork) → IsTidy old.net → turn_taken old ≡ Some new
-    → lines_in_turn old.net ≡ 0 → GoesOn old new
+pub goes_on : (old new : Progress ByteNetwork) → IsTidy old.state → turn_taken old ≡ Some new
+    → lines_in_turn old.state ≡ 0 → GoesOn old new
 goes_on old new tidy taken none =
     let moves = moves_alone old new tidy taken none in
     record {
       tidy = moves.tidy;
-      fewer = subst (λ (progress : Progress ByteNetwork). bytes_on_way progress.net.wires
-          < bytes_on_way old.net.wires) (sym moves.new_is)
-          (fewer_bytes old.net.wires moves.way moves.is_first);
+      fewer = subst (λ (progress : Progress ByteNetwork). bytes_on_way progress.state.wires
+          < bytes_on_way old.state.wires) (sym moves.new_is)
+          (fewer_bytes old.state.wires moves.way moves.is_first);
     }
 
 -- ---- what a call has done by a turn behind turns that completed none
@@ -59,7 +59,7 @@ goes_on old new tidy taken none =
 -- turns that complete no line have left a tidy network
 pub record GoesTidily (old new : Progress ByteNetwork) : Type 0 where
   pub goes : TurnsGo 0 old new
-  pub tidy : IsTidy new.net
+  pub tidy : IsTidy new.state
 
 none_at_most : (lines : ℕ) → lines ≤ 0 → lines ≡ 0
 none_at_most lines few = omega (arith, few)
@@ -72,7 +72,7 @@ tidily_on old now new lines before turn few = record {
 }
 
 pub fewer_on : (old now new : Progress ByteNetwork) (lines : ℕ) → GoesTidily old now → TurnsBy
-    (Some lines) now new → lines ≤ 0 → bytes_on_way new.net.wires < bytes_on_way now.net.wires
+    (Some lines) now new → lines ≤ 0 → bytes_on_way new.state.wires < bytes_on_way now.state.wires
 fewer_on old now new lines before turn few =
     (goes_on now new before.tidy turn.0 (sym turn.1 ∙ none_at_most lines few)).fewer
 
@@ -91,12 +91,12 @@ none_come old now new before turn =
 -- ---- until one is
 
 comes_behind : (lines : Option ℕ) (old between new : Progress ByteNetwork)
-    → turn_taken old ≡ Some between → lines_in_turn old.net ≡ 0 → ComesToLine lines between new
+    → turn_taken old ≡ Some between → lines_in_turn old.state ≡ 0 → ComesToLine lines between new
     → ComesToLine lines old new
 comes_behind lines old between new taken none = by lines
   where
     before : {last : Progress ByteNetwork} → TurnsGo 0 between last → TurnsGo 0 old last
-    before goes = turn_first taken (first (lines_in_turn old.net) none) goes
+    before goes = turn_first taken (first (lines_in_turn old.state) none) goes
       where
         first : (n : ℕ) → n ≡ 0 → 0 ≡ n + 0
         first n is = omega arith
@@ -111,8 +111,8 @@ comes_behind lines old between new taken none = by lines
       some = comes.some;
     }
 
-comes_within : (fuel : ℕ) (old : Progress ByteNetwork) → IsTidy old.net
-    → bytes_on_way old.net.wires < fuel → ComesToSome old
+comes_within : (fuel : ℕ) (old : Progress ByteNetwork) → IsTidy old.state
+    → bytes_on_way old.state.wires < fuel → ComesToSome old
 comes_within zero old tidy within = absurd (omega (arith, within))
 comes_within (suc fuel) old tidy within = by (turn_taken old) refl (comes_within fuel)
   where
@@ -120,8 +120,8 @@ comes_within (suc fuel) old tidy within = by (turn_taken old) refl (comes_within
     less now before fewer most = omega arith
 
     by_lines : (between : Progress ByteNetwork) → turn_taken old ≡ Some between → (n : ℕ)
-        → lines_in_turn old.net ≡ n → ((progress : Progress ByteNetwork) → IsTidy progress.net
-        → bytes_on_way progress.net.wires < fuel → ComesToSome progress) → ComesToSome old
+        → lines_in_turn old.state ≡ n → ((progress : Progress ByteNetwork) → IsTidy progress.state
+        → bytes_on_way progress.state.wires < fuel → ComesToSome progress) → ComesToSome old
     by_lines between taken (suc n) are later = record {
       lines = Some (suc n);
       new = between;
@@ -136,7 +136,7 @@ comes_within (suc fuel) old tidy within = by (turn_taken old) refl (comes_within
     by_lines between taken zero none later =
         let on = goes_on old between tidy taken none in
         let rest = later between on.tidy
-        (less (bytes_on_way between.net.wires) (bytes_on_way old.net.wires) on.fewer within) in
+        (less (bytes_on_way between.state.wires) (bytes_on_way old.state.wires) on.fewer within) in
         record {
           lines = rest.lines;
           new = rest.new;
@@ -144,10 +144,11 @@ comes_within (suc fuel) old tidy within = by (turn_taken old) refl (comes_within
         }
 
     by : (o : Option (Progress ByteNetwork)) → turn_taken old ≡ o
-        → ((progress : Progress ByteNetwork) → IsTidy progress.net
-        → bytes_on_way progress.net.wires < fuel → ComesToSome progress) → ComesToSome old
+        → ((progress : Progress ByteNetwork) → IsTidy progress.state
+        → bytes_on_way progress.state.wires < fuel → ComesToSome progress) → ComesToSome old
     by None is later = record { lines = None; new = old; comes = (none_yet, is) }
-    by (Some between) is later = by_lines between is (lines_in_turn old.net) refl later
+    by (Some between) is later = by_lines between is (lines_in_turn old.state) refl later
 
 pub each_comes_to_line : EachComesToLine
-each_comes_to_line old tidy = comes_within (suc (bytes_on_way old.net.wires)) old tidy (omega arith)
+each_comes_to_line old tidy =
+    comes_within (suc (bytes_on_way old.state.wires)) old tidy (omega arith)

@@ -13,12 +13,12 @@ use Rattle.irc_network.specs.Network.{servers_parted, servers_linked, server_pla
 use Rattle.irc_network.specs.Network.{node_at, with_reply, with_node}
 
 abbrev pub items_of : Progress Network → List Item
-items_of progress = progress.net.items
+items_of progress = progress.state.items
 
 received_keeps : (client : ℕ) (text : List ℕ) (progress : Progress Network)
     → items_of (has_received client text progress) ≡ items_of progress
 received_keeps zero text progress = refl
-received_keeps (suc earlier) text progress = by (slice_get progress.net.received earlier)
+received_keeps (suc earlier) text progress = by (slice_get progress.state.received earlier)
   where
     by : (o : Option (List (List ℕ))) → items_of
         (option_map_or (has_received_at earlier text progress) o progress) ≡ items_of progress
@@ -38,7 +38,7 @@ sent_keeps : (place : ℕ) (sent : Sent) (progress : Progress Network)
     → items_of (sent_out place sent progress) ≡ items_of progress
 sent_keeps place (line_to client text) progress = received_keeps client text progress
 sent_keeps place (end_of client) progress = refl
-sent_keeps place (line_on to text) progress = changed_keeps place _ progress.net
+sent_keeps place (line_on to text) progress = changed_keeps place _ progress.state
 sent_keeps place (end_of_link to reason) progress = refl
 
 all_keep : (place : ℕ) (out : List Sent) (progress : Progress Network)
@@ -50,15 +50,15 @@ all_keep place (sent ∷ more) progress =
 asked_keeps : (place : ℕ) (read_event : ReadEvent) (progress : Progress Network)
     → items_of (node_asked place read_event progress) ≡ items_of progress
 unfolding node_asked
-asked_keeps place read_event progress = by (node_at progress.net place)
+asked_keeps place read_event progress = by (node_at progress.state place)
   where
     by_view : (node : Node) (o : Option View) → items_of (option_map_or (λ (view : View).
         with_reply place progress node (reply view read_event)) o progress) ≡ items_of progress
     by_view node None = refl
     by_view node (Some view) = all_keep place (reply view read_event).out
         (record progress {
-          net = with_node place
-              (record node { server = Some (reply view read_event).state }) progress.net;
+          state = with_node place
+              (record node { server = Some (reply view read_event).state }) progress.state;
         })
 
     by : (o : Option Node)

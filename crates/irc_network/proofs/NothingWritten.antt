@@ -142,65 +142,65 @@ nothing_written net wires none lean =
 -- the bytes through the next LF have come in the first direction, and that is all
 pub record MovesAlone (old new : Progress ByteNetwork) : Type 0 where
   pub way : Direction
-  pub is_first : first_direction old.net.wires ≡ Some way
+  pub is_first : first_direction old.state.wires ≡ Some way
   pub new_is : new ≡ record {
-    net = record {
-      network = old.net.network;
-      wires = wires_come old.net way.from way.to (bytes_in_turn old.net way);
+    state = record {
+      network = old.state.network;
+      wires = wires_come old.state way.from way.to (bytes_in_turn old.state way);
     };
-    receipts = old.receipts;
+    out = old.out;
   }
-  pub tidy : IsTidy new.net
+  pub tidy : IsTidy new.state
 
 none_completed : (lines : List (List ℕ)) → length lines ≡ 0 → lines ≡ []
 none_completed [] none = refl
 none_completed (first ∷ lines) none = cc none
 
-module _ (old : Progress ByteNetwork) (tidy : IsTidy old.net) (way : Direction) where
+module _ (old : Progress ByteNetwork) (tidy : IsTidy old.state) (way : Direction) where
   abbrev come : Wires
-  come = wires_come old.net way.from way.to (bytes_in_turn old.net way)
+  come = wires_come old.state way.from way.to (bytes_in_turn old.state way)
 
   abbrev moved : Progress ByteNetwork
   moved =
-      record { net = record { network = old.net.network; wires = come }; receipts = old.receipts }
+      record { state = record { network = old.state.network; wires = come }; out = old.out }
 
   come_lean : AreLean come
-  come_lean = lean_with way.from way.to (advanced (bytes_in_turn old.net way)
-      (wire_at old.net.wires way.from way.to)) old.net.wires tidy.lean
+  come_lean = lean_with way.from way.to (advanced (bytes_in_turn old.state way)
+      (wire_at old.state.wires way.from way.to)) old.state.wires tidy.lean
 
-  turn_moves : lines_in old.net way ≡ 0 → turn_in old way ≡ moved
+  turn_moves : lines_in old.state way ≡ 0 → turn_in old way ≡ moved
   unfolding bytes_come
   turn_moves none =
       ap (λ lines. progress_written
       (all_heard way.from way.to (progress_without_wires old) lines) come)
-      (none_completed (completed_in old.net way.from way.to (bytes_in_turn old.net way)) none)
-      ∙ ap (λ (net : ByteNetwork). record { net = net; receipts = old.receipts })
-      (nothing_written old.net.network come tidy.quiet come_lean)
+      (none_completed (completed_in old.state way.from way.to (bytes_in_turn old.state way)) none)
+      ∙ ap (λ (net : ByteNetwork). record { state = net; out = old.out })
+      (nothing_written old.state.network come tidy.quiet come_lean)
 
-  moved_tidy : IsTidy moved.net
+  moved_tidy : IsTidy moved.state
   moved_tidy = record {
     quiet = tidy.quiet;
-    rows = rows_stay way.from way.to (advanced (bytes_in_turn old.net way)
-        (wire_at old.net.wires way.from way.to)) old.net.wires ∙ tidy.rows;
+    rows = rows_stay way.from way.to (advanced (bytes_in_turn old.state way)
+        (wire_at old.state.wires way.from way.to)) old.state.wires ∙ tidy.rows;
     lean = come_lean;
   }
 
-  moves : (new : Progress ByteNetwork) → first_direction old.net.wires ≡ Some way
-      → turn_in old way ≡ new → lines_in old.net way ≡ 0 → MovesAlone old new
+  moves : (new : Progress ByteNetwork) → first_direction old.state.wires ≡ Some way
+      → turn_in old way ≡ new → lines_in old.state way ≡ 0 → MovesAlone old new
   moves new is taken none = record {
     way = way;
     is_first = is;
     new_is = sym taken ∙ turn_moves none;
-    tidy = subst (λ (progress : Progress ByteNetwork). IsTidy progress.net)
+    tidy = subst (λ (progress : Progress ByteNetwork). IsTidy progress.state)
         (sym (turn_moves none) ∙ taken) moved_tidy;
   }
 
-pub moves_alone : (old new : Progress ByteNetwork) → IsTidy old.net → turn_taken old ≡ Some new
-    → lines_in_turn old.net ≡ 0 → MovesAlone old new
-moves_alone old new tidy taken none = by (first_direction old.net.wires) refl taken none
+pub moves_alone : (old new : Progress ByteNetwork) → IsTidy old.state → turn_taken old ≡ Some new
+    → lines_in_turn old.state ≡ 0 → MovesAlone old new
+moves_alone old new tidy taken none = by (first_direction old.state.wires) refl taken none
   where
-    by : (o : Option Direction) → first_direction old.net.wires ≡ o → option_map (turn_in old) o
-        ≡ Some new → option_map_or (lines_in old.net) o 0 ≡ 0 → MovesAlone old new
+    by : (o : Option Direction) → first_direction old.state.wires ≡ o → option_map (turn_in old) o
+        ≡ Some new → option_map_or (lines_in old.state) o 0 ≡ 0 → MovesAlone old new
     by None is gone zero_lines = cc gone
     by (Some way) is came zero_lines =
         moves old tidy way new is (ap (λ o. unwrap_or o new) came) zero_lines

@@ -3,7 +3,7 @@ use Rattle.std.proofs.Common.{◌≡◌, ◌<◌, ℕ, Option, Some, None, refl,
 use Rattle.std.specs.Borrow.{Bor}
 use Rattle.std.specs.Option.{option_and_then, option_copied, option_map}
 use Rattle.irc_forest.specs.Forests.{name_at}
-use Rattle.irc_room.specs.Applying.{Kept}
+use Rattle.irc_room.specs.Applying.{ServerRoom}
 use Rattle.irc_room.specs.Lemmas.Rows.{same_some}
 use Rattle.irc_server.specs.Loops.Acting.{room_kept, room_of}
 use Rattle.irc_stage.specs.View.{View}
@@ -45,7 +45,7 @@ party_there net party place within named node room = by party.node.now.server re
 
 -- it is what the code finds by its name, at its place, and in it
 pub is_party : (net : Network) (party : Party) (places : Option ℕ) (nodes : Option (Bor Node))
-    (rooms : Option (Bor Kept)) → places ≡ server_place net party.name.now
+    (rooms : Option (Bor ServerRoom)) → places ≡ server_place net party.name.now
     → places ≡ Some party.place → party.place < length net.names → name_at net.names party.place
     ≡ party.name.now → option_copied nodes ≡ node_at net party.place → nodes ≡ Some party.node
     → option_map room_kept (option_copied rooms) ≡ option_map room_of party.node.now.server

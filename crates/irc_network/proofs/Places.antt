@@ -86,9 +86,9 @@ received_one net receipts more client earlier text past kept each number within 
         ap (λ (p : Past). progress_of (with_past p net) more) (put
         ∙ ap (λ o. option_map_or (line_behind earlier text (past_of net)) o (past_of net)) is)
         ∙ ap (λ (rs : List Receipt). record {
-          net = with_past
+          state = with_past
               (line_behind earlier text (past_of net) lines) net;
-          receipts = rs;
+          out = rs;
         }) told
         ∙ sym (ap (λ o. option_map_or (has_received_at earlier text (progress_of net receipts)) o
         (progress_of net receipts)) is)

@@ -25,8 +25,8 @@ use Rattle.irc_world.specs.Stepping.{Item, connect, line, gone, link, cut}
 
 -- since clients had received so much
 abbrev pub IsTold : (ℕ → List (List ℕ)) → Progress Network → Type 0
-IsTold before progress = (client : ℕ) → received_by progress.net client ≡ before client
-    ++ lines_of_client client progress.receipts
+IsTold before progress = (client : ℕ) → received_by progress.state client ≡ before client
+    ++ lines_of_client client progress.out
 
 pub nothing_told : (net : Network) → IsTold (received_by net) (begun net)
 nothing_told net client = sym (append-nil (received_by net client))
@@ -38,10 +38,10 @@ same_received old new same (suc earlier) =
     ap (λ (inboxes : List (List (List ℕ))). unwrap_or (slice_get inboxes earlier) []) same
 
 -- nothing is received
-told_still : (before : ℕ → List (List ℕ)) (old new : Progress Network) → new.net.received
-    ≡ old.net.received → new.receipts ≡ old.receipts → IsTold before old → IsTold before new
+told_still : (before : ℕ → List (List ℕ)) (old new : Progress Network) → new.state.received
+    ≡ old.state.received → new.out ≡ old.out → IsTold before old → IsTold before new
 told_still before old new same receipts told client =
-    same_received old.net new.net same client ∙ told client
+    same_received old.state new.state same client ∙ told client
     ∙ ap (λ rs. before client ++ lines_of_client client rs) (sym receipts)
 
 -- ---- a line to a client
@@ -79,14 +79,14 @@ put_behind (inbox ∷ inboxes) (suc earlier) (suc other) lines text is =
     ∙ next_there (unwrap_or (slice_get inboxes other) []) earlier other text
 
 received_behind : (progress : Progress Network) (earlier : ℕ) (text : List ℕ)
-    (lines : List (List ℕ)) → slice_get progress.net.received earlier ≡ Some lines → (client : ℕ)
-    → received_by (has_received_at earlier text progress lines).net client
-    ≡ received_by progress.net client ++ if_there (suc earlier) client text
+    (lines : List (List ℕ)) → slice_get progress.state.received earlier ≡ Some lines → (client : ℕ)
+    → received_by (has_received_at earlier text progress lines).state client
+    ≡ received_by progress.state client ++ if_there (suc earlier) client text
 received_behind progress earlier text lines is zero =
     not_there (nat_eq (suc earlier) 0) [] text (eqb-suc-zero earlier)
 received_behind progress earlier text lines is (suc other) =
-    put_behind progress.net.received earlier other lines text is
-    ∙ next_there (unwrap_or (slice_get progress.net.received other) []) earlier other text
+    put_behind progress.state.received earlier other lines text is
+    ∙ next_there (unwrap_or (slice_get progress.state.received other) []) earlier other text
 
 told_behind : (client earlier : ℕ) (text : List ℕ) (receipts : List Receipt)
     → lines_of_client client (receipts ++ receipt (suc earlier) text ∷ [])
@@ -95,23 +95,23 @@ told_behind client earlier text receipts =
     filter_map-append (line_received client) receipts (receipt (suc earlier) text ∷ [])
 
 told_at : (before : ℕ → List (List ℕ)) (progress : Progress Network) (earlier : ℕ) (text : List ℕ)
-    (lines : List (List ℕ)) → slice_get progress.net.received earlier ≡ Some lines
+    (lines : List (List ℕ)) → slice_get progress.state.received earlier ≡ Some lines
     → IsTold before progress → IsTold before (has_received_at earlier text progress lines)
 told_at before progress earlier text lines is told client =
     received_behind progress earlier text lines is client
     ∙ ap (λ ls. ls ++ if_there (suc earlier) client text) (told client)
-    ∙ append_assoc (before client) (lines_of_client client progress.receipts)
+    ∙ append_assoc (before client) (lines_of_client client progress.out)
     (if_there (suc earlier) client text)
-    ∙ ap (λ ls. before client ++ ls) (sym (told_behind client earlier text progress.receipts))
+    ∙ ap (λ ls. before client ++ ls) (sym (told_behind client earlier text progress.out))
 
 client_told : (before : ℕ → List (List ℕ)) (client : ℕ) (text : List ℕ)
     (progress : Progress Network) → IsTold before progress
     → IsTold before (has_received client text progress)
 client_told before zero text progress told = told
 client_told before (suc earlier) text progress told =
-    by (slice_get progress.net.received earlier) refl
+    by (slice_get progress.state.received earlier) refl
   where
-    by : (o : Option (List (List ℕ))) → slice_get progress.net.received earlier ≡ o
+    by : (o : Option (List (List ℕ))) → slice_get progress.state.received earlier ≡ o
         → IsTold before (option_map_or (has_received_at earlier text progress) o progress)
     by None is = told
     by (Some lines) is = told_at before progress earlier text lines is told
@@ -134,7 +134,7 @@ sent_told before place (line_out client text) progress told =
 sent_told before place (end_of client) progress told = told
 sent_told before place (line_on to text) progress told =
     told_still before progress (sent_out place (line_on to text) progress)
-    (changed_received place (line_queued to text) progress.net) refl told
+    (changed_received place (line_queued to text) progress.state) refl told
 sent_told before place (end_of_link to reason) progress told = told
 
 all_told : (before : ℕ → List (List ℕ)) (place : ℕ) (out : List Sent) (progress : Progress Network)
@@ -153,15 +153,15 @@ replied_told before place read_event progress node view told =
   where
     put : Node → Progress Network
     put node = record progress {
-      net = with_node place
-          (record node { server = Some (reply view read_event).state }) progress.net;
+      state = with_node place
+          (record node { server = Some (reply view read_event).state }) progress.state;
     }
 
 asked_told : (before : ℕ → List (List ℕ)) (place : ℕ)
     (read_event : ReadEvent) (progress : Progress Network) → IsTold before progress
     → IsTold before (node_asked place read_event progress)
 unfolding node_asked
-asked_told before place read_event progress told = by (node_at progress.net place)
+asked_told before place read_event progress told = by (node_at progress.state place)
   where
     at : (node : Node) (o : Option View) → IsTold before (option_map_or
         (λ (view : View). with_reply place progress node (reply view read_event)) o progress)
@@ -178,7 +178,7 @@ asked_told before place read_event progress told = by (node_at progress.net plac
 delivered_told : (before : ℕ → List (List ℕ)) (from to : ℕ) (old new : Progress Network)
     → delivered from to old ≡ Some new → IsTold before old → IsTold before new
 unfolding delivered
-delivered_told before from to old new is told = by (node_at old.net from) is
+delivered_told before from to old new is told = by (node_at old.state from) is
   where
     same_progress : (a b : Progress Network) → Some a ≡ Some b → a ≡ b
     same_progress a b e = cc e
@@ -188,7 +188,7 @@ delivered_told before from to old new is told = by (node_at old.net from) is
     took node [] e = absurd (cc e)
     took node (first ∷ rest) e =
         let between : Progress Network =
-        record old { net = record (with_node from (left to rest node) old.net) { taken = _ } }
+        record old { state = record (with_node from (left to rest node) old.state) { taken = _ } }
         in
         subst (IsTold before)
         (same_progress (node_asked to (link_says from (read_of first)) between) new e)
@@ -268,9 +268,9 @@ pub receipts_are_received : ReceiptsAreReceived
 receipts_are_received = record {
   heard = λ from to bytes net between are.
       asked_told (received_by net) to (link_says from (read_of bytes))
-      (record between { net = line_counted between.net })
+      (record between { state = line_counted between.state })
       (told_still (received_by net) between
-      (record between { net = line_counted between.net }) refl refl are);
+      (record between { state = line_counted between.state }) refl refl are);
   given = λ item net. given_told item net;
   delivered = λ from to net new is. delivered_told (received_by net) from to (begun net) new is
       (nothing_told net);

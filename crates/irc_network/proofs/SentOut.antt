@@ -26,25 +26,25 @@ use Rattle.irc_network.proofs.Taking.{asked_nowhere, asked_there, one_more_sent,
 
 -- ---- nothing waits in a tidy network, so nothing is left to be written
 
-pub tidy_alone : (progress : Progress ByteNetwork) → IsTidy progress.net
-    → progress_written (progress_without_wires progress) progress.net.wires ≡ progress
+pub tidy_alone : (progress : Progress ByteNetwork) → IsTidy progress.state
+    → progress_written (progress_without_wires progress) progress.state.wires ≡ progress
 tidy_alone progress tidy =
-    ap (λ (net : ByteNetwork). record { net = net; receipts = progress.receipts })
-    (nothing_written progress.net.network progress.net.wires tidy.quiet tidy.lean)
+    ap (λ (net : ByteNetwork). record { state = net; out = progress.out })
+    (nothing_written progress.state.network progress.state.wires tidy.quiet tidy.lean)
 
 -- ---- one thing
 
 received_written : (client : ℕ) (text : List ℕ) (progress : Progress Network) (wires : Wires)
-    → with_wires (rows_written progress.net.nodes wires) (has_received client text
+    → with_wires (rows_written progress.state.nodes wires) (has_received client text
     (progress_without_wires (progress_written progress wires)))
     ≡ progress_written (has_received client text progress) wires
 received_written zero text progress wires = refl
-received_written (suc earlier) text progress wires = by (slice_get progress.net.received earlier)
+received_written (suc earlier) text progress wires = by (slice_get progress.state.received earlier)
   where
     start : Progress Network
     start = progress_without_wires (progress_written progress wires)
 
-    by : (o : Option (List (List ℕ))) → with_wires (rows_written progress.net.nodes wires)
+    by : (o : Option (List (List ℕ))) → with_wires (rows_written progress.state.nodes wires)
         (option_map_or (has_received_at earlier text start) o start)
         ≡ progress_written (option_map_or (has_received_at earlier text progress) o progress) wires
     by None = refl
@@ -72,19 +72,19 @@ module _ (same : SameWires) (wires : Wires) (lean : AreLean wires) where
           (sym (nowhere_queued same net wires lean long place to text none))
 
   sent_written : (place : ℕ) (sent : Sent) (progress : Progress Network)
-      → length wires ≡ length progress.net.nodes
+      → length wires ≡ length progress.state.nodes
       → byte_sent place sent (progress_written progress wires)
       ≡ progress_written (sent_out place sent progress) wires
   sent_written place (line_to client text) progress long =
       received_written client text progress wires
   sent_written place (end_of client) progress long = refl
   sent_written place (line_on to text) progress long =
-      ap (λ (net : ByteNetwork). record { net = net; receipts = progress.receipts })
-      (queued_sent place to text progress.net long)
+      ap (λ (net : ByteNetwork). record { state = net; out = progress.out })
+      (queued_sent place to text progress.state long)
   sent_written place (end_of_link to reason) progress long = refl
 
   sent_at_written : (place : ℕ) (sent : Option Sent) (progress : Progress Network)
-      → length wires ≡ length progress.net.nodes
+      → length wires ≡ length progress.state.nodes
       → byte_sent_at place sent (progress_written progress wires)
       ≡ progress_written (sent_at place sent progress) wires
   sent_at_written place None progress long = refl
@@ -93,7 +93,7 @@ module _ (same : SameWires) (wires : Wires) (lean : AreLean wires) where
   -- ---- one thing after another
 
   pub one_more_written : (place : ℕ) (out : List Sent) (i : ℕ) (start : Progress Network)
-      (now : Progress ByteNetwork) → length wires ≡ length start.net.nodes → i < length out
+      (now : Progress ByteNetwork) → length wires ≡ length start.state.nodes → i < length out
       → now ≡ progress_written (all_sent_out place (take i out) start) wires
       → byte_sent_at place (slice_get out i) now
       ≡ progress_written (all_sent_out place (take (i + 1) out) start) wires
@@ -108,20 +108,20 @@ module _ (same : SameWires) (wires : Wires) (lean : AreLean wires) where
 -- ---- a server is asked
 
 pub nobody_asked : (place : ℕ) (read_event : ReadEvent) (progress : Progress ByteNetwork)
-    → IsTidy progress.net → slice_get progress.net.network.nodes place ≡ None
+    → IsTidy progress.state → slice_get progress.state.network.nodes place ≡ None
     → progress ≡ asked_out place read_event progress
 nobody_asked place read_event progress tidy none =
     sym (tidy_alone progress tidy)
-    ∙ ap (λ (c : Progress Network). progress_written c progress.net.wires)
+    ∙ ap (λ (c : Progress Network). progress_written c progress.state.wires)
     (asked_nowhere place read_event (progress_without_wires progress) none)
 
 pub somebody_asked : (place : ℕ) (read_event : ReadEvent) (progress : Progress ByteNetwork)
     (node new : Node)
-    (out : List Sent) → slice_get progress.net.network.nodes place ≡ Some node
+    (out : List Sent) → slice_get progress.state.network.nodes place ≡ Some node
     → Replies node read_event new out
     → progress_written
     (all_sent_out place out (put_node place new (progress_without_wires progress)))
-    progress.net.wires ≡ asked_out place read_event progress
+    progress.state.wires ≡ asked_out place read_event progress
 somebody_asked place read_event progress node new out at replies =
-    ap (λ (c : Progress Network). progress_written c progress.net.wires)
+    ap (λ (c : Progress Network). progress_written c progress.state.wires)
     (asked_there place read_event (progress_without_wires progress) node new out at replies)

@@ -36,20 +36,20 @@ tidy_written net wires lean long =
     record { quiet = emptied_waits net; rows = written.rows; lean = written.lean }
 
 pub asked_tidy : (place : ℕ) (read_event : ReadEvent) (progress : Progress ByteNetwork)
-    → IsTidy progress.net → IsTidy (asked_out place read_event progress).net
+    → IsTidy progress.state → IsTidy (asked_out place read_event progress).state
 asked_tidy place read_event progress tidy =
     tidy_written
-    (node_asked place read_event (progress_without_wires progress)).net progress.net.wires
+    (node_asked place read_event (progress_without_wires progress)).state progress.state.wires
     tidy.lean (tidy.rows ∙ sym (asked_stays place read_event (progress_without_wires progress)))
 
 pub counted_tidy : (net : ByteNetwork) → IsTidy net → IsTidy (byte_counted net)
 counted_tidy net tidy = record { quiet = tidy.quiet; rows = tidy.rows; lean = tidy.lean }
 
 pub heard_tidy : (from to : ℕ) (progress : Progress ByteNetwork) (line : List ℕ)
-    → IsTidy progress.net → IsTidy (heard_out from to progress line).net
+    → IsTidy progress.state → IsTidy (heard_out from to progress line).state
 heard_tidy from to progress line tidy =
     asked_tidy to (link_says from (read_of line))
-    (record progress { net = byte_counted progress.net }) (counted_tidy progress.net tidy)
+    (record progress { state = byte_counted progress.state }) (counted_tidy progress.state tidy)
 
 -- ---- a node is put where one is
 

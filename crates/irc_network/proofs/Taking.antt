@@ -40,17 +40,17 @@ one_more_sent place out i progress within = next_sent place out i progress withi
 -- ---- a server is asked
 
 pub asked_nowhere : (place : ℕ) (read_event : ReadEvent) (progress : Progress Network)
-    → slice_get progress.net.nodes place ≡ None → progress ≡ node_asked place read_event progress
+    → slice_get progress.state.nodes place ≡ None → progress ≡ node_asked place read_event progress
 unfolding node_asked
 asked_nowhere place read_event progress is =
     sym (ap (λ o. option_map_or (asked_at place read_event progress) o progress) is)
 
 abbrev pub put_node : ℕ → Node → Progress Network → Progress Network
-put_node place node progress = record progress { net = with_node place node progress.net }
+put_node place node progress = record progress { state = with_node place node progress.state }
 
 pub asked_there : (place : ℕ) (read_event : ReadEvent)
     (progress : Progress Network) (node new : Node) (out : List Sent)
-    → slice_get progress.net.nodes place ≡ Some node → Replies node read_event new out
+    → slice_get progress.state.nodes place ≡ Some node → Replies node read_event new out
     → all_sent_out place out (put_node place new progress) ≡ node_asked place read_event progress
 unfolding node_asked
 asked_there place read_event progress node new out is answered =

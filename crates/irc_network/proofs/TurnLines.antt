@@ -47,19 +47,19 @@ some_to_come all [] rest is one = absurd (omega (arith, one))
 some_to_come all (first ∷ lines) rest is one = ap is_nothing is
 
 module _ (known : IsKnownOfStreams) (come : BytesComeAsLines) (old : Progress ByteNetwork)
-    (whole : IsWholeNet old.net) (are : AreLinesWaiting (net_in_lines old.net))
-    (d : Direction) (first : first_direction old.net.wires ≡ Some d) where
+    (whole : IsWholeNet old.state) (are : AreLinesWaiting (net_in_lines old.state))
+    (d : Direction) (first : first_direction old.state.wires ≡ Some d) where
   abbrev wire : LinkWire
-  wire = wire_at old.net.wires d.from d.to
+  wire = wire_at old.state.wires d.from d.to
 
   abbrev count : ℕ
-  count = bytes_in_turn old.net d
+  count = bytes_in_turn old.state d
 
   abbrev lines : List (List ℕ)
-  lines = completed_in old.net d.from d.to count
+  lines = completed_in old.state d.from d.to count
 
   abbrev ahead : Ahead
-  ahead = lines_ahead old.net.wires
+  ahead = lines_ahead old.state.wires
 
   comes : ComeAsLines d.from d.to count old
   comes = come d.from d.to count old whole
@@ -70,8 +70,8 @@ module _ (known : IsKnownOfStreams) (come : BytesComeAsLines) (old : Progress By
       (known.pieces wire.begun (whole.whole d.from d.to).real).none_begun
       ((whole.whole d.from d.to).singly 0)
 
-  lines_are : (n : ℕ) → length lines ≡ n → lines_in_turn old.net ≡ n
-  lines_are n is = ap (λ o. option_map_or (lines_in old.net) o 0) first ∙ is
+  lines_are : (n : ℕ) → length lines ≡ n → lines_in_turn old.state ≡ n
+  lines_are n is = ap (λ o. option_map_or (lines_in old.state) o 0) first ∙ is
 
   -- ---- one is completed
 
@@ -80,25 +80,25 @@ module _ (known : IsKnownOfStreams) (come : BytesComeAsLines) (old : Progress By
     some_ahead = some_to_come (ahead d.from d.to) lines _
         (lines_parted known wire (whole.whole d.from d.to) count) one
 
-    way_there : has_way old.net.network d.from d.to ≡ true
-    way_there = by (has_way old.net.network d.from d.to) refl
+    way_there : has_way old.state.network d.from d.to ≡ true
+    way_there = by (has_way old.state.network d.from d.to) refl
       where
-        by : (b : Bool) → has_way old.net.network d.from d.to ≡ b → b ≡ true
+        by : (b : Bool) → has_way old.state.network d.from d.to ≡ b → b ≡ true
         by true is = refl
         by false is = cc (sym some_ahead ∙ ap is_nothing (whole.ways d.from d.to is))
 
     ahead_there : (x : ℕ) → d.from ≡ 0 + x
-        → HasAhead (node_at old.net.network x) d.to (ahead x d.to)
+        → HasAhead (node_at old.state.network x) d.to (ahead x d.to)
     ahead_there x at =
         let x_is : d.from ≡ x = omega (arith, at) in
-        subst (λ n. HasAhead (node_at old.net.network n) d.to (ahead n d.to)) x_is
+        subst (λ n. HasAhead (node_at old.state.network n) d.to (ahead n d.to)) x_is
         (record { way = way_there; some = some_ahead })
 
-    first_line : first_among 0 (nodes_behind ahead old.net.network.nodes)
+    first_line : first_among 0 (nodes_behind ahead old.state.network.nodes)
         ≡ Some (direction d.from d.to)
     first_line =
-        first_is 0 old.net.wires old.net.network.nodes ahead d whole.tidy.rows
-        (λ x to none. none_to_come known (wire_at old.net.wires x to) (whole.whole x to) none)
+        first_is 0 old.state.wires old.state.network.nodes ahead d whole.tidy.rows
+        (λ x to none. none_to_come known (wire_at old.state.wires x to) (whole.whole x to) none)
         whole.tidy.quiet ahead_there first
 
     next_is : next_in_turn (progress_in_lines old) ≡ Some comes.last
@@ -114,17 +114,17 @@ module _ (known : IsKnownOfStreams) (come : BytesComeAsLines) (old : Progress By
       by : (n : ℕ) → length lines ≡ n → TurnsAsLines old (turn_in old d)
       by zero none =
           let same : comes.last ≡ progress_in_lines old = none_is comes.delivers none in
-          let are_last : AreLinesWaiting comes.last.net =
-          subst (λ (c : Progress Network). AreLinesWaiting c.net) (sym same) are in
+          let are_last : AreLinesWaiting comes.last.state =
+          subst (λ (c : Progress Network). AreLinesWaiting c.state) (sym same) are in
           no_line (lines_are 0 none) (comes.as_lines are_last ∙ same) (comes.whole are_last)
       by (suc zero) one =
           one_line comes.last (lines_are 1 one) (next_is one) comes.as_lines comes.whole
       by (suc (suc n)) more = absurd (omega (arith, one_at_most, more))
 
 pub turn_as_lines : IsKnownOfStreams → BytesComeAsLines → TurnAsLines
-turn_as_lines known come old new whole are turn = by (first_direction old.net.wires) refl turn
+turn_as_lines known come old new whole are turn = by (first_direction old.state.wires) refl turn
   where
-    by : (o : Option Direction) → first_direction old.net.wires ≡ o
+    by : (o : Option Direction) → first_direction old.state.wires ≡ o
         → option_map (turn_in old) o ≡ Some new → TurnsAsLines old new
     by None none turned = cc turned
     by (Some d) first turned = subst (TurnsAsLines old) (ap (λ o. unwrap_or o old) turned)

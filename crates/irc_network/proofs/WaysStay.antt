@@ -68,56 +68,57 @@ changed_keeps place to text net from q = by (node_at net place) refl
         put_keeps net place node (line_queued to text node) is (queued_keeps to text node) from q
 
 received_keeps : (client : ℕ) (text : List ℕ) (progress : Progress Network)
-    → KeepsWays progress.net (has_received client text progress).net
+    → KeepsWays progress.state (has_received client text progress).state
 received_keeps zero text progress from to = refl
-received_keeps (suc earlier) text progress from to = by (slice_get progress.net.received earlier)
+received_keeps (suc earlier) text progress from to = by (slice_get progress.state.received earlier)
   where
     by : (o : Option (List (List ℕ))) → has_way (option_map_or
-        (has_received_at earlier text progress) o progress).net from to
-        ≡ has_way progress.net from to
+        (has_received_at earlier text progress) o progress).state from to
+        ≡ has_way progress.state from to
     by None = refl
     by (Some lines) = refl
 
 pub sent_keeps : (place : ℕ) (sent : Sent) (progress : Progress Network)
-    → KeepsWays progress.net (sent_out place sent progress).net
+    → KeepsWays progress.state (sent_out place sent progress).state
 sent_keeps place (line_to client text) progress from to =
     received_keeps client text progress from to
 sent_keeps place (end_of client) progress from to = refl
 sent_keeps place (line_on link text) progress from to =
-    changed_keeps place link text progress.net from to
+    changed_keeps place link text progress.state from to
 sent_keeps place (end_of_link link reason) progress from to = refl
 
 pub all_keep : (place : ℕ) (out : List Sent) (progress : Progress Network)
-    → KeepsWays progress.net (all_sent_out place out progress).net
+    → KeepsWays progress.state (all_sent_out place out progress).state
 all_keep place [] progress from to = refl
 all_keep place (sent ∷ out) progress from to =
     all_keep place out (sent_out place sent progress) from to
     ∙ sent_keeps place sent progress from to
 
 pub asked_keeps : (place : ℕ) (read_event : ReadEvent) (progress : Progress Network)
-    → KeepsWays progress.net (node_asked place read_event progress).net
+    → KeepsWays progress.state (node_asked place read_event progress).state
 unfolding node_asked
-asked_keeps place read_event progress from to = by_node (node_at progress.net place) refl
+asked_keeps place read_event progress from to = by_node (node_at progress.state place) refl
   where
-    by_view : (node : Node) → node_at progress.net place ≡ Some node → (o : Option View)
+    by_view : (node : Node) → node_at progress.state place ≡ Some node → (o : Option View)
         → has_way (option_map_or (λ (view : View). with_reply place progress node
-        (reply view read_event)) o progress).net from to ≡ has_way progress.net from to
+        (reply view read_event)) o progress).state from to ≡ has_way progress.state from to
     by_view node at None = refl
     by_view node at (Some view) =
         let r = reply view read_event in
         all_keep place r.out (record progress {
-          net = with_node place
-              (record node { server = Some r.state }) progress.net;
+          state = with_node place
+              (record node { server = Some r.state }) progress.state;
         }) from to
-        ∙ put_keeps progress.net place node (record node { server = Some r.state }) at
+        ∙ put_keeps progress.state place node (record node { server = Some r.state }) at
         (λ q. refl) from to
 
-    by_node : (o : Option Node) → node_at progress.net place ≡ o → has_way (option_map_or
-        (asked_at place read_event progress) o progress).net from to ≡ has_way progress.net from to
+    by_node : (o : Option Node) → node_at progress.state place ≡ o → has_way (option_map_or
+        (asked_at place read_event progress) o progress).state from to
+        ≡ has_way progress.state from to
     by_node None at = refl
     by_node (Some node) at = by_view node at node.server
 
 pub heard_ways : (x y : ℕ) (progress : Progress Network) (line : List ℕ) (from to : ℕ)
-    → has_way (heard x y progress line).net from to ≡ has_way progress.net from to
+    → has_way (heard x y progress line).state from to ≡ has_way progress.state from to
 heard_ways x y progress line from to = asked_keeps y (link_says x (read_of line))
-    (record progress { net = line_counted progress.net }) from to
+    (record progress { state = line_counted progress.state }) from to

@@ -35,7 +35,7 @@ abbrev pub net_behind : Ahead → Network → Network
 net_behind ahead net = record net { nodes = nodes_behind ahead net.nodes }
 
 abbrev pub progress_behind : Ahead → Progress Network → Progress Network
-progress_behind ahead progress = record progress { net = net_behind ahead progress.net }
+progress_behind ahead progress = record progress { state = net_behind ahead progress.state }
 
 -- no line waits on any way
 abbrev pub emptied_node : Node → Node

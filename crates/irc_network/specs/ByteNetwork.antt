@@ -12,7 +12,7 @@ use Rattle.std.specs.FinMap.{FinMap, entries}
 use Rattle.std.specs.Option.{option_map_or}
 use Rattle.std.specs.Ordering.{nat_cmp}
 use Rattle.irc_world.specs.Stepping.{Item, cut}
-use Rattle.irc_network.specs.Network.{Progress, LinkPlaces, Network, Receipt, Node, link_places}
+use Rattle.irc_network.specs.Network.{Progress, LinkPlaces, Network, Node, link_places}
 use Rattle.irc_network.specs.Network.{given, heard, node_at, waiting}
 use Rattle.irc_wires.specs.Wires.{LinkWire, Wires, advanced, are_still, lines_by, lines_to_come}
 use Rattle.irc_wires.specs.Wires.{put_in}
@@ -40,7 +40,7 @@ net_in_lines net = net_behind (lines_ahead net.wires) net.network
 
 abbrev pub progress_in_lines : Progress ByteNetwork → Progress Network
 progress_in_lines progress =
-    record { net = net_in_lines progress.net; receipts = progress.receipts }
+    record { state = net_in_lines progress.state; out = progress.out }
 
 -- ---- at rest
 
@@ -79,7 +79,7 @@ queues_written net wires = record { network = emptied net; wires = rows_written 
 -- what servers have put out for each other is written; what clients received is theirs already
 abbrev pub progress_written : Progress Network → Wires → Progress ByteNetwork
 progress_written progress wires =
-    record { net = queues_written progress.net wires; receipts = progress.receipts }
+    record { state = queues_written progress.state wires; out = progress.out }
 
 -- ---- what is given
 
@@ -121,11 +121,11 @@ wires_come net from to count =
 -- servers are asked as in a network of lines: what is on its way is nothing to them
 abbrev pub progress_without_wires : Progress ByteNetwork → Progress Network
 progress_without_wires progress =
-    record { net = progress.net.network; receipts = progress.receipts }
+    record { state = progress.state.network; out = progress.out }
 
 -- So many bytes come from one server to another, or all that are on their way where there are
 -- fewer. The server that they come to is asked for each line that they complete, in turn.
 unfoldable pub bytes_come : ℕ → ℕ → ℕ → Progress ByteNetwork → Progress ByteNetwork
 bytes_come from to count progress =
     progress_written (all_heard from to (progress_without_wires progress)
-    (completed_in progress.net from to count)) (wires_come progress.net from to count)
+    (completed_in progress.state from to count)) (wires_come progress.state from to count)

@@ -10,7 +10,7 @@ use Rattle.irc_network.specs.Turns.{ComesToLine, TurnsBy}
 
 -- the network, and what clients have received by the call so far
 abbrev pub progress_at : {Net : Type 0} → Net → CallOutput → Progress Net
-progress_at net output = record { net = net; receipts = receipts_of output.lines.items }
+progress_at net output = record { state = net; out = receipts_of output.lines.items }
 
 -- an item was given, and nothing was in the output before
 abbrev pub IsItemGiven : Item → ByteNetwork → ByteNetwork → CallOutput → Type 0

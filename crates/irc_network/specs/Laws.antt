@@ -7,15 +7,15 @@ use Rattle.irc_network.specs.Network.{first_direction, given, heard, is_at_rest}
 -- where no line is on its way there is none to deliver
 pub record StaysAtRest (progress : Progress Network) : Type 0 where
   pub no_line : (from to : ℕ) → delivered from to progress ≡ None
-  pub no_way : first_direction progress.net ≡ None
+  pub no_way : first_direction progress.state ≡ None
 
 abbrev pub RestStays : Type 0
-RestStays = (progress : Progress Network) → is_at_rest progress.net ≡ true → StaysAtRest progress
+RestStays = (progress : Progress Network) → is_at_rest progress.state ≡ true → StaysAtRest progress
 
 -- what is given is kept in turn, and lines are counted anew
 pub record IsKept (item : Item) (net : Network) : Type 0 where
-  pub items : (given item net).net.items ≡ net.items ++ item ∷ []
-  pub taken : (given item net).net.taken ≡ 0
+  pub items : (given item net).state.items ≡ net.items ++ item ∷ []
+  pub taken : (given item net).state.taken ≡ 0
 
 abbrev pub GivenIsKept : Type 0
 GivenIsKept = (item : Item) (net : Network) → IsKept item net

@@ -16,7 +16,7 @@ use Rattle.irc_batch.specs.Batches.{Sent, line_to, end_of, line_on, end_of_link}
 use Rattle.irc_forest.specs.Forests.{Forest, place_in}
 use Rattle.irc_line.specs.Reading.{read_of}
 use Rattle.irc_relay.specs.Links.{Name, Link, links_without}
-use Rattle.irc_stage.specs.Handle.{connects, says, goes}
+use Rattle.irc_stage.specs.Handle.{WithOutput, connects, says, goes}
 use Rattle.irc_stage.specs.View.{View}
 use Rattle.irc_server.specs.Served.{ReadEvent, of_client, link_up, link_says, link_down}
 use Rattle.irc_world.specs.Stepping.{Item, connect, line, gone, link, cut}
@@ -56,15 +56,14 @@ pub record Receipt : Type 0 where
   pub client : ℕ
   pub text : List ℕ
 
--- a network, of lines or of bytes, while something is done to it, and what clients have received by
--- that so far, in order
-pub record Progress (Net : Type 0) : Type 0 where
-  pub net : Net
-  pub receipts : List Receipt
+-- a network, of lines or of bytes, while something is done to it, and as its output what clients
+-- have received by that so far, in order
+abbrev pub Progress : Type 0 → Type 0
+Progress Net = WithOutput Net (List Receipt)
 
 -- nothing has been done to it yet, and nothing received by that
 abbrev pub begun : {Net : Type 0} → Net → Progress Net
-begun net = record { net = net; receipts = [] }
+begun net = record { state = net; out = [] }
 
 -- ---- who is where
 
@@ -107,11 +106,11 @@ receipt client text = record { client = client; text = text }
 
 abbrev pub has_received_at : ℕ → List ℕ → Progress Network → List (List ℕ) → Progress Network
 has_received_at earlier text progress lines = record {
-  net = record progress.net {
-    received = slice_set progress.net.received earlier
+  state = record progress.state {
+    received = slice_set progress.state.received earlier
         (lines ++ text ∷ []);
   };
-  receipts = progress.receipts ++ receipt (suc earlier) text ∷ [];
+  out = progress.out ++ receipt (suc earlier) text ∷ [];
 }
 
 -- behind all that the client has received
@@ -119,14 +118,14 @@ abbrev pub has_received : ℕ → List ℕ → Progress Network → Progress Net
 has_received zero text progress = progress
 has_received (suc earlier) text progress =
     option_map_or (has_received_at earlier text progress)
-    (slice_get progress.net.received earlier) progress
+    (slice_get progress.state.received earlier) progress
 
 -- a line to a client is received, one on a link waits there; of an end nothing is left to be done
 abbrev pub sent_out : ℕ → Sent → Progress Network → Progress Network
 sent_out place (line_to client text) progress = has_received client text progress
 sent_out place (end_of client) progress = progress
 sent_out place (line_on to text) progress =
-    record progress { net = node_changed_at place (line_queued to text) progress.net }
+    record progress { state = node_changed_at place (line_queued to text) progress.state }
 sent_out place (end_of_link to reason) progress = progress
 
 abbrev pub all_sent_out : ℕ → List Sent → Progress Network → Progress Network
@@ -136,7 +135,10 @@ all_sent_out place (sent ∷ more) progress = all_sent_out place more (sent_out 
 abbrev pub with_reply : ℕ → Progress Network → Node → Served → Progress Network
 with_reply place progress node r =
     all_sent_out place r.out
-    (record progress { net = with_node place (record node { server = Some r.state }) progress.net })
+    (record progress {
+      state = with_node place
+          (record node { server = Some r.state }) progress.state;
+    })
 
 abbrev pub asked_at : ℕ → ReadEvent → Progress Network → Node → Progress Network
 asked_at place read_event progress node =
@@ -146,7 +148,7 @@ asked_at place read_event progress node =
 -- a server is asked for something that happens, and what it puts out goes its way
 unfoldable pub node_asked : ℕ → ReadEvent → Progress Network → Progress Network
 node_asked place read_event progress =
-    option_map_or (asked_at place read_event progress) (node_at progress.net place) progress
+    option_map_or (asked_at place read_event progress) (node_at progress.state place) progress
 
 -- ---- a line is delivered
 
@@ -162,19 +164,20 @@ line_counted net = record net { taken = min (net.taken + 1) max_count }
 abbrev pub heard : ℕ → ℕ → Progress Network → List ℕ → Progress Network
 heard from to progress bytes =
     node_asked to (link_says from (read_of bytes))
-    (record progress { net = line_counted progress.net })
+    (record progress { state = line_counted progress.state })
 
 abbrev pub taken_of : ℕ → ℕ → Progress Network → Node → List (List ℕ) → Option (Progress Network)
 taken_of from to progress node [] = None
 taken_of from to progress node (first ∷ rest) =
     Some (node_asked to (link_says from (read_of first))
-    (record progress { net = line_counted (with_node from (left to rest node) progress.net) }))
+    (record progress { state = line_counted (with_node from (left to rest node) progress.state) }))
 
 -- The oldest line from one server to another is taken, and the other is asked for it. None: no line
 -- waits there.
 unfoldable pub delivered : ℕ → ℕ → Progress Network → Option (Progress Network)
 delivered from to progress = option_and_then
-    (λ (node : Node). taken_of from to progress node (waiting node to)) (node_at progress.net from)
+    (λ (node : Node). taken_of from to progress node (waiting node to))
+    (node_at progress.state from)
 
 abbrev pub direction : ℕ → ℕ → Direction
 direction from to = record { from = from; to = to }
@@ -192,7 +195,7 @@ first_direction net = first_among 0 net.nodes
 abbrev pub next_in_turn : Progress Network → Option (Progress Network)
 next_in_turn progress =
     option_and_then (λ (d : Direction). delivered d.from d.to progress)
-    (first_direction progress.net)
+    (first_direction progress.state)
 
 -- how many lines can be taken in turn, of a number at most
 abbrev pub lines_left : ℕ → Progress Network → ℕ
@@ -204,7 +207,7 @@ lines_left (suc most) progress =
 pub data TakesInTurn : ℕ → Progress Network → Progress Network → Type 0 where
   none_yet : {progress : Progress Network} → TakesInTurn 0 progress progress
   then_one : {count : ℕ} {progress between last : Progress Network} {direction : Direction}
-      → TakesInTurn count progress between → first_direction between.net ≡ Some direction
+      → TakesInTurn count progress between → first_direction between.state ≡ Some direction
       → delivered direction.from direction.to between ≡ Some last
       → TakesInTurn (suc count) progress last
 
@@ -274,7 +277,7 @@ done_by (cut near far) net =
 abbrev pub item_kept : Item → Progress Network → Progress Network
 item_kept item progress =
     record progress
-    { net = record progress.net { items = progress.net.items ++ item ∷ []; taken = 0 } }
+    { state = record progress.state { items = progress.state.items ++ item ∷ []; taken = 0 } }
 
 unfoldable pub given : Item → Network → Progress Network
 given item net = item_kept item (done_by item net)
@@ -304,5 +307,5 @@ lines_of_client client = filter_map (line_received client)
 -- By something that is done to a network each client has received just its lines among the
 -- receipts, behind all that it had.
 abbrev pub AreReceived : Network → Progress Network → Type 0
-AreReceived old new = (client : ℕ) → received_by new.net client ≡ received_by old client
-    ++ lines_of_client client new.receipts
+AreReceived old new = (client : ℕ) → received_by new.state client ≡ received_by old client
+    ++ lines_of_client client new.out

@@ -17,11 +17,11 @@ abbrev pub bytes_in_turn : ByteNetwork → Direction → ℕ
 bytes_in_turn net d = through_line_feed (wire_at net.wires d.from d.to).bytes
 
 abbrev pub turn_in : Progress ByteNetwork → Direction → Progress ByteNetwork
-turn_in progress d = bytes_come d.from d.to (bytes_in_turn progress.net d) progress
+turn_in progress d = bytes_come d.from d.to (bytes_in_turn progress.state d) progress
 
 -- none where no byte is on its way
 abbrev pub turn_taken : Progress ByteNetwork → Option (Progress ByteNetwork)
-turn_taken progress = option_map (turn_in progress) (first_direction progress.net.wires)
+turn_taken progress = option_map (turn_in progress) (first_direction progress.state.wires)
 
 -- how many lines the turn completes
 abbrev pub lines_in : ByteNetwork → Direction → ℕ
@@ -33,13 +33,13 @@ lines_in_turn net = option_map_or (lines_in net) (first_direction net.wires) 0
 -- a turn that completes so many lines, or none
 abbrev pub TurnsBy : Option ℕ → Progress ByteNetwork → Progress ByteNetwork → Type 0
 TurnsBy None old new = (turn_taken old ≡ None) × (new ≡ old)
-TurnsBy (Some lines) old new = (turn_taken old ≡ Some new) × (lines ≡ lines_in_turn old.net)
+TurnsBy (Some lines) old new = (turn_taken old ≡ Some new) × (lines ≡ lines_in_turn old.state)
 
 -- turn by turn, by which so many lines are completed in all
 pub data TurnsGo : ℕ → Progress ByteNetwork → Progress ByteNetwork → Type 0 where
   none_yet : {progress : Progress ByteNetwork} → TurnsGo 0 progress progress
   turn_first : {all count : ℕ} {progress between last : Progress ByteNetwork}
-      → turn_taken progress ≡ Some between → all ≡ lines_in_turn progress.net + count
+      → turn_taken progress ≡ Some between → all ≡ lines_in_turn progress.state + count
       → TurnsGo count between last → TurnsGo all progress last
 
 -- turns that complete none, and behind them one that completes so many
@@ -47,7 +47,7 @@ pub record GoesToLine (lines : ℕ) (old new : Progress ByteNetwork) : Type 0 wh
   pub between : Progress ByteNetwork
   pub goes : TurnsGo 0 old between
   pub turn : turn_taken between ≡ Some new
-  pub lines_are : lines ≡ lines_in_turn between.net
+  pub lines_are : lines ≡ lines_in_turn between.state
   pub some : 0 < lines
 
 -- until one completes a line, or no byte is on its way

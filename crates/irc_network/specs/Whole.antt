@@ -79,11 +79,11 @@ NewIsWhole = (net : Network) → AllByRecursion (λ (node : Node). node.queues �
 -- It does what it does where links carry lines.
 pub record IsGivenAsLines (old : ByteNetwork) (item : Item) : Type 0 where
   pub as_lines : progress_in_lines (item_given item old) ≡ given item (net_in_lines old)
-  pub whole : IsWholeNet (item_given item old).net
+  pub whole : IsWholeNet (item_given item old).state
 
 abbrev pub GivenAsLines : Type 0
 GivenAsLines = (old : ByteNetwork) (item : Item) → IsWholeNet old → is_byte_rest old ≡ true
-    → AreLinesWaiting (given item (net_in_lines old)).net
+    → AreLinesWaiting (given item (net_in_lines old)).state
     → IsGivenAsLines old item
 
 -- ---- bytes that come
@@ -98,29 +98,31 @@ pub data Delivers (from to : ℕ) : ℕ → Progress Network → Progress Networ
 -- They deliver the lines that they complete, where links carry lines.
 pub record ComeAsLines (from to count : ℕ) (old : Progress ByteNetwork) : Type 0 where
   pub last : Progress Network
-  pub delivers : Delivers from to (length (completed_in old.net from to count))
+  pub delivers : Delivers from to (length (completed_in old.state from to count))
       (progress_in_lines old) last
-  pub as_lines : AreLinesWaiting last.net → progress_in_lines (bytes_come from to count old) ≡ last
-  pub whole : AreLinesWaiting last.net → IsWholeNet (bytes_come from to count old).net
+  pub as_lines : AreLinesWaiting last.state
+      → progress_in_lines (bytes_come from to count old) ≡ last
+  pub whole : AreLinesWaiting last.state → IsWholeNet (bytes_come from to count old).state
 
 abbrev pub BytesComeAsLines : Type 0
-BytesComeAsLines = (from to count : ℕ) (old : Progress ByteNetwork) → IsWholeNet old.net
+BytesComeAsLines = (from to count : ℕ) (old : Progress ByteNetwork) → IsWholeNet old.state
     → ComeAsLines from to count old
 
 -- ---- a turn
 
 -- By a turn no line is completed, or one, which is the next in turn where links carry lines.
 pub data TurnsAsLines (old new : Progress ByteNetwork) : Type 0 where
-  no_line : lines_in_turn old.net ≡ 0 → progress_in_lines new ≡ progress_in_lines old
-      → IsWholeNet new.net → TurnsAsLines old new
-  one_line : (last : Progress Network) → lines_in_turn old.net ≡ 1
+  no_line : lines_in_turn old.state ≡ 0 → progress_in_lines new ≡ progress_in_lines old
+      → IsWholeNet new.state → TurnsAsLines old new
+  one_line : (last : Progress Network) → lines_in_turn old.state ≡ 1
       → next_in_turn (progress_in_lines old)
-      ≡ Some last → (AreLinesWaiting last.net → progress_in_lines new ≡ last)
-      → (AreLinesWaiting last.net → IsWholeNet new.net) → TurnsAsLines old new
+      ≡ Some last → (AreLinesWaiting last.state → progress_in_lines new ≡ last)
+      → (AreLinesWaiting last.state → IsWholeNet new.state) → TurnsAsLines old new
 
 abbrev pub TurnAsLines : Type 0
 TurnAsLines =
-    (old new : Progress ByteNetwork) → IsWholeNet old.net → AreLinesWaiting (net_in_lines old.net)
+    (old new : Progress ByteNetwork) → IsWholeNet old.state
+    → AreLinesWaiting (net_in_lines old.state)
     → turn_taken old ≡ Some new → TurnsAsLines old new
 
 -- a line comes in the end, or there is none
@@ -130,7 +132,7 @@ pub record ComesToSome (old : Progress ByteNetwork) : Type 0 where
   pub comes : ComesToLine lines old new
 
 abbrev pub EachComesToLine : Type 0
-EachComesToLine = (old : Progress ByteNetwork) → IsTidy old.net → ComesToSome old
+EachComesToLine = (old : Progress ByteNetwork) → IsTidy old.state → ComesToSome old
 
 -- ---- at rest
 

@@ -6,17 +6,19 @@ use Rattle.std.proofs.lemmas.Bool.Decides.{eqb_tells}
 use Rattle.std.proofs.lemmas.List.{append-nil}
 use Rattle.irc_relay.specs.Links.{Name, Link, part, AreJoined, IsForest, AreLinked, IsNextHop}
 use Rattle.irc_relay.specs.Links.{distance}
-use Rattle.irc_relay.specs.Relay.{Net, Streams, streams_from, from_one, IsAtRest, ComesInTurn}
+use Rattle.irc_relay.specs.Relay.{RelayState, Streams, streams_from, from_one, IsAtRest}
+use Rattle.irc_relay.specs.Relay.{ComesInTurn}
 use Rattle.irc_relay.specs.Relay.{at_source, from_source, from_parent, after, shown_upon, under_way}
 use Rattle.irc_relay.specs.Relay.{final, final_shown}
 use Rattle.irc_relay.specs.Following.{Tells, nothing, by_line, aside_line, passing_by, Starts}
 use Rattle.irc_relay.specs.Following.{IsFollowing}
 use Rattle.irc_relay.specs.Queue.{queue_of}
-use Rattle.irc_relay.specs.NewsNet.{name, number, links_of, reading, items_at, latest_of, sent_on}
+use Rattle.irc_relay.specs.NewsNet.{name, number, links_of, news_parts, items_at, latest_of}
+use Rattle.irc_relay.specs.NewsNet.{sent_on}
 use Rattle.irc_relay.specs.NewsNet.{relaying, net_with, net_of, news_play, news_terms, streams_of}
 use Rattle.irc_relay.specs.NewsNet.{HasSettled, ShowAlike, HasAnnounced}
 use Rattle.irc_relay.specs.declared.news.Edge.{Edge}
-use Rattle.irc_relay.specs.declared.news.Sent.{Sent}
+use Rattle.irc_relay.specs.declared.news.NewsSent.{NewsSent}
 use Rattle.irc_relay.specs.declared.news.Shown.{Shown}
 use Rattle.irc_relay.specs.declared.news.News.{News}
 use Rattle.irc_relay.specs.Lemmas.TellingNames.{Telling, alike, unlike, tell, same_unless}
@@ -30,12 +32,12 @@ use Rattle.irc_relay.specs.Lemmas.ActsToldOn.{followed}
 use Rattle.irc_relay.proofs.FollowingNews.{linked_names, on_linked_once, news_follow}
 
 -- the net with the item shown at its server, and on its way to all neighbours
-abbrev given_net : List Edge → List ℕ → List Shown → List Sent → ℕ → ℕ → Net ℕ ℕ ℕ
+abbrev given_net : List Edge → List ℕ → List Shown → List NewsSent → ℕ → ℕ → RelayState ℕ ℕ ℕ
 given_net edges latest shown flying source item =
     net_with (slice_set latest source item) (shown ++ record { at = source; item = item } ∷ [])
     (flying ++ sent_on edges source source item)
 
-module _ (edges : List Edge) (latest : List ℕ) (shown : List Shown) (flying : List Sent)
+module _ (edges : List Edge) (latest : List ℕ) (shown : List Shown) (flying : List NewsSent)
     (source item : ℕ) (forest : IsForest (links_of edges))
     (rest : IsAtRest (net_with latest shown flying))
     (same_last : (u : Name) → AreJoined (links_of edges) u (name source)
@@ -53,16 +55,16 @@ module _ (edges : List Edge) (latest : List ℕ) (shown : List Shown) (flying : 
   abbrev last : ℕ
   last = latest_of latest (name source)
 
-  abbrev given : Net ℕ ℕ ℕ
+  abbrev given : RelayState ℕ ℕ ℕ
   given = given_net edges latest shown flying source item
 
   sent_alone : (x y : Name)
-      → under_way given x y ≡ queue_of reading (sent_on edges source source item) x y
+      → under_way given x y ≡ queue_of news_parts (sent_on edges source source item) x y
   sent_alone x y =
-      append-nil (queue_of reading (flying ++ sent_on edges source source item) x y)
-      ∙ sent_is_behind reading flying (sent_on edges source source item) x y
-      ∙ ap (λ v. v ++ queue_of reading (sent_on edges source source item) x y)
-      (sym (append-nil (queue_of reading flying x y)) ∙ rest x y)
+      append-nil (queue_of news_parts (flying ++ sent_on edges source source item) x y)
+      ∙ sent_is_behind news_parts flying (sent_on edges source source item) x y
+      ∙ ap (λ v. v ++ queue_of news_parts (sent_on edges source source item) x y)
+      (sym (append-nil (queue_of news_parts flying x y)) ∙ rest x y)
 
   -- a server that takes lines is joined to the source, and another
   taker : (t : Name) → 0 < from.depth t → AreJoined links t (name source) × (t ≢ name source)
@@ -118,8 +120,8 @@ module _ (edges : List Edge) (latest : List ℕ) (shown : List Shown) (flying : 
   first_way : (t : Name) → from.depth t ≡ 1 → under_way given (from.parent t) t ≡ item ∷ []
   first_way t d =
       sent_alone (from.parent t) t
-      ∙ ap (λ v. queue_of reading (sent_on edges source source item) v t) (from_the_source t d)
-      ∙ ap (λ v. queue_of reading (sent_on edges source source item) (name source) v) names.1
+      ∙ ap (λ v. queue_of news_parts (sent_on edges source source item) v t) (from_the_source t d)
+      ∙ ap (λ v. queue_of news_parts (sent_on edges source source item) (name source) v) names.1
       ∙ on_linked_once edges source source (number t) item forest
       (λ e. other (names.1 ∙ sym (ap name e))) (λ e. other (names.1 ∙ ap name e))
       (subst (λ v. AreLinked links (name source) v) names.1 linked)

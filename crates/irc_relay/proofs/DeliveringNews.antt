@@ -7,13 +7,14 @@ use Rattle.std.proofs.lemmas.Bool.Decides.{eqb_tells}
 use Rattle.std.proofs.lemmas.List.{append-nil, map-append}
 use Rattle.std.proofs.lemmas.List.Elements.{filter-append}
 use Rattle.irc_relay.specs.Links.{Name, same, Link, IsForest, AreLinked}
-use Rattle.irc_relay.specs.Relay.{Net, Streams, streams_from, from_one, IsAtRest, GoesAway}
+use Rattle.irc_relay.specs.Relay.{RelayState, Streams, streams_from, from_one, IsAtRest, GoesAway}
 use Rattle.irc_relay.specs.Relay.{Delivers, Relays}
 use Rattle.irc_relay.specs.Queue.{queue_of}
-use Rattle.irc_relay.specs.NewsNet.{name, number, links_of, reading, items_at, latest_of, sent_on}
+use Rattle.irc_relay.specs.NewsNet.{name, number, links_of, news_parts, items_at, latest_of}
+use Rattle.irc_relay.specs.NewsNet.{sent_on}
 use Rattle.irc_relay.specs.NewsNet.{relaying, net_with, net_of, DeliversNews, KeepsNews}
 use Rattle.irc_relay.specs.Loops.Taking.{TakesOldest}
-use Rattle.irc_relay.specs.declared.news.Sent.{Sent}
+use Rattle.irc_relay.specs.declared.news.NewsSent.{NewsSent}
 use Rattle.irc_relay.specs.declared.news.Edge.{Edge}
 use Rattle.irc_relay.specs.declared.news.Shown.{Shown}
 use Rattle.irc_relay.specs.declared.news.News.{News}
@@ -60,7 +61,7 @@ shown_elsewhere at item u n =
     (same_unless (name at) u (λ e. n (sym e)))
 
 -- an item that is new to the taker
-pub new_item : (edges : List Edge) (latest : List ℕ) (shown : List Shown) (old mid : List Sent)
+pub new_item : (edges : List Edge) (latest : List ℕ) (shown : List Shown) (old mid : List NewsSent)
     (from to item : ℕ) → from ≢ to → to < length latest → item ≢ get_or latest to 0
     → TakesOldest from to item old mid → Delivers (relaying edges) (name from)
     (name to) item [] (net_with latest shown old) (net_with (slice_set latest to item)
@@ -71,15 +72,15 @@ new_item edges latest shown old mid from to item apart fits fresh takes =
       moved = get_or-set_same latest to item 0 fits;
       showed = shown_more shown to item (name to) ∙ ap (λ v. items_at shown (name to) ++ v)
           (shown_there to item ∙ sym (ap (λ b. cond b [] (item ∷ [])) test));
-      sent = λ u n. append-nil (queue_of reading (mid ++ sent_on edges to from item) (name to) u)
+      sent = λ u n. append-nil (queue_of news_parts (mid ++ sent_on edges to from item) (name to) u)
           ∙ sent_there u n ∙ sym (ap (λ v. v ++ cond (item == get_or latest to 0) []
-          (queue_of reading (sent_on edges to from item) (name to) u))
-          (append-nil (queue_of reading old (name to) u)));
-      returned = ap (λ v. v ++ []) (sent_is_behind reading mid (sent_on edges to from item)
-          (name to) (name from) ∙ ap (λ v. queue_of reading mid (name to) (name from) ++ v)
-          (on_back edges to from item) ∙ append-nil (queue_of reading mid (name to) (name from))
+          (queue_of news_parts (sent_on edges to from item) (name to) u))
+          (append-nil (queue_of news_parts old (name to) u)));
+      returned = ap (λ v. v ++ []) (sent_is_behind news_parts mid (sent_on edges to from item)
+          (name to) (name from) ∙ ap (λ v. queue_of news_parts mid (name to) (name from) ++ v)
+          (on_back edges to from item) ∙ append-nil (queue_of news_parts mid (name to) (name from))
           ∙ takes.others (name to) (name from) (λ e _. givers (sym e)))
-          ∙ sym (append-nil (queue_of reading old (name to) (name from) ++ []));
+          ∙ sym (append-nil (queue_of news_parts old (name to) (name from) ++ []));
       other_queues = λ x y n o. kept_queue x y n ∙ takes.others x y o;
       other_debts = λ x y n. refl;
       other_states = λ u n. latest_other latest to item u n;
@@ -94,24 +95,25 @@ new_item edges latest shown old mid from to item apart fits fresh takes =
     test = elim (eqb_tells item (get_or latest to 0)) [ inl p ↦ absurd (fresh p.1) | inr p ↦ p.0 ]
 
     kept_queue : (x y : Name) → x ≢ name to
-        → queue_of reading (mid ++ sent_on edges to from item) x y ≡ queue_of reading mid x y
-    kept_queue x y n = sent_is_behind reading mid (sent_on edges to from item) x y
-        ∙ ap (λ v. queue_of reading mid x y ++ v) (on_other edges to from item x y n)
-        ∙ append-nil (queue_of reading mid x y)
+        → queue_of news_parts (mid ++ sent_on edges to from item) x y ≡ queue_of news_parts mid x y
+    kept_queue x y n = sent_is_behind news_parts mid (sent_on edges to from item) x y
+        ∙ ap (λ v. queue_of news_parts mid x y ++ v) (on_other edges to from item x y n)
+        ∙ append-nil (queue_of news_parts mid x y)
 
-    sent_there : (u : Name) → u ≢ name from → queue_of reading (mid ++ sent_on edges to from item)
-        (name to) u ≡ queue_of reading old (name to) u ++ cond (item == get_or latest to 0) []
-        (queue_of reading (sent_on edges to from item) (name to) u)
+    sent_there : (u : Name) → u ≢ name from
+        → queue_of news_parts (mid ++ sent_on edges to from item)
+        (name to) u ≡ queue_of news_parts old (name to) u ++ cond (item == get_or latest to 0) []
+        (queue_of news_parts (sent_on edges to from item) (name to) u)
     sent_there u n =
-        sent_is_behind reading mid (sent_on edges to from item) (name to) u
-        ∙ ap (λ v. v ++ queue_of reading (sent_on edges to from item) (name to) u)
+        sent_is_behind news_parts mid (sent_on edges to from item) (name to) u
+        ∙ ap (λ v. v ++ queue_of news_parts (sent_on edges to from item) (name to) u)
         (takes.others (name to) u (λ e _. givers (sym e)))
-        ∙ sym (ap (λ b. queue_of reading old (name to) u
-        ++ cond b [] (queue_of reading (sent_on edges to from item) (name to) u)) test)
+        ∙ sym (ap (λ b. queue_of news_parts old (name to) u
+        ++ cond b [] (queue_of news_parts (sent_on edges to from item) (name to) u)) test)
 
 -- the same, of what the code leaves
 pub new_item_at : (edges sent_edges : List Edge) (latest : List ℕ) (shown new_shown : List Shown)
-    (old mid new : List Sent) (from to place item : ℕ) → from ≢ to → place ≡ to
+    (old mid new : List NewsSent) (from to place item : ℕ) → from ≢ to → place ≡ to
     → place < length latest → item ≢ get_or latest place 0 → TakesOldest from to item old mid
     → new_shown ≡ shown ++ record { at = to; item = item } ∷ [] → sent_edges ≡ edges → new ≡ mid
     ++ sent_on sent_edges to from item → Delivers (relaying edges) (name from) (name to) item []
@@ -134,7 +136,8 @@ new_item_at edges sent_edges latest shown new_shown old mid new from to place it
     (λ h. fresh (h ∙ ap (λ p. get_or latest p 0) (sym at))) takes)))
 
 -- an item that the taker showed last
-pub known_item : (edges : List Edge) (latest : List ℕ) (shown : List Shown) (old mid : List Sent)
+pub known_item : (edges : List Edge) (latest : List ℕ) (shown : List Shown)
+    (old mid : List NewsSent)
     (from to item : ℕ) → from ≢ to → item ≡ get_or latest to 0 → TakesOldest from to item old mid
     → Delivers (relaying edges) (name from) (name to) item [] (net_with latest shown old)
     (net_with latest shown mid)
@@ -144,11 +147,11 @@ known_item edges latest shown old mid from to item apart known takes =
       moved = sym known;
       showed = sym (append-nil (items_at shown (name to)))
           ∙ sym (ap (λ b. items_at shown (name to) ++ cond b [] (item ∷ [])) test);
-      sent = λ u n. same_way u ∙ sym (append-nil (queue_of reading old (name to) u ++ []))
-          ∙ sym (ap (λ b. (queue_of reading old (name to) u ++ [])
-          ++ cond b [] (queue_of reading (sent_on edges to from item) (name to) u)) test);
+      sent = λ u n. same_way u ∙ sym (append-nil (queue_of news_parts old (name to) u ++ []))
+          ∙ sym (ap (λ b. (queue_of news_parts old (name to) u ++ [])
+          ++ cond b [] (queue_of news_parts (sent_on edges to from item) (name to) u)) test);
       returned = same_way (name from)
-          ∙ sym (append-nil (queue_of reading old (name to) (name from) ++ []));
+          ∙ sym (append-nil (queue_of news_parts old (name to) (name from) ++ []));
       other_queues = λ x y n o. takes.others x y o;
       other_debts = λ x y n. refl;
       other_states = λ u n. refl;
@@ -161,11 +164,12 @@ known_item edges latest shown old mid from to item apart known takes =
     test : (item == get_or latest to 0) ≡ true
     test = elim (eqb_tells item (get_or latest to 0)) [ inl p ↦ p.0 | inr p ↦ absurd (p.1 known) ]
 
-    same_way : (u : Name) → queue_of reading mid (name to) u
-        ++ [] ≡ queue_of reading old (name to) u ++ []
+    same_way : (u : Name) → queue_of news_parts mid (name to) u
+        ++ [] ≡ queue_of news_parts old (name to) u ++ []
     same_way u = ap (λ v. v ++ []) (takes.others (name to) u (λ e _. givers (sym e)))
 
-pub known_item_at : (edges : List Edge) (latest : List ℕ) (shown : List Shown) (old mid : List Sent)
+pub known_item_at : (edges : List Edge) (latest : List ℕ) (shown : List Shown)
+    (old mid : List NewsSent)
     (from to place item : ℕ) → from ≢ to → place ≡ to → item ≡ get_or latest place 0
     → TakesOldest from to item old mid → Delivers (relaying edges) (name from) (name to) item []
     (net_with latest shown old) (net_with latest shown mid)
@@ -173,15 +177,15 @@ known_item_at edges latest shown old mid from to place item apart at known takes
     latest shown old mid from to item apart (known ∙ ap (λ p. get_or latest p 0) at) takes
 
 -- the machine relays: to neighbours alone, and never back
-pub relays : (edges : List Edge) (streams : Streams) (from to item : ℕ) (net : Net ℕ ℕ ℕ)
+pub relays : (edges : List Edge) (streams : Streams) (from to item : ℕ) (net : RelayState ℕ ℕ ℕ)
     → Relays (relaying edges) (links_of edges) streams (name from) (name to) item [] net
 relays edges streams from to item net =
     record {
-      no_echo = none (item == net.state (name to)) (queue_of reading (sent_on edges to from item)
+      no_echo = none (item == net.state (name to)) (queue_of news_parts (sent_on edges to from item)
           (name to) (name from)) (on_back edges to from item);
       to_linked =
           λ u next lines e. on_linked edges to from item u next lines (some (item == net.state
-          (name to)) (queue_of reading (sent_on edges to from item) (name to) u) next lines e);
+          (name to)) (queue_of news_parts (sent_on edges to from item) (name to) u) next lines e);
       back_to_end = λ next lines e. cc;
       back_harmless = tt;
     }
@@ -210,7 +214,8 @@ kept_by_delivery from to old new d source forest away =
     )
 
 -- what is published at rest goes away from where it is published
-pub published_goes_away : (edges : List Edge) (flying new : List Sent) (latest new_latest : List ℕ)
+pub published_goes_away : (edges : List Edge) (flying new : List NewsSent)
+    (latest new_latest : List ℕ)
     (shown new_shown : List Shown) (at item : ℕ) → new ≡ flying ++ sent_on edges at at item
     → IsForest (links_of edges) → IsAtRest (net_with latest shown flying) → GoesAway (streams_from
     (links_of edges) (from_one (links_of edges) (name at))) (net_with new_latest new_shown new)
@@ -219,23 +224,23 @@ published_goes_away edges flying new latest new_latest shown new_shown at item e
     (net_with new_latest new_shown new) forest
     (λ x y line lines h. go x y line lines (sent x y line lines h) (tell x (name at)))
   where
-    sent : (x y : Name) (line : ℕ) (lines : List ℕ) → queue_of reading new x y ++ [] ≡ line ∷ lines
-        → queue_of reading (sent_on edges at at item) x y ≡ line ∷ lines
+    sent : (x y : Name) (line : ℕ) (lines : List ℕ) → queue_of news_parts new x y
+        ++ [] ≡ line ∷ lines → queue_of news_parts (sent_on edges at at item) x y ≡ line ∷ lines
     sent x y line lines h =
-        sym (ap (λ v. v ++ queue_of reading (sent_on edges at at item) x y)
-        (sym (append-nil (queue_of reading flying x y)) ∙ rest x y))
-        ∙ sym (sent_is_behind reading flying (sent_on edges at at item) x y)
-        ∙ ap (λ v. queue_of reading v x y) (sym e)
-        ∙ sym (append-nil (queue_of reading new x y))
+        sym (ap (λ v. v ++ queue_of news_parts (sent_on edges at at item) x y)
+        (sym (append-nil (queue_of news_parts flying x y)) ∙ rest x y))
+        ∙ sym (sent_is_behind news_parts flying (sent_on edges at at item) x y)
+        ∙ ap (λ v. queue_of news_parts v x y) (sym e)
+        ∙ sym (append-nil (queue_of news_parts new x y))
         ∙ h
 
     go : (x y : Name) (line : ℕ) (lines : List ℕ)
-        → queue_of reading (sent_on edges at at item) x y ≡ line ∷ lines → Telling x (name at)
+        → queue_of news_parts (sent_on edges at at item) x y ≡ line ∷ lines → Telling x (name at)
         → AreLinked (links_of edges) x y × (from_one (links_of edges) (name at) y ≡ x)
     go x y line lines h (unlike _ n) = let f = sym (on_other edges at at item x y n) ∙ h in cc
     go x y line lines h (alike _ f) =
         let linked : AreLinked (links_of edges) (name at) y = on_linked edges at at item y line
-        lines (sym (ap (λ v. queue_of reading (sent_on edges at at item) v y) f) ∙ h) in (
+        lines (sym (ap (λ v. queue_of news_parts (sent_on edges at at item) v y) f) ∙ h) in (
           subst (λ v. AreLinked (links_of edges) v y) (sym f) linked,
           source_is_one (links_of edges) (name at) y
               (sym (linked_joined (links_of edges) (name at) y linked)) ∙ sym f,

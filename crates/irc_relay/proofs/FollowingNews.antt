@@ -6,14 +6,14 @@ use Rattle.irc_relay.specs.Links.{Name, same, Link, part, IsForest, HasEnds, Are
 use Rattle.irc_relay.specs.Relay.{Streams, streams_from, Covers, TakesFrom}
 use Rattle.irc_relay.specs.Following.{sends, Follows}
 use Rattle.irc_relay.specs.Queue.{queue_of}
-use Rattle.irc_relay.specs.NewsNet.{name, number, link_of, links_of, reading, sent_over, sent_on}
+use Rattle.irc_relay.specs.NewsNet.{name, number, link_of, links_of, news_parts, sent_over, sent_on}
 use Rattle.irc_relay.specs.NewsNet.{relaying, news_play, news_terms}
 use Rattle.irc_relay.specs.declared.news.Edge.{Edge}
 use Rattle.irc_relay.specs.Lemmas.TellingNames.{same_when}
 use Rattle.irc_relay.specs.Lemmas.NextHops.{distance_self, linked_joined, linked_other, next_hop}
 use Rattle.irc_relay.proofs.Queueing.{sent_is_behind}
 use Rattle.irc_relay.proofs.RelayingNews.{over_linked, on_linked}
-use Rattle.irc_relay.specs.declared.news.Sent.{Sent}
+use Rattle.irc_relay.specs.declared.news.NewsSent.{NewsSent}
 
 -- ---- one link sends one item
 
@@ -33,25 +33,25 @@ linked_names (e ∷ edges) t u (inl (inr ends)) =
     (sym ends.1 ∙ ap (λ v. name (number v)) ends.1, sym ends.0 ∙ ap (λ v. name (number v)) ends.0)
 linked_names (e ∷ edges) t u (inr h) = linked_names edges t u h
 
-single_there : (s : Sent) (x y : Name) → name s.from ≡ x → name s.to ≡ y
-    → queue_of reading (s ∷ []) x y ≡ s.item ∷ []
+single_there : (s : NewsSent) (x y : Name) → name s.from ≡ x → name s.to ≡ y
+    → queue_of news_parts (s ∷ []) x y ≡ s.item ∷ []
 single_there s x y e f =
-    ap (λ b. map (λ (v : Sent). v.item) (cond (b && same (name s.to) y) (s ∷ []) []))
+    ap (λ b. map (λ (v : NewsSent). v.item) (cond (b && same (name s.to) y) (s ∷ []) []))
     (same_when (name s.from) x e)
-    ∙ ap (λ b. map (λ (v : Sent). v.item) (cond b (s ∷ []) [])) (same_when (name s.to) y f)
+    ∙ ap (λ b. map (λ (v : NewsSent). v.item) (cond b (s ∷ []) [])) (same_when (name s.to) y f)
 
 -- over a link that it is an end of a server sends an item to the other end, where that is not where
 -- the item came from
 over_ends : (at from to item : ℕ) (e : Edge) → at ≢ to → to ≢ from → HasEnds (link_of e) (name at)
-    (name to) → queue_of reading (sent_over at from item e) (name at) (name to) ≡ item ∷ []
+    (name to) → queue_of news_parts (sent_over at from item e) (name at) (name to) ≡ item ∷ []
 over_ends at from to item e apart new (inl ends) =
-    ap (λ sent. queue_of reading sent (name at) (name to)) chosen
+    ap (λ sent. queue_of news_parts sent (name at) (name to)) chosen
     ∙ single_there to_far (name at) (name to) refl ends.1
   where
-    to_far : Sent
+    to_far : NewsSent
     to_far = record { from = at; to = e.far; item = item }
 
-    to_near : Sent
+    to_near : NewsSent
     to_near = record { from = at; to = e.near; item = item }
 
     chosen : sent_over at from item e ≡ to_far ∷ []
@@ -63,13 +63,13 @@ over_ends at from to item e apart new (inl ends) =
         (cond ((e.far == at) && not (e.near == from)) (to_near ∷ []) []))
         (other_numbers e.far from (λ h. new (sym (ap number ends.1) ∙ h)))
 over_ends at from to item e apart new (inr ends) =
-    ap (λ sent. queue_of reading sent (name at) (name to)) chosen
+    ap (λ sent. queue_of news_parts sent (name at) (name to)) chosen
     ∙ single_there to_near (name at) (name to) refl ends.0
   where
-    to_far : Sent
+    to_far : NewsSent
     to_far = record { from = at; to = e.far; item = item }
 
-    to_near : Sent
+    to_near : NewsSent
     to_near = record { from = at; to = e.near; item = item }
 
     chosen : sent_over at from item e ≡ to_near ∷ []
@@ -97,22 +97,22 @@ linked_by l links s t forest (inr ends) h = forest.0 (ap (part links) ends.0
 -- in a forest a server sends a neighbour an item once, unless it came from there
 pub on_linked_once : (edges : List Edge) (at from to item : ℕ) → IsForest (links_of edges)
     → at ≢ to → to ≢ from → AreLinked (links_of edges) (name at) (name to)
-    → queue_of reading (sent_on edges at from item) (name at) (name to) ≡ item ∷ []
+    → queue_of news_parts (sent_on edges at from item) (name at) (name to) ≡ item ∷ []
 on_linked_once [] at from to item forest apart new h = absurd h
 on_linked_once (e ∷ edges) at from to item forest apart new (inl ends) =
-    sent_is_behind reading (sent_over at from item e) (sent_on edges at from item) (name at)
+    sent_is_behind news_parts (sent_over at from item e) (sent_on edges at from item) (name at)
     (name to)
-    ∙ ap (λ v. v ++ queue_of reading (sent_on edges at from item) (name at) (name to))
+    ∙ ap (λ v. v ++ queue_of news_parts (sent_on edges at from item) (name at) (name to))
     (over_ends at from to item e apart new ends)
     ∙ ap (λ v. item ∷ v)
-    (no_first (queue_of reading (sent_on edges at from item) (name at) (name to))
+    (no_first (queue_of news_parts (sent_on edges at from item) (name at) (name to))
     (λ l ls f. linked_by (link_of e) (links_of edges) (name at) (name to) forest ends
     (on_linked edges at from item (name to) l ls f)))
 on_linked_once (e ∷ edges) at from to item forest apart new (inr h) =
-    sent_is_behind reading (sent_over at from item e) (sent_on edges at from item) (name at)
+    sent_is_behind news_parts (sent_over at from item e) (sent_on edges at from item) (name at)
     (name to)
-    ∙ ap (λ v. v ++ queue_of reading (sent_on edges at from item) (name at) (name to))
-    (no_first (queue_of reading (sent_over at from item e) (name at) (name to))
+    ∙ ap (λ v. v ++ queue_of news_parts (sent_on edges at from item) (name at) (name to))
+    (no_first (queue_of news_parts (sent_over at from item e) (name at) (name to))
     (λ l ls f. linked_by (link_of e) (links_of edges) (name at) (name to) forest
     (over_linked at from item e (name to) l ls f) h))
     ∙ on_linked_once edges at from to item forest.1 apart new h
@@ -139,11 +139,12 @@ module _ (edges : List Edge) (source : Name → Name) (forest : IsForest (links_
 
   -- a line goes on to each other neighbour
   sent_once : (p t u : Name) (item : ℕ) → AreLinked (links_of edges) t u → TakesFrom from t p
-      → u ≢ p → queue_of reading (sent_on edges (number t) (number p) item) t u ≡ item ∷ []
+      → u ≢ p → queue_of news_parts (sent_on edges (number t) (number p) item) t u ≡ item ∷ []
   sent_once p t u item linked takes other =
-      subst (λ v. queue_of reading (sent_on edges (number t) (number p) item) t v ≡ item ∷ [])
+      subst (λ v. queue_of news_parts (sent_on edges (number t) (number p) item) t v ≡ item ∷ [])
       (sym names.1)
-      (subst (λ v. queue_of reading (sent_on edges (number t) (number p) item) v (name (number u))
+      (subst (λ v. queue_of news_parts (sent_on edges (number t) (number p) item) v
+      (name (number u))
       ≡ item ∷ []) (sym names.0)
       (on_linked_once edges (number t) (number p) (number u) item forest apart fresh
       (subst (λ v. AreLinked (links_of edges) (name (number t)) v) names.1
@@ -169,10 +170,10 @@ module _ (edges : List Edge) (source : Name → Name) (forest : IsForest (links_
     said_good = λ p t w s act line takes fits said. tt;
     said_on = λ p t u w s su act line linked takes next other fits fits_u meet said.
         sends line (ap (λ v. cond (line == v) []
-        (queue_of reading (sent_on edges (number t) (number p) line) t u)) fits
+        (queue_of news_parts (sent_on edges (number t) (number p) line) t u)) fits
         ∙ ap (λ v. cond (v == w) []
-        (queue_of reading (sent_on edges (number t) (number p) line) t u)) said.0
-        ∙ ap (λ b. cond b [] (queue_of reading (sent_on edges (number t) (number p) line) t u))
+        (queue_of news_parts (sent_on edges (number t) (number p) line) t u)) said.0
+        ∙ ap (λ b. cond b [] (queue_of news_parts (sent_on edges (number t) (number p) line) t u))
         said.1
         ∙ sent_once p t u line linked takes other) said tt;
     aside_fits = λ p t w s line takes fits aside. aside;
@@ -180,7 +181,7 @@ module _ (edges : List Edge) (source : Name → Name) (forest : IsForest (links_
         (known_true line s (aside ∙ sym fits));
     aside_good = λ p t w s line takes fits aside. tt;
     aside_sends = λ p t u w s line takes next other fits aside.
-        ap (λ b. cond b [] (queue_of reading (sent_on edges (number t) (number p) line) t u))
+        ap (λ b. cond b [] (queue_of news_parts (sent_on edges (number t) (number p) line) t u))
         (known_true line s (aside ∙ sym fits));
     aside_meets = λ p t u w s su line takes next other fits fits_u meet aside. tt;
     passed_fits = λ t w s act fits passes. fits ∙ sym passes;

@@ -9,7 +9,7 @@ use Rattle.std.proofs.lemmas.List.{map-append}
 use Rattle.std.proofs.lemmas.List.Elements.{filter-append}
 use Rattle.std.proofs.lemmas.List.Quantifiers.{position-Some}
 use Rattle.irc_relay.specs.Links.{Name, same}
-use Rattle.irc_relay.specs.Queue.{Reading, goes, queue_of, IsOldest}
+use Rattle.irc_relay.specs.Queue.{SentParts, goes, queue_of, IsOldest}
 use Rattle.irc_relay.specs.Lemmas.TellingNames.{Telling, alike, unlike, tell}
 
 -- the first that passes is the head of those that pass
@@ -59,7 +59,7 @@ filter_none {X} p xs e = go (nat_lt (position_or_len p xs) (length xs)) refl
     go false f = filter_past p xs (not_below (position_or_len p xs) (length xs) f)
 
 -- what goes from x to y, by names
-pub goes_tells : {Sent Line : Type 0} (r : Reading Sent Line) (x y : Name) (s : Sent)
+pub goes_tells : {Sent Line : Type 0} (r : SentParts Sent Line) (x y : Name) (s : Sent)
     → goes r x y s ≡ true → (r.from s ≡ x) × (r.to s ≡ y)
 goes_tells r x y s e = go (tell (r.from s) x) (tell (r.to s) y)
   where
@@ -69,7 +69,7 @@ goes_tells r x y s e = go (tell (r.from s) x) (tell (r.to s) y)
         let i = sym b ∙ h in cc
     go (unlike a f) c = let h = sym (ap (λ v. v && same (r.to s) y) a) ∙ e in cc
 
-goes_only : {Sent Line : Type 0} (r : Reading Sent Line) (p t x y : Name) (s : Sent)
+goes_only : {Sent Line : Type 0} (r : SentParts Sent Line) (p t x y : Name) (s : Sent)
     → goes r p t s ≡ true → (x ≡ p → y ≡ t → ⊥) → goes r x y s ≡ false
 goes_only r p t x y s e o = go (goes r x y s) refl
   where
@@ -78,7 +78,7 @@ goes_only r p t x y s e o = go (goes r x y s) refl
     go true f = absurd (o (sym (goes_tells r x y s f).0 ∙ (goes_tells r p t s e).0)
         (sym (goes_tells r x y s f).1 ∙ (goes_tells r p t s e).1))
 
-pub first_is_oldest : {Sent Line : Type 0} (r : Reading Sent Line) (sent : List Sent)
+pub first_is_oldest : {Sent Line : Type 0} (r : SentParts Sent Line) (sent : List Sent)
     (p t : Name) (i : ℕ) (s : Sent) → position (goes r p t) sent ≡ Some i → s ≡ get_or sent i s
     → IsOldest r sent p t i s
 first_is_oldest r sent p t i s e f = go (position-Some (goes r p t) sent i s e)
@@ -93,11 +93,11 @@ first_is_oldest r sent p t i s e f = go (position-Some (goes r p t) sent i s e)
               (goes_only r p t x y (get_or sent i s) found.1 o));
         }
 
-pub none_is_empty : {Sent Line : Type 0} (r : Reading Sent Line) (sent : List Sent) (p t : Name)
+pub none_is_empty : {Sent Line : Type 0} (r : SentParts Sent Line) (sent : List Sent) (p t : Name)
     → position (goes r p t) sent ≡ None → queue_of r sent p t ≡ []
 none_is_empty r sent p t e = ap (map r.line) (filter_none (goes r p t) sent e)
 
-pub sent_is_behind : {Sent Line : Type 0} (r : Reading Sent Line) (sent more : List Sent)
+pub sent_is_behind : {Sent Line : Type 0} (r : SentParts Sent Line) (sent more : List Sent)
     (x y : Name) → queue_of r (sent ++ more) x y ≡ queue_of r sent x y ++ queue_of r more x y
 sent_is_behind r sent more x y = ap (map r.line) (filter-append (goes r x y) sent more)
     ∙ map-append r.line (filter (goes r x y) sent) (filter (goes r x y) more)

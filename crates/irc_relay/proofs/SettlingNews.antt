@@ -9,10 +9,10 @@ use Rattle.irc_relay.specs.Links.{Name, same, Link, IsForest, AreLinked, distanc
 use Rattle.irc_relay.specs.Relay.{Streams, streams_from, from_one, IsAtRest, TakesFrom, GoesAway}
 use Rattle.irc_relay.specs.Relay.{SameOutcome, lines_coming}
 use Rattle.irc_relay.specs.Queue.{goes, queue_of}
-use Rattle.irc_relay.specs.NewsNet.{name, links_of, reading, relaying, net_of, streams_of}
+use Rattle.irc_relay.specs.NewsNet.{name, links_of, news_parts, relaying, net_of, streams_of}
 use Rattle.irc_relay.specs.NewsNet.{DeliversNews, KeepsNews, HasSettled}
 use Rattle.irc_relay.specs.Loops.Settling.{ends_of, items_coming, IsSettling}
-use Rattle.irc_relay.specs.declared.news.Sent.{Sent}
+use Rattle.irc_relay.specs.declared.news.NewsSent.{NewsSent}
 use Rattle.irc_relay.specs.declared.news.Edge.{Edge}
 use Rattle.irc_relay.specs.declared.news.News.{News}
 use Rattle.irc_relay.specs.Lemmas.TellingNames.{same_when}
@@ -61,25 +61,26 @@ takes_linked links s x y forest h = subst (λ v. AreLinked links y v) h.parent
         q
 
 -- the first that is under way is the oldest of its queue
-first_goes : (old : News) (s : Sent) (rest : List Sent) → old.flying.items ≡ s ∷ rest
-    → queue_of reading old.flying.items (name s.from) (name s.to) ≡ s.item ∷ queue_of reading rest
+first_goes : (old : News) (s : NewsSent) (rest : List NewsSent) → old.flying.items ≡ s ∷ rest
+    → queue_of news_parts old.flying.items (name s.from) (name s.to)
+    ≡ s.item ∷ queue_of news_parts rest
     (name s.from) (name s.to)
 first_goes old s rest e =
-    ap (λ sent. queue_of reading sent (name s.from) (name s.to)) e
-    ∙ ap (λ b. map (λ (v : Sent). v.item) (cond b (s ∷ filter (goes reading (name s.from)
-    (name s.to)) rest) (filter (goes reading (name s.from) (name s.to)) rest))) here
+    ap (λ sent. queue_of news_parts sent (name s.from) (name s.to)) e
+    ∙ ap (λ b. map (λ (v : NewsSent). v.item) (cond b (s ∷ filter (goes news_parts (name s.from)
+    (name s.to)) rest) (filter (goes news_parts (name s.from) (name s.to)) rest))) here
   where
-    here : goes reading (name s.from) (name s.to) s ≡ true
+    here : goes news_parts (name s.from) (name s.to) s ≡ true
     here = ap (λ v. v && same (name s.to) (name s.to)) (same_when (name s.from) (name s.from) refl)
         ∙ same_when (name s.to) (name s.to) refl
 
 -- so there is one to deliver
-pub first_is_there : (old : News) (s : Sent) (rest : List Sent) → old.flying.items ≡ s ∷ rest
-    → queue_of reading old.flying.items (name s.from) (name s.to) ≡ [] → ⊥
+pub first_is_there : (old : News) (s : NewsSent) (rest : List NewsSent) → old.flying.items
+    ≡ s ∷ rest → queue_of news_parts old.flying.items (name s.from) (name s.to) ≡ [] → ⊥
 first_is_there old s rest e h = let f = sym (first_goes old s rest e) ∙ h in cc
 
 -- the first that is under way comes to another server
-pub first_apart : (source : ℕ) (old : News) (s : Sent) (rest : List Sent)
+pub first_apart : (source : ℕ) (old : News) (s : NewsSent) (rest : List NewsSent)
     → IsForest (links_of old.edges.items) → GoesAway (streams_of old source) (net_of old)
     → old.flying.items ≡ s ∷ rest → s.from ≢ s.to
 first_apart source old s rest forest away e f =
@@ -89,7 +90,7 @@ first_apart source old s rest forest away e f =
     (name s.from)
     forest
     (takes_linked (links_of old.edges.items) (name source) (name s.from) (name s.to) forest
-    (away (name s.from) (name s.to) s.item (queue_of reading rest (name s.from) (name s.to)
+    (away (name s.from) (name s.to) s.item (queue_of news_parts rest (name s.from) (name s.to)
     ++ []) (ap (λ v. v ++ []) (first_goes old s rest e))))
     (ap name (sym f))
 
@@ -140,7 +141,7 @@ settled source start now e same_outcome =
     }
   where
     rest : IsAtRest (net_of now)
-    rest x y = ap (λ sent. queue_of reading sent x y ++ []) e
+    rest x y = ap (λ sent. queue_of news_parts sent x y ++ []) e
 
 -- the loop's invariant: at the start, and after each delivery
 pub settling_start : (source : ℕ) (start : News) → GoesAway (streams_of start source) (net_of start)
@@ -186,20 +187,20 @@ settling_on source start now next forest s e keeps =
         }
 
 -- what the loop's test and its first item tell
-pub first_of : (sent : List Sent) (n : ℕ) (s : Sent) → n ≡ length sent → (n == 0) ≡ false
-    → s ≡ get_or sent 0 s → (rest : List Sent) × (sent ≡ s ∷ rest)
+pub first_of : (sent : List NewsSent) (n : ℕ) (s : NewsSent) → n ≡ length sent → (n == 0) ≡ false
+    → s ≡ get_or sent 0 s → (rest : List NewsSent) × (sent ≡ s ∷ rest)
 first_of [] n s h e f = absurd (grind (arith, nat_tests))
 first_of (x ∷ rest) n s h e f = (rest, ap (λ v. v ∷ rest) (sym f))
 
-pub none_left : (sent : List Sent) (n : ℕ) → n ≡ length sent → (n == 0) ≡ true → sent ≡ []
+pub none_left : (sent : List NewsSent) (n : ℕ) → n ≡ length sent → (n == 0) ≡ true → sent ≡ []
 none_left [] n h e = refl
 none_left (x ∷ rest) n h e = absurd (grind (arith, nat_tests))
 
 -- a delivery of the first that is under way
-pub first_fall : (source : ℕ) (old new : News) (s : Sent) (rest : List Sent) (taken : Bool)
+pub first_fall : (source : ℕ) (old new : News) (s : NewsSent) (rest : List NewsSent) (taken : Bool)
     → old.flying.items ≡ s ∷ rest → new.edges.items ≡ old.edges.items
     → MatchBool taken (DeliversNews s.from s.to old new)
-    (queue_of reading old.flying.items (name s.from) (name s.to) ≡ [])
+    (queue_of news_parts old.flying.items (name s.from) (name s.to) ≡ [])
     → IsForest (links_of old.edges.items) → GoesAway (streams_of old source) (net_of old)
     → items_coming new source < items_coming old source
 first_fall source old new s rest true f e d forest away =

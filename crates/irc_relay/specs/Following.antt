@@ -3,7 +3,7 @@
 -- specs/Lemmas/LineFactsKept, for each delivery, and in specs/Lemmas/ActsToldOn, at every depth.
 use Rattle.std.specs.Prelude.{◌≡◌, ◌≢◌, ◌<◌, suc, List, [], ◌∷◌, ◌++◌}
 use Rattle.irc_relay.specs.Links.{Name, Link, AreLinked}
-use Rattle.irc_relay.specs.Relay.{Machine, Net, Streams, TakesFrom, under_way, coming, final}
+use Rattle.irc_relay.specs.Relay.{Machine, RelayState, Streams, TakesFrom, under_way, coming, final}
 use Rattle.irc_relay.specs.Relay.{final_shown}
 
 -- ---- facts of each line at its turn
@@ -21,7 +21,7 @@ AllAlong m good p t s (line ∷ lines) =
 
 -- and of each line that is coming to anybody
 abbrev pub GoesWell : {State Line Shown : Type 0} → Machine State Line Shown → Streams
-    → Fact State Line → Net State Line Shown → Type 0
+    → Fact State Line → RelayState State Line Shown → Type 0
 GoesWell m streams good net =
     (t : Name) → AllAlong m good (streams.parent t) t (net.state t) (coming m streams net t)
 
@@ -117,7 +117,7 @@ pub data Tells {State Line Shown World Act : Type 0} (m : Machine State Line Sho
 -- Every state fits its world.
 pub record Starts {State Line Shown World Act : Type 0} (m : Machine State Line Shown)
     (play : Play World Act Shown) (x : Terms State Line World Act)
-    (streams : Streams) (net : Net State Line Shown) (world : Name → World)
+    (streams : Streams) (net : RelayState State Line Shown) (world : Name → World)
     (acts : Name → List Act) : Type 0 where
   pub first : (t : Name) → streams.depth t ≡ 1 → Tells m play x (streams.parent t) t (world t)
       (net.state t) (acts t) (under_way net (streams.parent t) t)
@@ -136,7 +136,7 @@ pub record Starts {State Line Shown World Act : Type 0} (m : Machine State Line 
 -- the world after them, it will have shown what they show, and each line goes well at its turn.
 pub record IsFollowing {State Line Shown World Act : Type 0} (m : Machine State Line Shown)
     (play : Play World Act Shown) (x : Terms State Line World Act)
-    (streams : Streams) (net : Net State Line Shown) (w : World) (acts : List Act)
+    (streams : Streams) (net : RelayState State Line Shown) (w : World) (acts : List Act)
     (t : Name) : Type 0 where
   pub tells : Tells m play x (streams.parent t) t w (net.state t) acts (coming m streams net t)
   pub fits : x.fits t (all_done play w acts) (final m streams net t)

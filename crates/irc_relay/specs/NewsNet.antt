@@ -3,12 +3,13 @@
 use Rattle.std.specs.Prelude.{◌≡◌, ◌≢◌, ℕ, false, ◌++◌, ◌&&◌, not, ◌==◌, if◌then◌else◌, List, []}
 use Rattle.std.specs.Prelude.{◌∷◌, map, filter, flat_map, slice_index}
 use Rattle.irc_relay.specs.Links.{Name, same, Link, AreJoined, IsForest}
-use Rattle.irc_relay.specs.Relay.{Machine, Net, Streams, streams_from, from_one, IsAtRest, GoesAway}
+use Rattle.irc_relay.specs.Relay.{Machine, RelayState, Streams, streams_from, from_one, IsAtRest}
+use Rattle.irc_relay.specs.Relay.{GoesAway}
 use Rattle.irc_relay.specs.Relay.{SameOutcome, Delivers, final, final_shown}
 use Rattle.irc_relay.specs.Following.{Play, Terms}
-use Rattle.irc_relay.specs.Queue.{Reading, queue_of}
+use Rattle.irc_relay.specs.Queue.{SentParts, queue_of}
 use Rattle.irc_relay.specs.declared.news.Edge.{Edge}
-use Rattle.irc_relay.specs.declared.news.Sent.{Sent}
+use Rattle.irc_relay.specs.declared.news.NewsSent.{NewsSent}
 use Rattle.irc_relay.specs.declared.news.Shown.{Shown}
 use Rattle.irc_relay.specs.declared.news.News.{News}
 
@@ -26,8 +27,8 @@ link_of e = record { near = name e.near; far = name e.far }
 abbrev pub links_of : List Edge → List Link
 links_of edges = map link_of edges
 
-abbrev pub reading : Reading Sent ℕ
-reading = record { from = λ s. name s.from; to = λ s. name s.to; line = λ s. s.item }
+abbrev pub news_parts : SentParts NewsSent ℕ
+news_parts = record { from = λ s. name s.from; to = λ s. name s.to; line = λ s. s.item }
 
 -- what a server showed
 abbrev pub items_at : List Shown → Name → List ℕ
@@ -41,18 +42,18 @@ latest_of latest (k ∷ j ∷ rest) = 0
 
 -- what a server sends over one edge upon an item that came from another: the item, if it stands at
 -- one end and the item did not come from the other
-abbrev pub sent_over : ℕ → ℕ → ℕ → Edge → List Sent
+abbrev pub sent_over : ℕ → ℕ → ℕ → Edge → List NewsSent
 sent_over at from item e =
     if (e.near == at) && not (e.far == from) then record { from = at; to = e.far; item = item } ∷ []
     else if (e.far == at) && not (e.near == from)
     then record { from = at; to = e.near; item = item } ∷ []
     else []
 
-abbrev pub sent_on : List Edge → ℕ → ℕ → ℕ → List Sent
+abbrev pub sent_on : List Edge → ℕ → ℕ → ℕ → List NewsSent
 sent_on edges at from item = flat_map (sent_over at from item) edges
 
 -- an item is sent on in what is under way
-abbrev pub SendsOn : List Edge → ℕ → ℕ → ℕ → List Sent → List Sent → Type 0
+abbrev pub SendsOn : List Edge → ℕ → ℕ → ℕ → List NewsSent → List NewsSent → Type 0
 SendsOn edges at from item old new = new ≡ old ++ sent_on edges at from item
 
 -- a server shows an item, and sends it on as its own
@@ -68,20 +69,20 @@ abbrev pub relaying : List Edge → Machine ℕ ℕ ℕ
 relaying edges = record {
   step = λ t p latest item. item;
   sends = λ t p latest item u. if item == latest then []
-      else queue_of reading (sent_on edges (number t) (number p) item) t u;
+      else queue_of news_parts (sent_on edges (number t) (number p) item) t u;
   shows = λ t p latest item. if item == latest then [] else item ∷ [];
 }
 
 -- the network of these edges, latest items, showings and lines under way
-abbrev pub net_with : List ℕ → List Shown → List Sent → Net ℕ ℕ ℕ
+abbrev pub net_with : List ℕ → List Shown → List NewsSent → RelayState ℕ ℕ ℕ
 net_with latest shown flying = record {
   state = latest_of latest;
   shown = items_at shown;
-  queue = queue_of reading flying;
+  queue = queue_of news_parts flying;
   owed = λ x y. [];
 }
 
-abbrev pub net_of : News → Net ℕ ℕ ℕ
+abbrev pub net_of : News → RelayState ℕ ℕ ℕ
 net_of news = net_with news.latest news.shown.items news.flying.items
 
 -- one delivery: the second server takes the oldest item on its way from the first

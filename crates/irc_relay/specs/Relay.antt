@@ -14,7 +14,7 @@ pub record Machine (State Line Shown : Type 0) : Type 0 where
 -- a network at one moment: each server's state, what it has shown so far, the lines on their way
 -- from one server to another, oldest first, and those that a server owes another, which it sends
 -- with the next line that it takes
-pub record Net (State Line Shown : Type 0) : Type 0 where
+pub record RelayState (State Line Shown : Type 0) : Type 0 where
   pub state : Name → State
   pub shown : Name → List Shown
   pub queue : Name → Name → List Line
@@ -91,13 +91,14 @@ shown_upon m t p s [] = []
 shown_upon m t p s (line ∷ lines) = m.shows t p s line ++ shown_upon m t p (m.step t p s line) lines
 
 -- what is under way from x to y: what is on its way, and then what is owed
-abbrev pub under_way : {State Line Shown : Type 0} → Net State Line Shown → Name → Name → List Line
+abbrev pub under_way : {State Line Shown : Type 0} → RelayState State Line Shown → Name → Name
+    → List Line
 under_way net x y = net.queue x y ++ net.owed x y
 
 -- what will come to t from a source n links away: what is under way from its parent, and then what
 -- its parent will pass on of what will come to that one
 unfoldable pub coming_within : {State Line Shown : Type 0} → Machine State Line Shown → Streams
-    → Net State Line Shown → ℕ → Name → List Line
+    → RelayState State Line Shown → ℕ → Name → List Line
 coming_within m streams net zero t = []
 coming_within m streams net (suc n) t =
     under_way net (streams.parent t) t
@@ -106,14 +107,14 @@ coming_within m streams net (suc n) t =
 
 -- what is coming to t
 abbrev pub coming : {State Line Shown : Type 0} → Machine State Line Shown → Streams
-    → Net State Line Shown → Name → List Line
+    → RelayState State Line Shown → Name → List Line
 coming m streams net t = coming_within m streams net (streams.depth t) t
 
 -- what is coming to t, by where it comes from: a server at no distance from its source takes
 -- nothing, one that is linked to its source takes what is under way from it, and any other takes
 -- what is under way from its parent and what that will pass on
 pub data ComesInTurn {State Line Shown : Type 0} (m : Machine State Line Shown) (streams : Streams)
-    (net : Net State Line Shown) (t : Name) : Type 0 where
+    (net : RelayState State Line Shown) (t : Name) : Type 0 where
   at_source : streams.depth t ≡ 0 → coming m streams net t ≡ [] → ComesInTurn m streams net t
   from_source : streams.depth t ≡ 1 → coming m streams net t ≡ under_way net (streams.parent t) t
       → ComesInTurn m streams net t
@@ -126,17 +127,17 @@ pub data ComesInTurn {State Line Shown : Type 0} (m : Machine State Line Shown) 
 
 -- t's state after all that is coming to it
 abbrev pub final : {State Line Shown : Type 0} → Machine State Line Shown → Streams
-    → Net State Line Shown → Name → State
+    → RelayState State Line Shown → Name → State
 final m streams net t = after m t (streams.parent t) (net.state t) (coming m streams net t)
 
 -- all that t has shown by then
 abbrev pub final_shown : {State Line Shown : Type 0} → Machine State Line Shown → Streams
-    → Net State Line Shown → Name → List Shown
+    → RelayState State Line Shown → Name → List Shown
 final_shown m streams net t =
     net.shown t ++ shown_upon m t (streams.parent t) (net.state t) (coming m streams net t)
 
 -- nothing is under way
-abbrev pub IsAtRest : {State Line Shown : Type 0} → Net State Line Shown → Type 0
+abbrev pub IsAtRest : {State Line Shown : Type 0} → RelayState State Line Shown → Type 0
 IsAtRest net = (x y : Name) → under_way net x y ≡ []
 
 -- y takes lines, from x
@@ -145,7 +146,7 @@ pub record TakesFrom (streams : Streams) (y x : Name) : Type 0 where
   pub below : 0 < streams.depth y
 
 -- whatever is under way comes to a server from its parent
-abbrev pub GoesAway : {State Line Shown : Type 0} → Streams → Net State Line Shown → Type 0
+abbrev pub GoesAway : {State Line Shown : Type 0} → Streams → RelayState State Line Shown → Type 0
 GoesAway {State} {Line} {Shown} streams net = (x y : Name) (line : Line) (lines : List Line)
     → under_way net x y ≡ line ∷ lines → TakesFrom streams y x
 
@@ -165,7 +166,7 @@ AreHarmless m y x s (line ∷ lines) = IsHarmless m y x s line × AreHarmless m 
 -- what was under way, with what it owed, and perhaps some lines back to p. Nothing else changes
 pub record Delivers {State Line Shown : Type 0} (m : Machine State Line Shown) (p t : Name)
     (line : Line) (back : List Line)
-    (old new : Net State Line Shown) : Type 0 where
+    (old new : RelayState State Line Shown) : Type 0 where
   pub took : old.queue p t ≡ line ∷ new.queue p t
   pub moved : new.state t ≡ m.step t p (old.state t) line
   pub showed : new.shown t ≡ old.shown t ++ m.shows t p (old.state t) line
@@ -182,7 +183,7 @@ pub record Delivers {State Line Shown : Type 0} (m : Machine State Line Shown) (
 -- lines from t, as its source
 pub record Relays {State Line Shown : Type 0} (m : Machine State Line Shown) (links : List Link)
     (streams : Streams) (p t : Name) (line : Line)
-    (back : List Line) (net : Net State Line Shown) : Type 0 where
+    (back : List Line) (net : RelayState State Line Shown) : Type 0 where
   pub no_echo : m.sends t p (net.state t) line p ≡ []
   pub to_linked : (u : Name) (next : Line) (lines : List Line)
       → m.sends t p (net.state t) line u ≡ next ∷ lines → AreLinked links t u
@@ -194,7 +195,7 @@ pub record Relays {State Line Shown : Type 0} (m : Machine State Line Shown) (li
 -- then what it sends on
 pub record Pays {State Line Shown : Type 0} (m : Machine State Line Shown) (p t : Name)
     (line : Line) (back : List Line)
-    (old new : Net State Line Shown) : Type 0 where
+    (old new : RelayState State Line Shown) : Type 0 where
   pub took : old.queue p t ≡ line ∷ new.queue p t
   pub moved : new.state t ≡ m.step t p (old.state t) line
   pub showed : new.shown t ≡ old.shown t ++ m.shows t p (old.state t) line
@@ -209,7 +210,7 @@ pub record Pays {State Line Shown : Type 0} (m : Machine State Line Shown) (p t 
 
 -- each server's state and what it will have shown come out the same
 pub record SameOutcome {State Line Shown : Type 0} (m : Machine State Line Shown)
-    (streams : Streams) (old new : Net State Line Shown) : Type 0 where
+    (streams : Streams) (old new : RelayState State Line Shown) : Type 0 where
   pub same_final : (u : Name) → final m streams new u ≡ final m streams old u
   pub same_told : (u : Name) → final_shown m streams new u ≡ final_shown m streams old u
 
@@ -217,28 +218,28 @@ pub record SameOutcome {State Line Shown : Type 0} (m : Machine State Line Shown
 -- and what it returned comes to p last
 pub record ComesOn {State Line Shown : Type 0} (m : Machine State Line Shown) (streams : Streams)
     (p t : Name) (line : Line) (back : List Line)
-    (old new : Net State Line Shown) : Type 0 where
+    (old new : RelayState State Line Shown) : Type 0 where
   pub taken : coming m streams old t ≡ line ∷ coming m streams new t
   pub returned : coming m streams new p ≡ coming m streams old p ++ back
   pub steady : (u : Name) → u ≢ t → u ≢ p → coming m streams new u ≡ coming m streams old u
 
 -- this many deliveries, in any order, lead from one net to another
 pub data Reaches {State Line Shown : Type 0} (m : Machine State Line Shown) (links : List Link)
-    (streams : Streams) (start : Net State Line Shown) : ℕ
-    → Net State Line Shown → Type 0 where
+    (streams : Streams) (start : RelayState State Line Shown) : ℕ
+    → RelayState State Line Shown → Type 0 where
   stays : Reaches m links streams start zero start
-  goes_on : {n : ℕ} {mid new : Net State Line Shown} (p t : Name) (line : Line) (back : List Line)
-      → Reaches m links streams start n mid → Delivers m p t line back mid new
+  goes_on : {n : ℕ} {mid new : RelayState State Line Shown} (p t : Name) (line : Line)
+      (back : List Line) → Reaches m links streams start n mid → Delivers m p t line back mid new
       → Relays m links streams p t line back mid → Reaches m links streams start (suc n) new
 
 -- how many lines are coming to these servers, together
 abbrev pub lines_coming : {State Line Shown : Type 0} → Machine State Line Shown → Streams
-    → Net State Line Shown → List Name → ℕ
+    → RelayState State Line Shown → List Name → ℕ
 lines_coming m streams net servers = sum_by (λ u. length (coming m streams net u)) servers
 
 -- the same, with those lines counted twice that come to a or b and may be answered by a line back
 abbrev pub lines_pending : {State Line Shown : Type 0} → Machine State Line Shown → Streams
-    → Net State Line Shown → List Name → (Line → Bool) → Name → Name → ℕ
+    → RelayState State Line Shown → List Name → (Line → Bool) → Name → Name → ℕ
 lines_pending m streams net servers answered a b =
     lines_coming m streams net servers + count_by answered (coming m streams net a)
     + count_by answered (coming m streams net b)
@@ -264,7 +265,7 @@ IsFront {A} xs ys = (rest : List A) × (xs ++ rest ≡ ys)
 -- where a run has come to: each server's state and all that it will have shown come out as they
 -- would at the start, what it has shown is a front of that, and at rest it is all of that
 pub record IsOnTheWay {State Line Shown : Type 0} (m : Machine State Line Shown) (streams : Streams)
-    (start now : Net State Line Shown) : Type 0 where
+    (start now : RelayState State Line Shown) : Type 0 where
   pub outcome : SameOutcome m streams start now
   pub goes_away : GoesAway streams now
   pub front : (u : Name) → IsFront (now.shown u) (final_shown m streams start u)

@@ -6,7 +6,7 @@ ghost use Rattle.irc_relay.specs.Queue.{queue_of};
 ghost use Rattle.irc_relay.specs.Links.{IsForest};
 ghost use Rattle.irc_relay.specs.Relay.{IsAtRest, GoesAway};
 ghost use Rattle.irc_relay.specs.NewsNet.{net_of, links_of, streams_of, HasSettled};
-ghost use Rattle.irc_relay.specs.NewsNet.{PublishedGoesAway, name, reading, SendsItem, SendsOn};
+ghost use Rattle.irc_relay.specs.NewsNet.{PublishedGoesAway, name, news_parts, SendsItem, SendsOn};
 ghost use Rattle.irc_relay.specs.NewsNet.{ShowsItem, DeliversNews, KeepsNews, ShowAlike};
 ghost use Rattle.irc_relay.specs.NewsNet.{HasAnnounced};
 ghost use Rattle.irc_relay.specs.Loops.Taking.{is_between, TakesNone, TakesOldest};
@@ -22,7 +22,7 @@ pub struct Edge {
 
 /// A news item on its way.
 #[derive(Clone, Copy)]
-pub struct Sent {
+pub struct NewsSent {
     pub from: u8,
     pub to: u8,
     pub item: u8,
@@ -42,18 +42,18 @@ pub struct News {
     pub edges: Vec<Edge>,
     pub latest: [u8; 256],
     pub shown: Vec<Shown>,
-    pub flying: Vec<Sent>,
+    pub flying: Vec<NewsSent>,
 }
 
 // Where the first item from one server to another stands.
-fn first_between(flying: &[Sent], from: u8, to: u8) -> Option<usize>
+fn first_between(flying: &[NewsSent], from: u8, to: u8) -> Option<usize>
     ensures { result ≡ position (is_between from to) flying.now }
 {
     flying.iter().position(|s| s.from == from && s.to == to)
 }
 
 // Takes the oldest item on its way from one server to another out of what is under way.
-fn take_oldest(flying: &mut Vec<Sent>, from: u8, to: u8) -> Option<u8>
+fn take_oldest(flying: &mut Vec<NewsSent>, from: u8, to: u8) -> Option<u8>
     ensures some { IfSome result
         (λ item. TakesOldest from to item flying.old.items flying.new.items) }
     ensures none { IfNone result (TakesNone from to flying.old.items flying.new.items) }
@@ -69,19 +69,19 @@ fn send_on(
     at: u8,
     from: u8,
     item: u8,
-    flying: &mut Vec<Sent>,
+    flying: &mut Vec<NewsSent>,
 ) -> Result<(), AllocError>
     ensures sent { OnOk result (SendsOn edges.now at from item flying.old.items flying.new.items) }
 {
     for edge in edges {
         if edge.near == at && edge.far != from {
-            flying.push(Sent {
+            flying.push(NewsSent {
                 from: at,
                 to: edge.far,
                 item,
             })?;
         } else if edge.far == at && edge.near != from {
-            flying.push(Sent {
+            flying.push(NewsSent {
                 from: at,
                 to: edge.near,
                 item,
@@ -124,7 +124,7 @@ impl News {
         requires { from ≢ to }
         ensures taken { IfOk result
             (λ taken. MatchBool taken (DeliversNews from to self.old self.new)
-            (queue_of reading self.old.flying.items (name from) (name to) ≡ [])) }
+            (queue_of news_parts self.old.flying.items (name from) (name to) ≡ [])) }
         ensures kept { IfOk result (λ _. KeepsNews self.old self.new) }
         ensures edges { OnOk result (self.new.edges.items ≡ self.old.edges.items) }
     {

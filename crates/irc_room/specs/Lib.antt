@@ -24,5 +24,5 @@ pub mod ToldLaws
 pub mod Codes
 pub mod Indexes
 pub mod OwnNameLaws
-pub mod KeptCodes
+pub mod ServerRoomCodes
 pub mod Loops

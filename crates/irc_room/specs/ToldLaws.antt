@@ -17,7 +17,7 @@ use Rattle.irc_effects.specs.declared.effect.Effect.{Effect}
 use Rattle.irc_effects.specs.Room.{Room}
 use Rattle.irc_effects.specs.Effects.{is_idle}
 use Rattle.irc_effects.specs.Seen.{Showing, seen, shown_to, shown_line, sees}
-use Rattle.irc_effects.specs.Applying.{Kept, is_own, handed}
+use Rattle.irc_effects.specs.Applying.{ServerRoom, is_own, handed}
 use Rattle.irc_room.specs.Loops.LineViews.{ShowsAt}
 use Rattle.irc_room.specs.Loops.Telling.{shown_at}
 use Rattle.irc_effects.specs.Found.{AreNamed}
@@ -48,7 +48,7 @@ all_stored users named front (e ∷ es) is =
 
 module _ (own : List ℕ) (room : Room) (effect : Effect) (line : Option (List ℕ))
     (shows : ShowsAt room effect own line) where
-  abbrev kept : Kept
+  abbrev kept : ServerRoom
   kept = record { own = own; failed = false; room = room }
 
   -- the line, if there is one, for a user

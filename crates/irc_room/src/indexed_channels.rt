@@ -46,7 +46,8 @@ impl Model for IndexedChannels {
 
     ghost view = { λ channels. channels.rows };
 
-    ghost invariant = { λ channels. AreIndexed channels.rows channels.joined.rows channels.invited.rows };
+    ghost invariant = { λ channels.
+        AreIndexed channels.rows channels.joined.rows channels.invited.rows };
 }
 
 impl IndexedChannels {

@@ -6,7 +6,7 @@ ghost use Rattle.irc_effects.specs.Applying.{missing_fault, room_fault};
 ghost use Rattle.irc_effects.specs.Effects.{has_user, has_channel, needs_users, needs_channel};
 ghost use Rattle.irc_effects.specs.Room.{Room};
 ghost use Rattle.irc_room.specs.Loops.Naming.{IsNamed};
-ghost use Rattle.irc_room.specs.KeptCodes.{kept_of};
+ghost use Rattle.irc_room.specs.ServerRoomCodes.{server_room_of};
 
 use crate::{Effect, Named, RoomFault};
 use irc_names::Nick;
@@ -15,7 +15,7 @@ use irc_users::User;
 /// Why a room in which an effect names this refuses it, if it does.
 pub(crate) fn refusal(failed: bool, effect: &Effect, named: Named<'_>) -> Option<RoomFault>
     ensures { (own : List ℕ) (room : Room) → IsNamed room effect.now named.entry
-        → result ≡ room_fault (kept_of own failed room) effect.now }
+        → result ≡ room_fault (server_room_of own failed room) effect.now }
 {
     if failed {
         Some(RoomFault::Failed)

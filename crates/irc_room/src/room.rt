@@ -13,7 +13,7 @@ ghost use Rattle.irc_names.specs.Tables.{row};
 ghost use Rattle.irc_tables.specs.RowViews.{row_entry};
 ghost use Rattle.irc_channels.specs.ChannelTable.{members_in};
 ghost use Rattle.irc_effects.specs.After.{after, titled_by};
-ghost use Rattle.irc_effects.specs.Applying.{Kept, Applied, Changed, IdleKeeps, IdleStays};
+ghost use Rattle.irc_effects.specs.Applying.{ServerRoom, Applied, Changed, IdleKeeps, IdleStays};
 ghost use Rattle.irc_effects.specs.Applying.{ShowsHere};
 ghost use Rattle.irc_effects.specs.Applying.{does, pairs_of, respelling_fault, room_fault};
 ghost use Rattle.irc_effects.specs.Applying.{shown_here};
@@ -55,15 +55,15 @@ pub struct Room {
 
 /// In a clause it is whose room it is, whether memory ran out, and the room, which is well formed.
 impl Model for Room {
-    ghost use Rattle.irc_effects.specs.Applying.{Kept};
+    ghost use Rattle.irc_effects.specs.Applying.{ServerRoom};
     ghost use Rattle.irc_room.specs.Loops.HomeCount.{IsCounted};
-    ghost use Rattle.irc_room.specs.KeptCodes.{kept_code};
+    ghost use Rattle.irc_room.specs.ServerRoomCodes.{server_room_code};
     ghost use Rattle.irc_users.specs.UserTable.{users_code};
     ghost use Rattle.irc_channels.specs.contracts.channel.Channel.{the_row as channel_row};
 
-    ghost Value = { Kept };
+    ghost Value = { ServerRoom };
 
-    ghost coded = { kept_code users_code channel_row.coded };
+    ghost coded = { server_room_code users_code channel_row.coded };
 
     ghost view = { λ r. record { own = r.own; failed = r.failed; room = r.tables } };
 

@@ -73,27 +73,27 @@ receipts_shown client (receipt ∷ receipts) =
     ap (cons_option (line_to client (receives receipt))) (receipts_shown client receipts)
 
 progress_shown : (first : ByteNetwork) (progress : Progress ByteNetwork)
-    → HasReceived first progress.net progress.receipts
-    → Shows first progress.net (flat_map printed progress.receipts)
+    → HasReceived first progress.state progress.out
+    → Shows first progress.state (flat_map printed progress.out)
 progress_shown first progress are = record {
-  entries = map receives progress.receipts;
-  text_is = sym (flat_map-map entry_text receives progress.receipts);
+  entries = map receives progress.out;
+  text_is = sym (flat_map-map entry_text receives progress.out);
   received = λ client. are client ∙ ap (λ lines. received_by first.network client ++ lines)
-      (sym (receipts_shown client progress.receipts));
+      (sym (receipts_shown client progress.out));
 }
 
 -- lines were taken, and their number is printed behind
 taken_shown : (first : ByteNetwork) (progress : Progress ByteNetwork) (count : ℕ)
-    → HasReceived first progress.net progress.receipts
-    → Shows first progress.net (taken_text count progress.receipts)
+    → HasReceived first progress.state progress.out
+    → Shows first progress.state (taken_text count progress.out)
 taken_shown first progress count are =
-    shows_both (progress_shown first progress are) (count_shown progress.net count)
+    shows_both (progress_shown first progress are) (count_shown progress.state count)
 
 -- ---- what comes of a move
 
 -- what is written on its way nobody has received
 given_received : ReceiptsAreReceived → (item : Item) (net : ByteNetwork)
-    → HasReceived net (item_given item net).net (item_given item net).receipts
+    → HasReceived net (item_given item net).state (item_given item net).out
 unfolding item_given
 given_received law item net = law.given item net.network
 
@@ -113,11 +113,11 @@ module _ (law : ReceiptsAreReceived) (answers : AnswersAreReceived) where
     where
       came : deliver_fault first from to ≡ None → (progress : Progress ByteNetwork)
           → delivery first from to
-          ≡ Some progress → HasReceived first progress.net progress.receipts
+          ≡ Some progress → HasReceived first progress.state progress.out
       came none progress some =
-          answers.delivered (standing first) (standing progress.net) from to true progress.receipts
+          answers.delivered (standing first) (standing progress.state) from to true progress.out
           (delivers_it refl none
-          (subst (λ o. Delivers o first true progress.receipts (standing progress.net)) (sym some)
+          (subst (λ o. Delivers o first true progress.out (standing progress.state)) (sym some)
           (refl, refl, refl)))
 
       took : deliver_fault first from to ≡ None → (o : Option (Progress ByteNetwork))
@@ -135,11 +135,11 @@ module _ (law : ReceiptsAreReceived) (answers : AnswersAreReceived) where
       by (deliver_fault first from to) refl is
     where
       came : deliver_fault first from to ≡ None
-          → HasReceived first (piece count first from to).net (piece count first from to).receipts
+          → HasReceived first (piece count first from to).state (piece count first from to).out
       came none =
-          answers.taken (standing first) (standing (piece count first from to).net) from to count
+          answers.taken (standing first) (standing (piece count first from to).state) from to count
           (piece_count count first from to)
-          (piece count first from to).receipts
+          (piece count first from to).out
           (takes_them refl (record { none = none; taken_is = refl; received = refl; after = refl }))
 
       by : (o : Option NetFault) → deliver_fault first from to ≡ o
@@ -150,7 +150,7 @@ module _ (law : ReceiptsAreReceived) (answers : AnswersAreReceived) where
       by (Some fault) some e = subst (ShowsOutcome first) (sym e) (refusal_shown first fault)
   comes_shown first settles_all outcome is =
       subst (Shows first outcome.network) (sym is.text_is)
-      (taken_shown first (record { net = outcome.network; receipts = is.receipts }) is.count
+      (taken_shown first (record { state = outcome.network; out = is.receipts }) is.count
       (answers.settled (standing first) (standing outcome.network) is.count is.receipts
       (settles_it refl is.settles)))
 

@@ -141,8 +141,8 @@ undelivered_played r first last from to fault old new (delivery_by_failed failed
 abbrev taken_as : ℕ → ByteNetwork → Name → Name → MoveOutcome
 taken_as count net from to =
     record {
-      text = taken_text (piece_count count net from to) (piece count net from to).receipts;
-      network = (piece count net from to).net;
+      text = taken_text (piece_count count net from to) (piece count net from to).out;
+      network = (piece count net from to).state;
     }
 
 pub bytes_played : (r : Result (Unit {0}) Trouble) (first last : NetView)
@@ -155,7 +155,7 @@ bytes_played r first last from to count came kept lines old new (takes_them aliv
     (taken_text came (receipts_of lines)) last.network old new
     (sym (ap (λ (f : Option NetFault). taken_or f from to count first.network) t.none))
     (ap (λ ls. taken_text came (receipts_of ls)) same ∙ ap (taken_text came) t.received
-    ∙ ap (λ n. taken_text n (piece count first.network from to).receipts) t.taken_is)
+    ∙ ap (λ n. taken_text n (piece count first.network from to).out) t.taken_is)
     (ap (λ (v : NetView). v.network) t.after) p
 
 pub no_bytes_played : (r : Result (Unit {0}) Trouble) (first last : NetView) (from to : Name)
@@ -181,7 +181,7 @@ pub settled_played : (r : Result (Unit {0}) Trouble) (first last : NetView)
     → IsPut r old new (taken_text count (receipts_of lines))
     → IsPlayed r first.network (settles_all ∷ []) last.network old new
 settled_played r first last count kept lines old new (settles_it alive s) same p =
-    played_as r first.network settles_all (settled_as count (receipts_of kept) s.last.net)
+    played_as r first.network settles_all (settled_as count (receipts_of kept) s.last.state)
     (taken_text count (receipts_of lines)) last.network old new
     (record {
       count = count;

@@ -45,12 +45,12 @@ none_from place (row ∷ wires) still =
     way : ℕ → ℕ → Direction
     way from to = record { from = from; to = to }
 
-no_turn : (progress : Progress ByteNetwork) → is_byte_rest progress.net ≡ true
+no_turn : (progress : Progress ByteNetwork) → is_byte_rest progress.state ≡ true
     → turn_taken progress ≡ None
-no_turn progress rest = ap (option_map (turn_in progress)) (none_from 0 progress.net.wires rest)
+no_turn progress rest = ap (option_map (turn_in progress)) (none_from 0 progress.state.wires rest)
 
 never_on : (progress : Progress ByteNetwork) {between : Progress ByteNetwork}
-    → is_byte_rest progress.net ≡ true → turn_taken progress ≡ Some between → ⊥
+    → is_byte_rest progress.state ≡ true → turn_taken progress ≡ Some between → ⊥
 never_on progress rest turn = cc (sym (no_turn progress rest) ∙ turn)
 
 -- ---- one end
@@ -60,8 +60,8 @@ record SameTurns (count other : ℕ) (last next : Progress ByteNetwork) : Type 0
   last_is : last ≡ next
 
 turns_one : {count other : ℕ} {progress last next : Progress ByteNetwork}
-    → TurnsGo count progress last → is_byte_rest last.net ≡ true → TurnsGo other progress next
-    → is_byte_rest next.net ≡ true → SameTurns count other last next
+    → TurnsGo count progress last → is_byte_rest last.state ≡ true → TurnsGo other progress next
+    → is_byte_rest next.state ≡ true → SameTurns count other last next
 turns_one none_yet rest none_yet rest' = record { count_is = refl; last_is = refl }
 turns_one {progress = progress} none_yet rest (turn_first turn all goes) rest' =
     absurd (never_on progress rest turn)
@@ -73,7 +73,7 @@ turns_one {progress = progress} {next = next}
     let one : a ≡ b = same_some a b (sym turn ∙ turn') in
     let same = turns_one goes rest (subst (λ c. TurnsGo m c next) (sym one) goes') rest' in
     record {
-      count_is = all ∙ ap (λ k. lines_in_turn progress.net + k) same.count_is ∙ sym all';
+      count_is = all ∙ ap (λ k. lines_in_turn progress.state + k) same.count_is ∙ sym all';
       last_is = same.last_is;
     }
 
@@ -95,11 +95,11 @@ settles_one one another =
     record {
       count_is = one.counts ∙ ap (λ n. min n max_count) same.count_is ∙ sym another.counts;
       receipts_are =
-          one.received ∙ ap (λ (c : Progress ByteNetwork). c.receipts) same.last_is
+          one.received ∙ ap (λ (c : Progress ByteNetwork). c.out) same.last_is
           ∙ sym another.received;
       last_is =
           ap (λ (v : NetView). v.network) one.after
-          ∙ ap (λ (c : Progress ByteNetwork). c.net) same.last_is
+          ∙ ap (λ (c : Progress ByteNetwork). c.state) same.last_is
           ∙ sym (ap (λ (v : NetView). v.network) another.after);
     }
 

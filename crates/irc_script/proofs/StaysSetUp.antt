@@ -40,7 +40,7 @@ settings_at outcome = settings_of outcome.network.network
 module _ (law : SettingsStay) where
   line_set_up : (first : ByteNetwork) (o : Option LinkPlaces) (progress : Progress ByteNetwork)
       → option_and_then (line_between first) o ≡ Some progress
-      → settings_of progress.net.network ≡ settings_of first.network
+      → settings_of progress.state.network ≡ settings_of first.network
   line_set_up first None progress is = absurd (cc is)
   line_set_up first (Some ends) progress is = by (has_byte (wire_between first ends)) is
     where
@@ -52,14 +52,15 @@ module _ (law : SettingsStay) where
 
       by : (b : Bool)
           → ◌≡◌ {A = Option (Progress ByteNetwork)} (if b then Some (piece_between count first ends)
-          else None) (Some progress) → settings_of progress.net.network ≡ settings_of first.network
-      by true e = ap (λ (c : Progress ByteNetwork). settings_of c.net.network)
+          else None) (Some progress)
+          → settings_of progress.state.network ≡ settings_of first.network
+      by true e = ap (λ (c : Progress ByteNetwork). settings_of c.state.network)
           (sym (same_some (piece_between count first ends) progress e))
           ∙ (law.come first ends.near ends.far count).settings
       by false e = absurd (cc e)
 
   piece_set_up : (first : ByteNetwork) (count : ℕ) (o : Option LinkPlaces)
-      → settings_of (option_map_or (piece_between count first) o (begun first)).net.network
+      → settings_of (option_map_or (piece_between count first) o (begun first)).state.network
       ≡ settings_of first.network
   piece_set_up first count None = refl
   piece_set_up first count (Some ends) = (law.come first ends.near ends.far count).settings

@@ -36,7 +36,7 @@ IsKeptIn outcome = IsKeptSound outcome.network
 -- the line that comes between two servers, if one does
 line_kept : StaysKept → (first : ByteNetwork) (o : Option LinkPlaces)
     (progress : Progress ByteNetwork) → option_and_then (line_between first) o ≡ Some progress
-    → IsKeptSound first → IsKeptSound progress.net
+    → IsKeptSound first → IsKeptSound progress.state
 line_kept laws first None progress is kept = absurd (cc is)
 line_kept laws first (Some ends) progress is kept = by (has_byte (wire_between first ends)) is
   where
@@ -45,9 +45,9 @@ line_kept laws first (Some ends) progress is kept = by (has_byte (wire_between f
 
     by : (b : Bool)
         → ◌≡◌ {A = Option (Progress ByteNetwork)} (if b then Some (piece_between count first ends)
-        else None) (Some progress) → IsKeptSound progress.net
+        else None) (Some progress) → IsKeptSound progress.state
     by true e =
-        subst (λ (c : Progress ByteNetwork). IsKeptSound c.net)
+        subst (λ (c : Progress ByteNetwork). IsKeptSound c.state)
         (same_some (piece_between count first ends)
         progress e) (laws.come first ends.near ends.far count kept)
     by false e = absurd (cc e)
@@ -55,7 +55,7 @@ line_kept laws first (Some ends) progress is kept = by (has_byte (wire_between f
 -- the bytes that come between two servers, if there are such
 piece_kept : StaysKept → (first : ByteNetwork) (count : ℕ)
     (o : Option LinkPlaces) → IsKeptSound first
-    → IsKeptSound (option_map_or (piece_between count first) o (begun first)).net
+    → IsKeptSound (option_map_or (piece_between count first) o (begun first)).state
 piece_kept laws first count None kept = kept
 piece_kept laws first count (Some ends) kept = laws.come first ends.near ends.far count kept
 

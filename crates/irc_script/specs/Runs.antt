@@ -30,7 +30,7 @@ move_refused fault net = record { text = refusal_line (fault_number fault); netw
 
 abbrev pub lines_received : Progress ByteNetwork → MoveOutcome
 lines_received progress =
-    record { text = flat_map printed progress.receipts; network = progress.net }
+    record { text = flat_map printed progress.out; network = progress.state }
 
 abbrev pub given_or : Option NetFault → Item → ByteNetwork → MoveOutcome
 given_or None item net = lines_received (item_given item net)
@@ -40,7 +40,7 @@ given_or (Some fault) item net = move_refused fault net
 abbrev pub delivered_by : Option (Progress ByteNetwork) → ByteNetwork → MoveOutcome
 delivered_by None net = record { text = taken_text 0 []; network = net }
 delivered_by (Some progress) net =
-    record { text = taken_text 1 progress.receipts; network = progress.net }
+    record { text = taken_text 1 progress.out; network = progress.state }
 
 abbrev pub delivered_or : Option NetFault → Name → Name → ByteNetwork → MoveOutcome
 delivered_or None from to net = delivered_by (delivery net from to) net
@@ -49,8 +49,8 @@ delivered_or (Some fault) from to net = move_refused fault net
 abbrev pub taken_or : Option NetFault → Name → Name → ℕ → ByteNetwork → MoveOutcome
 taken_or None from to count net =
     record {
-      text = taken_text (piece_count count net from to) (piece count net from to).receipts;
-      network = (piece count net from to).net;
+      text = taken_text (piece_count count net from to) (piece count net from to).out;
+      network = (piece count net from to).state;
     }
 taken_or (Some fault) from to count net = move_refused fault net
 

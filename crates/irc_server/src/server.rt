@@ -1,7 +1,8 @@
 //! One server.
-ghost use Rattle.std.specs.Prelude.{◌≡◌, false, is_some, OnOk};
+ghost use Rattle.std.specs.Prelude.{◌≡◌, None, Some, false, is_some, IfOk, OnOk};
 ghost use Rattle.std.specs.FinMap.{get};
 ghost use Rattle.std.specs.Option.{option_and_then, option_copied, option_map, option_map_or};
+ghost use Rattle.std.specs.Option.{option_or};
 ghost use Rattle.irc_server.specs.Configuring.{IsMade};
 ghost use Rattle.irc_server.specs.ReadEvents.{AreHandled, IsHandled};
 ghost use Rattle.irc_server.specs.Owed.{AllReceive};
@@ -14,14 +15,16 @@ use crate::event::{Event, ServerFault};
 use irc_batch::Batch;
 use irc_room::Room;
 use irc_routes::Routes;
-use irc_stage::{Conn, Stage, View};
-use std::alloc::Global;
+use irc_stage::{Conn, FirstStage, Stage, View};
+use std::alloc::{AllocError, Global};
 use std::marker::Model;
 
 /// One server.
 #[derive(Drop)]
 pub struct Server {
-    /// None once memory ran out.
+    /// What it is until its first event.
+    first: Option<FirstStage>,
+    /// What it is from then on; none once memory ran out.
     stage: Option<Stage>,
 }
 
@@ -29,6 +32,7 @@ pub struct Server {
 impl Model for Server {
     ghost use Rattle.std.specs.Prelude.{Option};
     ghost use Rattle.std.specs.Coded.{coded_option};
+    ghost use Rattle.std.specs.Option.{option_or};
     ghost use Rattle.irc_users.specs.UserTable.{users_code};
     ghost use Rattle.irc_channels.specs.contracts.channel.Channel.{the_row as channel_row};
     ghost use Rattle.irc_routes.specs.contracts.routes.Routes.{the_row as routes_row};
@@ -38,9 +42,29 @@ impl Model for Server {
 
     ghost Value = { Option View };
 
-    ghost coded = { coded_option (view_code routes_row.coded client_row.coded users_code channel_row.coded) };
+    ghost coded = { coded_option
+        (view_code routes_row.coded client_row.coded users_code channel_row.coded) };
 
-    ghost view = { λ s. s.stage };
+    ghost view = { λ s. option_or s.first s.stage };
+}
+
+/// Takes out what a server is: before its first event it gets memory of its own.
+///
+/// # Errors
+/// Where memory runs out, or ran out before.
+fn taken(first: &mut Option<FirstStage>, stage: &mut Option<Stage>) -> Result<Stage, AllocError>
+    ensures taken { IfOk result (λ kept. option_or first.old stage.old ≡ Some kept) }
+    ensures no_first { first.new ≡ None }
+    ensures no_stage { stage.new ≡ None }
+{
+    let stage = stage.take();
+    if first.is_none() {
+        return stage.ok_or(AllocError);
+    }
+    match first.take() {
+        Some(first) => first.keep(),
+        None => Err(AllocError),
+    }
 }
 
 impl Server {
@@ -58,7 +82,8 @@ impl Server {
         }
         let routes = Routes::new(config.own);
         Ok(Server {
-            stage: Some(Stage::new(alloc, routes, config.peers)),
+            first: Some(FirstStage::new(alloc, routes, config.peers)),
+            stage: None,
         })
     }
 
@@ -66,6 +91,9 @@ impl Server {
     fn view(&self) -> Option<View<'_>>
         ensures { result ≡ self.now }
     {
+        if let Some(first) = &self.first {
+            return Some(first.view());
+        }
         match &self.stage {
             Some(stage) => Some(stage.view()),
             None => None,
@@ -127,13 +155,13 @@ impl Server {
     pub fn handle(&mut self, event: &Event, out: &mut Batch) -> Result<(), ServerFault>
         ensures { IsHandled self.old event.now out.old.outs result self.new out.new.outs }
     {
-        let Some(stage) = self.stage.take() else {
+        let Some(view) = self.view() else {
             return Err(ServerFault::Failed);
         };
-        if let Some(fault) = refusal(&stage.view(), event) {
-            self.stage = Some(stage);
+        if let Some(fault) = refusal(&view, event) {
             return Err(fault);
         }
+        let stage = taken(&mut self.first, &mut self.stage)?;
         self.stage = Some(act(stage, event)?.end(out)?);
         Ok(())
     }
@@ -149,7 +177,8 @@ impl Server {
         events: Vec<Event, Global>,
         out: &mut Batch,
     ) -> Result<(), ServerFault>
-        ensures handled { AreHandled self.old events.items out.old.outs result self.new out.new.outs }
+        ensures handled { AreHandled self.old events.items out.old.outs
+            result self.new out.new.outs }
         ensures owed { OnOk result
             (AllReceive self.old events.items out.old.outs self.new out.new.outs) }
     {

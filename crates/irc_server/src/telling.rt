@@ -1,15 +1,8 @@
 //! What a line of a link tells is done, and told on to the others (RFC 2813 sections 4 and 5).
 ghost use Rattle.std.specs.Prelude.{◌≡◌, Some, IfOk};
 ghost use Rattle.std.specs.FinMap.{get};
-ghost use Rattle.irc_burst.specs.Loops.Deeds.{
-  told_of_deed,
-  told_of_deeds,
-  killing_told,
-  loss_told,
-  server_told,
-  setting_told,
-  topic_told,
-};
+ghost use Rattle.irc_burst.specs.Loops.Deeds.{told_of_deed, told_of_deeds, loss_told, topic_told};
+ghost use Rattle.irc_link_reader.specs.Loops.Tellings.{killing_told, server_told, setting_told};
 ghost use Rattle.irc_merge.specs.Deeds.{changes_made, is_greater_topic, raised_in};
 ghost use Rattle.irc_stage.specs.EffectTold.{all_changed};
 ghost use Rattle.irc_stage.specs.Ways.{IsMetEnd};

@@ -15,16 +15,16 @@ pub data Kind : Type 0 where
   -- an array of tables that all pass this test
   tables : (Members → Bool) → Kind
 
-pub record Key : Type 0 where
+pub record SettingKey : Type 0 where
   pub name : List ℕ
   pub kind : Kind
   -- whether it has to be there
   pub is_needed : Bool
 
-abbrev pub needed : List ℕ → Kind → Key
+abbrev pub needed : List ℕ → Kind → SettingKey
 needed name kind = record { name = name; kind = kind; is_needed = true }
 
-abbrev pub optional : List ℕ → Kind → Key
+abbrev pub optional : List ℕ → Kind → SettingKey
 optional name kind = record { name = name; kind = kind; is_needed = false }
 
 abbrev pub is_number_between : ℕ → ℕ → ℤ → Bool
@@ -56,21 +56,21 @@ is_of_kind (tables test) value = option_map_or (are_tables test) (as_array value
 
 -- whether what a table has at a key may stand there: where it has nothing, whether the key may be
 -- left out
-abbrev pub is_kept : Members → Key → Bool
+abbrev pub is_kept : Members → SettingKey → Bool
 is_kept table key =
     option_map_or (is_of_kind key.kind) (get_member key.name table) (not key.is_needed)
 
 -- whether a name is one of these keys
-abbrev pub is_known_key : List Key → List ℕ → Bool
+abbrev pub is_known_key : List SettingKey → List ℕ → Bool
 is_known_key keys name = list_any (λ key. bytes_eq name key.name) keys
 
 -- whether a table has these keys, each with what may stand there, and no others
-abbrev pub is_in_form : List Key → Members → Bool
+abbrev pub is_in_form : List SettingKey → Members → Bool
 is_in_form keys table =
     list_all (is_known_key keys) (keys_in table) && list_all (is_kept table) keys
 
 -- the keys of a table `peer`: a server that may be linked to
-abbrev pub peer_keys : List Key
+abbrev pub peer_keys : List SettingKey
 peer_keys =
     needed (codes "name") text ∷ needed (codes "password") text
     ∷ optional (codes "connect") text ∷ optional (codes "retry") (integer 1 3600) ∷ []
@@ -88,7 +88,7 @@ abbrev pub is_peer : Members → Bool
 is_peer table = is_in_form peer_keys table && retries_calls_alone table
 
 -- the keys of the document
-abbrev pub server_keys : List Key
+abbrev pub server_keys : List SettingKey
 server_keys =
     needed (codes "name") text ∷ needed (codes "info") text ∷ needed (codes "created") text ∷ needed
     (codes "listen") text

@@ -24,35 +24,35 @@ rows_reached place link rows = row_changed (λ row. call_reached row link) place
 
 -- the call of the one at a place has failed, or its link has ended
 abbrev pub rows_ended : ℕ → ℕ → List Retry → List Retry
-rows_ended place comers rows = row_changed (λ row. call_ended row comers) place rows
+rows_ended place visits rows = row_changed (λ row. call_ended row visits) place rows
 
 -- the link of the call at a place has ended, if it is that of one
 abbrev pub rows_ended_if : Option ℕ → ℕ → List Retry → List Retry
-rows_ended_if None comers rows = rows
-rows_ended_if (Some place) comers rows = rows_ended place comers rows
+rows_ended_if None visits rows = rows
+rows_ended_if (Some place) visits rows = rows_ended place visits rows
 
 abbrev pub rows_closed : ℕ → Retries → List Retry
 rows_closed link retries =
-    rows_ended_if (position (is_of_link link) retries.rows.items) retries.comers retries.rows.items
+    rows_ended_if (position (is_of_link link) retries.rows.items) retries.visits retries.rows.items
 
 abbrev pub rows_begun : ℕ → ℕ → List Retry → List Retry
-rows_begun place comers rows = row_changed (λ row. call_begun row comers) place rows
+rows_begun place visits rows = row_changed (λ row. call_begun row visits) place rows
 
 -- the one at a place is called; and its call is under way, or has failed at once
 abbrev pub IsCalled : ℕ → ℕ → List Retry → List Retry → Type 0
-IsCalled place comers old new =
-    (new ≡ rows_begun place comers old)
-    ⊎ (new ≡ rows_ended place comers (rows_begun place comers old))
+IsCalled place visits old new =
+    (new ≡ rows_begun place visits old)
+    ⊎ (new ≡ rows_ended place visits (rows_begun place visits old))
 
 -- one is called, if it is due; else nobody is
 abbrev pub IsCalledIfDue : Option ℕ → ℕ → List Retry → List Retry → Type 0
-IsCalledIfDue None comers old new = new ≡ old
-IsCalledIfDue (Some place) comers old new = IsCalled place comers old new
+IsCalledIfDue None visits old new = new ≡ old
+IsCalledIfDue (Some place) visits old new = IsCalled place visits old new
 
 -- what is known of the one that was looked at; and it is called, where that is due
 pub record Knows (is_known yields : Bool) (old new : Retries) : Type 0 where
   pub rows :
-      IsCalledIfDue (due_place old is_known yields old.looked_at) old.comers
+      IsCalledIfDue (due_place old is_known yields old.looked_at) old.visits
       (seen_at old is_known old.looked_at) new.rows.items
   pub looked : new.looked_at ≡ None
   pub called :
@@ -64,4 +64,4 @@ pub record Knows (is_known yields : Bool) (old new : Retries) : Type 0 where
       ≡ (if is_some (due_place old is_known yields old.looked_at) then spread_on old.spread 1
       else old.spread)
   pub passed : new.passed ≡ old.passed
-  pub comers : new.comers ≡ old.comers
+  pub visits : new.visits ≡ old.visits

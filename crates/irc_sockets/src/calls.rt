@@ -112,13 +112,13 @@ impl Calls {
         ensures asked { self.new.asked ≡ self.old.asked }
         ensures spread { self.new.retries.spread ≡ (if is_again
             then spread_on self.old.retries.spread 1 else self.old.retries.spread) }
-        ensures rows { IsCalled place self.old.retries.comers self.old.retries.rows.items
+        ensures rows { IsCalled place self.old.retries.visits self.old.retries.rows.items
             self.new.retries.rows.items }
         ensures called { self.new.retries.called_at
             ≡ (if is_again then Some self.old.retries.passed else self.old.retries.called_at) }
         ensures looked { self.new.retries.looked_at ≡ self.old.retries.looked_at }
         ensures passed { self.new.retries.passed ≡ self.old.retries.passed }
-        ensures comers { self.new.retries.comers ≡ self.old.retries.comers }
+        ensures visits { self.new.retries.visits ≡ self.old.retries.visits }
     {
         self.retries.begin(place, is_again);
         if let Err(error) = self.try_call(place, registry, token) {
@@ -132,7 +132,7 @@ impl Calls {
         ensures asked { self.new.asked ≡ self.old.asked }
         ensures under_way { self.new.under_way ≡ self.old.under_way }
         ensures rows { self.new.retries.rows.items
-            ≡ rows_ended place self.old.retries.comers self.old.retries.rows.items }
+            ≡ rows_ended place self.old.retries.visits self.old.retries.rows.items }
         ensures retries { self.new.retries
             ≡ record self.old.retries { rows = self.new.retries.rows } }
     {

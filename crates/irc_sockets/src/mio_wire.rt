@@ -128,10 +128,9 @@ impl MioWire {
         self.sockets.talkers.pass(waited);
         self.calls.retries.pass(waited);
         self.calls.retries.look();
-        let has_arrived = self.take_events();
+        let has_come = self.take_events();
         self.sockets.talkers.let_go();
-        self.round
-            .begin(self.sockets.talkers.waiting(), has_arrived);
+        self.round.begin(self.sockets.talkers.waiting(), has_come);
         Ok(())
     }
 
@@ -146,9 +145,9 @@ impl MioWire {
     /// Takes in what the system tells, and whether somebody has come who was not waiting.
     fn take_events(&mut self) -> bool {
         let before = self.sockets.talkers.waiting();
-        let mut has_arrived = false;
+        let mut has_come = false;
         for event in &self.events {
-            has_arrived |= match event.token() {
+            has_come |= match event.token() {
                 Token(CLIENTS) => knock(&mut self.clients),
                 Token(LINKS) => self.links.as_mut().is_some_and(knock),
                 Token(CALLS) => self.calls.knock(),
@@ -158,7 +157,7 @@ impl MioWire {
             };
         }
         self.sockets.talkers.put_behind(before);
-        has_arrived
+        has_come
     }
 
     /// A round of arrivals begins at the doors.
@@ -310,7 +309,7 @@ impl Wire for MioWire {
     }
 
     fn read(&mut self, conn: u64, buffer: &mut [u8]) -> Result<Got, IoFault> {
-        self.sockets.read(conn as usize, buffer, self.round.comers)
+        self.sockets.read(conn as usize, buffer, self.round.visits)
     }
 
     fn write(&mut self, conn: u64, bytes: &[u8], behind: usize) -> Result<usize, IoFault> {

@@ -86,13 +86,13 @@ impl Sockets {
     ///
     /// # Errors
     /// Where the socket failed, or is none.
-    pub fn read(&mut self, number: usize, buffer: &mut [u8], comers: u64) -> Result<Got, IoFault>
+    pub fn read(&mut self, number: usize, buffer: &mut [u8], visits: u64) -> Result<Got, IoFault>
         ensures { FitsIn result (length buffer.old) }
     {
         let Some(talker) = self.talkers.at(number) else {
             return Err(IoFault::Failed);
         };
-        let got = match talker.begin_read(buffer, comers) {
+        let got = match talker.begin_read(buffer, visits) {
             Reading::Given(count) => Ok(Got::Bytes(count)),
             Reading::Anew(lines) => match self.by_number.get_mut(number) {
                 Some(Some(stream)) => read_anew(stream, talker, buffer, lines),

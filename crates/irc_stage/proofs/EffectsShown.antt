@@ -14,7 +14,7 @@ use Rattle.irc_room.specs.effect.Effect.TheVariants.{Say}
 use Rattle.irc_room.specs.effect.Target.{Target}
 use Rattle.irc_room.specs.effect.Target.TheVariants.{User, Channel}
 use Rattle.irc_room.specs.After.{after}
-use Rattle.irc_room.specs.Applying.{Kept}
+use Rattle.irc_room.specs.Applying.{ServerRoom}
 use Rattle.irc_room.specs.Effects.{has_user, needs_users, IsPossible}
 use Rattle.irc_room.specs.Room.{Room, IsWellFormed}
 use Rattle.irc_room.specs.Seen.{seen, shown_line}
@@ -27,7 +27,7 @@ use Rattle.irc_stage.specs.EffectTold.{changed, is_elsewhere}
 use Rattle.irc_stage.specs.declared.ways.Ways.{Ways}
 use Rattle.irc_stage.specs.declared.clients.ClientTable.{ClientTable}
 use Rattle.irc_stage.specs.declared.origin.Origin.{Origin}
-use Rattle.irc_stage.specs.declared.parts.Parts.{Parts}
+use Rattle.irc_stage.specs.declared.parts.ServerParts.{ServerParts}
 use Rattle.irc_stage.specs.RoomMachine.{Clients, RoomMachine}
 use Rattle.irc_stage.specs.Handle.{Handled, clients_after, machine_after, to_viewer, with_effect}
 use Rattle.irc_stage.specs.Loops.Hearing.{hearers, is_nick_of, line_of, sees_fold, to_each}
@@ -189,7 +189,8 @@ shown_to_hearers around effect indexed well own fit line shows =
     (λ viewer conn sees at home. shows viewer (home ∙ sym own)) well
 
 -- what is said leaves the room as it is
-pub nothing_said : (kept : Kept) (effect : Effect) (by : List ℕ) (notice : Bool) (target : Target)
+pub nothing_said : (kept : ServerRoom) (effect : Effect) (by : List ℕ) (notice : Bool)
+    (target : Target)
     (words : ArrayVec ℕ) → effect ≡ Say by notice target words
     → kept ≡ record kept { room = after kept.room effect }
 unfolding after
@@ -200,7 +201,7 @@ pub right_by_none : (old new : Ways) (before now : Room) → KnowsNothing new
     → StaysRight old before new now
 right_by_none old new before now none = λ known is channel at. cc (sym none ∙ at)
 
-module _ (old : Parts) (effect : Effect) (kept : Kept)
+module _ (old : ServerParts) (effect : Effect) (kept : ServerRoom)
     (kept_is : kept ≡ record old.room { room = after old.room.room effect }) where
   -- the server after it
   pub changed_by : (clients : Clients) → clients ≡ clients_after effect (clients_of old.clients)
@@ -211,7 +212,7 @@ module _ (old : Parts) (effect : Effect) (kept : Kept)
         out = out_after;
       } ≡ changed effect (served_at old out)
   changed_by clients clients_are out out_after out_is here =
-      ap (λ (k : Kept). record {
+      ap (λ (k : ServerRoom). record {
         state = record (view_of old) { clients = clients; room = k.room };
         out = out_after;
       }) kept_is
@@ -250,7 +251,7 @@ module _ (old : Parts) (effect : Effect) (kept : Kept)
         ways = ways;
       })
   ready_after ready sound clients indexed by_nick listeners so ways right = record {
-    own_is = ap (λ (k : Kept). k.own) kept_is ∙ ready.own_is;
+    own_is = ap (λ (k : ServerRoom). k.own) kept_is ∙ ready.own_is;
     sound = sound;
     indexed = indexed;
     heard = so_in listeners.lists old.room kept effect _ _ kept_is by_nick so;
@@ -259,7 +260,7 @@ module _ (old : Parts) (effect : Effect) (kept : Kept)
   }
 
 -- with other links at hand it is ready too
-pub ready_with : (old : Parts) → IsReady old → (ways : Ways)
+pub ready_with : (old : ServerParts) → IsReady old → (ways : Ways)
     → IsRightIn ways old.room.room old.routes → IsReady (record old { ways = ways })
 ready_with old ready ways right = record {
   own_is = ready.own_is;

@@ -1,22 +1,17 @@
 -- The client that is a user who was taken out is told why, and closed.
 use Rattle.std.proofs.Common.{◌≡◌, ℕ, Option, Some, None, List, [], ◌∷◌, ◌++◌, true, is_some}
-use Rattle.std.proofs.Common.{sym, ◌∙◌, ap, map, append-nil, append_assoc}
-use Rattle.std.specs.BTreeMap.{BTreeMap}
+use Rattle.std.proofs.Common.{sym, ◌∙◌, ap, append-nil, append_assoc}
 use Rattle.std.specs.FinMap.{remove}
-use Rattle.std.specs.Global.{Vec}
 use Rattle.std.specs.Borrow.{Bor}
 use Rattle.std.specs.Option.{option_copied}
 use Rattle.irc_users.specs.declared.user.User.{User}
 use Rattle.irc_names.specs.Fold.{key}
 use Rattle.irc_names.specs.Tables.{Table, row}
 use Rattle.irc_batch.specs.Batches.{Batch, Sent, batch_of, end_of, line_to}
-use Rattle.irc_stage.specs.Ends.{End}
-use Rattle.irc_stage.specs.declared.peer.Peer.{Peer}
-use Rattle.irc_stage.specs.declared.parts.Parts.{Parts}
+use Rattle.irc_stage.specs.declared.parts.ServerParts.{ServerParts}
 use Rattle.irc_stage.specs.EffectTold.{Served, client_ended, ends_of}
 use Rattle.irc_stage.specs.Handle.{to_viewer}
-use Rattle.irc_stage.specs.RoomMachine.{Clients, RoomMachine, without_client}
-use Rattle.irc_stage.specs.View.{known_peer}
+use Rattle.irc_stage.specs.RoomMachine.{Clients}
 use Rattle.irc_stage.specs.Loops.Handling.{unseated_in}
 use Rattle.irc_stage.specs.Loops.Parts.{served_at, IsIndex, IsIndexed}
 use Rattle.irc_stage.proofs.Showings.{all_kept, indexed, no_ends, not_indexed, one_end, one_left}
@@ -64,7 +59,7 @@ module _ (s : Served) (by_nick : Table ℕ) (index : IsIndex s.state.clients by_
       }) (one_left s.state.clients by_nick index nick conn is)
 
 -- the code: its line, its end, and then it is taken out
-pub ended_one : (old : Parts) → IsIndexed old.clients → (nick text : List ℕ) (conn : ℕ)
+pub ended_one : (old : ServerParts) → IsIndexed old.clients → (nick text : List ℕ) (conn : ℕ)
     → row old.clients.by_nick (key nick) ≡ Some conn → (out put closed : Batch) (line : List ℕ)
     → line ≡ error_line text → put ≡ batch_of (out.outs ++ line_to conn line ∷ []) line
     → closed ≡ record put { outs = put.outs ++ end_of conn ∷ [] }

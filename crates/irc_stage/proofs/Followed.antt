@@ -5,7 +5,7 @@ use Rattle.irc_names.specs.Tables.{Table, row}
 use Rattle.irc_room.specs.effect.Effect.{Effect}
 use Rattle.irc_room.specs.effect.Effect.TheVariants.{Rename}
 use Rattle.irc_room.specs.After.{after}
-use Rattle.irc_room.specs.Applying.{Kept}
+use Rattle.irc_room.specs.Applying.{ServerRoom}
 use Rattle.irc_room.specs.Room.{Room}
 use Rattle.irc_stage.specs.declared.clients.Client.{Client}
 use Rattle.irc_stage.specs.declared.clients.Client.TheVariants.{Registering, Registered}
@@ -38,11 +38,11 @@ pub so_by : (lists : Lists) (room : Room) (index other : Table ℕ) → index �
 so_by lists room index other is so = subst (AreSo lists room) (sym is) so
 
 -- and with the room as it is then
-pub so_in : (lists : Lists) (kept now : Kept) (effect : Effect) (index other : Table ℕ)
+pub so_in : (lists : Lists) (kept now : ServerRoom) (effect : Effect) (index other : Table ℕ)
     → now ≡ record kept { room = after kept.room effect } → index ≡ other
     → AreSo lists (after kept.room effect) other → AreSo lists now.room index
 so_in lists kept now effect index other now_is is so =
-    subst (λ (k : Kept). AreSo lists k.room index) (sym now_is)
+    subst (λ (k : ServerRoom). AreSo lists k.room index) (sym now_is)
     (so_by lists (after kept.room effect) index other is so)
 
 -- a nickname that a user takes is no other client's

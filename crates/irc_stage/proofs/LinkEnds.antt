@@ -16,7 +16,7 @@ use Rattle.irc_stage.specs.declared.ways.Ways.{Ways}
 use Rattle.irc_routes.specs.declared.server_row.ServerRow.{ServerRow}
 use Rattle.irc_routes.specs.Known.{Known, added, others, smallest_free, unless_behind, without_link}
 use Rattle.irc_routes.specs.Known.{without_server}
-use Rattle.irc_stage.specs.declared.parts.Parts.{Parts}
+use Rattle.irc_stage.specs.declared.parts.ServerParts.{ServerParts}
 use Rattle.irc_stage.specs.Linked.{with_far, with_password}
 use Rattle.irc_stage.specs.View.{View}
 use Rattle.irc_stage.specs.Lemmas.Numbers.{get-numbered, get-with, get-without, one_number}
@@ -163,7 +163,7 @@ module _ (view : View) (link : ℕ) (name : List ℕ) where
 
 -- ---- a server that serves goes on to
 
-module _ (stage : Parts) (serving : IsServing stage) where
+module _ (stage : ServerParts) (serving : IsServing stage) where
   pub serves_with_ends : (ends : BTreeMap ℕ End) → AreEnds (numbered ends) stage.routes
       → IsServing (record stage { ends = ends })
   serves_with_ends ends met = record {

@@ -10,13 +10,13 @@ use Rattle.irc_channels.specs.Channels.{respelled}
 use Rattle.irc_room.specs.fault.RoomFault.{RoomFault}
 use Rattle.irc_room.specs.fault.RoomFault.TheVariants.{Failed, NoSuchChannel}
 use Rattle.irc_room.specs.After.{titled_by}
-use Rattle.irc_room.specs.Applying.{Kept, respelling_fault}
+use Rattle.irc_room.specs.Applying.{ServerRoom, respelling_fault}
 use Rattle.irc_room.specs.Effects.{has_channel}
 use Rattle.irc_room.specs.Lemmas.RespelledRooms.{respelled_is_well_formed}
 use Rattle.irc_room.specs.Lemmas.Rows.{alter_same, not_none}
 use Rattle.irc_stage.specs.Loops.Branching.{KnowsNothing}
 use Rattle.irc_stage.specs.declared.ways.Ways.{Ways}
-use Rattle.irc_stage.specs.declared.parts.Parts.{Parts}
+use Rattle.irc_stage.specs.declared.parts.ServerParts.{ServerParts}
 use Rattle.irc_stage.specs.Loops.Parts.{IsServing}
 use Rattle.irc_stage.proofs.ListsKept.{titled_so}
 
@@ -27,8 +27,8 @@ none_respelled name None fault is = refl
 none_respelled name (Some channel) fault is = not_none fault is
 
 -- whichever way the room answers, it has the greater spelling
-pub room_respelled : {U : Type 0} (result : Result U RoomFault) (kept now : Kept) (name : List ℕ)
-    → kept.failed ≡ false → result_err result ≡ respelling_fault kept name
+pub room_respelled : {U : Type 0} (result : Result U RoomFault) (kept now : ServerRoom)
+    (name : List ℕ) → kept.failed ≡ false → result_err result ≡ respelling_fault kept name
     → OnOk result (now ≡ record kept { room = titled_by name kept.room })
     → OnErr result (now ≡ kept) → now ≡ record kept { room = titled_by name kept.room }
 room_respelled (Ok done) kept now name serves fault ok refused = ok
@@ -42,11 +42,11 @@ room_respelled (Err why) kept now name serves fault ok refused =
     else (if has_channel kept.room name then None else Some NoSuchChannel)) serves)))))
 
 -- a server that serves goes on to: the same clients listen, and no way is known
-pub serves_respelled : (stage : Parts) → IsServing stage → (name : List ℕ) (now : Kept)
+pub serves_respelled : (stage : ServerParts) → IsServing stage → (name : List ℕ) (now : ServerRoom)
     (ways : Ways) → now ≡ record stage.room { room = titled_by name stage.room.room }
     → KnowsNothing ways → IsServing (record stage { room = now; ways = ways })
 serves_respelled stage serving name now ways is known =
-    subst (λ (kept : Kept). IsServing (record stage { room = kept; ways = ways })) (sym is)
+    subst (λ (kept : ServerRoom). IsServing (record stage { room = kept; ways = ways })) (sym is)
     (record {
       ready = record {
         own_is = serving.ready.own_is;

@@ -38,7 +38,7 @@ use Rattle.irc_commands.specs.Closing.{error_line}
 
 -- a server, and what it has put out, in order
 abbrev pub Served : Type 0
-Served = WithOutput View
+Served = WithOutput View (List Sent)
 
 -- nothing is put out
 abbrev pub in_silence : View → Served

@@ -33,13 +33,15 @@ pub data ClientEvent : Type 0 where
   says : (conn : ℕ) (read : Result Parsed LineFault) → ClientEvent
   goes : (conn : ℕ) → ClientEvent
 
--- what has become of a machine, or of a server, and what is put out by that, in order
-pub record WithOutput (State : Type 0) : Type 0 where
+-- What has become of a state, and what has come of that on the way, in order: what a machine or a
+-- server puts out, or what the clients of a network receive.
+pub record WithOutput (State Out : Type 0) : Type 0 where
   pub state : State
-  pub out : List Sent
+  pub out : Out
 
+-- a room machine, and what it has put out
 abbrev pub Handled : Type 0
-Handled = WithOutput RoomMachine
+Handled = WithOutput RoomMachine (List Sent)
 
 -- whether a client is the user with a nickname
 abbrev pub is_client : List ℕ → Client → Bool

@@ -12,10 +12,10 @@ ghost use Rattle.irc_stage.specs.Loops.Handling.{answered_to, seated_in, unseate
 ghost use Rattle.irc_stage.specs.Loops.Speaking.{arrival_of, AreSpokenAt, IsSpoken};
 ghost use Rattle.irc_stage.specs.Loops.Parts.{AreFitAt, IsFit, IsFreeOf, IsNoUser};
 
-use crate::clients::{self, Client, number_of};
+use crate::clients::{Client, number_of};
 use crate::numbers::Conn;
 use crate::origin::{Origin, Speaker};
-use crate::parts::Parts;
+use crate::parts::ServerParts;
 use crate::serving::Serving;
 use crate::view::View;
 use irc_acts::Act;
@@ -26,13 +26,13 @@ use irc_names::Nick;
 use irc_numerics::reply_line;
 use irc_queries::Query;
 use irc_room::Effect;
-use std::alloc::AllocError;
+use std::alloc::{AllocError, Global};
 use std::marker::Model;
 
 /// A server while the event of a client is handled: its clients and its users need not be matched.
 #[derive(Drop)]
 pub struct Handling {
-    pub(crate) parts: Parts,
+    pub(crate) parts: Box<ServerParts, Global>,
     pub(crate) out: Batch,
 }
 
@@ -53,9 +53,9 @@ impl Model for Handling {
         (view_code routes_row.coded client_row.coded users_code channel_row.coded)
         batch_row.coded };
 
-    ghost view = { λ h. served_at h.parts h.out.outs };
+    ghost view = { λ h. served_at h.parts.value h.out.outs };
 
-    ghost invariant = { λ h. IsReady h.parts };
+    ghost invariant = { λ h. IsReady h.parts.value };
 }
 
 impl Handling {
@@ -86,8 +86,7 @@ impl Handling {
         requires free { IsFreeOf client self.state.clients }
         ensures { IfOk result (λ seated. seated ≡ seated_in conn client self) }
     {
-        self.parts.listeners.seat(&self.parts.room, conn, &client)?;
-        clients::seat(&mut self.parts.clients, conn, client)?;
+        self.parts.seat(conn, client)?;
         Ok(self)
     }
 
@@ -95,9 +94,7 @@ impl Handling {
     pub fn take_out(mut self, conn: Conn) -> Self
         ensures { result ≡ unseated_in conn self }
     {
-        let client = clients::client_of(&self.parts.clients, conn);
-        self.parts.listeners.take_out(&self.parts.room, client);
-        clients::take_out(&mut self.parts.clients, conn);
+        self.parts.take_out(conn);
         self
     }
 
@@ -123,14 +120,7 @@ impl Handling {
         requires matched { IsMatched (machine_of self.state) }
         ensures { IfOk result (λ left. left ≡ quit_by nick.now text.now self) }
     {
-        if self.parts.room.user(nick.as_bytes()).is_none() {
-            return Ok(self);
-        }
-        let quit = Effect::Quit {
-            nick: nick.copy(),
-            text: text.copy(),
-        };
-        self.parts.change(Origin::Own, &quit, &mut self.out)?;
+        self.parts.quit(nick, text, &mut self.out)?;
         Ok(self)
     }
 

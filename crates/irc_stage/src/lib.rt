@@ -31,5 +31,5 @@ pub use numbers::{Conn, Link};
 pub use origin::{Origin, Speaker};
 pub use peer::Peer;
 pub use serving::Serving;
-pub use stage::Stage;
+pub use stage::{FirstStage, Stage};
 pub use view::View;

@@ -18,7 +18,7 @@ use crate::LinkEnd;
 use crate::clients::number_of;
 use crate::numbers::Link;
 use crate::origin::Origin;
-use crate::parts::{Parts, is_elsewhere, send_on_all, settle};
+use crate::parts::{ServerParts, is_elsewhere, send_on_all, settle};
 use crate::ways::Around;
 use irc_batch::Batch;
 use irc_channels::Words;
@@ -49,7 +49,7 @@ pub struct Newcomer<'a> {
     pub info: &'a Info,
 }
 
-impl Parts {
+impl ServerParts {
     /// The end of a link, if it is open.
     pub fn end(&self, link: Link) -> Option<&LinkEnd>
         ensures { option_copied result ≡ get (view_of self.now).ends link }
@@ -77,6 +77,107 @@ impl Parts {
         if let Some(end) = self.ends.get_mut(&link) {
             end.meet(name);
         }
+    }
+
+    /// A link is open from now on: this end calls the server of this name, or is called.
+    ///
+    /// # Errors
+    /// Where memory runs out.
+    pub(crate) fn open_link(
+        &mut self,
+        link: Link,
+        starts: Option<ServerName>,
+    ) -> Result<(), AllocError>
+        requires serving { IsServing self.old }
+        requires new { get (view_of self.old).ends link ≡ None }
+        ensures ok { OnOk result (view_of self.new ≡ with_end link starts (view_of self.old)) }
+        ensures serving { OnOk result (IsServing self.new) }
+    {
+        put_end(&mut self.ends, link, LinkEnd::new(starts))?;
+        Ok(())
+    }
+
+    /// A link is open no more, and nobody is known behind it.
+    pub(crate) fn unlink(&mut self, link: Link)
+        requires serving { IsServing self.old }
+        ensures ok { view_of self.new ≡ unlinked link (view_of self.old) }
+        ensures serving { IsServing self.new }
+    {
+        self.ways.forget();
+        self.routes.lose(link.number());
+        self.ends.remove(&link);
+    }
+
+    /// A server more is known from now on, behind a link that counts, unless it is known already,
+    /// there is no room for it, or its number is taken. Answers whether it is.
+    ///
+    /// # Errors
+    /// Where memory runs out.
+    pub(crate) fn add_server(&mut self, newcomer: Newcomer<'_>) -> Result<bool, AllocError>
+        requires serving { IsServing self.old }
+        requires met { IsMetAt newcomer.link self.old }
+        ensures taken { IfOk result
+            (λ taken. taken ≡ takes_newcomer newcomer.entry (view_of self.old)) }
+        ensures known { IfOk result (IsKnownIf newcomer.entry self.old self.new) }
+        ensures serving { OnOk result (IsServing self.new) }
+    {
+        let link = newcomer.link.number();
+        if self.routes.token_in(link, newcomer.token).is_some() {
+            return Ok(false);
+        }
+        self.ways.forget();
+        match self.routes.add_server(
+            link,
+            newcomer.uplink,
+            newcomer.name.as_bytes(),
+            newcomer.distance,
+            newcomer.token,
+            newcomer.info,
+        ) {
+            Ok(()) => Ok(true),
+            Err(RoutesFault::Memory) => Err(AllocError),
+            Err(_) => Ok(false),
+        }
+    }
+
+    /// A server is known no more.
+    pub(crate) fn remove_server(&mut self, name: &ServerName)
+        requires serving { IsServing self.old }
+        ensures ok { view_of self.new ≡ without_row name.now (view_of self.old) }
+        ensures serving { IsServing self.new }
+    {
+        self.ways.forget();
+        self.routes.remove(name.as_bytes());
+    }
+
+    /// A channel takes another side's spelling, where it is the greater by bytes. Behind which
+    /// links somebody listens is to be found anew.
+    pub(crate) fn respell(&mut self, channel: &ChannelName)
+        requires serving { IsServing self.old }
+        ensures ok { view_of self.new ≡ with_title channel.now (view_of self.old) }
+        ensures serving { IsServing self.new }
+    {
+        self.ways.forget();
+        let _ = self.room.respell(channel);
+    }
+
+    /// A line on every link that counts, but for the one by which it came.
+    ///
+    /// # Errors
+    /// Where memory runs out.
+    pub(crate) fn tell_all(
+        &mut self,
+        arrival: Option<Link>,
+        line: &Text,
+        out: &mut Batch,
+    ) -> Result<(), AllocError>
+        requires serving { IsServing self.old }
+        ensures ok { OnOk result
+            (IsToldToAll arrival line.now.items self.old out.old self.new out.new) }
+        ensures serving { OnOk result (IsServing self.new) }
+    {
+        self.ways.find_met(arrival, &self.ends)?;
+        send_on_all(line, self.ways.links.as_slice(), out)
     }
 
     /// An effect comes by a link, and is told on: where it counts.

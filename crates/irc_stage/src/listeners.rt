@@ -245,7 +245,7 @@ impl Listeners {
     fn remove(&mut self, channel: &[u8], nick: &Nick)
         ensures { SetsAt (key channel.now) (key nick.now) None self.old.lists self.new.lists }
     {
-        self.lists.change_at(channel, &Removing { nick });
+        self.lists.change_at(channel, &TakingOut { nick });
     }
 }
 
@@ -276,11 +276,11 @@ impl<'a> RowAttempt<NameTable<Conn>> for Putting<'a> {
 
 /// A connection is taken out, and with the last one its list.
 #[derive(Drop)]
-struct Removing<'a> {
+struct TakingOut<'a> {
     nick: &'a Nick,
 }
 
-impl<'a> RowChange<NameTable<Conn>> for Removing<'a> {
+impl<'a> RowChange<NameTable<Conn>> for TakingOut<'a> {
     ghost changed = { λ removing conns. without_conn (key removing.nick.now) conns };
 
     fn change(&self, conns: &mut NameTable<Conn>) -> bool {

@@ -8,6 +8,7 @@ ghost use Rattle.irc_line.specs.MessageViews.{optional_now};
 ghost use Rattle.irc_line.specs.PartViews.{words_now};
 ghost use Rattle.irc_stage.specs.Loops.Around.{view_in, IsNamedIn, StaysRight};
 ghost use Rattle.irc_stage.specs.Loops.Branching.{KnowsNothing};
+ghost use Rattle.irc_stage.specs.ClientTold.{seated, unseated};
 ghost use Rattle.irc_stage.specs.EffectTold.{is_elsewhere};
 ghost use Rattle.irc_stage.specs.Handle.{clients_after};
 ghost use Rattle.irc_stage.specs.RoomMachine.{client_of, with_client, without_client};
@@ -18,7 +19,8 @@ ghost use Rattle.irc_stage.specs.Loops.Speaking.{arrival_of, AreSpokenAt, IsSpok
 ghost use Rattle.irc_stage.specs.Loops.Parts.{clients_of, lines_on, machine_at, view_of, Applies};
 ghost use Rattle.irc_stage.specs.Loops.Parts.{AreFitAt, CarriesOut, Changes, IsFit, IsFreeOf};
 ghost use Rattle.irc_stage.specs.Loops.Parts.{IsIndexed, IsNoUser, IsReady, IsSound, Keeps};
-ghost use Rattle.irc_stage.specs.Loops.Parts.{LeavesApart, Takes, TakesAll};
+ghost use Rattle.irc_stage.specs.Loops.Parts.{LeavesApart, Quits, Takes, TakesAll};
+ghost use Rattle.irc_stage.specs.Matched.{IsMatched};
 
 use crate::branches::hop;
 use crate::clients::{self, Client, ClientTable};
@@ -30,6 +32,7 @@ use crate::peer::Peer;
 use crate::ways::{Around, Ways};
 use irc_acts::{Act, Context};
 use irc_batch::Batch;
+use irc_channels::Words;
 use irc_line::Text;
 use irc_names::Nick;
 use irc_numerics::reply_line;
@@ -42,7 +45,7 @@ use std::collections::BTreeMap;
 
 /// What a server is made of.
 #[derive(Drop)]
-pub struct Parts {
+pub struct ServerParts {
     /// Its own row, and the servers that it knows.
     pub(crate) routes: Routes,
     /// The servers that it may be linked to.
@@ -137,7 +140,7 @@ pub(crate) fn is_elsewhere(around: Around<'_>, effect: &Effect) -> bool
     }
 }
 
-impl Parts {
+impl ServerParts {
     /// A server without clients, linked to none, in an empty room.
     pub fn new(alloc: Global, routes: Routes, peers: Vec<Peer, Global>) -> Self
         requires alone { others routes ≡ [] }
@@ -145,7 +148,7 @@ impl Parts {
         ensures ready { IsReady result }
     {
         let room = Room::new(alloc, routes.name().copy());
-        Parts {
+        ServerParts {
             routes,
             peers,
             ends: BTreeMap::new(alloc),
@@ -272,6 +275,58 @@ impl Parts {
             .hear(around, origin, effect, &mut shown, out)?;
         settle(&mut self.room, &mut self.clients, &mut self.ways, effect)?;
         Ok(())
+    }
+
+    /// A connection that is no user is this client from now on.
+    ///
+    /// # Errors
+    /// Where memory runs out.
+    pub(crate) fn seat(&mut self, conn: Conn, client: Client) -> Result<(), AllocError>
+        requires ready { IsReady self.old }
+        requires no_user { IsNoUser (client_of (machine_at self.old) conn) }
+        requires free { IsFreeOf client (view_of self.old).clients }
+        ensures ok { OnOk result (view_of self.new ≡ seated conn client (view_of self.old)) }
+        ensures ready { OnOk result (IsReady self.new) }
+    {
+        self.listeners.seat(&self.room, conn, &client)?;
+        clients::seat(&mut self.clients, conn, client)?;
+        Ok(())
+    }
+
+    /// Takes out the client of a connection.
+    pub(crate) fn take_out(&mut self, conn: Conn)
+        requires ready { IsReady self.old }
+        ensures ok { view_of self.new ≡ unseated conn (view_of self.old) }
+        ensures ready { IsReady self.new }
+    {
+        let client = clients::client_of(&self.clients, conn);
+        self.listeners.take_out(&self.room, client);
+        clients::take_out(&mut self.clients, conn);
+    }
+
+    /// The user of a nickname quits with this text, if there is one.
+    ///
+    /// # Errors
+    /// Where memory runs out.
+    pub(crate) fn quit(
+        &mut self,
+        nick: &Nick,
+        text: &Words,
+        out: &mut Batch,
+    ) -> Result<(), AllocError>
+        requires ready { IsReady self.old }
+        requires matched { IsMatched (machine_at self.old) }
+        ensures ok { OnOk result (Quits nick.now text.now self.old out.old self.new out.new) }
+        ensures ready { OnOk result (IsReady self.new) }
+    {
+        if self.room.user(nick.as_bytes()).is_none() {
+            return Ok(());
+        }
+        let quit = Effect::Quit {
+            nick: nick.copy(),
+            text: text.copy(),
+        };
+        self.change(Origin::Own, &quit, out)
     }
 
     /// The user of a client's nickname, if it is one.

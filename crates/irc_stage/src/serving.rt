@@ -10,10 +10,9 @@ ghost use Rattle.irc_stage.specs.Loops.Handling.{closed_for, told_on, told_to_al
 ghost use Rattle.irc_stage.specs.Loops.Handling.{IsGained};
 
 use crate::handling::Handling;
-use crate::link_end::LinkEnd;
-use crate::linked::{Newcomer, put_end};
+use crate::linked::Newcomer;
 use crate::numbers::Link;
-use crate::parts::{Parts, send_on_all};
+use crate::parts::ServerParts;
 use crate::view::View;
 use irc_batch::{Batch, CloseReason};
 use irc_channels::Words;
@@ -21,15 +20,14 @@ use irc_line::Text;
 use irc_link_words::Password;
 use irc_names::{ChannelName, Nick, ServerName};
 use irc_room::Effect;
-use irc_routes::RoutesFault;
-use std::alloc::AllocError;
+use std::alloc::{AllocError, Global};
 use std::marker::Model;
 
 /// A server while an event is handled, and what it has put out: its clients and its users are
 /// matched.
 #[derive(Drop)]
 pub struct Serving {
-    pub(crate) parts: Parts,
+    pub(crate) parts: Box<ServerParts, Global>,
     pub(crate) out: Batch,
 }
 
@@ -50,9 +48,9 @@ impl Model for Serving {
         (view_code routes_row.coded client_row.coded users_code channel_row.coded)
         batch_row.coded };
 
-    ghost view = { λ s. served_at s.parts s.out.outs };
+    ghost view = { λ s. served_at s.parts.value s.out.outs };
 
-    ghost invariant = { λ s. IsServing s.parts };
+    ghost invariant = { λ s. IsServing s.parts.value };
 }
 
 impl Serving {
@@ -82,7 +80,7 @@ impl Serving {
         ensures { IfOk result
             (λ opened. opened ≡ where_it_is (with_end link starts self.state) self) }
     {
-        put_end(&mut self.parts.ends, link, LinkEnd::new(starts))?;
+        self.parts.open_link(link, starts)?;
         Ok(self)
     }
 
@@ -106,9 +104,7 @@ impl Serving {
     pub fn unlink(mut self, link: Link) -> Self
         ensures { result ≡ where_it_is (unlinked link self.state) self }
     {
-        self.parts.ways.forget();
-        self.parts.routes.lose(link.number());
-        self.parts.ends.remove(&link);
+        self.parts.unlink(link);
         self
     }
 
@@ -121,31 +117,32 @@ impl Serving {
         requires met { IsMetEnd (get self.state.ends newcomer.link) }
         ensures { IfOk result (λ gained. IsGained newcomer.entry self gained.1 gained.0) }
     {
-        let link = newcomer.link.number();
-        if self.parts.routes.token_in(link, newcomer.token).is_some() {
-            return Ok((self, false));
-        }
-        self.parts.ways.forget();
-        match self.parts.routes.add_server(
+        // parted and put together anew: a struct of references that is handed on whole is not
+        // covered by the borrow check
+        let Newcomer {
             link,
-            newcomer.uplink,
-            newcomer.name.as_bytes(),
-            newcomer.distance,
-            newcomer.token,
-            newcomer.info,
-        ) {
-            Ok(()) => Ok((self, true)),
-            Err(RoutesFault::Memory) => Err(AllocError),
-            Err(_) => Ok((self, false)),
-        }
+            uplink,
+            name,
+            distance,
+            token,
+            info,
+        } = newcomer;
+        let is_known = self.parts.add_server(Newcomer {
+            link,
+            uplink,
+            name,
+            distance,
+            token,
+            info,
+        })?;
+        Ok((self, is_known))
     }
 
     /// A server is known no more.
     pub fn remove_server(mut self, name: &ServerName) -> Self
         ensures { result ≡ where_it_is (without_row name.now self.state) self }
     {
-        self.parts.ways.forget();
-        self.parts.routes.remove(name.as_bytes());
+        self.parts.remove_server(name);
         self
     }
 
@@ -155,8 +152,7 @@ impl Serving {
     pub fn respell(mut self, channel: &ChannelName) -> Self
         ensures { result ≡ where_it_is (with_title channel.now self.state) self }
     {
-        self.parts.ways.forget();
-        let _ = self.parts.room.respell(channel);
+        self.parts.respell(channel);
         self
     }
 
@@ -189,8 +185,7 @@ impl Serving {
     pub fn tell_all(mut self, arrival: Option<Link>, line: &Text) -> Result<Self, AllocError>
         ensures { IfOk result (λ told. told ≡ told_to_all arrival line.now.items self) }
     {
-        self.parts.ways.find_met(arrival, &self.parts.ends)?;
-        send_on_all(line, self.parts.ways.links.as_slice(), &mut self.out)?;
+        self.parts.tell_all(arrival, line, &mut self.out)?;
         Ok(self)
     }
 

@@ -6,7 +6,7 @@ ghost use Rattle.irc_stage.specs.EffectTold.{in_silence};
 ghost use Rattle.irc_stage.specs.Matched.{IsMatched};
 ghost use Rattle.irc_stage.specs.View.{machine_of, new_view};
 
-use crate::parts::Parts;
+use crate::parts::ServerParts;
 use crate::peer::Peer;
 use crate::serving::Serving;
 use crate::view::View;
@@ -15,10 +15,11 @@ use irc_routes::Routes;
 use std::alloc::{AllocError, Global};
 use std::marker::Model;
 
-/// A server between two events: it serves, and has nothing to put out.
+/// A server between two events: it serves, and has nothing to put out. What it is made of lies in
+/// memory of its own, so that a pointer is moved from call to call.
 #[derive(Drop)]
 pub struct Stage {
-    pub(crate) parts: Parts,
+    pub(crate) parts: Box<ServerParts, Global>,
     pub(crate) out: Batch,
 }
 
@@ -37,23 +38,71 @@ impl Model for Stage {
 
     ghost coded = { view_code routes_row.coded client_row.coded users_code channel_row.coded };
 
-    ghost view = { λ s. view_of s.parts };
+    ghost view = { λ s. view_of s.parts.value };
 
-    ghost invariant = { λ s. IsAtRest s.parts s.out };
+    ghost invariant = { λ s. IsAtRest s.parts.value s.out };
 }
 
-impl Stage {
+/// A server that no event has come to: it takes no memory.
+#[derive(Drop)]
+pub struct FirstStage {
+    parts: ServerParts,
+}
+
+/// In a clause it is what the server is to those above.
+impl Model for FirstStage {
+    ghost use Rattle.irc_users.specs.UserTable.{users_code};
+    ghost use Rattle.irc_channels.specs.contracts.channel.Channel.{the_row as channel_row};
+    ghost use Rattle.irc_routes.specs.contracts.routes.Routes.{the_row as routes_row};
+    ghost use Rattle.irc_stage.specs.contracts.clients.Client.{the_row as client_row};
+    ghost use Rattle.irc_stage.specs.View.{View};
+    ghost use Rattle.irc_stage.specs.Loops.Codes.{view_code};
+    ghost use Rattle.irc_stage.specs.Loops.Parts.{view_of, IsServing};
+
+    ghost Value = { View };
+
+    ghost coded = { view_code routes_row.coded client_row.coded users_code channel_row.coded };
+
+    ghost view = { λ s. view_of s.parts };
+
+    ghost invariant = { λ s. IsServing s.parts };
+}
+
+impl FirstStage {
     /// A server without clients, linked to none, in an empty room.
     pub fn new(alloc: Global, routes: Routes, peers: Vec<Peer, Global>) -> Self
         requires alone { others routes ≡ [] }
         ensures { result ≡ new_view routes peers.items }
     {
-        Stage {
-            parts: Parts::new(alloc, routes, peers),
-            out: Batch::new(alloc),
+        FirstStage {
+            parts: ServerParts::new(alloc, routes, peers),
         }
     }
 
+    /// What it is now.
+    pub fn view(&self) -> View<'_>
+        ensures { result ≡ self.now }
+    {
+        View::of(&self.parts)
+    }
+
+    /// An event comes to it: from now on it is in memory of its own.
+    ///
+    /// # Errors
+    /// Where memory runs out.
+    pub fn keep(self) -> Result<Stage, AllocError>
+        ensures { IfOk result (λ stage. stage ≡ self) }
+    {
+        let alloc = self.parts.alloc();
+        let parts = Box::new(alloc, self.parts)?;
+        Ok(Stage {
+            parts,
+            out: Batch::new(alloc),
+        })
+    }
+}
+
+impl Stage {
     /// What it is now.
     pub fn view(&self) -> View<'_>
         ensures { result ≡ self.now }

@@ -8,7 +8,7 @@ ghost use Rattle.irc_stage.specs.Loops.Parts.{view_of};
 use crate::clients::Client;
 use crate::link_end::LinkEnd;
 use crate::numbers::{Conn, Link};
-use crate::parts::Parts;
+use crate::parts::ServerParts;
 use irc_room::Room;
 use irc_routes::Routes;
 use std::alloc::Global;
@@ -17,7 +17,7 @@ use std::marker::Model;
 /// What a server is at a moment: nothing is changed by it.
 #[derive(Drop)]
 pub struct View<'a> {
-    parts: &'a Parts,
+    parts: &'a ServerParts,
 }
 
 /// In a clause it is what the server is to those above.
@@ -39,7 +39,7 @@ impl<'a> Model for View<'a> {
 
 impl<'a> View<'a> {
     /// That of a server.
-    pub(crate) fn of(parts: &'a Parts) -> Self
+    pub(crate) fn of(parts: &'a ServerParts) -> Self
         ensures { result ≡ view_of parts.now }
     {
         View { parts }

@@ -46,7 +46,7 @@ pub struct Ways {
 }
 
 impl Ways {
-    /// No line is at hand.
+    /// No links, and nothing is known of a channel's members.
     pub fn new(alloc: Global) -> Self
         ensures { KnowsNothing result }
     {

@@ -5,7 +5,7 @@ use Rattle.std.specs.List.{slice_get}
 use Rattle.irc_turns.specs.declared.holding.HeldClient.{HeldClient}
 
 -- those who are held back, by their places, and how many rounds have passed, of which one counts as
--- many times as milliseconds were waited in it
+-- many times as milliseconds were waited in it, and once at least
 pub record HeldBack : Type 0 where
   pub held : List HeldClient
   pub rounds_passed : ℕ

@@ -7,12 +7,12 @@ use Rattle.std.specs.Prelude.{nat_le, ◌||◌, not}
 pub record Paced : Type 0 where
   pub lines : ℕ
   pub turns : ℕ
-  pub comers : ℕ
+  pub visits : ℕ
   pub is_idle : Bool
 
 abbrev pub paced : ℕ → ℕ → ℕ → Bool → Paced
-paced lines turns comers is_idle =
-    record { lines = lines; turns = turns; comers = comers; is_idle = is_idle }
+paced lines turns visits is_idle =
+    record { lines = lines; turns = turns; visits = visits; is_idle = is_idle }
 
 -- that of a client who has sent nothing
 abbrev pub at_first : Paced
@@ -31,16 +31,16 @@ slowed pace = record pace { lines = 1; turns = 0 }
 -- two of one of whom nothing was left, one where somebody has come since its last turn, and
 -- otherwise as many as before
 abbrev pub paced_lines : Paced → ℕ → ℕ
-paced_lines pace comers =
-    if pace.is_idle then 2 else (if nat_eq pace.comers comers then pace.lines else 1)
+paced_lines pace visits =
+    if pace.is_idle then 2 else (if nat_eq pace.visits visits then pace.lines else 1)
 
 -- turns are counted from here on where it begins, or somebody has come
 abbrev pub turns_for : Paced → ℕ → ℕ
-turns_for pace comers = if pace.is_idle || not (nat_eq pace.comers comers)
+turns_for pace visits = if pace.is_idle || not (nat_eq pace.visits visits)
     then 0 else pace.turns
 
 abbrev pub at_turn : Paced → ℕ → Paced
-at_turn pace comers = paced (paced_lines pace comers) (turns_for pace comers) comers false
+at_turn pace visits = paced (paced_lines pace visits) (turns_for pace visits) visits false
 
 -- ---- behind a turn in which the client was answered so many bytes, and so many were put out to
 -- others

@@ -12,7 +12,7 @@ not_called after = record {
   after = after;
   is_calling = false;
   link = None;
-  comers = 0;
+  visits = 0;
   has_crossed = false;
   since = None;
 }
@@ -23,7 +23,7 @@ milliseconds None = None
 milliseconds (Some seconds) = Some (seconds * 1000)
 
 abbrev pub call_begun : Retry → ℕ → Retry
-call_begun row comers = record row { is_calling = true; link = None; comers = comers; since = None }
+call_begun row visits = record row { is_calling = true; link = None; visits = visits; since = None }
 
 abbrev pub call_reached : Retry → ℕ → Retry
 call_reached row link = record row { is_calling = false; link = Some link }
@@ -31,8 +31,8 @@ call_reached row link = record row { is_calling = false; link = Some link }
 -- a call that has failed, or its link that has ended: it may have crossed another where a server
 -- has connected meanwhile
 abbrev pub call_ended : Retry → ℕ → Retry
-call_ended row comers = record row {
-  has_crossed = not (nat_eq row.comers comers);
+call_ended row visits = record row {
+  has_crossed = not (nat_eq row.visits visits);
   is_calling = false;
   link = None;
   since = None;

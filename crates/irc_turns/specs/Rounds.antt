@@ -8,7 +8,7 @@ abbrev pub no_round : Round
 no_round = record {
   left = 0;
   is_quiet = false;
-  comers = 0;
+  visits = 0;
   turn = 64;
   reader = None;
   may_wait = false;
@@ -28,8 +28,8 @@ round_begun round left has_come =
     record round {
       left = left;
       is_quiet = not has_come;
-      comers = if has_come
-          then count_after round.comers else round.comers;
+      visits = if has_come
+          then count_after round.visits else round.visits;
     }
 
 -- a sum of which no more is told than that it is as large as a number can be

@@ -85,29 +85,29 @@ held_no_more talker = record talker { was_held = talker.is_held; is_held = false
 
 -- one begins, where somebody has come so often
 abbrev pub read_begun : ℕ → Talker → Talker
-read_begun comers talker = record talker { pace = at_turn talker.pace comers }
+read_begun visits talker = record talker { pace = at_turn talker.pace visits }
 
 -- of what was left of the last read so many lines are given, as far as the buffer has room
-pub record GivesRest (comers : ℕ) (old : Talker) (buffer : List ℕ) (count : ℕ) (new : Talker)
+pub record GivesRest (visits : ℕ) (old : Talker) (buffer : List ℕ) (count : ℕ) (new : Talker)
     (filled : List ℕ) : Type 0 where
   pub some : nat_eq 0 (length old.rest) ≡ false
-  pub lines : GivesLines (paced_lines old.pace comers) (length buffer) old.rest count
+  pub lines : GivesLines (paced_lines old.pace visits) (length buffer) old.rest count
   pub given : filled ≡ take count old.rest ++ drop count buffer
-  pub left : new ≡ record (read_begun comers old) { rest = drop count old.rest }
+  pub left : new ≡ record (read_begun visits old) { rest = drop count old.rest }
 
 -- nothing was left, so the system is asked, and so many lines are for this turn
-pub record AsksAnew (comers : ℕ) (old : Talker) (buffer : List ℕ) (lines : ℕ) (new : Talker)
+pub record AsksAnew (visits : ℕ) (old : Talker) (buffer : List ℕ) (lines : ℕ) (new : Talker)
     (filled : List ℕ) : Type 0 where
   pub none : nat_eq 0 (length old.rest) ≡ true
-  pub lines_are : lines ≡ paced_lines old.pace comers
-  pub begun : new ≡ read_begun comers old
+  pub lines_are : lines ≡ paced_lines old.pace visits
+  pub begun : new ≡ read_begun visits old
   pub same : filled ≡ buffer
 
 abbrev pub BeginsRead : ℕ → Talker → List ℕ → Reading → Talker → List ℕ → Type 0
-BeginsRead comers old buffer (reading.Given count) new filled =
-    GivesRest comers old buffer count new filled
-BeginsRead comers old buffer (reading.Anew lines) new filled =
-    AsksAnew comers old buffer lines new filled
+BeginsRead visits old buffer (reading.Given count) new filled =
+    GivesRest visits old buffer count new filled
+BeginsRead visits old buffer (reading.Anew lines) new filled =
+    AsksAnew visits old buffer lines new filled
 
 abbrev pub IsWithin : Reading → ℕ → Type 0
 IsWithin (reading.Given count) room = count ≤ room

@@ -36,7 +36,10 @@ impl Model for Holding {
 
     ghost Value = { HeldBack };
 
-    ghost view = { λ holding. record { held = holding.held.items; rounds_passed = holding.rounds_passed } };
+    ghost view = { λ holding. record {
+      held = holding.held.items;
+      rounds_passed = holding.rounds_passed;
+    } };
 }
 
 impl Holding {

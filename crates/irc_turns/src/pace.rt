@@ -34,7 +34,7 @@ pub(crate) struct Pace {
     /// How many turns have taken so many.
     turns: usize,
     /// How often somebody had come by then.
-    comers: u64,
+    visits: u64,
     /// Whether nothing of it is left.
     is_idle: bool,
 }
@@ -44,7 +44,7 @@ impl Model for Pace {
 
     ghost Value = { Paced };
 
-    ghost view = { λ p. paced p.lines p.turns p.comers p.is_idle };
+    ghost view = { λ p. paced p.lines p.turns p.visits p.is_idle };
 }
 
 impl Pace {
@@ -55,7 +55,7 @@ impl Pace {
         Pace {
             lines: FIRST_LINES,
             turns: 0,
-            comers: 0,
+            visits: 0,
             is_idle: true,
         }
     }
@@ -69,18 +69,18 @@ impl Pace {
 
     /// How many lines the turn at hand takes, where somebody has come so often so far: just one,
     /// where somebody has come since the last.
-    pub fn lines(&mut self, comers: u64) -> usize
-        ensures lines { result ≡ paced_lines self.old comers }
-        ensures turn { self.new ≡ at_turn self.old comers }
+    pub fn lines(&mut self, visits: u64) -> usize
+        ensures lines { result ≡ paced_lines self.old visits }
+        ensures turn { self.new ≡ at_turn self.old visits }
     {
         if self.is_idle {
             self.lines = FIRST_LINES;
             self.turns = 0;
-        } else if self.comers != comers {
+        } else if self.visits != visits {
             self.slow();
         }
         self.is_idle = false;
-        self.comers = comers;
+        self.visits = visits;
         self.lines
     }
 

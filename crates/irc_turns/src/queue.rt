@@ -23,7 +23,10 @@ impl Model for Queue {
 
     ghost Value = { Queued };
 
-    ghost view = { λ queue. record { numbers = queue.order.items; room = length queue.marks.items } };
+    ghost view = { λ queue. record {
+      numbers = queue.order.items;
+      room = length queue.marks.items;
+    } };
 
     ghost invariant = { λ queue. IsMarked queue.order queue.marks.items };
 }

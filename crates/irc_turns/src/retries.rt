@@ -29,7 +29,7 @@ pub struct Retries {
     /// When one was called again last.
     pub called_at: Option<u64>,
     /// How many servers have connected.
-    pub comers: u64,
+    pub visits: u64,
     /// How many milliseconds more than each is to be waited for the next call, by this server's own
     /// name: two that have lost a third at the same moment are not to call it at the same moment.
     pub spread: u64,
@@ -55,7 +55,7 @@ impl Retries {
             looked_at: None,
             passed: 0,
             called_at: None,
-            comers: 0,
+            visits: 0,
             spread,
             wait: wait_behind(0),
         }
@@ -90,9 +90,9 @@ impl Retries {
 
     /// A server has connected.
     pub fn come(&mut self)
-        ensures { self.new ≡ record self.old { comers = count_after self.old.comers } }
+        ensures { self.new ≡ record self.old { visits = count_after self.old.visits } }
     {
-        self.comers = self.comers.wrapping_add(1);
+        self.visits = self.visits.wrapping_add(1);
     }
 
     /// How long the next wait may last, if some server is waited for.
@@ -139,7 +139,7 @@ impl Retries {
         ensures called { self.new.called_at ≡ self.old.called_at }
         ensures passed { self.new.passed ≡ self.old.passed }
         ensures spread { self.new.spread ≡ self.old.spread }
-        ensures comers { self.new.comers ≡ self.old.comers }
+        ensures visits { self.new.visits ≡ self.old.visits }
     {
         let place = self.looked_at.take()?;
         self.see(place, is_known, yields).then_some(place)
@@ -156,7 +156,7 @@ impl Retries {
         ensures passed { self.new.passed ≡ self.old.passed }
         ensures spread { self.new.spread ≡ self.old.spread }
         ensures looked { self.new.looked_at ≡ self.old.looked_at }
-        ensures comers { self.new.comers ≡ self.old.comers }
+        ensures visits { self.new.visits ≡ self.old.visits }
     {
         let is_apart = self.is_apart();
         let now = self.passed;
@@ -180,7 +180,7 @@ impl Retries {
     /// The server at a place is called: the first time, or again.
     pub fn begin(&mut self, place: usize, is_again: bool)
         ensures rows { self.new.rows.items ≡ row_changed
-            (λ row. call_begun row self.old.comers) place self.old.rows.items }
+            (λ row. call_begun row self.old.visits) place self.old.rows.items }
         ensures called { self.new.called_at ≡ (if is_again then Some self.old.passed
             else self.old.called_at) }
         ensures spread { self.new.spread ≡ (if is_again then spread_on self.old.spread 1
@@ -195,9 +195,9 @@ impl Retries {
             self.called_at = Some(self.passed);
             self.spread = spread_on(self.spread, 1);
         }
-        let comers = self.comers;
+        let visits = self.visits;
         if let Some(row) = self.rows.get_mut(place) {
-            row.begin(comers);
+            row.begin(visits);
         }
     }
 
@@ -215,12 +215,12 @@ impl Retries {
     /// The call of the server at a place has failed, or its link has ended.
     pub fn end(&mut self, place: usize)
         ensures rows { self.new.rows.items ≡ row_changed
-            (λ row. call_ended row self.old.comers) place self.old.rows.items }
+            (λ row. call_ended row self.old.visits) place self.old.rows.items }
         ensures others { self.new ≡ record self.old { rows = self.new.rows } }
     {
-        let comers = self.comers;
+        let visits = self.visits;
         if let Some(row) = self.rows.get_mut(place) {
-            row.end(comers);
+            row.end(visits);
         }
     }
 

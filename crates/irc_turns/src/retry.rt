@@ -12,7 +12,7 @@ pub struct Retry {
     /// The link that a call has become, and that is open still.
     pub link: Option<u64>,
     /// How many servers had connected as the last call began.
-    pub comers: u64,
+    pub visits: u64,
     /// Whether one has connected until that call ended: it may be the same server, and where two
     /// calls cross both links end.
     pub has_crossed: bool,
@@ -32,19 +32,19 @@ impl Retry {
             after,
             is_calling: false,
             link: None,
-            comers: 0,
+            visits: 0,
             has_crossed: false,
             since: None,
         }
     }
 
     /// A call begins, where so many servers have connected so far.
-    pub fn begin(&mut self, comers: u64)
-        ensures { self.new ≡ call_begun self.old comers }
+    pub fn begin(&mut self, visits: u64)
+        ensures { self.new ≡ call_begun self.old visits }
     {
         self.is_calling = true;
         self.link = None;
-        self.comers = comers;
+        self.visits = visits;
         self.since = None;
     }
 
@@ -57,10 +57,10 @@ impl Retry {
     }
 
     /// The call has failed, or its link has ended, where so many servers have connected so far.
-    pub fn end(&mut self, comers: u64)
-        ensures { self.new ≡ call_ended self.old comers }
+    pub fn end(&mut self, visits: u64)
+        ensures { self.new ≡ call_ended self.old visits }
     {
-        self.has_crossed = self.comers != comers;
+        self.has_crossed = self.visits != visits;
         self.is_calling = false;
         self.link = None;
         self.since = None;

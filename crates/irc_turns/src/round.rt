@@ -16,7 +16,7 @@ pub struct Round {
     /// say.
     pub is_quiet: bool,
     /// How often anybody has come so far, or had something new to say.
-    pub comers: u64,
+    pub visits: u64,
     /// Which turn this is.
     pub turn: u64,
     /// The client that is read in it.
@@ -45,7 +45,7 @@ impl Round {
         Round {
             left: 0,
             is_quiet: false,
-            comers: 0,
+            visits: 0,
             turn: FIRST_TURN,
             reader: None,
             may_wait: false,
@@ -57,13 +57,13 @@ impl Round {
     }
 
     /// A round begins, with so many sockets to be reported. Somebody has come, or nobody has.
-    pub fn begin(&mut self, left: usize, has_arrived: bool)
-        ensures { self.new ≡ round_begun self.old left has_arrived }
+    pub fn begin(&mut self, left: usize, has_come: bool)
+        ensures { self.new ≡ round_begun self.old left has_come }
     {
         self.left = left;
-        self.is_quiet = !has_arrived;
-        if has_arrived {
-            self.comers = self.comers.wrapping_add(1);
+        self.is_quiet = !has_come;
+        if has_come {
+            self.visits = self.visits.wrapping_add(1);
         }
     }
 

@@ -132,11 +132,11 @@ impl Talker {
 
     /// A read begins, where somebody has come so often so far: what was left of the last one is
     /// given, or the system is to be asked.
-    pub fn begin_read(&mut self, buffer: &mut [u8], comers: u64) -> Reading
-        ensures begun { BeginsRead comers self.old buffer.old result self.new buffer.new }
+    pub fn begin_read(&mut self, buffer: &mut [u8], visits: u64) -> Reading
+        ensures begun { BeginsRead visits self.old buffer.old result self.new buffer.new }
         ensures within { IsWithin result (length buffer.old) }
     {
-        let lines = self.pace.lines(comers);
+        let lines = self.pace.lines(visits);
         if self.rest.is_empty() {
             Reading::Anew(lines)
         } else {

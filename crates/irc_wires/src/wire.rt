@@ -39,7 +39,10 @@ impl Model for LinkWire {
 
     ghost Value = { LinkWire };
 
-    ghost view = { λ wire. record { begun = wire.framer; bytes = drop wire.come (joined wire.texts) } };
+    ghost view = { λ wire. record {
+      begun = wire.framer;
+      bytes = drop wire.come (joined wire.texts);
+    } };
 
     ghost invariant = { λ wire. IsOnItsWay wire.come wire.texts wire.framer };
 }

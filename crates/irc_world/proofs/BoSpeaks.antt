@@ -181,7 +181,7 @@ module _ (place : Place) where
       then Some (line_to c.0 showing.line) else None)
       (clients_listed three_clients tt i)) (seen_is i))
 
-heard : (client : ℕ) → bo_speaks.lines client ≡ lines_to client
+heard : (client : ℕ) → bo_speaks.out client ≡ lines_to client
     (flat_map list_viewer (filter_map list_shown (map (λ e. e.1) three.users)))
 unfolding step part
 heard client = ap (lines_to client)

@@ -151,9 +151,9 @@ module _ (between : LinkBetweenParts) (even : MergeIsEven) (settings : List Sett
   back_world = record world { links = back_link ∷ world.links }
 
   same_hall : (s : Name)
-      → (link_made world near far).world.hall s ≡ (link_made world far near).world.hall s
+      → (link_made world near far).state.hall s ≡ (link_made world far near).state.hall s
   same_hall s =
-      hall_with (λ h. h ≡ (link_made world far near).world.hall s) near s
+      hall_with (λ h. h ≡ (link_made world far near).state.hall s) near s
       (merged (world.hall near) (world.hall far)) there_world
       (λ here. hall_with (λ h. merged (world.hall near) (world.hall far) ≡ h) far s
       (merged (world.hall far) (world.hall near)) back_world
@@ -169,8 +169,8 @@ module _ (between : LinkBetweenParts) (even : MergeIsEven) (settings : List Sett
       (inr (refl, refl), itself_turned world.links) in
       record {
         worlds = record { links = both; homes = refl; hall = same_hall };
-        looks = looks_same turned_same settings (link_made world near far).world
-            (link_made world far near).world there.forest both;
+        looks = looks_same turned_same settings (link_made world near far).state
+            (link_made world far near).state there.forest both;
         lines =
             λ client. swap_lines (world.hall near) (world.hall far)
             (get (world.hall near).clients client) (get (world.hall far).clients client)
@@ -235,8 +235,8 @@ two_sides left near far parted (Some home) here there =
 
 module _ (settings : List Setting) (world : World) (near far : Name) (left : List Link)
     (is_left : IsLeft left world.links near far) where
-  hall_turned : (s : Name) → (parted settings world left near far).world.hall s
-      ≡ (parted settings world left far near).world.hall s
+  hall_turned : (s : Name) → (parted settings world left near far).state.hall s
+      ≡ (parted settings world left far near).state.hall s
   hall_turned s = by (tell (part left s) (part left near)) (tell (part left s) (part left far))
     where
       chosen : (on_near on_far : Bool) → Hall
@@ -250,8 +250,8 @@ module _ (settings : List Setting) (world : World) (near far : Name) (left : Lis
           else (if on_far then remaining settings world left far near else world.hall s)
 
       by : Telling (part left s) (part left near) → Telling (part left s) (part left far)
-          → (parted settings world left near far).world.hall s
-          ≡ (parted settings world left far near).world.hall s
+          → (parted settings world left near far).state.hall s
+          ≡ (parted settings world left far near).state.hall s
       by (alike _ here) (alike _ there) = absurd (is_left.parted (sym here ∙ there))
       by (alike here _) (unlike there _) =
           (λ i. chosen (here i) (there i)) ∙ sym (λ i. other_way (here i) (there i))
@@ -260,8 +260,8 @@ module _ (settings : List Setting) (world : World) (near far : Name) (left : Lis
       by (unlike here _) (unlike there _) =
           (λ i. chosen (here i) (there i)) ∙ sym (λ i. other_way (here i) (there i))
 
-  lines_turned : (client : ℕ) → (parted settings world left near far).lines client
-      ≡ (parted settings world left far near).lines client
+  lines_turned : (client : ℕ) → (parted settings world left near far).out client
+      ≡ (parted settings world left far near).out client
   lines_turned client =
       swap_leaving settings left near far (world.hall near).room (world.hall far).room
       (get (remaining settings world left near far).clients client)
@@ -274,8 +274,8 @@ module _ (settings : List Setting) (world : World) (near far : Name) (left : Lis
       (parted settings world left far near)
   parted_turned turned_same = record {
     worlds = record { links = itself_turned left; homes = refl; hall = hall_turned };
-    looks = looks_same turned_same settings (parted settings world left near far).world
-        (parted settings world left far near).world is_left.forest
+    looks = looks_same turned_same settings (parted settings world left near far).state
+        (parted settings world left far near).state is_left.forest
         (itself_turned left);
     lines = lines_turned;
   }

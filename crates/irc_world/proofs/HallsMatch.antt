@@ -100,7 +100,7 @@ module _ (decided_possible : DecidedIsPossible) (stays : WhoStaysIsUser) (closes
     (settings : List Setting) where
   machine_keeps : (world : World) (home : Name) (client_event : ClientEvent) → IsWellFormed
       (world.hall home).room → IsDue (home_of world) (machine_at settings world home) client_event
-      → ClientsAreUsers world → ClientsAreUsers (by_machine settings world home client_event).world
+      → ClientsAreUsers world → ClientsAreUsers (by_machine settings world home client_event).state
   machine_keeps world home client_event well due all s =
       hall_with (MatchedHall world.homes) home s hall world
       (λ _. handled_matched (home_of world) decided_possible stays closes registering_possible added
@@ -118,7 +118,7 @@ module _ (decided_possible : DecidedIsPossible) (stays : WhoStaysIsUser) (closes
   connect_keeps : (world : World) (server : Name) (host : List ℕ)
       → IsSound settings world → ClientsAreUsers world → ClientsAreUsers
       (by_machine settings (record world { homes = world.homes ++ server ∷ [] }) server
-      (connects (suc (length world.homes)) host)).world
+      (connects (suc (length world.homes)) host)).state
   connect_keeps world server host sound all =
       machine_keeps (record world { homes = world.homes ++ server ∷ [] }) server
       (connects (suc (length world.homes)) host) (sound.well_formed server)
@@ -135,12 +135,12 @@ module _ (decided_possible : DecidedIsPossible) (stays : WhoStaysIsUser) (closes
   client_keeps : (world : World) (client : ℕ) (client_event : ClientEvent)
       → ((home : Name) → home_of world client ≡ Some home → IsDue (home_of world)
       (machine_at settings world home) client_event) → IsSound settings world
-      → ClientsAreUsers world → ClientsAreUsers (by_client settings world client client_event).world
+      → ClientsAreUsers world → ClientsAreUsers (by_client settings world client client_event).state
   client_keeps world client client_event due sound all = by (home_of world client) refl
     where
       by : (o : Option Name) → home_of world client ≡ o → ClientsAreUsers
           (option_map_or (λ home. by_machine settings world home client_event) o
-          (unmoved world)).world
+          (unmoved world)).state
       by None is = all
       by (Some home) is =
           machine_keeps world home client_event (sound.well_formed home) (due home is) all
@@ -357,7 +357,7 @@ module _ (settings : List Setting) (world : World) (near far : Name)
       (all far))
       users_of_both clients_of_both held_apart
 
-  link_keeps : ClientsAreUsers (link_made world near far).world
+  link_keeps : ClientsAreUsers (link_made world near far).state
   link_keeps s = hall_with (MatchedHall world.homes) near s (merged one other)
       (record world { links = record { near = near; far = far } ∷ world.links })
       (λ _. merged_matched) (λ _. all s)
@@ -518,7 +518,7 @@ module _ (tests : TestsTell) (taken_out : LinkTakenOut) (over_link : JoinedOverL
       (far_sides tests taken_out over_link settings world near far sound known in_part are user.home
       (in_part far fold user is)))
 
-  cut_keeps : ClientsAreUsers (cut_apart settings world rest near far).world
+  cut_keeps : ClientsAreUsers (cut_apart settings world rest near far).state
   cut_keeps s =
       hall_with (MatchedHall world.homes) far s (remaining settings world rest far near)
       (with_hall near (remaining settings world rest near far) (record world { links = rest }))
@@ -572,7 +572,7 @@ module _ (match_too : StepKeepsMatched) (joined_too : StepKeepsHomesJoined) (kee
       → AreTaken settings world items → ClientsAreUsers (after_items settings world items)
   items_match [] world sound known in_part all taken = all
   items_match (item ∷ items) world sound known in_part all taken =
-      items_match items (step settings world item).world (stays settings world item sound taken.now)
+      items_match items (step settings world item).state (stays settings world item sound taken.now)
       (keeps settings world item sound known taken.now)
       (joined_too settings world item sound known in_part taken.now)
       (match_too settings world item sound known in_part all taken.now) taken.later

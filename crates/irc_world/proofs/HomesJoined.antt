@@ -117,7 +117,7 @@ module _ (tests : TestsTell) where
 
   module _ (brings : ClientsBringOwnUsers) (settings : List Setting) where
     machine_joined : (world : World) (home : Name) (client_event : ClientEvent)
-        → HomesAreJoined world → HomesAreJoined (by_machine settings world home client_event).world
+        → HomesAreJoined world → HomesAreJoined (by_machine settings world home client_event).state
     machine_joined world home client_event all s =
         hall_with (λ h. HomesPass (λ other. joined world.links other s) h.room) home s hall world
         (λ here fold user is.
@@ -136,17 +136,17 @@ module _ (tests : TestsTell) where
         }
 
     client_joined : (world : World) (client : ℕ) (client_event : ClientEvent) → HomesAreJoined world
-        → HomesAreJoined (by_client settings world client client_event).world
+        → HomesAreJoined (by_client settings world client client_event).state
     client_joined world client client_event all = by (home_of world client)
       where
         by : (o : Option Name) → HomesAreJoined (option_map_or
-            (λ home. by_machine settings world home client_event) o (unmoved world)).world
+            (λ home. by_machine settings world home client_event) o (unmoved world)).state
         by None = all
         by (Some home) = machine_joined world home client_event all
 
   link_joined : LinkBetweenParts → MergeHasNothingNew → (settings : List Setting) (world : World)
       (near far : Name) → IsSound settings world → LinkIsTaken settings world near far
-      → HomesAreJoined world → HomesAreJoined (link_made world near far).world
+      → HomesAreJoined world → HomesAreJoined (link_made world near far).state
   link_joined between merge_new settings world near far sound taken all s =
       hall_with (λ h. HomesPass (λ home. joined (new_link ∷ world.links) home s) h.room) near s
       (merged (world.hall near) (world.hall far))
@@ -224,7 +224,7 @@ module _ (tests : TestsTell) where
           | turned _ behind ↦ absurd (not_near (sym behind))
         ]
 
-    cut_joined : SplitHasNothingNew → HomesAreJoined (cut_apart settings world rest near far).world
+    cut_joined : SplitHasNothingNew → HomesAreJoined (cut_apart settings world rest near far).state
     cut_joined split_new s =
         hall_with (λ h. HomesPass (λ home. joined rest home s) h.room) far s
         (remaining settings world rest far near)
@@ -269,7 +269,7 @@ module _ (joined_too : StepKeepsHomesJoined) (keeps : StepKeepsHomes) (stays : S
       → HomesAreJoined (after_items settings world items)
   items_join [] world sound known all taken = all
   items_join (item ∷ items) world sound known all taken =
-      items_join items (step settings world item).world (stays settings world item sound taken.now)
+      items_join items (step settings world item).state (stays settings world item sound taken.now)
       (keeps settings world item sound known taken.now)
       (joined_too settings world item sound known all taken.now) taken.later
 

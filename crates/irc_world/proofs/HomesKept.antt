@@ -49,7 +49,7 @@ module _ (brings : ClientsBringOwnUsers) (merge_new : MergeHasNothingNew)
     (split_new : SplitHasNothingNew) (settings : List Setting) where
   machine_keeps : (world : World) (home : Name) (client_event : ClientEvent)
       → HomesAreServers settings world → is_server settings home ≡ true
-      → HomesAreServers settings (by_machine settings world home client_event).world
+      → HomesAreServers settings (by_machine settings world home client_event).state
   machine_keeps world home client_event all known s =
       hall_with (λ h. HomesPass (is_server settings) h.room) home s hall world
       (λ _. brings (machine_at settings world home) client_event (is_server settings) (all home)
@@ -64,18 +64,18 @@ module _ (brings : ClientsBringOwnUsers) (merge_new : MergeHasNothingNew)
 
   client_keeps : (world : World) (client : ℕ) (client_event : ClientEvent)
       → IsSound settings world → HomesAreServers settings world
-      → HomesAreServers settings (by_client settings world client client_event).world
+      → HomesAreServers settings (by_client settings world client client_event).state
   client_keeps world client client_event sound all = by (home_of world client) refl
     where
       by : (o : Option Name) → home_of world client ≡ o → HomesAreServers settings
           (option_map_or (λ home. by_machine settings world home client_event) o
-          (unmoved world)).world
+          (unmoved world)).state
       by None is = all
       by (Some home) is =
           machine_keeps world home client_event all (sound.homes_known client home is)
 
   link_keeps : (world : World) (near far : Name) → IsSound settings world
-      → HomesAreServers settings world → HomesAreServers settings (link_made world near far).world
+      → HomesAreServers settings world → HomesAreServers settings (link_made world near far).state
   link_keeps world near far sound all s =
       hall_with (λ h. HomesPass (is_server settings) h.room) near s
       (merged (world.hall near) (world.hall far))
@@ -89,7 +89,7 @@ module _ (brings : ClientsBringOwnUsers) (merge_new : MergeHasNothingNew)
 
   cut_keeps : (world : World) (left : List Link) (near far : Name)
       → IsSound settings world → HomesAreServers settings world
-      → HomesAreServers settings (cut_apart settings world left near far).world
+      → HomesAreServers settings (cut_apart settings world left near far).state
   cut_keeps world left near far sound all s =
       hall_with (λ h. HomesPass (is_server settings) h.room) far s
       (remaining settings world left far near)
@@ -133,7 +133,7 @@ module _ (keeps : StepKeepsHomes) (stays : StepStaysSound) (settings : List Sett
       → HomesAreServers settings (after_items settings world items)
   items_keep [] world sound all taken = all
   items_keep (item ∷ items) world sound all taken =
-      items_keep items (step settings world item).world (stays settings world item sound taken.now)
+      items_keep items (step settings world item).state (stays settings world item sound taken.now)
       (keeps settings world item sound all taken.now) taken.later
 
 pub users_homes_are_servers : StepKeepsHomes → StepStaysSound → UsersHomesAreServers

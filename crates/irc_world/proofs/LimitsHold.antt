@@ -211,7 +211,7 @@ module _ (words : WordsAreOfTheLine) (after_within : AfterIsWithinLimits) (sent 
     (settings : List Setting) (names : AreNamed settings) where
   hall_keeps : (world : World) (home : Name) (client_event : ClientEvent) → IsWorldWithin world
       → Keeps (handled (machine_at settings world home) client_event).state
-      → IsWorldWithin (by_machine settings world home client_event).world
+      → IsWorldWithin (by_machine settings world home client_event).state
   hall_keeps world home client_event all keeps s = hall_with IsHallWithin home s hall world
       (λ _. record { room = keeps.room; given = keeps.given }) (λ _. all s)
     where
@@ -227,7 +227,7 @@ module _ (words : WordsAreOfTheLine) (after_within : AfterIsWithinLimits) (sent 
 
   connect_keeps : (world : World) (server : Name) (conn : ℕ) (host : List ℕ)
       → IsHost host → IsWorldWithin world
-      → IsWorldWithin (by_machine settings world server (connects conn host)).world
+      → IsWorldWithin (by_machine settings world server (connects conn host)).state
   unfolding handled
   connect_keeps world server conn host fits all =
       hall_keeps world server (connects conn host) all (record {
@@ -238,7 +238,7 @@ module _ (words : WordsAreOfTheLine) (after_within : AfterIsWithinLimits) (sent 
 
   line_keeps : (world : World) (client : ℕ) (bytes : List ℕ)
       → IsCarried bytes → IsSound settings world → IsWorldWithin world
-      → IsWorldWithin (by_client settings world client (says client (read_of bytes))).world
+      → IsWorldWithin (by_client settings world client (says client (read_of bytes))).state
   unfolding handled
   line_keeps world client bytes carried sound all = by (home_of world client) refl
     where
@@ -253,18 +253,18 @@ module _ (words : WordsAreOfTheLine) (after_within : AfterIsWithinLimits) (sent 
           (client_of (machine_at settings world home) client) refl
 
       by : (o : Option Name) → home_of world client ≡ o → IsWorldWithin (option_map_or (λ home.
-          by_machine settings world home (says client (read_of bytes))) o (unmoved world)).world
+          by_machine settings world home (says client (read_of bytes))) o (unmoved world)).state
       by None is = all
       by (Some home) is = hall_keeps world home (says client (read_of bytes)) all
           (read_keeps home (sound.homes_known client home is) (read_of bytes) refl)
 
   gone_keeps : (world : World) (client : ℕ) → IsWorldWithin world
-      → IsWorldWithin (by_client settings world client (goes client)).world
+      → IsWorldWithin (by_client settings world client (goes client)).state
   unfolding handled
   gone_keeps world client all = by (home_of world client)
     where
       by : (o : Option Name) → IsWorldWithin (option_map_or
-          (λ home. by_machine settings world home (goes client)) o (unmoved world)).world
+          (λ home. by_machine settings world home (goes client)) o (unmoved world)).state
       by None = all
       by (Some home) = hall_keeps world home (goes client) all
           (quits_keep after_within sent
@@ -274,7 +274,7 @@ module _ (words : WordsAreOfTheLine) (after_within : AfterIsWithinLimits) (sent 
           (start world home all)))
 
 link_keeps : MergeIsWithinLimits → (settings : List Setting) (world : World) (near far : Name)
-    → IsSound settings world → IsWorldWithin world → IsWorldWithin (link_made world near far).world
+    → IsSound settings world → IsWorldWithin world → IsWorldWithin (link_made world near far).state
 link_keeps merge_within settings world near far sound all s =
     hall_with IsHallWithin near s (merged (world.hall near) (world.hall far))
     (record world { links = record { near = near; far = far } ∷ world.links })
@@ -303,7 +303,7 @@ link_keeps merge_within settings world near far sound all s =
 
 cut_keeps : SplitIsWithinLimits → (settings : List Setting) (world : World)
     (left : List Link) (near far : Name) → IsSound settings world → IsWorldWithin world
-    → IsWorldWithin (cut_apart settings world left near far).world
+    → IsWorldWithin (cut_apart settings world left near far).state
 cut_keeps split_within settings world left near far sound all s =
     hall_with IsHallWithin far s (remaining settings world left far near)
     (with_hall near (remaining settings world left near far) (record world { links = left }))
@@ -362,7 +362,7 @@ module _ (no_room_within : NoRoomIsWithinLimits) (keeps : StepKeepsLimits) (stay
       → IsWorldWithin (after_items settings world items)
   items_keep [] world sound all small taken = all
   items_keep (item ∷ items) world sound all small taken =
-      items_keep items (step settings world item).world (stays settings world item sound taken.now)
+      items_keep items (step settings world item).state (stays settings world item sound taken.now)
       (keeps settings world item names sound all small.0 taken.now) small.1 taken.later
 
 pub rooms_keep_limits : NoRoomIsWithinLimits → StepKeepsLimits → StepStaysSound → RoomsKeepLimits

@@ -99,7 +99,7 @@ bos_listed = record { first = bos_in_order; second = als_in_order; along = tt; l
 
 abbrev meet : ℕ → List (List ℕ)
 meet client = (step three_peers (two_apart als_people bos_people)
-    (link (codes "a.net") (codes "b.net"))).lines client
+    (link (codes "a.net") (codes "b.net"))).out client
 
 abbrev list_meet : ℕ → List (List ℕ)
 list_meet client =
@@ -156,14 +156,14 @@ bos_set_listed = record {
   left = als_set_in_order;
 }
 
-joined_there : (client : ℕ) → a_connects.lines client
+joined_there : (client : ℕ) → a_connects.out client
     ≡ list_meeting als_set bos_set (find nat_cmp client als_clients)
     ++ list_meeting bos_set als_set (find nat_cmp client bos_clients)
 unfolding step part
 joined_there client =
     met als_clients bos_clients als_settings bos_settings client als_set_listed bos_set_listed
 
-joined_back : (client : ℕ) → b_connects.lines client
+joined_back : (client : ℕ) → b_connects.out client
     ≡ list_meeting bos_set als_set (find nat_cmp client bos_clients)
     ++ list_meeting als_set bos_set (find nat_cmp client als_clients)
 unfolding step part
@@ -262,7 +262,7 @@ other_zeds_listed = record {
 
 abbrev clash_lines : ℕ → List (List ℕ)
 clash_lines client = (step three_peers (two_apart with_zed with_other_zed)
-    (link (codes "a.net") (codes "b.net"))).lines client
+    (link (codes "a.net") (codes "b.net"))).out client
 
 clash_listed : (client : ℕ) → clash_lines client
     ≡ list_meeting zeds other_zeds (find nat_cmp client zeds_clients)
@@ -357,7 +357,7 @@ client_left one other client =
     (option_map_or (joined rest one) (home_of (in_a_line three_people) client) false) o None)
     (get-from_entries nat_cmp_total three_clients client)
 
-lost_lines : (client : ℕ) → cut_off.lines client
+lost_lines : (client : ℕ) → cut_off.out client
     ≡ list_seen_leaving (split_text a_net b_net) (b_net ∷ codes "c.net" ∷ []) three
     (left_on a_net client)
     ++ list_seen_leaving (split_text b_net a_net) (a_net ∷ []) three (left_on b_net client)
@@ -433,19 +433,19 @@ side_made one other homes are =
     (λ i. split (split_text one other) (are i) (three_made i))
     ∙ split_listed (split_text one other) homes three three_in_order
 
-pub als_hall : cut_off.world.hall a_net ≡ hall_of (kept_on a_net) als_side
+pub als_hall : cut_off.state.hall a_net ≡ hall_of (kept_on a_net) als_side
 unfolding step part links_without
 als_hall = λ i. record {
   clients = kept_on a_net;
   room = side_made a_net b_net (b_net ∷ codes "c.net" ∷ []) behind_b i;
 }
 
-pub others_hall : cut_off.world.hall b_net ≡ hall_of (kept_on b_net) others_side
+pub others_hall : cut_off.state.hall b_net ≡ hall_of (kept_on b_net) others_side
 unfolding step part links_without
 others_hall =
     λ i. record { clients = kept_on b_net; room = side_made b_net a_net (a_net ∷ []) behind_a i }
 
-back_lines : (client : ℕ) → back_again.lines client
+back_lines : (client : ℕ) → back_again.out client
     ≡ list_meeting als_side others_side (left_on a_net client)
     ++ list_meeting others_side als_side (left_on b_net client)
 unfolding step

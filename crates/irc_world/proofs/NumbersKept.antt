@@ -18,16 +18,16 @@ one_more_home homes new zero home is = absurd (cc is)
 one_more_home homes new (suc earlier) home is = still_home homes new earlier home is
 
 same_homes : (settings : List Setting) (world : World) (actor : ℕ) (client_event : ClientEvent)
-    → (by_client settings world actor client_event).world.homes ≡ world.homes
+    → (by_client settings world actor client_event).state.homes ≡ world.homes
 same_homes settings world actor client_event = by (home_of world actor)
   where
     by : (o : Option Name) → (option_map_or (λ home. by_machine settings world home client_event) o
-        (still world)).world.homes ≡ world.homes
+        (still world)).state.homes ≡ world.homes
     by None = refl
     by (Some home) = refl
 
 step_keeps : (settings : List Setting) (world : World) (item : Item) (client : ℕ) (home : Name)
-    → home_of world client ≡ Some home → home_of (step settings world item).world client ≡ Some home
+    → home_of world client ≡ Some home → home_of (step settings world item).state client ≡ Some home
 unfolding step
 step_keeps settings world (connect server host) client home is =
     one_more_home world.homes server client home is
@@ -41,7 +41,7 @@ step_keeps settings world (cut near far) client home is = is
 pub numbers_stay : NumbersStay
 numbers_stay settings world [] client home is = is
 numbers_stay settings world (item ∷ items) client home is =
-    numbers_stay settings (step settings world item).world items client home
+    numbers_stay settings (step settings world item).state items client home
     (step_keeps settings world item client home is)
 
 pub next_number_is_new : NextNumberIsNew

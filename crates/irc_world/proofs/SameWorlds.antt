@@ -112,8 +112,8 @@ itself_turned (l ∷ ls) = (inl (refl, refl), itself_turned ls)
 
 -- the worlds are the same after it, and so are the lines
 pub record AreSteps (one other : Stepped) : Type 0 where
-  pub worlds : AreTheSameWorlds one.world other.world
-  pub lines : (client : ℕ) → one.lines client ≡ other.lines client
+  pub worlds : AreTheSameWorlds one.state other.state
+  pub lines : (client : ℕ) → one.out client ≡ other.out client
 
 leaving_same : (settings : List Setting) (one other : List Link) (near far : Name)
     → joined one far ≡ joined other far → (room : Room) (o : Option Client)
@@ -290,7 +290,7 @@ module _ (turned_same : TurnedAreTheSame) (tests : TestsTell) (between : LinkBet
       record { taken = tt; worlds = as_one; lines = λ client. refl }
   go_on stays one other (item ∷ items) sound as_one taken =
       let first = step_same one other sound as_one item taken.now in
-      let rest = go_on stays (step settings one item).world (step settings other item).world items
+      let rest = go_on stays (step settings one item).state (step settings other item).state items
       (stays settings one item sound taken.now)
       first.worlds taken.later in
       record {

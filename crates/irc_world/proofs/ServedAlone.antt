@@ -125,9 +125,9 @@ machine_with place clients room = record { place = place; clients = clients; roo
 -- what a client does, does the same to both
 pub record IsDone (setting : Setting) (done : Stepped) (view : View)
     (client_event : ClientEvent) : Type 0 where
-  pub stays : IsTheServer setting done.world (served view (of_client client_event)).state
+  pub stays : IsTheServer setting done.state (served view (of_client client_event)).state
   pub lines : (client : ℕ)
-      → done.lines client ≡ lines_to client (served view (of_client client_event)).out
+      → done.out client ≡ lines_to client (served view (of_client client_event)).out
 
 pub past_end : (homes : List Name) → slice_get homes (length homes) ≡ None
 past_end [] = refl
@@ -332,7 +332,7 @@ module _ (alone_is : AloneIsAlone) (one_room : LoneServerIsOneRoom) (stays_sound
       first = one_server_is_the_network alone_is one_room setting world view item sound is taken.now
 
       next : World
-      next = (step (setting ∷ []) world item).world
+      next = (step (setting ∷ []) world item).state
 
 pub one_server_owes : AloneIsAlone → LoneServerIsOneRoom → StepStaysSound → OneServerOwes
 unfolding owed_by_network

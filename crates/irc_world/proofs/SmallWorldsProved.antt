@@ -147,12 +147,12 @@ unfolding fold fold_table in_lines
 other_zeds_told = burst_length b_net other_zeds_doings other_zeds_in_order 3
     (ap length (burst_listed b_net (list_room other_zeds_doings) other_zeds_in_order))
 
-als_side_told : length (burst a_net (cut_off.world.hall a_net).room) ≡ 4
+als_side_told : length (burst a_net (cut_off.state.hall a_net).room) ≡ 4
 unfolding fold fold_table in_lines
 als_side_told = (λ i. length (burst a_net (als_hall i).room))
     ∙ ap length (burst_listed a_net als_side als_side_in_order)
 
-others_side_told : length (burst b_net (cut_off.world.hall b_net).room) ≡ 5
+others_side_told : length (burst b_net (cut_off.state.hall b_net).room) ≡ 5
 unfolding fold fold_table in_lines
 others_side_told = (λ i. length (burst b_net (others_hall i).room))
     ∙ ap length (burst_listed b_net others_side others_side_in_order)
@@ -397,7 +397,7 @@ other_two_listed = record {
 
 two_meet : (client : ℕ) → (step three_peers (two_apart (hall_after two_clients two_doings)
     (hall_after other_two_clients other_two_doings))
-    (link (codes "a.net") (codes "b.net"))).lines client
+    (link (codes "a.net") (codes "b.net"))).out client
     ≡ list_meeting (list_room two_doings) (list_room other_two_doings)
     (find nat_cmp client two_clients)
     ++ list_meeting (list_room other_two_doings) (list_room two_doings)
@@ -501,13 +501,13 @@ b_sees client =
     ∙ leaving_listed three_peers rest b_net a_net four four_in_order
     (a_net ∷ []) behind_a al_leaving (left_on b_net client)
 
-lost_lines : (client : ℕ) → four_lose.lines client
+lost_lines : (client : ℕ) → four_lose.out client
     ≡ list_seen_leaving (split_text a_net b_net) (b_net ∷ c_net ∷ []) four (left_on a_net client)
     ++ list_seen_leaving (split_text b_net a_net) (a_net ∷ []) four (left_on b_net client)
 unfolding step part links_without
 lost_lines client = λ i. a_sees client i ++ b_sees client i
 
-lost_lines_back : (client : ℕ) → four_lose_back.lines client
+lost_lines_back : (client : ℕ) → four_lose_back.out client
     ≡ list_seen_leaving (split_text b_net a_net) (a_net ∷ []) four (left_on b_net client)
     ++ list_seen_leaving (split_text a_net b_net) (b_net ∷ c_net ∷ []) four (left_on a_net client)
 unfolding step part links_without

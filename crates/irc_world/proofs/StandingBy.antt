@@ -83,7 +83,7 @@ module _ (settings : List Setting) (world : World) (sound : IsSound settings wor
   no_meeting one other o none = ap (meeting_lines one other) none
 
   meets_nobody : (near far : Name) (client : ℕ) → get (world.hall near).clients client ≡ None
-      → get (world.hall far).clients client ≡ None → (link_made world near far).lines client ≡ []
+      → get (world.hall far).clients client ≡ None → (link_made world near far).out client ≡ []
   meets_nobody near far client one other =
       λ i. meeting_lines (world.hall near) (world.hall far) (one i)
       ++ meeting_lines (world.hall far) (world.hall near) (other i)
@@ -103,7 +103,7 @@ module _ (settings : List Setting) (world : World) (sound : IsSound settings wor
 
   leaves_nobody : (left : List Link) (near far : Name) (client : ℕ)
       → get (world.hall near).clients client ≡ None → get (world.hall far).clients client ≡ None
-      → (parted settings world left near far).lines client ≡ []
+      → (parted settings world left near far).out client ≡ []
   leaves_nobody left near far client one other =
       λ i. leaving_lines settings left near far (world.hall near).room
       (not_remaining left near far client one i)
@@ -112,17 +112,17 @@ module _ (settings : List Setting) (world : World) (sound : IsSound settings wor
 
   silent_machine : (home : Name) (client_event : ClientEvent) (client : ℕ)
       → get (world.hall home).clients client ≡ None
-      → (by_machine settings world home client_event).lines client ≡ []
+      → (by_machine settings world home client_event).out client ≡ []
   silent_machine home client_event client none =
       unheard client (machine_at settings world home) client_event none
 
   silent_client : (actor : ℕ) (client_event : ClientEvent) (client : ℕ) → ((home : Name)
       → home_of world actor ≡ Some home → get (world.hall home).clients client ≡ None)
-      → (by_client settings world actor client_event).lines client ≡ []
+      → (by_client settings world actor client_event).out client ≡ []
   silent_client actor client_event client none = by (home_of world actor) refl
     where
       by : (o : Option Name) → home_of world actor ≡ o → (option_map_or
-          (λ home. by_machine settings world home client_event) o (still world)).lines client ≡ []
+          (λ home. by_machine settings world home client_event) o (still world)).out client ≡ []
       by None is = refl
       by (Some home) is = silent_machine home client_event client (none home is)
 
@@ -130,12 +130,12 @@ module _ (settings : List Setting) (world : World) (sound : IsSound settings wor
 
   client_elsewhere : (actor : ℕ) (client_event : ClientEvent) (server : Name)
       → ((home : Name) → home_of world actor ≡ Some home → AreJoined world.links server home → ⊥)
-      → (by_client settings world actor client_event).world.hall server ≡ world.hall server
+      → (by_client settings world actor client_event).state.hall server ≡ world.hall server
   client_elsewhere actor client_event server apart = by (home_of world actor) refl
     where
       by : (o : Option Name) → home_of world actor ≡ o
           → (option_map_or (λ home. by_machine settings world home client_event) o
-          (still world)).world.hall server ≡ world.hall server
+          (still world)).state.hall server ≡ world.hall server
       by None is = refl
       by (Some home) is = other_hall world home server (record {
         clients = (handled (machine_at settings world home) client_event).state.clients;
@@ -170,12 +170,12 @@ module _ (tests : TestsTell) (join : LinksJoin) (between : LinkBetweenParts)
     (taken_out : LinkTakenOut) (over_link : JoinedOverLink) where
   -- a client makes and loses no link
   same_links : (settings : List Setting) (world : World) (actor : ℕ) (client_event : ClientEvent)
-      → (by_client settings world actor client_event).world.links ≡ world.links
+      → (by_client settings world actor client_event).state.links ≡ world.links
   same_links settings world actor client_event = by (home_of world actor)
     where
       by : (o : Option Name)
           → (option_map_or (λ home. by_machine settings world home client_event) o
-          (still world)).world.links ≡ world.links
+          (still world)).state.links ≡ world.links
       by None = refl
       by (Some home) = refl
 
@@ -345,7 +345,7 @@ module _ (settings : List Setting) (world : World) (sound : IsSound settings wor
       (get (world.hall one).clients client) (quiet_at one))
 
   link_waits : LinkBetweenParts → (near far : Name) → LinkIsTaken settings world near far
-      → get ((link_made world near far).world.hall home).clients client ≡ Some (Registering pending)
+      → get ((link_made world near far).state.hall home).clients client ≡ Some (Registering pending)
   link_waits between near far taken =
       let made = between (record { near = near; far = far }) world.links sound.forest
       (two_parts world.links near far taken.apart) in
@@ -361,7 +361,7 @@ module _ (settings : List Setting) (world : World) (sound : IsSound settings wor
         ]
       ]) (λ _. there)
 
-  link_silent : (near far : Name) → (link_made world near far).lines client ≡ []
+  link_silent : (near far : Name) → (link_made world near far).out client ≡ []
   link_silent near far =
       λ i. quiet_meeting pending (world.hall near) (world.hall far)
       (get (world.hall near).clients client) (quiet_at near) i
@@ -369,7 +369,7 @@ module _ (settings : List Setting) (world : World) (sound : IsSound settings wor
       (get (world.hall far).clients client) (quiet_at far) i
 
   cut_waits : (left : List Link) (near far : Name) → IsLeft left world.links near far
-      → get ((parted settings world left near far).world.hall home).clients client
+      → get ((parted settings world left near far).state.hall home).clients client
       ≡ Some (Registering pending)
   cut_waits left near far is_left =
       hall_with (λ h. get h.clients client ≡ Some (Registering pending)) far home
@@ -383,7 +383,7 @@ module _ (settings : List Setting) (world : World) (sound : IsSound settings wor
       (λ _. there))
 
   cut_silent : (left : List Link) (near far : Name)
-      → (parted settings world left near far).lines client ≡ []
+      → (parted settings world left near far).out client ≡ []
   cut_silent left near far =
       λ i. quiet_leaving pending settings left near far (world.hall near).room
       (get (remaining settings world left near far).clients client)

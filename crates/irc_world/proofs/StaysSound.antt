@@ -61,7 +61,7 @@ module _ (decided_possible : DecidedIsPossible) (registering_possible : Register
   pub machine_sound : (world : World) (home : Name) (client_event : ClientEvent)
       → IsSound settings world
       → Comes (λ client. HasHomeBy world.links world.homes client home) client_event
-      → IsSound settings (by_machine settings world home client_event).world
+      → IsSound settings (by_machine settings world home client_event).state
   machine_sound world home client_event sound comes = record {
     forest = sound.forest;
     one_hall = one_hall_with home hall world (λ s t one apart. sound.one_hall s t one);
@@ -103,7 +103,7 @@ module _ (decided_possible : DecidedIsPossible) (registering_possible : Register
 
   client_sound : (world : World) (client : ℕ) (client_event : ClientEvent)
       → IsSound settings world → Comes (λ client. ⊥) client_event
-      → IsSound settings (by_client settings world client client_event).world
+      → IsSound settings (by_client settings world client client_event).state
   client_sound world client client_event sound comes = by (home_of world client)
     where
       comes_so : (home : Name) (client_event : ClientEvent) → Comes (λ client. ⊥) client_event
@@ -114,7 +114,7 @@ module _ (decided_possible : DecidedIsPossible) (registering_possible : Register
 
       by : (o : Option Name) → IsSound settings
           (option_map_or (λ home. by_machine settings world home client_event) o
-          (unmoved world)).world
+          (unmoved world)).state
       by None = sound
       by (Some home) =
           machine_sound world home client_event sound (comes_so home client_event comes)
@@ -207,7 +207,7 @@ module _ (settings : List Setting) (world : World) (near far : Name)
   ends_there s t (inl (inr e)) = subst (λ n. is_server settings n ≡ true) e.1 taken.far_known
   ends_there s t (inr older) = sound.ends_known s t older
 
-  pub linked_sound : IsSound settings (link_made world near far).world
+  pub linked_sound : IsSound settings (link_made world near far).state
   linked_sound = record {
     forest = made.forest;
     one_hall =
@@ -302,7 +302,7 @@ module _ (settings : List Setting) (world : World) (near far : Name)
     ];
   }
 
-  pub parted_sound : IsSound settings (cut_apart settings world rest near far).world
+  pub parted_sound : IsSound settings (cut_apart settings world rest near far).state
   parted_sound = record {
     forest = is_left.forest;
     one_hall = one_hall_with far far_hall (with_hall near near_hall fewer_links) (λ s t one _.
@@ -376,7 +376,7 @@ items_stay_sound : StepStaysSound → (settings : List Setting) (items : List It
     → IsSound settings (after_items settings world items)
 items_stay_sound stays settings [] world sound taken = sound
 items_stay_sound stays settings (item ∷ items) world sound taken =
-    items_stay_sound stays settings items (step settings world item).world
+    items_stay_sound stays settings items (step settings world item).state
     (stays settings world item sound taken.now) taken.later
 
 pub world_is_sound : StepStaysSound → WorldIsSound

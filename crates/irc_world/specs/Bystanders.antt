@@ -20,9 +20,9 @@ IsOfLinks other = ⊥
 -- A connection that is not registered stays, with what it has given, and sees nothing.
 pub record StaysWaiting (settings : List Setting) (world : World) (item : Item) (client : ℕ)
     (home : Name) (pending : Pending) : Type 0 where
-  pub waits : get ((step settings world item).world.hall home).clients client
+  pub waits : get ((step settings world item).state.hall home).clients client
       ≡ Some (Registering pending)
-  pub sees_nothing : (step settings world item).lines client ≡ []
+  pub sees_nothing : (step settings world item).out client ≡ []
 
 abbrev pub WaitingStay : Type 0
 WaitingStay = (settings : List Setting) (world : World) (item : Item) (client : ℕ) (home : Name)
@@ -48,11 +48,11 @@ IsElsewhere world (cut near far) server = AreJoined world.links server near → 
 -- anything.
 pub record IsUntouched (settings : List Setting) (world : World) (item : Item)
     (server : Name) : Type 0 where
-  pub hall : (step settings world item).world.hall server ≡ world.hall server
-  pub place : place_at settings (step settings world item).world.links server
+  pub hall : (step settings world item).state.hall server ≡ world.hall server
+  pub place : place_at settings (step settings world item).state.links server
       ≡ place_at settings world.links server
   pub lines : (client : ℕ) → is_some (get (world.hall server).clients client) ≡ true
-      → (step settings world item).lines client ≡ []
+      → (step settings world item).out client ≡ []
 
 abbrev pub OtherPartsStay : Type 0
 OtherPartsStay = (settings : List Setting) (world : World) (item : Item) (server : Name)
@@ -65,4 +65,4 @@ OtherPartsStay = (settings : List Setting) (world : World) (item : Item) (server
 abbrev pub OnlyConnectedReceive : Type 0
 OnlyConnectedReceive = (settings : List Setting) (world : World) (item : Item) (client : ℕ)
     → IsSound settings world → refused settings world item ≡ None
-    → open_client world client ≡ None → (step settings world item).lines client ≡ []
+    → open_client world client ≡ None → (step settings world item).out client ≡ []

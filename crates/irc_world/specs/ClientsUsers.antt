@@ -55,7 +55,7 @@ abbrev pub StepKeepsMatched : Type 0
 StepKeepsMatched = (settings : List Setting) (world : World) (item : Item) → IsSound settings world
     → HomesAreServers settings world
     → HomesAreJoined world → ClientsAreUsers world → refused settings world item ≡ None
-    → ClientsAreUsers (step settings world item).world
+    → ClientsAreUsers (step settings world item).state
 
 -- so it is after any items of which none is refused
 abbrev pub RegisteredAreUsers : Type 0

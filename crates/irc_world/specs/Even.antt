@@ -26,9 +26,9 @@ pub record LookTheSame (settings : List Setting) (one other : World) : Type 0 wh
 
 -- and each client has received the same lines
 pub record AreTheSame (settings : List Setting) (one other : Stepped) : Type 0 where
-  pub worlds : AreTheSameWorlds one.world other.world
-  pub looks : LookTheSame settings one.world other.world
-  pub lines : (client : ℕ) → one.lines client ≡ other.lines client
+  pub worlds : AreTheSameWorlds one.state other.state
+  pub looks : LookTheSame settings one.state other.state
+  pub lines : (client : ℕ) → one.out client ≡ other.out client
 
 -- another item would be taken as well, and it comes to the same
 pub record MayBeToo (settings : List Setting) (world : World) (item other : Item) : Type 0 where

@@ -14,7 +14,7 @@ NewWorldIsSound = (settings : List Setting) → IsSound settings new_world
 abbrev pub StepStaysSound : Type 0
 StepStaysSound = (settings : List Setting) (world : World) (item : Item) → IsSound settings world
     → refused settings world item ≡ None
-    → IsSound settings (step settings world item).world
+    → IsSound settings (step settings world item).state
 
 -- so the network is sound after any items of which none is refused
 abbrev pub WorldIsSound : Type 0

@@ -82,15 +82,15 @@ pub record PeopleMeet : Type 0 where
   pub taken : refused three_peers (two_apart als_people bos_people)
       (link (codes "a.net") (codes "b.net")) ≡ None
   pub to_al : (step three_peers (two_apart als_people bos_people)
-      (link (codes "a.net") (codes "b.net"))).lines 1
+      (link (codes "a.net") (codes "b.net"))).out 1
       ≡ (codes ":bo!u@h JOIN #c" ++ crlf) ∷ (codes ":a.net MODE #c +o bo" ++ crlf) ∷ []
   pub to_an : (step three_peers (two_apart als_people bos_people)
-      (link (codes "a.net") (codes "b.net"))).lines 2 ≡ []
+      (link (codes "a.net") (codes "b.net"))).out 2 ≡ []
   pub to_bo : (step three_peers (two_apart als_people bos_people)
-      (link (codes "a.net") (codes "b.net"))).lines 3
+      (link (codes "a.net") (codes "b.net"))).out 3
       ≡ (codes ":al!u@h JOIN #c" ++ crlf) ∷ (codes ":b.net MODE #c +o al" ++ crlf) ∷ []
   pub to_cy : (step three_peers (two_apart als_people bos_people)
-      (link (codes "a.net") (codes "b.net"))).lines 4 ≡ []
+      (link (codes "a.net") (codes "b.net"))).out 4 ≡ []
 
 -- ---- two sides that differ
 
@@ -135,12 +135,12 @@ al_comes =
 -- the modes of #c at a server, with their parameters, and its topic
 abbrev pub modes_at : Stepped → Name → Option (List (List ℕ))
 modes_at stepped server =
-    option_map modes_written (row (stepped.world.hall server).room.channels (key (codes "#c")))
+    option_map modes_written (row (stepped.state.hall server).room.channels (key (codes "#c")))
 
 abbrev pub topic_at : Stepped → Name → Option (List ℕ)
 topic_at stepped server =
     option_map (λ (c : Channel). c.topic)
-    (row (stepped.world.hall server).room.channels (key (codes "#c")))
+    (row (stepped.state.hall server).room.channels (key (codes "#c")))
 
 -- Nothing that is set on either side is lost, and of two keys the greater is taken. The members of
 -- #c see what theirs had not; whichever of the two servers connects, it is the same.
@@ -148,18 +148,18 @@ pub record SidesAreJoined : Type 0 where
   pub taken :
       refused three_peers (two_apart als_room bos_room)
       (link (codes "a.net") (codes "b.net")) ≡ None
-  pub to_al : a_connects.lines 1 ≡ bo_comes
-  pub to_an : a_connects.lines 2 ≡ []
-  pub to_bo : a_connects.lines 3 ≡ al_comes
-  pub to_cy : a_connects.lines 4 ≡ []
+  pub to_al : a_connects.out 1 ≡ bo_comes
+  pub to_an : a_connects.out 2 ≡ []
+  pub to_bo : a_connects.out 3 ≡ al_comes
+  pub to_cy : a_connects.out 4 ≡ []
   pub modes_here : modes_at a_connects (codes "a.net") ≡ Some (codes "+nsk" ∷ codes "bb" ∷ [])
   pub modes_there : modes_at a_connects (codes "b.net") ≡ Some (codes "+nsk" ∷ codes "bb" ∷ [])
   pub topic_there : topic_at a_connects (codes "b.net") ≡ Some (codes "x")
   pub taken_back :
       refused three_peers (two_apart als_room bos_room)
       (link (codes "b.net") (codes "a.net")) ≡ None
-  pub back_to_al : b_connects.lines 1 ≡ bo_comes
-  pub back_to_bo : b_connects.lines 3 ≡ al_comes
+  pub back_to_al : b_connects.out 1 ≡ bo_comes
+  pub back_to_bo : b_connects.out 3 ≡ al_comes
   pub modes_back : modes_at b_connects (codes "a.net") ≡ Some (codes "+nsk" ∷ codes "bb" ∷ [])
 
 -- ---- a nickname on both sides
@@ -200,15 +200,15 @@ pub record NicknamesClash : Type 0 where
   pub taken : refused three_peers (two_apart with_zed with_other_zed)
       (link (codes "a.net") (codes "b.net")) ≡ None
   pub to_al : (step three_peers (two_apart with_zed with_other_zed)
-      (link (codes "a.net") (codes "b.net"))).lines 1 ≡ zed_quits
+      (link (codes "a.net") (codes "b.net"))).out 1 ≡ zed_quits
   pub to_zed : (step three_peers (two_apart with_zed with_other_zed)
-      (link (codes "a.net") (codes "b.net"))).lines 2 ≡ zed_is_told
+      (link (codes "a.net") (codes "b.net"))).out 2 ≡ zed_is_told
   pub to_bo : (step three_peers (two_apart with_zed with_other_zed)
-      (link (codes "a.net") (codes "b.net"))).lines 3 ≡ zed_quits
+      (link (codes "a.net") (codes "b.net"))).out 3 ≡ zed_quits
   pub to_other_zed : (step three_peers (two_apart with_zed with_other_zed)
-      (link (codes "a.net") (codes "b.net"))).lines 4 ≡ zed_is_told
+      (link (codes "a.net") (codes "b.net"))).out 4 ≡ zed_is_told
   pub zed_is_gone : refused three_peers (step three_peers (two_apart with_zed with_other_zed)
-      (link (codes "a.net") (codes "b.net"))).world
+      (link (codes "a.net") (codes "b.net"))).state
       (line 2 (codes "PING x")) ≡ Some no_such_client
 
 -- ---- a link is lost, and is back
@@ -244,30 +244,30 @@ abbrev pub cut_off : Stepped
 cut_off = step three_peers (in_a_line three_people) (cut (codes "a.net") (codes "b.net"))
 
 abbrev pub back_again : Stepped
-back_again = step three_peers cut_off.world (link (codes "a.net") (codes "b.net"))
+back_again = step three_peers cut_off.state (link (codes "a.net") (codes "b.net"))
 
 -- Each side sees those of the other quit, once, in order of their servers; the text has the near
 -- end first.
 pub record LinkIsLost : Type 0 where
   pub taken : refused three_peers (in_a_line three_people)
       (cut (codes "a.net") (codes "b.net")) ≡ None
-  pub to_al : cut_off.lines 1 ≡ (codes ":bo!u@h QUIT :a.net b.net" ++ crlf)
+  pub to_al : cut_off.out 1 ≡ (codes ":bo!u@h QUIT :a.net b.net" ++ crlf)
       ∷ (codes ":cy!u@h QUIT :a.net b.net" ++ crlf) ∷ []
-  pub to_bo : cut_off.lines 2 ≡ (codes ":al!u@h QUIT :b.net a.net" ++ crlf) ∷ []
-  pub to_cy : cut_off.lines 3 ≡ (codes ":al!u@h QUIT :b.net a.net" ++ crlf) ∷ []
+  pub to_bo : cut_off.out 2 ≡ (codes ":al!u@h QUIT :b.net a.net" ++ crlf) ∷ []
+  pub to_cy : cut_off.out 3 ≡ (codes ":al!u@h QUIT :b.net a.net" ++ crlf) ∷ []
 
 -- The link is back: each side sees those of the other come to #c and #d. No topic is seen, since
 -- both sides have it.
 pub record LinkIsBack : Type 0 where
-  pub taken : refused three_peers cut_off.world (link (codes "a.net") (codes "b.net")) ≡ None
-  pub to_al : back_again.lines 1
+  pub taken : refused three_peers cut_off.state (link (codes "a.net") (codes "b.net")) ≡ None
+  pub to_al : back_again.out 1
       ≡ (codes ":bo!u@h JOIN #c" ++ crlf) ∷ (codes ":cy!u@h JOIN #c" ++ crlf)
       ∷ (codes ":bo!u@h JOIN #d" ++ crlf) ∷ (codes ":cy!u@h JOIN #d" ++ crlf) ∷ []
-  pub to_bo : back_again.lines 2
+  pub to_bo : back_again.out 2
       ≡ (codes ":al!u@h JOIN #c" ++ crlf) ∷ (codes ":b.net MODE #c +o al" ++ crlf)
       ∷ (codes ":al!u@h JOIN #d" ++ crlf)
       ∷ (codes ":b.net MODE #d +o al" ++ crlf) ∷ []
-  pub to_cy : back_again.lines 3
+  pub to_cy : back_again.out 3
       ≡ (codes ":al!u@h JOIN #c" ++ crlf) ∷ (codes ":c.net MODE #c +o al" ++ crlf)
       ∷ (codes ":al!u@h JOIN #d" ++ crlf)
       ∷ (codes ":c.net MODE #d +o al" ++ crlf) ∷ []
@@ -280,6 +280,6 @@ bo_speaks = step three_peers (in_a_line three_people) (line 2 (codes "PRIVMSG #c
 -- The members of #c hear what bo says in it, whichever server they are on; bo does not hear itself.
 pub record BoIsHeard : Type 0 where
   pub taken : refused three_peers (in_a_line three_people) (line 2 (codes "PRIVMSG #c :hi")) ≡ None
-  pub to_al : bo_speaks.lines 1 ≡ (codes ":bo!u@h PRIVMSG #c :hi" ++ crlf) ∷ []
-  pub to_bo : bo_speaks.lines 2 ≡ []
-  pub to_cy : bo_speaks.lines 3 ≡ (codes ":bo!u@h PRIVMSG #c :hi" ++ crlf) ∷ []
+  pub to_al : bo_speaks.out 1 ≡ (codes ":bo!u@h PRIVMSG #c :hi" ++ crlf) ∷ []
+  pub to_bo : bo_speaks.out 2 ≡ []
+  pub to_cy : bo_speaks.out 3 ≡ (codes ":bo!u@h PRIVMSG #c :hi" ++ crlf) ∷ []

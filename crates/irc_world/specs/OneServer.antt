@@ -80,9 +80,9 @@ pub record IsServed (setting : Setting) (world : World) (view : View) (item : It
   pub client_event : ClientEvent
   pub is_item : client_event_at world item ≡ Some client_event
   pub expected : IsExpected (machine_of view) client_event
-  pub stays : IsTheServer setting (step (setting ∷ []) world item).world
+  pub stays : IsTheServer setting (step (setting ∷ []) world item).state
       (served view (of_client client_event)).state
-  pub lines : (client : ℕ) → (step (setting ∷ []) world item).lines client
+  pub lines : (client : ℕ) → (step (setting ∷ []) world item).out client
       ≡ lines_to client (served view (of_client client_event)).out
 
 -- any item that is not refused is one for the one server, and it does the same
@@ -96,7 +96,7 @@ abbrev pub client_events_from : List Setting → World → List Item → List Cl
 client_events_from settings world [] = []
 client_events_from settings world (item ∷ items) =
     option_to_list (client_event_at world item) ++ client_events_from settings
-    (step settings world item).world items
+    (step settings world item).state items
 
 -- so the clients of a network of one server are owed what that server owes them
 abbrev pub OneServerOwes : Type 0

@@ -7,7 +7,7 @@ use Rattle.irc_world.specs.Stepping.{Item, step}
 abbrev pub after_items : List Setting → World → List Item → World
 after_items settings world [] = world
 after_items settings world (item ∷ items) =
-    after_items settings (step settings world item).world items
+    after_items settings (step settings world item).state items
 
 -- the network after these items alone: nobody was there before
 abbrev pub world_of : List Setting → List Item → World
@@ -17,8 +17,8 @@ world_of settings items = after_items settings new_world items
 abbrev pub owed_from : List Setting → World → List Item → ℕ → List (List ℕ)
 owed_from settings world [] client = []
 owed_from settings world (item ∷ items) client =
-    (step settings world item).lines client ++ owed_from settings
-    (step settings world item).world items client
+    (step settings world item).out client ++ owed_from settings
+    (step settings world item).state items client
 
 -- the lines that a client receives over all items, of which the first finds nobody there
 unfoldable pub owed_by_network : List Setting → List Item → ℕ → List (List ℕ)

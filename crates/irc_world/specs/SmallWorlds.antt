@@ -59,7 +59,7 @@ two_pairs =
     }))
 
 abbrev pub pairs_linked : World
-pairs_linked = (step four_peers two_pairs (link (codes "b.net") (codes "c.net"))).world
+pairs_linked = (step four_peers two_pairs (link (codes "b.net") (codes "c.net"))).state
 
 -- How many lines servers need at most: for the first link of two servers; for a link of two on
 -- each of which there are two people and a channel; where a nickname is on both sides; for a text,
@@ -77,7 +77,7 @@ pub record LinesAtMost : Type 0 where
   pub spoken : most three_peers (in_a_line three_people) (line 2 (codes "PRIVMSG #c :hi")) ≡ 2
   pub left : most three_peers (in_a_line three_people) (gone 2) ≡ 2
   pub lost : most three_peers (in_a_line three_people) (cut (codes "a.net") (codes "b.net")) ≡ 1
-  pub back : most three_peers cut_off.world (link (codes "a.net") (codes "b.net")) ≡ 31
+  pub back : most three_peers cut_off.state (link (codes "a.net") (codes "b.net")) ≡ 31
   pub pairs : most four_peers two_pairs (link (codes "b.net") (codes "c.net")) ≡ 26
   pub pairs_lost : most four_peers pairs_linked (cut (codes "b.net") (codes "c.net")) ≡ 4
   pub connected : most three_peers (in_a_line three_people)
@@ -109,11 +109,11 @@ without_zed = hall_after bos_client bos_z
 -- what bo sees of the link, whichever server connects
 abbrev pub bo_sees : Hall → List (List ℕ)
 bo_sees theirs =
-    (step three_peers (two_apart with_topic theirs) (link (codes "a.net") (codes "b.net"))).lines 3
+    (step three_peers (two_apart with_topic theirs) (link (codes "a.net") (codes "b.net"))).out 3
 
 abbrev pub bo_sees_back : Hall → List (List ℕ)
 bo_sees_back theirs =
-    (step three_peers (two_apart with_topic theirs) (link (codes "b.net") (codes "a.net"))).lines 3
+    (step three_peers (two_apart with_topic theirs) (link (codes "b.net") (codes "a.net"))).out 3
 
 abbrev pub zed_comes : List (List ℕ)
 zed_comes =
@@ -236,11 +236,11 @@ other_two_doings = on_b (codes "abe") ∷ on_b (codes "zed") ∷ []
 pub record ErrorComesLast : Type 0 where
   pub to_abe : (step three_peers (two_apart (hall_after two_clients two_doings)
       (hall_after other_two_clients other_two_doings))
-      (link (codes "a.net") (codes "b.net"))).lines 1
+      (link (codes "a.net") (codes "b.net"))).out 1
       ≡ (codes "ERROR :Closing link (Killed (Nick collision))" ++ crlf) ∷ []
   pub to_zed : (step three_peers (two_apart (hall_after two_clients two_doings)
       (hall_after other_two_clients other_two_doings))
-      (link (codes "a.net") (codes "b.net"))).lines 2
+      (link (codes "a.net") (codes "b.net"))).out 2
       ≡ (codes ":abe!u@h QUIT :Killed (Nick collision)" ++ crlf)
       ∷ (codes "ERROR :Closing link (Killed (Nick collision))" ++ crlf) ∷ []
 
@@ -257,7 +257,7 @@ abbrev pub OperatorBeforeVoice : Type 0
 OperatorBeforeVoice =
     (step three_peers (two_apart (hall_after ((1, Registered (codes "al")) ∷ []) als_channel)
     (hall_after ((3, Registered (codes "bo")) ∷ []) bos_voice))
-    (link (codes "a.net") (codes "b.net"))).lines 1
+    (link (codes "a.net") (codes "b.net"))).out 1
     ≡ (codes ":bo!u@h JOIN #c" ++ crlf) ∷ (codes ":a.net MODE #c +o bo" ++ crlf)
     ∷ (codes ":a.net MODE #c +v bo" ++ crlf) ∷ []
 
@@ -284,14 +284,14 @@ four_lose_back = step three_peers (in_a_line (hall_after four_clients four_doing
 -- Server by server in order of name, and the users of one server in order of nickname; and it is
 -- the same whichever end of the link is named first.
 pub record LostInOrder : Type 0 where
-  pub to_al : four_lose.lines 1
+  pub to_al : four_lose.out 1
       ≡ (codes ":bo!u@h QUIT :a.net b.net" ++ crlf) ∷ (codes ":aa!u@h QUIT :a.net b.net" ++ crlf)
       ∷ (codes ":cy!u@h QUIT :a.net b.net" ++ crlf) ∷ []
-  pub to_bo : four_lose.lines 2 ≡ (codes ":al!u@h QUIT :b.net a.net" ++ crlf) ∷ []
-  pub back_to_al : four_lose_back.lines 1
+  pub to_bo : four_lose.out 2 ≡ (codes ":al!u@h QUIT :b.net a.net" ++ crlf) ∷ []
+  pub back_to_al : four_lose_back.out 1
       ≡ (codes ":bo!u@h QUIT :a.net b.net" ++ crlf) ∷ (codes ":aa!u@h QUIT :a.net b.net" ++ crlf)
       ∷ (codes ":cy!u@h QUIT :a.net b.net" ++ crlf) ∷ []
-  pub back_to_bo : four_lose_back.lines 2 ≡ (codes ":al!u@h QUIT :b.net a.net" ++ crlf) ∷ []
+  pub back_to_bo : four_lose_back.out 2 ≡ (codes ":al!u@h QUIT :b.net a.net" ++ crlf) ∷ []
 
 -- ---- what a server has of its part
 

@@ -34,4 +34,4 @@ abbrev pub AreTaken : List Setting → World → List Item → Type 0
 AreTaken settings world [] = ⊤
 AreTaken settings world (item ∷ items) =
     IsSoFirst (refused settings world item ≡ None)
-    (AreTaken settings (step settings world item).world items)
+    (AreTaken settings (step settings world item).state items)

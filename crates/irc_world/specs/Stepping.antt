@@ -17,7 +17,7 @@ use Rattle.irc_relay.specs.Links.{Name, Link, joined, links_without}
 use Rattle.irc_stage.specs.declared.clients.Client.{Client}
 use Rattle.irc_stage.specs.declared.clients.Client.TheVariants.{Registering, Registered}
 use Rattle.irc_stage.specs.RoomMachine.{Clients}
-use Rattle.irc_stage.specs.Handle.{ClientEvent, connects, says, goes, handled}
+use Rattle.irc_stage.specs.Handle.{WithOutput, ClientEvent, connects, says, goes, handled}
 use Rattle.irc_server.specs.Owed.{lines_to}
 use Rattle.irc_world.specs.World.{Setting, Hall, World, servers_where, home_of, machine_at}
 use Rattle.irc_world.specs.World.{with_hall}
@@ -32,25 +32,24 @@ pub data Item : Type 0 where
   link : (near far : Name) → Item
   cut : (near far : Name) → Item
 
--- the network after it, and the lines that each client receives by it
-pub record Stepped : Type 0 where
-  pub world : World
-  pub lines : ℕ → List (List ℕ)
+-- the network after it, and as its output the lines that each client receives by it
+abbrev pub Stepped : Type 0
+Stepped = WithOutput World (ℕ → List (List ℕ))
 
 -- nothing happens to the network
 abbrev pub still : World → Stepped
-still world = record { world = world; lines = λ client. [] }
+still world = record { state = world; out = λ client. [] }
 
 -- ---- a client does something
 
 -- It is done by the room machine of its part: one room, as though one server held everybody in it.
 abbrev pub by_machine : List Setting → World → Name → ClientEvent → Stepped
 by_machine settings world home client_event = record {
-  world = with_hall home (record {
+  state = with_hall home (record {
     clients = (handled (machine_at settings world home) client_event).state.clients;
     room = (handled (machine_at settings world home) client_event).state.room;
   }) world;
-  lines = λ client. lines_to client (handled (machine_at settings world home) client_event).out;
+  out = λ client. lines_to client (handled (machine_at settings world home) client_event).out;
 }
 
 -- a client acts in the part of its home; one that never connected does nothing
@@ -92,9 +91,9 @@ meeting_lines own other (Some (Registered nick)) =
 -- two parts become one: their halls are merged, and the clients of each meet the other's users
 abbrev pub link_made : World → Name → Name → Stepped
 link_made world near far = record {
-  world = with_hall near (merged (world.hall near) (world.hall far))
+  state = with_hall near (merged (world.hall near) (world.hall far))
       (record world { links = record { near = near; far = far } ∷ world.links });
-  lines = λ client.
+  out = λ client.
       meeting_lines (world.hall near) (world.hall far) (get (world.hall near).clients client)
       ++ meeting_lines (world.hall far) (world.hall near) (get (world.hall far).clients client);
 }
@@ -131,9 +130,9 @@ leaving_lines settings left near far room (Some (Registered nick)) =
 -- one part becomes two: each keeps what is on its side, and its clients see the others quit
 abbrev pub parted : List Setting → World → List Link → Name → Name → Stepped
 parted settings world left near far = record {
-  world = with_hall far (remaining settings world left far near)
+  state = with_hall far (remaining settings world left far near)
       (with_hall near (remaining settings world left near far) (record world { links = left }));
-  lines = λ client.
+  out = λ client.
       leaving_lines settings left near far (world.hall near).room
       (get (remaining settings world left near far).clients client)
       ++ leaving_lines settings left far near (world.hall far).room

@@ -15,7 +15,7 @@ HomesAreServers settings world =
 abbrev pub StepKeepsHomes : Type 0
 StepKeepsHomes = (settings : List Setting) (world : World) (item : Item) → IsSound settings world
     → HomesAreServers settings world
-    → refused settings world item ≡ None → HomesAreServers settings (step settings world item).world
+    → refused settings world item ≡ None → HomesAreServers settings (step settings world item).state
 
 -- so it is after any items of which none is refused
 abbrev pub UsersHomesAreServers : Type 0
@@ -31,7 +31,7 @@ abbrev pub StepKeepsHomesJoined : Type 0
 StepKeepsHomesJoined = (settings : List Setting) (world : World) (item : Item)
     → IsSound settings world → HomesAreServers settings world
     → HomesAreJoined world → refused settings world item ≡ None
-    → HomesAreJoined (step settings world item).world
+    → HomesAreJoined (step settings world item).state
 
 -- and so is that after any items of which none is refused
 abbrev pub UsersHomesAreJoined : Type 0

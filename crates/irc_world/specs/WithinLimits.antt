@@ -40,7 +40,7 @@ abbrev pub StepKeepsLimits : Type 0
 StepKeepsLimits = (settings : List Setting) (world : World) (item : Item) → AreNamed settings
     → IsSound settings world → IsWorldWithin world
     → IsItemWithin item → refused settings world item ≡ None
-    → IsWorldWithin (step settings world item).world
+    → IsWorldWithin (step settings world item).state
 
 -- so rooms keep to their limits after any such items of which none is refused
 abbrev pub RoomsKeepLimits : Type 0

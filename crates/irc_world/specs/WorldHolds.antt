@@ -20,7 +20,7 @@ pub record IsWorld (settings : List Setting) (world : World) : Type 0 where
 abbrev pub StepKeepsWorld : Type 0
 StepKeepsWorld = (settings : List Setting) (world : World) (item : Item) → AreNamed settings
     → IsWorld settings world → IsItemWithin item
-    → refused settings world item ≡ None → IsWorld settings (step settings world item).world
+    → refused settings world item ≡ None → IsWorld settings (step settings world item).state
 
 abbrev pub TakenMakeWorld : Type 0
 TakenMakeWorld = (settings : List Setting) (items : List Item) → AreNamed settings

@@ -88,7 +88,7 @@ module _ (laws : AreClientLaws) {net base new : Network} {world : World} {h : Na
     (given : IsClientStep net base new world h client_event item)
     (at_home : DoesAsMachine (home_setting net world h) world (routes_in net) h
     (view_at net h) client_event) (tells : IsToldByHome (home_setting net world h) world
-    (by_machine (settings_of net) world h client_event).world (routes_in net) h (view_at net h)
+    (by_machine (settings_of net) world h client_event).state (routes_in net) h (view_at net h)
     client_event) where
   abbrev s : ItemSetting
   s = home_setting net world h
@@ -97,7 +97,7 @@ module _ (laws : AreClientLaws) {net base new : Network} {world : World} {h : Na
   out = (client_told (view_at net h) client_event).out
 
   abbrev after : World
-  after = (by_machine (settings_of net) world h client_event).world
+  after = (by_machine (settings_of net) world h client_event).state
 
   pub fits_before : (t : Name) → IsAmong net.names t
       → Fits s t (side_state_of s world (routes_in net) t) (view_at net t)
@@ -240,7 +240,7 @@ module _ (laws : AreClientLaws) {net base new : Network} {world : World} {h : Na
     -- ---- what is received
 
     abbrev lines : List (List ℕ)
-    lines = (by_machine (settings_of net) world h client_event).lines client
+    lines = (by_machine (settings_of net) world h client_event).out client
 
     abbrev owed : List (List ℕ)
     owed = owed_now net client ++ lines
@@ -268,7 +268,7 @@ module _ (laws : AreClientLaws) {net base new : Network} {world : World} {h : Na
 
     none_lines : (t : Name) → is_home_of world.homes t client ≡ true
         → (AreJoined world.links t h → ⊥) → lines ≡ []
-    none_lines t is apart = sym (ap (λ (st : Stepped). st.lines client) given.step.stepped)
+    none_lines t is apart = sym (ap (λ (st : Stepped). st.out client) given.step.stepped)
         ∙ by (get (before.hall t).clients client) refl
       where
         open_there : (o : Option Name) → home_in before.homes client ≡ o
@@ -285,7 +285,7 @@ module _ (laws : AreClientLaws) {net base new : Network} {world : World} {h : Na
                 ∙ home_is world.homes client t is in cc x
 
         by : (o : Option Client) → get (before.hall t).clients client ≡ o
-            → (step (settings_of net) before item).lines client ≡ []
+            → (step (settings_of net) before item).out client ≡ []
         by (Some c) e = (laws.other_parts (settings_of net) before item t given.step.holds.sound
             given.step.not_refused (given.elsewhere t apart)).lines client
             (ap is_some e)

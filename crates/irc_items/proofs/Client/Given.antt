@@ -77,7 +77,7 @@ module _ (stays : ServedKeepsItsSetting) (net : Network) (homes : List Name)
   is_reply = reply_taken (view_at net h) (of_client client_event) taken
 
   served_for : IsServedFor net base
-      (record progress.net { items = progress.net.items ++ item ∷ []; taken = 0 }) h
+      (record progress.state { items = progress.state.items ++ item ∷ []; taken = 0 }) h
       client_event item
   served_for = record {
     taken = record {
@@ -89,8 +89,9 @@ module _ (stays : ServedKeepsItsSetting) (net : Network) (homes : List Name)
       inboxes = answered.inboxes ∙ inboxes ∙ ap length (sym answered.homes);
       settings = answered.settings;
       set_up =
-          set_up_besides progress.net progress.net.links progress.net.homes progress.net.received
-          (progress.net.items ++ item ∷ []) 0 answered.set_up;
+          set_up_besides progress.state progress.state.links progress.state.homes
+          progress.state.received
+          (progress.state.items ++ item ∷ []) 0 answered.set_up;
     };
     state = answered.state ∙ ap (λ (r : Served). r.state) is_reply;
     other_views = answered.other_views;
@@ -107,12 +108,12 @@ module _ (stays : ServedKeepsItsSetting) (net : Network) (homes : List Name)
 -- the client's home is asked
 given_where : (item : Item) (net base : Network) (place : Option ℕ) (k : ℕ)
     (read_event : ReadEvent) → done_by item net ≡ node_asked_if place read_event (begun base)
-    → place ≡ Some k → (given item net).net
-    ≡ record (node_asked k read_event (begun base)).net
-    { items = (node_asked k read_event (begun base)).net.items ++ item ∷ []; taken = 0 }
+    → place ≡ Some k → (given item net).state
+    ≡ record (node_asked k read_event (begun base)).state
+    { items = (node_asked k read_event (begun base)).state.items ++ item ∷ []; taken = 0 }
 unfolding given
 given_where item net base place k read_event done is =
-    ap (λ (c : Progress Network). record c.net { items = c.net.items ++ item ∷ []; taken = 0 })
+    ap (λ (c : Progress Network). record c.state { items = c.state.items ++ item ∷ []; taken = 0 })
     (done ∙ ap (λ o. node_asked_if o read_event (begun base)) is)
 
 -- ---- a line is said, or the client goes
@@ -169,7 +170,7 @@ pub record IsDoneAtHome (net : Network) (client : ℕ) (client_event : ClientEve
     (item : Item) : Type 0 where
   pub home : Name
   pub at_home : IsAtHome net client home
-  pub served : IsServedFor net net (given item net).net home client_event item
+  pub served : IsServedFor net net (given item net).state home client_event item
 
 home_asked : (net : Network) → IsSetUp net → (client : ℕ) (home : Name) → IsAtHome net client home
     → home_place net client ≡ Some (index_in net.names home)
@@ -259,7 +260,8 @@ next_is_new net room server among =
 -- a client has connected to a server, which has served it
 pub record IsConnected (net : Network) (server : Name) (host : List ℕ) : Type 0 where
   pub among : IsAmong net.names server
-  pub served : IsServedFor net (with_client server net) (given (connect server host) net).net server
+  pub served : IsServedFor net (with_client server net)
+      (given (connect server host) net).state server
       (connects (next_client net) host) (connect server host)
 
 placed_for : (o : Option ℕ) → (if is_some o then None else Some no_such_server) ≡ None

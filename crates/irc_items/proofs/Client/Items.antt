@@ -69,14 +69,14 @@ module _ (laws : AreItemLaws) (net : Network) (sound : IsSound net) (rest : is_a
     (holds : IsWorld (settings_of net) (world_now net)) where
   -- whatever is known of a client's item makes the network sound
   served_sound : (base : Network) (world : World) (h : Name) (client_event : ClientEvent)
-      (item : Item) → IsClientStep net base (given item net).net world h client_event item
-      → IsSound (given item net).net
+      (item : Item) → IsClientStep net base (given item net).state world h client_event item
+      → IsSound (given item net).state
   served_sound base world h client_event item step =
       client_sound laws.client step
       (does_as_machine laws.home s world (routes_in net) h
       (view_at net h) client_event fixed_so step.among step.holds of_so right_so
       (fits_so h step.among) step.step.holds_after place_so step.due)
-      (laws.tells s world (by_machine (settings_of net) world h client_event).world
+      (laws.tells s world (by_machine (settings_of net) world h client_event).state
       (routes_in net) h
       (view_at net h) client_event refl fixed_so
       step.holds.sound.forest refl step.among step.holds of_so right_so
@@ -107,15 +107,17 @@ module _ (laws : AreItemLaws) (net : Network) (sound : IsSound net) (rest : is_a
   served_step : (base : Network) (world : World) (h : Name) (client_event : ClientEvent)
       (item : Item) → fault_at_rest net item ≡ None → IsItemWithin item → step (settings_of net)
       (world_now net) item ≡ by_machine (settings_of net) world h client_event
-      → IsServedFor net base (given item net).net h client_event item → base.homes ≡ world.homes
+      → IsServedFor net base (given item net).state h client_event item → base.homes ≡ world.homes
       → net.links ≡ world.links → ((client : ℕ) → home_in world.homes client ≡ None
-      → home_in net.homes client ≡ None) → IsStep net (given item net).net item world.homes
+      → home_in net.homes client ≡ None) → IsStep net (given item net).state item world.homes
       (by_machine (settings_of net) world h client_event)
   served_step base world h client_event item taken within stepped served homes links before =
-      is_step laws.steps net sound rest one holds item taken within (given item net).net world.homes
+      is_step laws.steps net sound rest one holds item taken within
+      (given item net).state world.homes
       (by_machine (settings_of net) world h client_event) stepped
-      (subst (HasTaken net (given item net).net item world.homes) links
-      (subst (λ homes. HasTaken net (given item net).net item homes net.links) homes served.taken))
+      (subst (HasTaken net (given item net).state item world.homes) links
+      (subst (λ homes. HasTaken net (given item net).state item homes net.links) homes
+      served.taken))
       refl before
 
   -- a client that its server has is one of its part
@@ -150,7 +152,7 @@ module _ (laws : AreItemLaws) (net : Network) (sound : IsSound net) (rest : is_a
       → IsDueAtHome (home_setting net (world_now net) done.home)
       (world_now net) done.home client_event
       → most (settings_of net) (world_now net) item ≡ most_of_client (settings_of net)
-      (world_now net) (Some done.home) client_event → IsSound (given item net).net
+      (world_now net) (Some done.home) client_event → IsSound (given item net).state
   at_home_step client client_event item done taken within stepped elsewhere due bound =
       served_sound net (world_now net) done.home client_event item (record {
         step = served_step net (world_now net) done.home client_event item taken within stepped
@@ -172,7 +174,7 @@ module _ (laws : AreItemLaws) (net : Network) (sound : IsSound net) (rest : is_a
   same_some a b e = cc e
 
   pub line_sound : (client : ℕ) (bytes : List ℕ) → fault_at_rest net (line client bytes) ≡ None
-      → IsCarried bytes → IsSound (given (line client bytes) net).net
+      → IsCarried bytes → IsSound (given (line client bytes) net).state
   unfolding step most
   line_sound client bytes taken carried =
       at_home_step client (says client (read_of bytes)) (line client bytes) done taken carried
@@ -196,7 +198,7 @@ module _ (laws : AreItemLaws) (net : Network) (sound : IsSound net) (rest : is_a
           (line_is_given laws.kept net sound client bytes taken).at_home.is_home
 
   pub gone_sound : (client : ℕ) → fault_at_rest net (gone client) ≡ None
-      → IsSound (given (gone client) net).net
+      → IsSound (given (gone client) net).state
   unfolding step most
   gone_sound client taken = at_home_step client (goes client) (gone client) done taken tt
       (ap (λ o. option_map_or (λ home. by_machine (settings_of net) (world_now net) home
@@ -283,7 +285,7 @@ module _ (laws : AreItemLaws) (net : Network) (sound : IsSound net) (rest : is_a
             let no = sym (next_has_none net) ∙ ap
             (λ homes. home_in homes (next_client net)) sound.homes ∙ there.is_home in cc no)
 
-    pub connect_sound : IsSound (given (connect server host) net).net
+    pub connect_sound : IsSound (given (connect server host) net).state
     unfolding most
     connect_sound = served_sound (with_client server net) world server
         (connects (next_client net) host) (connect server host) (record {

@@ -102,7 +102,7 @@ module _ (s : ItemSetting) (world : World) (h t : Name) (client_event : ClientEv
   effects = effects_at (machine_at s.settings world h) client_event
 
   abbrev world_after : World
-  world_after = (by_machine s.settings world h client_event).world
+  world_after = (by_machine s.settings world h client_event).state
 
   abbrev hall_then : Hall
   hall_then = hall_of (handled (machine_at s.settings world h) client_event).state
@@ -145,7 +145,7 @@ module _ (s : ItemSetting) (world : World) (h t : Name) (client_event : ClientEv
           (sym (hall_now together))
 
       lines_of : (q : ℕ) → is_home_of s.homes t q ≡ true → seen_along q effects (world.hall t)
-          ≡ (by_machine s.settings world h client_event).lines q
+          ≡ (by_machine s.settings world h client_event).out q
       lines_of q here =
           sym (served.lines q
           (another_client s.homes h t (client_in client_event) q home apart here))
@@ -158,11 +158,11 @@ pub comes_to_world : IsKnownOfEvents → (s : ItemSetting) (world : World) (rout
     → IsAmong s.names h
     → IsAmong s.names t → t ≢ h → AreJoined world.links t h → IsWorld s.settings world
     → IsOfWorld s world → AreRight s world.links routes → IsWorld s.settings
-    (by_machine s.settings world h client_event).world → IsDueAtHome s world h client_event
+    (by_machine s.settings world h client_event).state → IsDueAtHome s world h client_event
     → Fits s t
     (all_done (play s client) (side_state_of s world routes t)
     (deeds_at s world h client_event)) view
-    → Fits s t (side_state_of s (by_machine s.settings world h client_event).world routes t) view
+    → Fits s t (side_state_of s (by_machine s.settings world h client_event).state routes t) view
 comes_to_world known s world routes h t client_event client view fixed home_among among apart
     together
     is_world of_world right after due fits = record {
@@ -181,7 +181,7 @@ comes_to_world known s world routes h t client_event client view fixed home_amon
     }
   where
     now : World
-    now = (by_machine s.settings world h client_event).world
+    now = (by_machine s.settings world h client_event).state
 
     home : home_in s.homes (client_in client_event) ≡ Some h
     home = due_home s world h client_event due
@@ -200,7 +200,7 @@ pub shows_its_clients : IsKnownOfEvents → (s : ItemSetting) (world : World)
     → AreJoined world.links t h → IsWorld s.settings world → IsDueAtHome s world h client_event
     → is_home_of s.homes t client ≡ true
     → all_seen (play s client) t (side_state_of s world routes t)
-    (deeds_at s world h client_event) ≡ (by_machine s.settings world h client_event).lines client
+    (deeds_at s world h client_event) ≡ (by_machine s.settings world h client_event).out client
 shows_its_clients known s world routes h t client_event client apart together is_world due here =
     seen_at_home s client t here (effects_at (machine_at s.settings world h) client_event)
     (side_state_of s world routes t)
@@ -213,7 +213,7 @@ shows_its_clients known s world routes h t client_event client apart together is
 pub elsewhere_stays : (s : ItemSetting) (world : World) (routes : Name → Known)
     (h t : Name) (client_event : ClientEvent) (view : View)
     → (AreJoined world.links t h → ⊥) → Fits s t (side_state_of s world routes t) view
-    → Fits s t (side_state_of s (by_machine s.settings world h client_event).world routes t) view
+    → Fits s t (side_state_of s (by_machine s.settings world h client_event).state routes t) view
 elsewhere_stays s world routes h t client_event view apart fits =
     subst (λ (hall : Hall). Fits s t (record {
       tree = (side_state_of s world routes t).tree;

@@ -45,13 +45,13 @@ module _ (laws : AreClientLaws) {net base new : Network} {world : World} {h : Na
     (given : IsClientStep net base new world h client_event item)
     (at_home : DoesAsMachine (home_setting net world h) world (routes_in net) h
     (view_at net h) client_event) (tells : IsToldByHome (home_setting net world h) world
-    (by_machine (settings_of net) world h client_event).world (routes_in net) h (view_at net h)
+    (by_machine (settings_of net) world h client_event).state (routes_in net) h (view_at net h)
     client_event) where
   abbrev s : ItemSetting
   s = home_setting net world h
 
   abbrev after : World
-  after = (by_machine (settings_of net) world h client_event).world
+  after = (by_machine (settings_of net) world h client_event).state
 
   abbrev source : Name → Name
   source = from_one world.links h
@@ -63,7 +63,7 @@ module _ (laws : AreClientLaws) {net base new : Network} {world : World} {h : Na
     effects = length (effects_at (machine_at (settings_of net) world h) client_event)
 
     goes_on : IsGoingOn s no_answers after source (routes_in net) new client
-        (owed_now net client ++ (by_machine (settings_of net) world h client_event).lines client)
+        (owed_now net client ++ (by_machine (settings_of net) world h client_event).out client)
         (side_state_of s world (routes_in net)) (λ t. deeds_at s world h client_event)
     goes_on = client_goes_on laws given at_home tells client
 

@@ -5,7 +5,8 @@ use Rattle.irc_merge.specs.Deeds.{Deed}
 use Rattle.irc_relay.specs.Distances.{IsAmong}
 use Rattle.irc_relay.specs.Following.{Follows, GoesWell, IsFollowing, Starts, all_done, all_seen}
 use Rattle.irc_relay.specs.Links.{Name, IsForest}
-use Rattle.irc_relay.specs.Relay.{Machine, Net, Streams, streams_from, Covers, GoesAway, after}
+use Rattle.irc_relay.specs.Relay.{Machine, RelayState, Streams, streams_from, Covers, GoesAway}
+use Rattle.irc_relay.specs.Relay.{after}
 use Rattle.irc_relay.specs.Relay.{shown_upon, coming, coming_within, final, final_shown}
 use Rattle.irc_relay.specs.Lemmas.ActsToldOn.{all_well, followed}
 use Rattle.irc_routes.specs.Known.{Known}
@@ -43,7 +44,8 @@ pub record IsBegun (s : ItemSetting) (asks : Answering) (world : World) (routes 
 
 -- to a server at no distance from its source nothing comes
 pub none_at_source : {State Line Shown : Type 0} (m : Machine State Line Shown) (streams : Streams)
-    (net : Net State Line Shown) (t : Name) → streams.depth t ≡ 0 → coming m streams net t ≡ []
+    (net : RelayState State Line Shown) (t : Name) → streams.depth t ≡ 0
+    → coming m streams net t ≡ []
 unfolding coming_within
 none_at_source m streams net t none = ap (λ n. coming_within m streams net n t) none
 

@@ -6,7 +6,8 @@ use Rattle.irc_merge.specs.Deeds.{Deed}
 use Rattle.irc_relay.specs.Following.{Follows, Play, SaysOn, sends, keeps, Tells, nothing, by_line}
 use Rattle.irc_relay.specs.Following.{aside_line, passing_by, Terms}
 use Rattle.irc_relay.specs.Links.{Name, Link, IsForest, AreLinked, distance, toward}
-use Rattle.irc_relay.specs.Relay.{ComesInTurn, at_source, from_source, from_parent, Machine, Net}
+use Rattle.irc_relay.specs.Relay.{ComesInTurn, at_source, from_source, from_parent, Machine}
+use Rattle.irc_relay.specs.Relay.{RelayState}
 use Rattle.irc_relay.specs.Relay.{Streams, TakesFrom, streams_from, Covers, passed_on, under_way}
 use Rattle.irc_relay.specs.Relay.{coming, lines_coming, lines_pending}
 use Rattle.irc_relay.specs.Lemmas.Deliveries.{comes_in_turn}
@@ -182,7 +183,8 @@ none_answered [] = refl
 none_answered (line ∷ lines) = none_answered lines
 
 pub none_pending : (m : Machine View (List ℕ) (List ℕ)) (streams : Streams)
-    (net : Net View (List ℕ) (List ℕ)) (names : List Name) → lines_pending m streams net names
+    (net : RelayState View (List ℕ) (List ℕ)) (names : List Name)
+    → lines_pending m streams net names
     no_answers.answered no_answers.one no_answers.other ≡ lines_coming m streams net names
 none_pending m streams net names =
     both (lines_coming m streams net names) (none_answered (coming m streams net []))

@@ -14,25 +14,25 @@ use Rattle.irc_items.specs.Sound.{most_of_last}
 
 after_more : (settings : List Setting) (items : List Item) (world : World) (item : Item)
     → after_items settings world (items ++ item ∷ [])
-    ≡ (step settings (after_items settings world items) item).world
+    ≡ (step settings (after_items settings world items) item).state
 after_more settings [] world item = refl
 after_more settings (first ∷ items) world item =
-    after_more settings items (step settings world first).world item
+    after_more settings items (step settings world first).state item
 
 owed_after : (settings : List Setting) (items : List Item) (world : World) (item : Item)
     (client : ℕ) → owed_from settings world (items ++ item ∷ []) client
     ≡ owed_from settings world items client
-    ++ (step settings (after_items settings world items) item).lines client
-owed_after settings [] world item client = append-nil ((step settings world item).lines client)
+    ++ (step settings (after_items settings world items) item).out client
+owed_after settings [] world item client = append-nil ((step settings world item).out client)
 owed_after settings (first ∷ items) world item client =
-    ap (λ lines. (step settings world first).lines client ++ lines)
+    ap (λ lines. (step settings world first).out client ++ lines)
     (owed_after settings items next item client)
-    ∙ sym (append_assoc ((step settings world first).lines client)
+    ∙ sym (append_assoc ((step settings world first).out client)
     (owed_from settings next items client)
-    ((step settings (after_items settings next items) item).lines client))
+    ((step settings (after_items settings next items) item).out client))
   where
     next : World
-    next = (step settings world first).world
+    next = (step settings world first).state
 
 most_after : (settings : List Setting) (items : List Item) (world : World) (item : Item)
     → most_of_last settings world (items ++ item ∷ []) ≡ most settings
@@ -40,7 +40,7 @@ most_after : (settings : List Setting) (items : List Item) (world : World) (item
 most_after settings [] world item = refl
 most_after settings (first ∷ []) world item = refl
 most_after settings (first ∷ second ∷ items) world item =
-    most_after settings (second ∷ items) (step settings world first).world item
+    most_after settings (second ∷ items) (step settings world first).state item
 
 taken_after : (settings : List Setting) (items : List Item) (world : World) (item : Item)
     → AreTaken settings world items → refused settings (after_items settings world items) item
@@ -50,19 +50,19 @@ taken_after settings (first ∷ items) world item taken not_refused =
     record {
       now = taken.now;
       later = taken_after settings items
-          (step settings world first).world item taken.later not_refused;
+          (step settings world first).state item taken.later not_refused;
     }
 
 -- ---- from the beginning
 
 pub world_more : (settings : List Setting) (items : List Item) (item : Item)
-    → world_of settings (items ++ item ∷ []) ≡ (step settings (world_of settings items) item).world
+    → world_of settings (items ++ item ∷ []) ≡ (step settings (world_of settings items) item).state
 world_more settings items item = after_more settings items new_world item
 
 pub owed_more : (settings : List Setting) (items : List Item) (item : Item) (client : ℕ)
     → owed_by_network settings (items ++ item ∷ []) client
     ≡ owed_by_network settings items client
-    ++ (step settings (world_of settings items) item).lines client
+    ++ (step settings (world_of settings items) item).out client
 unfolding owed_by_network
 owed_more settings items item client = owed_after settings items new_world item client
 

@@ -55,12 +55,12 @@ pub record IsStep (net new : Network) (item : Item) (homes : List Name)
   pub rest : is_at_rest net ≡ true
   pub one : IsOneRoom net
   pub holds : IsWorld (settings_of net) (world_now net)
-  pub holds_after : IsWorld (settings_of net) after.world
+  pub holds_after : IsWorld (settings_of net) after.state
   pub not_refused : refused (settings_of net) (world_now net) item ≡ None
   pub within : IsItemWithin item
   pub stepped : step (settings_of net) (world_now net) item ≡ after
-  pub taken : HasTaken net new item homes after.world.links
-  pub homes_after : homes ≡ after.world.homes
+  pub taken : HasTaken net new item homes after.state.links
+  pub homes_after : homes ≡ after.state.homes
   pub homes_before : (client : ℕ) → home_in homes client ≡ None → home_in net.homes client ≡ None
 
 -- what is asked of worlds for it
@@ -77,7 +77,7 @@ module _ (laws : AreStepLaws) (net : Network) (sound : IsSound net) (rest : is_a
 
   pub is_step : (new : Network) (homes : List Name) (after : Stepped)
       → step (settings_of net) (world_now net) item ≡ after
-      → HasTaken net new item homes after.world.links → homes ≡ after.world.homes
+      → HasTaken net new item homes after.state.links → homes ≡ after.state.homes
       → ((client : ℕ) → home_in homes client ≡ None → home_in net.homes client ≡ None)
       → IsStep net new item homes after
   is_step new homes after stepped has_taken homes_after homes_before = record {
@@ -85,7 +85,7 @@ module _ (laws : AreStepLaws) (net : Network) (sound : IsSound net) (rest : is_a
     rest = rest;
     one = one;
     holds = holds;
-    holds_after = subst (λ (st : Stepped). IsWorld (settings_of net) st.world) stepped
+    holds_after = subst (λ (st : Stepped). IsWorld (settings_of net) st.state) stepped
         (laws.step_keeps (settings_of net) (world_now net) item
         (servers_named net sound.set_up) holds within not_refused);
     not_refused = not_refused;
@@ -109,21 +109,21 @@ step_setting net homes links source = record {
 pub record ComesTo (net new : Network) (item : Item) (homes : List Name) (after : Stepped)
     (source : Name → Name) (routes : Name → Known) (asks : Answering)
     : Type 0 where
-  pub covers : Covers after.world.links source
-  pub right : AreRight (step_setting net homes after.world.links source) after.world.links routes
-  pub called : (x y : Name) → AreLinked after.world.links x y
-      → HasCalled (step_setting net homes after.world.links source) new x y
-      ⊎ HasCalled (step_setting net homes after.world.links source) new y x
-  pub under_way : (client : ℕ) → IsUnderWay (step_setting net homes after.world.links source) asks
-      after.world routes new client (owed_now net client ++ after.lines client)
+  pub covers : Covers after.state.links source
+  pub right : AreRight (step_setting net homes after.state.links source) after.state.links routes
+  pub called : (x y : Name) → AreLinked after.state.links x y
+      → HasCalled (step_setting net homes after.state.links source) new x y
+      ⊎ HasCalled (step_setting net homes after.state.links source) new y x
+  pub under_way : (client : ℕ) → IsUnderWay (step_setting net homes after.state.links source) asks
+      after.state routes new client (owed_now net client ++ after.out client)
   pub few : (client : ℕ)
-      → lines_pending (machine (step_setting net homes after.world.links source) client)
-      (streams_from after.world.links source)
-      (relayed (step_setting net homes after.world.links source) new client) net.names asks.answered
+      → lines_pending (machine (step_setting net homes after.state.links source) client)
+      (streams_from after.state.links source)
+      (relayed (step_setting net homes after.state.links source) new client) net.names asks.answered
       asks.one asks.other
       ≤ most (settings_of net) (world_now net) item
   pub ways : (x y : Name)
-      → is_some (way_at new x (index_in net.names y)) ≡ linked after.world.links x y
+      → is_some (way_at new x (index_in net.names y)) ≡ linked after.state.links x y
   pub to_servers : (x : Name) (place : ℕ) → is_some (way_at new x place) ≡ true
       → IsPlaceOf net place
 
@@ -132,7 +132,7 @@ module _ {net new : Network} {item : Item} {homes : List Name} {after : Stepped}
     (only_connected : OnlyConnectedReceive) (given : IsStep net new item homes after)
     (comes : ComesTo net new item homes after source routes asks) where
   abbrev s : ItemSetting
-  s = step_setting net homes after.world.links source
+  s = step_setting net homes after.state.links source
 
   fixed_same : setting_of_item new (streams_from new.links source) ≡ s
   fixed_same i = record {
@@ -142,18 +142,18 @@ module _ {net new : Network} {item : Item} {homes : List Name} {after : Stepped}
     streams = streams_from (given.taken.links i) source;
   }
 
-  world_is : world_now new ≡ after.world
+  world_is : world_now new ≡ after.state
   world_is =
       ap (λ settings. world_of settings new.items) given.taken.settings
       ∙ ap (λ items. world_of (settings_of net) items) given.taken.items
-      ∙ world_more (settings_of net) net.items item ∙ ap (λ (st : Stepped). st.world) given.stepped
+      ∙ world_more (settings_of net) net.items item ∙ ap (λ (st : Stepped). st.state) given.stepped
 
-  owed_is : (client : ℕ) → owed_now new client ≡ owed_now net client ++ after.lines client
+  owed_is : (client : ℕ) → owed_now new client ≡ owed_now net client ++ after.out client
   owed_is client =
       ap (λ settings. owed_by_network settings new.items client) given.taken.settings
       ∙ ap (λ items. owed_by_network (settings_of net) items client) given.taken.items
       ∙ owed_more (settings_of net) net.items item client
-      ∙ ap (λ (st : Stepped). owed_now net client ++ st.lines client) given.stepped
+      ∙ ap (λ (st : Stepped). owed_now net client ++ st.out client) given.stepped
 
   most_is : most_now new ≡ most (settings_of net) (world_now net) item
   most_is =
@@ -181,7 +181,7 @@ module _ {net new : Network} {item : Item} {homes : List Name} {after : Stepped}
     called = called;
     under_way = λ client. subst (λ w. IsUnderWay s asks w routes new client (owed_now new client))
         (sym world_is)
-        (subst (IsUnderWay s asks after.world routes new client) (sym (owed_is client))
+        (subst (IsUnderWay s asks after.state routes new client) (sym (owed_is client))
         (comes.under_way client));
     few = few_now;
   }
@@ -203,14 +203,14 @@ module _ {net new : Network} {item : Item} {homes : List Name} {after : Stepped}
   nobody_now client none =
       owed_is client
       ∙ ap (λ more. owed_now net client ++ more)
-      (sym (ap (λ (st : Stepped). st.lines client) given.stepped) ∙ lines_none)
+      (sym (ap (λ (st : Stepped). st.out client) given.stepped) ∙ lines_none)
       ∙ ap (λ before. before ++ []) (given.sound.nobody client no_home)
     where
       no_home : home_in net.homes client ≡ None
       no_home = given.homes_before client
           (sym (ap (λ homes. home_in homes client) given.taken.homes) ∙ none)
 
-      lines_none : (step (settings_of net) (world_now net) item).lines client ≡ []
+      lines_none : (step (settings_of net) (world_now net) item).out client ≡ []
       lines_none = only_connected (settings_of net)
           (world_now net) item client given.holds.sound given.not_refused
           (ap (option_and_then (λ home. get ((world_now net).hall home).clients client))

@@ -58,7 +58,7 @@ squits_told s routes a b =
 abbrev pub terms_of_cut : Network → Name → Name → Terms View (List ℕ) SideState Deed
 terms_of_cut net near far =
     good_terms (cut_setting net near far) no_answers
-    (parted (settings_of net) (world_now net) (left_of net near far) near far).world
+    (parted (settings_of net) (world_now net) (left_of net near far) near far).state
     (routes_after_cut (cut_setting net near far) (world_now net) (routes_in net)
     (left_of net near far) near far)
 
@@ -69,7 +69,7 @@ pub record AreSidesOfCut (net new : Network) (near far : Name) : Type 0 where
       (view_at net a) (parted_at net a b)
   pub end_fits : (a b : Name) → HasEnds (record { near = near; far = far }) a b
       → Fits (cut_setting net near far) a (side_state_of (cut_setting net near far)
-      (parted (settings_of net) (world_now net) (left_of net near far) near far).world
+      (parted (settings_of net) (world_now net) (left_of net near far) near far).state
       (routes_after_cut (cut_setting net near far) (world_now net) (routes_in net)
       (left_of net near far) near far) a) (view_at new a)
   pub side_fits : (a b t : Name) → HasEnds (record { near = near; far = far }) a b → AreJoined
@@ -103,7 +103,7 @@ module _ {net new : Network} {near far : Name} (quiet : RestStays)
   routes = routes_in net
 
   abbrev after : World
-  after = (parted (settings_of net) world left near far).world
+  after = (parted (settings_of net) world left near far).state
 
   abbrev routes_now : Name → Known
   routes_now = routes_after_cut s world routes left near far

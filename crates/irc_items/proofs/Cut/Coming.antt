@@ -50,7 +50,7 @@ pub record IsCutWorld (s : ItemSetting) (world : World) (routes : Name → Known
   pub homes : s.homes ≡ world.homes
   pub linked : AreLinked world.links a b
   pub right : AreRight s world.links routes
-  pub after : IsWorld s.settings (parted s.settings world (links_without world.links a b) a b).world
+  pub after : IsWorld s.settings (parted s.settings world (links_without world.links a b) a b).state
   pub streams : s.streams ≡ streams_from (links_without world.links a b)
       (from_near_end (links_without world.links a b) a b)
   pub sound : (e o : Name) → HasEnds (record { near = a; far = b }) e o
@@ -81,26 +81,26 @@ pub record ComesToCut (s : ItemSetting) (world : World) (routes : Name → Known
   pub comes : (e o : Name) → HasEnds (record { near = a; far = b }) e o → (client : ℕ)
       (t : Name) (view : View) → IsAmong s.names t → AreJoined left t e → t ≢ e → Fits s t
       (all_done (play s client) (cut_side world routes left t) (deeds_of_cut s routes e o)) view
-      → Fits s t (side_state_of s (parted s.settings world left a b).world
+      → Fits s t (side_state_of s (parted s.settings world left a b).state
       (routes_after_cut s world routes left a b) t) view
   pub end_comes : (e o : Name) → HasEnds (record { near = a; far = b }) e o
       → (view : View) → IsCutEnd s world routes left e o view → Fits s e (side_state_of s
-      (parted s.settings world left a b).world (routes_after_cut s world routes left a b) e) view
+      (parted s.settings world left a b).state (routes_after_cut s world routes left a b) e) view
   pub others : (streams : Streams) (t : Name) (view : View) → IsAmong s.names t
       → ((e o : Name) → HasEnds (record { near = a; far = b }) e o → AreJoined left t e → ⊥) → Fits
       (record s { streams = streams }) t (side_state_of s world routes t) view
       → Fits s t (side_state_of s
-      (parted s.settings world left a b).world (routes_after_cut s world routes left a b) t) view
+      (parted s.settings world left a b).state (routes_after_cut s world routes left a b) t) view
   pub seen : (e o : Name) → HasEnds (record { near = a; far = b }) e o → (client : ℕ) (t : Name)
       → IsAmong s.names t → AreJoined left t e → is_home_of s.homes t client ≡ true
       → all_seen (play s client) t (cut_side world routes left t) (deeds_of_cut s routes e o)
-      ≡ (parted s.settings world left a b).lines client
+      ≡ (parted s.settings world left a b).out client
   pub home_seen : (e o : Name) → HasEnds (record { near = a; far = b }) e o → (client : ℕ)
       → is_home_of s.homes e client ≡ true → leaving_lines s.settings left e o (world.hall e).room
-      (get (world.hall e).clients client) ≡ (parted s.settings world left a b).lines client
+      (get (world.hall e).clients client) ≡ (parted s.settings world left a b).out client
   pub aside_seen : (client : ℕ) (t : Name)
       → ((e o : Name) → HasEnds (record { near = a; far = b }) e o → AreJoined left t e → ⊥)
-      → is_home_of s.homes t client ≡ true → (parted s.settings world left a b).lines client ≡ []
+      → is_home_of s.homes t client ≡ true → (parted s.settings world left a b).out client ≡ []
 
 module _ (law : IsKnownOfCuts) {s : ItemSetting} {world : World} {routes : Name → Known}
     {a b : Name}
@@ -178,7 +178,7 @@ module _ (law : IsKnownOfCuts) {s : ItemSetting} {world : World} {routes : Name 
   -- ---- the world without the link
 
   abbrev now : World
-  now = (parted s.settings world left a b).world
+  now = (parted s.settings world left a b).state
 
   of_world : IsOfWorld s now
   of_world = record {
@@ -284,7 +284,7 @@ module _ (law : IsKnownOfCuts) {s : ItemSetting} {world : World} {routes : Name 
     -- ---- what clients have seen
 
     lines_are : (client : ℕ) (t : Name) → AreJoined left t e → is_home_of s.homes t client ≡ true
-        → (parted s.settings world left a b).lines client ≡ leaving_lines s.settings left e o
+        → (parted s.settings world left a b).out client ≡ leaving_lines s.settings left e o
         (world.hall e).room (get (world.hall e).clients client)
     lines_are client t here home =
         lines_at s.settings world left l apart client e o ends

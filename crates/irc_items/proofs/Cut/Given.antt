@@ -153,21 +153,21 @@ module _ (stays : ServedKeepsItsSetting) (net : Network) (sound : IsSound net)
   abbrev both_parted : Progress Network
   both_parted = both_asked will
 
-  has_asked : HasAskedBoth net (item_kept (cut near far) both_parted).net near far None
+  has_asked : HasAskedBoth net (item_kept (cut near far) both_parted).state near far None
       (answer near far) (answer far near)
   has_asked = asked_both will (cut near far)
 
-  cut_so : IsCut net (item_kept (cut near far) both_parted).net near far
+  cut_so : IsCut net (item_kept (cut near far) both_parted).state near far
   cut_so = record {
     taken = both_taken will (cut near far);
-    state = both_ends l (λ a b. view_at (item_kept (cut near far) both_parted).net a
+    state = both_ends l (λ a b. view_at (item_kept (cut near far) both_parted).state a
         ≡ (parted_at net a b).state) has_asked.near_view has_asked.far_view;
     other_views = has_asked.other_views;
     way = both_ends l (λ a b. (place : ℕ) → place ≢ index_in net.names b
-        → way_at (item_kept (cut near far) both_parted).net a place
+        → way_at (item_kept (cut near far) both_parted).state a place
         ≡ option_map (λ lines. lines ++ lines_on place (parted_at net a b).out)
         (way_at net a place)) has_asked.near_way has_asked.far_way;
-    closed = both_ends l (λ a b. way_at (item_kept (cut near far) both_parted).net a
+    closed = both_ends l (λ a b. way_at (item_kept (cut near far) both_parted).state a
         (index_in net.names b) ≡ None) has_asked.near_to_far has_asked.far_to_near;
     other_ways = has_asked.other_ways;
     received = has_asked.received;
@@ -182,8 +182,9 @@ module _ (stays : ServedKeepsItsSetting) (net : Network) (sound : IsSound net)
       (ap (λ o. option_map_or (servers_parted near far net) o (begun net))
       (both_found will) ∙ is_asked will)
 
-pub cut_is_given : ServedKeepsItsSetting → (net : Network) → IsSound net → IsOneRoom net
-    → (near far : Name) → IsParting net near far → IsCut net (given (cut near far) net).net near far
+pub cut_is_given : ServedKeepsItsSetting → (net : Network) → IsSound net
+    → IsOneRoom net → (near far : Name) → IsParting net near far
+    → IsCut net (given (cut near far) net).state near far
 cut_is_given stays net sound room near far m =
-    subst (λ (progress : Progress Network). IsCut net progress.net near far)
+    subst (λ (progress : Progress Network). IsCut net progress.state near far)
     (sym (is_given stays net sound room near far m)) (cut_so stays net sound room near far m)

@@ -10,7 +10,7 @@ use Rattle.irc_items.proofs.Common.Ends.{both_ends, chosen_aside, chosen_at}
 module _ (settings : List Setting) (world : World) (left : List Link) (l : Link)
     (apart : AreJoined left l.near l.far → ⊥) where
   abbrev now : World
-  now = (parted settings world left l.near l.far).world
+  now = (parted settings world left l.near l.far).state
 
   abbrev turned : Link
   turned = record { near = l.far; far = l.near }
@@ -44,9 +44,9 @@ module _ (settings : List Setting) (world : World) (left : List Link) (l : Link)
   in_hall client a b = get (remaining settings world left a b).clients client
 
   pub lines_at : (client : ℕ) (e o : Name) → HasEnds l e o → in_hall client o e ≡ None
-      → (parted settings world left l.near l.far).lines client ≡ lines_of e o (in_hall client e o)
+      → (parted settings world left l.near l.far).out client ≡ lines_of e o (in_hall client e o)
   lines_at client = both_ends l (λ e o. in_hall client o e ≡ None
-      → (parted settings world left l.near l.far).lines client ≡ lines_of e o (in_hall client e o))
+      → (parted settings world left l.near l.far).out client ≡ lines_of e o (in_hall client e o))
       (λ none. ap (λ c. lines_of l.near l.far (in_hall client l.near l.far)
       ++ lines_of l.far l.near c) none
       ∙ append-nil (lines_of l.near l.far (in_hall client l.near l.far)))

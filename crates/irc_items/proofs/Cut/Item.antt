@@ -59,7 +59,7 @@ module _ (laws : AreCutItemLaws) (net : Network) (sound : IsSound net)
     (holds : IsWorld (settings_of net) (world_now net)) (near far : Name)
     (taken : fault_at_rest net (cut near far) ≡ None) where
   abbrev new : Network
-  new = (given (cut near far) net).net
+  new = (given (cut near far) net).state
 
   abbrev s : ItemSetting
   s = cut_setting net near far
@@ -166,7 +166,7 @@ module _ (laws : AreCutItemLaws) (net : Network) (sound : IsSound net)
     -- a loss kills nobody
     loss_may : (t : Name) (w : SideState) (deed : Deed) (line : List ℕ)
         → IsLossOfCut world.links left a w deed
-        → MayKill s no_answers lost.world routes_now a t deed line
+        → MayKill s no_answers lost.state routes_now a t deed line
     loss_may t w (loses server name text) line is = tt
     loss_may t w deed line is = absurd is.loss
 

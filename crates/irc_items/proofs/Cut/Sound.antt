@@ -107,7 +107,7 @@ module _ {net new : Network} {near far : Name} (laws : AreCutLaws)
 
   module _ (client : ℕ) where
     abbrev owed : List (List ℕ)
-    owed = owed_now net client ++ lost.lines client
+    owed = owed_now net client ++ lost.out client
 
     abbrev leaving : Name → Name → List (List ℕ)
     leaving a b = leaving_lines (settings_of net) left a b (world.hall a).room
@@ -184,11 +184,11 @@ module _ {net new : Network} {near far : Name} (laws : AreCutLaws)
     -- ---- what servers come to
 
     at_source : (t : Name) → IsAmong net.names t → s.streams.depth t ≡ 0
-        → Fits s t (side_state_of s lost.world routes t) (view_at new t)
+        → Fits s t (side_state_of s lost.state routes t) (view_at new t)
     at_source t among none = by (stands given t)
       where
         by : Stands (HasEnds l) left s.streams 0 t
-            → Fits s t (side_state_of s lost.world routes t) (view_at new t)
+            → Fits s t (side_state_of s lost.state routes t) (view_at new t)
         by (at_end b ends _) = sides.end_fits t b ends
         by (behind a b ends on two above below) = absurd (let no : ⊥ = omega arith in no)
         by (aside away _) =
@@ -201,7 +201,7 @@ module _ {net new : Network} {near far : Name} (laws : AreCutLaws)
 
     comes_so : (t : Name) (view : View) → IsAmong net.names t → 0 < s.streams.depth t
         → Fits s t (all_done (play s client) (sides_of laws.quiet given sides t)
-        (deeds laws.quiet given sides t)) view → Fits s t (side_state_of s lost.world routes t) view
+        (deeds laws.quiet given sides t)) view → Fits s t (side_state_of s lost.state routes t) view
     comes_so t view among below fits =
         let at = takes laws.quiet given sides t below in
         comes.comes at.a at.b at.ends client t view among at.on at.other
@@ -209,13 +209,13 @@ module _ {net new : Network} {near far : Name} (laws : AreCutLaws)
         Fits s t (all_done (play s client) (sides_of laws.quiet given sides t) deeds) view)
         (deeds_at laws.quiet given sides t at.a at.b at.ends at.on) fits)
 
-    goes_on : IsGoingOn s no_answers lost.world source routes new client owed
+    goes_on : IsGoingOn s no_answers lost.state source routes new client owed
         (sides_of laws.quiet given sides) (deeds laws.quiet given sides)
     goes_on = record {
       forest = forest given;
       covers = covers given;
       streams = refl;
-      follow = well_follow laws.line s client (fixed_here given) no_answers lost.world routes;
+      follow = well_follow laws.line s client (fixed_here given) no_answers lost.state routes;
       begun = record {
         starts = starts laws.quiet given sides client;
         away = away laws.quiet given sides client;
@@ -299,7 +299,7 @@ module _ {net new : Network} {near far : Name} (laws : AreCutLaws)
       back = linked_back left x y linked_so
 
       by : AtEnd l y → is_met_with s (view_at new y) x ≡ true
-      by (is_end b ends) = linked_met s lost.world routes y x (view_at new y)
+      by (is_end b ends) = linked_met s lost.state routes y x (view_at new y)
           (sides.end_fits y b ends) (still_among x y linked_so) back
       by (is_none m n) =
           ap (λ view. is_met_with s view x) (given.cut_so.other_views y m n)

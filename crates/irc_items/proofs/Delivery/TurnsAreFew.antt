@@ -15,14 +15,14 @@ pending_few net sound = less net.taken (pending_of net sound) (most_now net) (so
 
 -- ---- as many lines fewer are coming as were taken
 
-record AreTurns (count : ℕ) (old new : Progress Network) (sound : IsSound old.net) : Type 0 where
-  sound_now : IsSound new.net
-  fewer : pending_of new.net sound_now + count ≤ pending_of old.net sound
+record AreTurns (count : ℕ) (old new : Progress Network) (sound : IsSound old.state) : Type 0 where
+  sound_now : IsSound new.state
+  fewer : pending_of new.state sound_now + count ≤ pending_of old.state sound
 
-turns : AreDeliveryLaws → (count : ℕ) (old new : Progress Network) (sound : IsSound old.net)
+turns : AreDeliveryLaws → (count : ℕ) (old new : Progress Network) (sound : IsSound old.state)
     → TakesInTurn count old new → AreTurns count old new sound
 turns laws zero old new sound none_yet =
-    record { sound_now = sound; fewer = none (pending_of old.net sound) }
+    record { sound_now = sound; fewer = none (pending_of old.state sound) }
   where
     none : (n : ℕ) → n + 0 ≤ n
     none n = omega arith
@@ -31,8 +31,8 @@ turns laws (suc count) old new sound (then_one {between = mid} {direction = way}
     let last = leaves_one_fewer laws way.from way.to mid new first.sound_now is in
     record {
       sound_now = last.sound_now;
-      fewer = added (pending_of old.net sound) (pending_of mid.net first.sound_now)
-          (pending_of new.net last.sound_now) count first.fewer last.fewer;
+      fewer = added (pending_of old.state sound) (pending_of mid.state first.sound_now)
+          (pending_of new.state last.sound_now) count first.fewer last.fewer;
     }
   where
     added : (a b c count : ℕ) → b + count ≤ a → c < b → c + suc count ≤ a
@@ -41,8 +41,8 @@ turns laws (suc count) old new sound (then_one {between = mid} {direction = way}
 pub turns_are_few : AreDeliveryLaws → TurnsAreFew
 turns_are_few laws count old new sound takes =
     let all = turns laws count old new sound takes in
-    within (pending_of new.net all.sound_now) count (pending_of old.net sound)
-    (most_now old.net) all.fewer (pending_few old.net sound)
+    within (pending_of new.state all.sound_now) count (pending_of old.state sound)
+    (most_now old.state) all.fewer (pending_few old.state sound)
   where
     within : (a count b most : ℕ) → a + count ≤ b → b ≤ most → count ≤ most
     within a count b most few less = omega arith
@@ -52,9 +52,10 @@ turns_are_few laws count old new sound takes =
 -- what is taken first, and then the others
 turn_first : {count : ℕ} {first between last : Progress Network} → next_in_turn first ≡ Some between
     → TakesInTurn count between last → TakesInTurn (suc count) first last
-turn_first {first = first} {between = between} is none_yet = by (first_direction first.net) refl is
+turn_first {first = first} {between = between} is none_yet =
+    by (first_direction first.state) refl is
   where
-    by : (o : Option Direction) → first_direction first.net ≡ o
+    by : (o : Option Direction) → first_direction first.state ≡ o
         → option_and_then (λ (d : Direction). delivered d.from d.to first) o ≡ Some between
         → TakesInTurn 1 first between
     by None none e = absurd (cc e)
@@ -103,17 +104,17 @@ turn_leaves_fewer few_turns most old new sound few is = by most few
     left : (n : ℕ) → lines_left (suc n) old ≡ suc (lines_left n new)
     left n = ap (λ o. option_map_or (λ next. suc (lines_left n next)) o 0) is
 
-    bound : (n : ℕ) → most_now old.net ≤ n → suc (lines_left n new) ≤ n
+    bound : (n : ℕ) → most_now old.state ≤ n → suc (lines_left n new) ≤ n
     bound n few =
         let can = left_are_taken (suc n) old in
-        within (lines_left (suc n) old) (most_now old.net) n (suc (lines_left n new))
+        within (lines_left (suc n) old) (most_now old.state) n (suc (lines_left n new))
         (few_turns (lines_left (suc n) old) old can.last sound can.takes) few
         (left n)
       where
         within : (count most n more : ℕ) → count ≤ most → most ≤ n → count ≡ more → more ≤ n
         within count most n more one two is = omega (arith, is)
 
-    by : (n : ℕ) → most_now old.net ≤ n → lines_left n new < lines_left n old
+    by : (n : ℕ) → most_now old.state ≤ n → lines_left n new < lines_left n old
     by zero few = absurd (let most = bound zero few in none_below (lines_left zero new) most)
       where
         none_below : (n : ℕ) → suc n ≤ 0 → ⊥

@@ -37,11 +37,11 @@ use Rattle.irc_items.proofs.Home.Events.{AreDecisionLaws, IsHomeOf, handled_so}
 
 pub record DoesAsMachine (s : ItemSetting) (world : World) (routes : Name → Known) (h : Name)
     (view : View) (client_event : ClientEvent) : Type 0 where
-  pub fits : Fits s h (side_state_of s (by_machine s.settings world h client_event).world routes h)
+  pub fits : Fits s h (side_state_of s (by_machine s.settings world h client_event).state routes h)
       (client_told view client_event).state
   pub lines : (client : ℕ) → is_home_of s.homes h client ≡ true → lines_to client
       (client_told view client_event).out
-      ≡ (by_machine s.settings world h client_event).lines client
+      ≡ (by_machine s.settings world h client_event).out client
   pub own : (client : ℕ) (line : List ℕ) (lines : List (List ℕ)) → lines_to client
       (client_told view client_event).out ≡ line ∷ lines → is_home_of s.homes h client ≡ true
   pub ends : (client_told view client_event).state.ends ≡ view.ends
@@ -109,23 +109,23 @@ module _ (s : ItemSetting) (world : World) (routes : Name → Known) (h : Name) 
   module _ (laws : AreHomeLaws) (client_event : ClientEvent) (fixed : IsItemSetting s)
       (among : IsAmong s.names h) (of_world : IsOfWorld s world)
       (right : AreRight s world.links routes)
-      (after : IsWorld s.settings (by_machine s.settings world h client_event).world)
+      (after : IsWorld s.settings (by_machine s.settings world h client_event).state)
       (one : AreOneAt h (is_home_of s.homes h) view
       (handled (machine_at s.settings world h) client_event) (client_told view client_event)) where
     abbrev now : RoomMachine
     now = (handled (machine_at s.settings world h) client_event).state
 
-    hall_now : (by_machine s.settings world h client_event).world.hall h
+    hall_now : (by_machine s.settings world h client_event).state.hall h
         ≡ record { clients = now.clients; room = now.room }
     hall_now = ap (λ b. if b then record { clients = now.clients; room = now.room }
         else world.hall h) fits.here
 
     fits_now : Fits s h
-        (side_state_of s (by_machine s.settings world h client_event).world routes h)
+        (side_state_of s (by_machine s.settings world h client_event).state routes h)
         (view_in h (is_home_of s.homes h) view now)
     fits_now = record {
       here = fits.here;
-      sound = laws.sound s (by_machine s.settings world h client_event).world routes h fixed
+      sound = laws.sound s (by_machine s.settings world h client_event).state routes h fixed
           (record { homes = of_world.homes; parents = of_world.parents })
           after right among;
       peers = fits.peers;
@@ -148,7 +148,7 @@ module _ (s : ItemSetting) (world : World) (routes : Name → Known) (h : Name) 
     does_so : DoesAsMachine s world routes h view client_event
     does_so = record {
       fits = subst
-          (Fits s h (side_state_of s (by_machine s.settings world h client_event).world routes h))
+          (Fits s h (side_state_of s (by_machine s.settings world h client_event).state routes h))
           (sym one.state) fits_now;
       lines = λ client mine.
           one.told client ∙ ap (λ b. cond b
@@ -165,7 +165,7 @@ pub does_as_machine : AreHomeLaws → (s : ItemSetting) (world : World) (routes 
     → IsWorld s.settings world
     → IsOfWorld s world → AreRight s world.links routes
     → Fits s h (side_state_of s world routes h) view
-    → IsWorld s.settings (by_machine s.settings world h client_event).world
+    → IsWorld s.settings (by_machine s.settings world h client_event).state
     → place_of (routes h) ≡ place_at s.settings world.links h → IsDueAtHome s world h client_event
     → DoesAsMachine s world routes h view client_event
 does_as_machine laws s world routes h view client_event fixed among is_world of_world right

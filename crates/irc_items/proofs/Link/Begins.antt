@@ -32,7 +32,7 @@ use Rattle.irc_items.proofs.Link.Ways.{link_lines, nothing_else, to_end}
 abbrev pub terms_of_link : Network → Name → Name → Terms View (List ℕ) SideState Deed
 terms_of_link net near far =
     good_terms (link_setting net near far) (answers_of (record { near = near; far = far }))
-    (link_made (world_now net) near far).world
+    (link_made (world_now net) near far).state
     (routes_after (link_setting net near far) (record { near = near; far = far }) (world_now net)
     (routes_in net))
 
@@ -124,7 +124,7 @@ module _ {net new : Network} {near far : Name} (after_link : SideAfterLink) (qui
 
   pub starts : Starts (machine s client) (play s client) (terms_of_link net near far) s.streams
       (relayed s new client) (side_of s l world (routes_in net)) deeds
-  starts = starts_from (answers_of l) (link_made world near far).world
+  starts = starts_from (answers_of l) (link_made world near far).state
       (routes_after s l world (routes_in net)) new client (stands given) (omega arith)
       (record { one_side = one_side; one_list = one_list })
       (λ t below. fits_begun given after_link t (taker_among t below)) first

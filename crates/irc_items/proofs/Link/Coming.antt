@@ -55,7 +55,7 @@ pub record IsLinkedWorld (s : ItemSetting) (l : Link) (world : World)
   pub among : (e o : Name) → HasEnds l e o → IsAmong s.names e
   pub right : AreRight s world.links routes
   pub read : (e o : Name) → HasEnds l e o → AllByRecursion (IsReadDeed e) (room_deeds world e o)
-  pub after : IsWorld s.settings (link_made world l.near l.far).world
+  pub after : IsWorld s.settings (link_made world l.near l.far).state
   pub sound : (e o : Name) → HasEnds l e o → IsSoundSide s
       (all_done (play s 0) (side_of s l world routes e) (deeds_of_link s world routes e o))
 
@@ -69,18 +69,18 @@ pub record ComesToLinked (s : ItemSetting) (l : Link) (world : World)
   pub comes : (e o : Name) → HasEnds l e o → (client : ℕ) (t : Name) (view : View)
       → IsAmong s.names t → AreJoined world.links t e → Fits s t (all_done (play s client)
       (side_of s l world routes t) (deeds_of_link s world routes e o)) view → Fits s t
-      (side_state_of s (link_made world l.near l.far).world (routes_after s l world routes) t) view
+      (side_state_of s (link_made world l.near l.far).state (routes_after s l world routes) t) view
   pub others : (streams : Streams) (t : Name) (view : View) → IsAmong s.names t
       → ((e o : Name) → HasEnds l e o → AreJoined world.links t e → ⊥)
       → Fits (record s { streams = streams }) t (side_state_of s world routes t) view → Fits s t
-      (side_state_of s (link_made world l.near l.far).world (routes_after s l world routes) t) view
+      (side_state_of s (link_made world l.near l.far).state (routes_after s l world routes) t) view
   pub seen : (e o : Name) → HasEnds l e o → (client : ℕ) (t : Name)
       → AreJoined world.links t e → is_home_of s.homes t client ≡ true
       → all_seen (play s client) t (side_of s l world routes t) (deeds_of_link s world routes e o)
-      ≡ (link_made world l.near l.far).lines client
+      ≡ (link_made world l.near l.far).out client
   pub aside_seen : (client : ℕ) (t : Name) → is_home_of s.homes t client ≡ true
       → ((e o : Name) → HasEnds l e o → AreJoined world.links t e → ⊥)
-      → (link_made world l.near l.far).lines client ≡ []
+      → (link_made world l.near l.far).out client ≡ []
 
 pub record IsKnownOfLinks : Type 0 where
   pub at_rest : SideAtRestIsSound
@@ -184,7 +184,7 @@ module _ (s : ItemSetting) (l : Link) (world : World) (routes : Name → Known)
   -- ---- the world with the link
 
   abbrev now : World
-  now = (link_made world l.near l.far).world
+  now = (link_made world l.near l.far).state
 
   abbrev both : Hall
   both = merged (world.hall l.near) (world.hall l.far)

@@ -295,7 +295,7 @@ module _ (stays : ServedKeepsItsSetting) (net : Network) (sound : IsSound net)
   }
 
   abbrev new : Network
-  new = (item_kept (link near far) (both_asked will)).net
+  new = (item_kept (link near far) (both_asked will)).state
 
   has_asked : HasAskedBoth net new near far (Some []) calls waits
   has_asked = asked_both will (link near far)
@@ -360,7 +360,7 @@ module _ (stays : ServedKeepsItsSetting) (net : Network) (sound : IsSound net)
 
 pub link_is_given : ServedKeepsItsSetting → (net : Network) → IsSound net
     → IsOneRoom net → (near far : Name) → IsMeeting net near far
-    → IsLinked net (given (link near far) net).net near far
+    → IsLinked net (given (link near far) net).state near far
 link_is_given stays net sound room near far m =
-    subst (λ (progress : Progress Network). IsLinked net progress.net near far)
+    subst (λ (progress : Progress Network). IsLinked net progress.state near far)
     (sym (is_given stays net sound room near far m)) (linked_so stays net sound room near far m)

@@ -46,7 +46,7 @@ module _ (laws : AreLinkItemLaws) (net : Network) (sound : IsSound net)
     (holds : IsWorld (settings_of net) (world_now net)) (near far : Name)
     (taken : fault_at_rest net (link near far) ≡ None) where
   abbrev new : Network
-  new = (given (link near far) net).net
+  new = (given (link near far) net).state
 
   abbrev s : ItemSetting
   s = link_setting net near far
@@ -101,7 +101,7 @@ module _ (laws : AreLinkItemLaws) (net : Network) (sound : IsSound net)
           (terms_of_link net near far) (l ∷ world.links)
           (from_other_end world.links near far) (forest given_so) (covers given_so)
           (well_follow laws.link.line s 0 (fixed_here given_so) (answers_of l)
-          (link_made world near far).world (routes_after s l world (routes_in net)))
+          (link_made world near far).state (routes_after s l world (routes_in net)))
           (relayed s new 0) (side_of s l world (routes_in net))
           (deeds laws.link.after_link laws.link.quiet given_so tells 0)
           (starts laws.link.after_link laws.link.quiet given_so tells 0) t

@@ -91,9 +91,9 @@ module _ (s : ItemSetting) (l : Link) (world : World) (holds : IsWorld s.setting
 
   -- a client of one side receives what that side is shown
   pub side_receives : (e o : Name) → HasEnds l e o → (AreJoined world.links t o → ⊥)
-      → shown e o (in_hall e) ≡ (link_made world l.near l.far).lines client
+      → shown e o (in_hall e) ≡ (link_made world l.near l.far).out client
   side_receives = both_ends l (λ e o. (AreJoined world.links t o → ⊥)
-      → shown e o (in_hall e) ≡ (link_made world l.near l.far).lines client)
+      → shown e o (in_hall e) ≡ (link_made world l.near l.far).out client)
       (λ other. sym (ap (λ o. shown l.near l.far (in_hall l.near) ++ shown l.far l.near o)
       (none_in l.far other)
       ∙ append-nil (shown l.near l.far (in_hall l.near))))
@@ -102,6 +102,6 @@ module _ (s : ItemSetting) (l : Link) (world : World) (holds : IsWorld s.setting
 
   -- one of another part receives nothing
   pub aside_receives : (AreJoined world.links t l.near → ⊥) → (AreJoined world.links t l.far → ⊥)
-      → (link_made world l.near l.far).lines client ≡ []
+      → (link_made world l.near l.far).out client ≡ []
   aside_receives two other = sym (side_receives l.near l.far (inl (refl, refl)) other)
       ∙ ap (shown l.near l.far) (none_in l.near two)

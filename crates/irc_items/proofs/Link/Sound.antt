@@ -157,7 +157,7 @@ module _ {net new : Network} {near far : Name} (laws : AreLinkLaws)
     link_deeds = deeds laws.after_link laws.quiet given tells client
 
     abbrev owed : List (List ℕ)
-    owed = owed_now net client ++ made.lines client
+    owed = owed_now net client ++ made.out client
 
     -- whoever takes no lines is of another part
     source_aside : (t : Name) → s.streams.depth t ≡ 0 → (e o : Name) → HasEnds l e o
@@ -177,7 +177,7 @@ module _ {net new : Network} {near far : Name} (laws : AreLinkLaws)
         home (source_aside t none)) ∙ append_nil (owed_now net client))
 
     at_source : (t : Name) → IsAmong net.names t → s.streams.depth t ≡ 0
-        → Fits s t (side_state_of s made.world routes t) (view_at new t)
+        → Fits s t (side_state_of s made.state routes t) (view_at new t)
     at_source t among none =
         one.comes.others (streams_from net.links (λ server. server)) t (view_at new t) among away
         (subst (Fits (record s { streams = streams_from net.links (λ server. server) }) t
@@ -192,7 +192,7 @@ module _ {net new : Network} {near far : Name} (laws : AreLinkLaws)
 
     comes_to : (t : Name) (view : View) → IsAmong net.names t → 0 < s.streams.depth t
         → Fits s t (all_done (play s client) (sides t) (link_deeds t)) view
-        → Fits s t (side_state_of s made.world routes t) view
+        → Fits s t (side_state_of s made.state routes t) view
     comes_to t view among below fits =
         let at = source_of (stands given t) below in
         one.comes.comes at.e at.o at.ends client t view among at.on
@@ -209,12 +209,12 @@ module _ {net new : Network} {near far : Name} (laws : AreLinkLaws)
         ∙ ap (λ more. owed_now net client ++ more)
         (one.comes.seen at.e at.o at.ends client t at.on home)
 
-    goes_on : IsGoingOn s (answers_of l) made.world source routes new client owed sides link_deeds
+    goes_on : IsGoingOn s (answers_of l) made.state source routes new client owed sides link_deeds
     goes_on = record {
       forest = forest given;
       covers = covers given;
       streams = refl;
-      follow = well_follow laws.line s client (fixed_here given) (answers_of l) made.world routes;
+      follow = well_follow laws.line s client (fixed_here given) (answers_of l) made.state routes;
       begun = record {
         starts = starts laws.after_link laws.quiet given tells client;
         away = away laws.after_link laws.quiet given tells client;

@@ -129,7 +129,7 @@ module _ (known : IsKnownOfSides) {s : ItemSetting} {l : Link} {world : World}
 
   -- where both sides come to, and which lines may be answered on the way
   abbrev pub linked_world : World
-  linked_world = (link_made world l.near l.far).world
+  linked_world = (link_made world l.near l.far).state
 
   abbrev pub linked_routes : Name → Known
   linked_routes = routes_after s l world routes

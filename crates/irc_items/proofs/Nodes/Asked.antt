@@ -30,22 +30,24 @@ use Rattle.irc_items.proofs.Nodes.NodeChanged.{IsAlikeNode, IsSetUpAfter, IsNode
 
 -- t answered: what it put out waits behind the others on its ways, and is received behind all else
 pub record IsAskedAt (t : Name) (answer : Served) (old new : Progress Network) : Type 0 where
-  pub names : new.net.names ≡ old.net.names
-  pub links : new.net.links ≡ old.net.links
-  pub homes : new.net.homes ≡ old.net.homes
-  pub items : new.net.items ≡ old.net.items
-  pub taken : new.net.taken ≡ old.net.taken
-  pub inboxes : length new.net.received ≡ length old.net.received
-  pub settings : settings_of new.net ≡ settings_of old.net
-  pub set_up : IsSetUp new.net
-  pub state : view_at new.net t ≡ answer.state
-  pub other_views : (u : Name) → u ≢ t → view_at new.net u ≡ view_at old.net u
-  pub way : (place : ℕ) → way_at new.net t place ≡ option_map
-      (λ lines. lines ++ lines_on place answer.out) (way_at old.net t place)
-  pub other_ways : (u : Name) (place : ℕ) → u ≢ t → way_at new.net u place ≡ way_at old.net u place
-  pub received : (client : ℕ) (home : Name) → home_in old.net.homes client ≡ Some home
-      → received_by new.net client ≡ received_by old.net client ++ lines_to client answer.out
-  pub nobody : (client : ℕ) → home_in old.net.homes client ≡ None → received_by new.net client ≡ []
+  pub names : new.state.names ≡ old.state.names
+  pub links : new.state.links ≡ old.state.links
+  pub homes : new.state.homes ≡ old.state.homes
+  pub items : new.state.items ≡ old.state.items
+  pub taken : new.state.taken ≡ old.state.taken
+  pub inboxes : length new.state.received ≡ length old.state.received
+  pub settings : settings_of new.state ≡ settings_of old.state
+  pub set_up : IsSetUp new.state
+  pub state : view_at new.state t ≡ answer.state
+  pub other_views : (u : Name) → u ≢ t → view_at new.state u ≡ view_at old.state u
+  pub way : (place : ℕ) → way_at new.state t place ≡ option_map
+      (λ lines. lines ++ lines_on place answer.out) (way_at old.state t place)
+  pub other_ways : (u : Name) (place : ℕ) → u ≢ t
+      → way_at new.state u place ≡ way_at old.state u place
+  pub received : (client : ℕ) (home : Name) → home_in old.state.homes client ≡ Some home
+      → received_by new.state client ≡ received_by old.state client ++ lines_to client answer.out
+  pub nobody : (client : ℕ) → home_in old.state.homes client ≡ None
+      → received_by new.state client ≡ []
 
 -- what a server answers keeps what it is configured to be
 pub reply_alike : ServedKeepsItsSetting → (view : View) (read_event : ReadEvent)
@@ -81,38 +83,38 @@ setting_alike old new alike i = record {
   peers = alike.peers i;
 }
 
-module _ (kept : ServedKeepsItsSetting) (old : Progress Network) (set_up : IsSetUp old.net)
+module _ (kept : ServedKeepsItsSetting) (old : Progress Network) (set_up : IsSetUp old.state)
     (t : Name)
-    (among : IsAmong old.net.names t) (read_event : ReadEvent) where
+    (among : IsAmong old.state.names t) (read_event : ReadEvent) where
   abbrev place : ℕ
-  place = index_in old.net.names t
+  place = index_in old.state.names t
 
   abbrev view : View
-  view = view_at old.net t
+  view = view_at old.state t
 
   abbrev answer : Served
   answer = reply view read_event
 
   abbrev node : Node
-  node = (there old.net set_up t among).node
+  node = (there old.state set_up t among).node
 
   abbrev replied : Node
   replied = record node { server = Some answer.state }
 
   abbrev mid : Progress Network
-  mid = record old { net = with_node place replied old.net }
+  mid = record old { state = with_node place replied old.state }
 
   alike_node : IsAlikeNode node replied
   alike_node = record {
     named = ap Some (reply_alike kept view read_event).name ∙ sym
-        (ap (option_map (λ (v : View). v.routes.name)) (there old.net set_up t among).is_view);
+        (ap (option_map (λ (v : View). v.routes.name)) (there old.state set_up t among).is_view);
     setting = ap Some (setting_alike view answer.state (reply_alike kept view read_event))
-        ∙ sym (ap (option_map setting_now) (there old.net set_up t among).is_view);
+        ∙ sym (ap (option_map setting_now) (there old.state set_up t among).is_view);
   }
 
-  first_changed : IsNodeChanged place replied old.net mid.net
-  first_changed = node_set place node replied old.net mid.net
-      (there old.net set_up t among).is_node alike_node refl
+  first_changed : IsNodeChanged place replied old.state mid.state
+  first_changed = node_set place node replied old.state mid.state
+      (there old.state set_up t among).is_node alike_node refl
 
   sent : IsSentOut place answer.out replied mid (all_sent_out place answer.out mid)
   sent = all_sent place answer.out replied mid first_changed.is_after
@@ -121,13 +123,13 @@ module _ (kept : ServedKeepsItsSetting) (old : Progress Network) (set_up : IsSet
   unfolding node_asked
   asked_is =
       ap (λ o. option_map_or (asked_at place read_event old) o old)
-      (there old.net set_up t among).is_node
+      (there old.state set_up t among).is_node
       ∙ ap (λ o. option_map_or (λ (v : View). with_reply place old node (reply v read_event)) o old)
-      (there old.net set_up t among).is_view
+      (there old.state set_up t among).is_view
 
-  changed : IsNodeChanged place sent.after old.net (all_sent_out place answer.out mid).net
-  changed = changed_twice place replied sent.after old.net mid.net
-      (all_sent_out place answer.out mid).net first_changed sent.changed
+  changed : IsNodeChanged place sent.after old.state (all_sent_out place answer.out mid).state
+  changed = changed_twice place replied sent.after old.state mid.state
+      (all_sent_out place answer.out mid).state first_changed sent.changed
 
   configured : IsConfigured answer.state
   configured =
@@ -140,31 +142,31 @@ module _ (kept : ServedKeepsItsSetting) (old : Progress Network) (set_up : IsSet
         passwords = subst (AllByRecursion HasPassword) (sym same.peers) was.passwords;
       }
 
-  then_set_up : IsSetUpAfter t answer.state sent.after old.net
-      (all_sent_out place answer.out mid).net
-  then_set_up = set_up_after old.net (all_sent_out place answer.out mid).net set_up t among
+  then_set_up : IsSetUpAfter t answer.state sent.after old.state
+      (all_sent_out place answer.out mid).state
+  then_set_up = set_up_after old.state (all_sent_out place answer.out mid).state set_up t among
       sent.after answer.state changed sent.server configured
 
-  received_so : (inboxes : length old.net.received ≡ length old.net.homes)
-      (client : ℕ) (home : Name) → home_in old.net.homes client ≡ Some home
-      → received_by (all_sent_out place answer.out mid).net client ≡ received_by old.net client
+  received_so : (inboxes : length old.state.received ≡ length old.state.homes)
+      (client : ℕ) (home : Name) → home_in old.state.homes client ≡ Some home
+      → received_by (all_sent_out place answer.out mid).state client ≡ received_by old.state client
       ++ lines_to client answer.out
   received_so inboxes zero home is = cc is
   received_so inboxes (suc earlier) home is = ap (λ o. unwrap_or o []) (sent.received earlier)
-      ∙ by (slice_get old.net.received earlier) refl
+      ∙ by (slice_get old.state.received earlier) refl
     where
-      by : (o : Option (List (List ℕ))) → slice_get old.net.received earlier ≡ o
+      by : (o : Option (List (List ℕ))) → slice_get old.state.received earlier ≡ o
           → unwrap_or (option_map (λ lines. lines ++ lines_to (suc earlier) answer.out)
-          (slice_get old.net.received earlier)) []
-          ≡ unwrap_or (slice_get old.net.received earlier) [] ++ lines_to (suc earlier) answer.out
+          (slice_get old.state.received earlier)) []
+          ≡ unwrap_or (slice_get old.state.received earlier) [] ++ lines_to (suc earlier) answer.out
       by (Some lines) e = ap
           (λ o. unwrap_or (option_map (λ lines. lines ++ lines_to (suc earlier) answer.out) o) []) e
           ∙ sym (ap (λ o. unwrap_or o [] ++ lines_to (suc earlier) answer.out) e)
       by None e =
-          absurd (let no = sym (beyond old.net.received old.net.homes earlier (sym inboxes) e)
+          absurd (let no = sym (beyond old.state.received old.state.homes earlier (sym inboxes) e)
           ∙ is in cc no)
 
-  pub asked_so : length old.net.received ≡ length old.net.homes
+  pub asked_so : length old.state.received ≡ length old.state.homes
       → IsAskedAt t answer old (all_sent_out place answer.out mid)
   asked_so inboxes = record {
     names = changed.names;
@@ -180,21 +182,21 @@ module _ (kept : ServedKeepsItsSetting) (old : Progress Network) (set_up : IsSet
     way = λ to. ap (option_and_then (λ (s : Node). get s.queues to)) then_set_up.node ∙ sent.ways to
         ∙ sym (ap (λ o. option_map (λ lines. lines ++ lines_on to answer.out)
         (option_and_then (λ (s : Node). get s.queues to) o))
-        (node_there old.net set_up t among));
+        (node_there old.state set_up t among));
     other_ways = λ u to two. ap (option_and_then (λ (s : Node). get s.queues to))
         (then_set_up.other_nodes u two);
     received = received_so inboxes;
-    nobody = λ client none. nothing_received (all_sent_out place answer.out mid).net client
+    nobody = λ client none. nothing_received (all_sent_out place answer.out mid).state client
         (sent.inboxes ∙ inboxes ∙ ap (λ (homes : List Name). length homes) (sym changed.homes))
         (ap (λ homes. home_in homes client) changed.homes ∙ none);
   }
 
-pub asked_there : ServedKeepsItsSetting → (old : Progress Network) → IsSetUp old.net
-    → length old.net.received ≡ length old.net.homes → (t : Name) → IsAmong old.net.names t
-    → (read_event : ReadEvent) → IsAskedAt t (reply (view_at old.net t) read_event) old
-    (node_asked (index_in old.net.names t) read_event old)
+pub asked_there : ServedKeepsItsSetting → (old : Progress Network) → IsSetUp old.state
+    → length old.state.received ≡ length old.state.homes → (t : Name) → IsAmong old.state.names t
+    → (read_event : ReadEvent) → IsAskedAt t (reply (view_at old.state t) read_event) old
+    (node_asked (index_in old.state.names t) read_event old)
 asked_there kept old set_up inboxes t among read_event =
-    subst (IsAskedAt t (reply (view_at old.net t) read_event) old)
+    subst (IsAskedAt t (reply (view_at old.state t) read_event) old)
     (sym (asked_is kept old set_up t among read_event))
     (asked_so kept old set_up t among read_event inboxes)
 

@@ -111,22 +111,22 @@ module _ {net : Network} {near far : Name} {links : List Link} {change : ℕ →
   abbrev pub both_asked : Progress Network
   both_asked = node_asked q far_does one_asked
 
-  far_asked : IsAskedAt far (reply (view_at one_asked.net far) far_does) one_asked both_asked
+  far_asked : IsAskedAt far (reply (view_at one_asked.state far) far_does) one_asked both_asked
   far_asked =
-      subst (λ place. IsAskedAt far (reply (view_at one_asked.net far) far_does) one_asked
+      subst (λ place. IsAskedAt far (reply (view_at one_asked.state far) far_does) one_asked
       (node_asked place far_does one_asked))
       (ap (λ names. index_in names far) near_asked.names)
       (asked_there will.stays one_asked near_asked.set_up (near_asked.inboxes ∙ will.inboxes
       ∙ ap length (sym near_asked.homes)) far
       (subst (λ names. IsAmong names far) (sym near_asked.names) will.far_among) far_does)
 
-  far_reply : reply (view_at one_asked.net far) far_does ≡ far_answer
+  far_reply : reply (view_at one_asked.state far) far_does ≡ far_answer
   far_reply = ap (λ view. reply view far_does) (near_asked.other_views far far_other
       ∙ view_still far) ∙ will.far_is
 
   -- ---- what is on the ways
 
-  near_ways : (place : ℕ) → way_at both_asked.net near place ≡ option_map
+  near_ways : (place : ℕ) → way_at both_asked.state near place ≡ option_map
       (λ before. before ++ lines_on place near_answer.out) (way_at one_way near place)
   near_ways place =
       far_asked.other_ways near place will.two
@@ -136,33 +136,34 @@ module _ {net : Network} {near far : Name} {links : List Link} {change : ℕ →
       ∙ ap (option_map (λ before. before ++ lines_on place near_answer.out))
       (far_set.other_ways near place will.two)
 
-  far_ways : (place : ℕ) → way_at both_asked.net far place ≡ option_map
+  far_ways : (place : ℕ) → way_at both_asked.state far place ≡ option_map
       (λ before. before ++ lines_on place far_answer.out) (way_at both_ways far place)
   far_ways place =
       far_asked.way place
       ∙ ap (λ (r : Served). option_map (λ before. before ++ lines_on place r.out)
-      (way_at one_asked.net far place)) far_reply
+      (way_at one_asked.state far place)) far_reply
       ∙ ap (option_map (λ before. before ++ lines_on place far_answer.out))
       (near_asked.other_ways far place far_other)
 
   -- ---- what clients receive
 
   received_so : (client : ℕ) (home : Name) → home_in net.homes client ≡ Some home
-      → received_by both_asked.net client ≡ received_by net client
+      → received_by both_asked.state client ≡ received_by net client
       ++ (lines_to client near_answer.out ++ lines_to client far_answer.out)
   received_so client home is =
       far_asked.received client home (ap (λ homes. home_in homes client) near_asked.homes ∙ is)
-      ∙ ap (λ (r : Served). received_by one_asked.net client ++ lines_to client r.out) far_reply
+      ∙ ap (λ (r : Served). received_by one_asked.state client ++ lines_to client r.out) far_reply
       ∙ ap (λ before. before ++ lines_to client far_answer.out) (near_asked.received client home is
       ∙ ap (λ (r : Served). received_by net client ++ lines_to client r.out) near_reply)
       ∙ append_assoc (received_by net client) (lines_to client near_answer.out)
       (lines_to client far_answer.out)
 
-  same_inboxes : length both_asked.net.received ≡ length net.received
+  same_inboxes : length both_asked.state.received ≡ length net.received
   same_inboxes = far_asked.inboxes ∙ near_asked.inboxes
 
   -- so it is once the network keeps the item
-  pub both_taken : (item : Item) → HasTaken net (item_kept item both_asked).net item net.homes links
+  pub both_taken : (item : Item)
+      → HasTaken net (item_kept item both_asked).state item net.homes links
   both_taken item = record {
     names = far_asked.names ∙ near_asked.names;
     homes = far_asked.homes ∙ near_asked.homes;
@@ -171,13 +172,13 @@ module _ {net : Network} {near far : Name} {links : List Link} {change : ℕ →
     taken = refl;
     inboxes = same_inboxes ∙ will.inboxes ∙ ap length (sym (far_asked.homes ∙ near_asked.homes));
     settings = far_asked.settings ∙ near_asked.settings ∙ far_set.settings ∙ near_set.settings;
-    set_up = set_up_besides both_asked.net both_asked.net.links both_asked.net.homes
-        both_asked.net.received (both_asked.net.items ++ item ∷ []) 0
+    set_up = set_up_besides both_asked.state both_asked.state.links both_asked.state.homes
+        both_asked.state.received (both_asked.state.items ++ item ∷ []) 0
         far_asked.set_up;
   }
 
   pub asked_both : (item : Item)
-      → HasAskedBoth net (item_kept item both_asked).net near far lines near_answer far_answer
+      → HasAskedBoth net (item_kept item both_asked).state near far lines near_answer far_answer
   asked_both item = record {
     near_view = far_asked.other_views near will.two ∙ near_asked.state
         ∙ ap (λ (r : Served). r.state) near_reply;

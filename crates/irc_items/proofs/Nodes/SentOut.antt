@@ -21,15 +21,15 @@ use Rattle.irc_items.proofs.Nodes.NodeChanged.{set_there, node_set}
 pub record IsSentOut (place : ℕ) (out : List Sent) (node : Node)
     (old new : Progress Network) : Type 0 where
   pub after : Node
-  pub changed : IsNodeChanged place after old.net new.net
+  pub changed : IsNodeChanged place after old.state new.state
   pub server : after.server ≡ node.server
-  pub taken : new.net.taken ≡ old.net.taken
+  pub taken : new.state.taken ≡ old.state.taken
   pub ways : (to : ℕ) → get after.queues to ≡ option_map (λ lines. lines ++ lines_on to out)
       (get node.queues to)
-  pub inboxes : length new.net.received ≡ length old.net.received
-  pub received : (earlier : ℕ) → slice_get new.net.received earlier
+  pub inboxes : length new.state.received ≡ length old.state.received
+  pub received : (earlier : ℕ) → slice_get new.state.received earlier
       ≡ option_map (λ lines. lines ++ lines_to (suc earlier) out)
-      (slice_get old.net.received earlier)
+      (slice_get old.state.received earlier)
 
 -- ---- numbers
 
@@ -68,17 +68,17 @@ module _ (f : Sent → Option (List ℕ)) where
 -- ---- nothing is put out
 
 pub nothing_sent : (place : ℕ) (out : List Sent) (node : Node) (progress : Progress Network)
-    → node_at progress.net place ≡ Some node → ((to : ℕ) → lines_on to out ≡ [])
+    → node_at progress.state place ≡ Some node → ((to : ℕ) → lines_on to out ≡ [])
     → ((earlier : ℕ) → lines_to (suc earlier) out ≡ []) → IsSentOut place out node progress progress
 nothing_sent place out node progress is no_line none_received = record {
   after = node;
-  changed = not_changed place node progress.net is;
+  changed = not_changed place node progress.state is;
   server = refl;
   taken = refl;
   ways = λ to. nothing_behind (lines_on to out) (no_line to) (get node.queues to);
   inboxes = refl;
   received = λ earlier. nothing_behind (lines_to (suc earlier) out) (none_received earlier)
-      (slice_get progress.net.received earlier);
+      (slice_get progress.state.received earlier);
 }
 
 -- ---- a line to a client, or on a way
@@ -190,28 +190,28 @@ nobodys text earlier = by (nat_eq zero (suc earlier)) refl
 -- ---- one thing is put out
 
 module _ (place : ℕ) (node : Node) (progress : Progress Network)
-    (is : node_at progress.net place ≡ Some node) where
+    (is : node_at progress.state place ≡ Some node) where
   one_received : (earlier : ℕ) (text : List ℕ) (o : Option (List (List ℕ)))
-      → slice_get progress.net.received earlier ≡ o → IsSentOut place (line_to (suc earlier) text
+      → slice_get progress.state.received earlier ≡ o → IsSentOut place (line_to (suc earlier) text
       ∷ []) node progress (option_map_or (has_received_at earlier text progress) o progress)
   one_received earlier text None none = record {
     after = node;
-    changed = not_changed place node progress.net is;
+    changed = not_changed place node progress.state is;
     server = refl;
     taken = refl;
     ways = λ to. nothing_behind [] refl (get node.queues to);
     inboxes = refl;
-    received = not_it progress.net.received earlier text none;
+    received = not_it progress.state.received earlier text none;
   }
   one_received earlier text (Some lines) there = record {
     after = node;
-    changed = only_received place node progress.net
-        (slice_set progress.net.received earlier (lines ++ text ∷ [])) is;
+    changed = only_received place node progress.state
+        (slice_set progress.state.received earlier (lines ++ text ∷ [])) is;
     server = refl;
     taken = refl;
     ways = λ to. nothing_behind [] refl (get node.queues to);
-    inboxes = set_length progress.net.received earlier (lines ++ text ∷ []);
-    received = it_is progress.net.received earlier text lines there;
+    inboxes = set_length progress.state.received earlier (lines ++ text ∷ []);
+    received = it_is progress.state.received earlier text lines there;
   }
 
   received_line : (client : ℕ) (text : List ℕ)
@@ -219,20 +219,20 @@ module _ (place : ℕ) (node : Node) (progress : Progress Network)
   received_line zero text =
       nothing_sent place (line_to zero text ∷ []) node progress is (λ to. refl) (nobodys text)
   received_line (suc earlier) text =
-      one_received earlier text (slice_get progress.net.received earlier) refl
+      one_received earlier text (slice_get progress.state.received earlier) refl
 
   queued_line : (to : ℕ) (text : List ℕ) → IsSentOut place (line_on to text ∷ []) node progress
-      (record progress { net = with_node place (line_queued to text node) progress.net })
+      (record progress { state = with_node place (line_queued to text node) progress.state })
   queued_line to text = record {
     after = line_queued to text node;
-    changed = node_set place node (line_queued to text node) progress.net
-        (with_node place (line_queued to text node) progress.net) is
+    changed = node_set place node (line_queued to text node) progress.state
+        (with_node place (line_queued to text node) progress.state) is
         (same_server node (line_queued to text node) (server_queued to text node)) refl;
     server = server_queued to text node;
     taken = refl;
     ways = ways_queued to text node;
     inboxes = refl;
-    received = λ earlier. nothing_behind [] refl (slice_get progress.net.received earlier);
+    received = λ earlier. nothing_behind [] refl (slice_get progress.state.received earlier);
   }
 
   one_sent : (sent : Sent)
@@ -242,9 +242,9 @@ module _ (place : ℕ) (node : Node) (progress : Progress Network)
       nothing_sent place (end_of client ∷ []) node progress is (λ to. refl) (λ earlier. refl)
   one_sent (line_on to text) =
       subst (λ net. IsSentOut place (line_on to text ∷ []) node progress
-      (record progress { net = net }))
+      (record progress { state = net }))
       (sym (ap (λ o. option_map_or (λ
-      (s : Node). with_node place (line_queued to text s) progress.net) o progress.net) is))
+      (s : Node). with_node place (line_queued to text s) progress.state) o progress.state) is))
       (queued_line to text)
   one_sent (end_of_link to reason) =
       nothing_sent place (end_of_link to reason ∷ []) node progress is
@@ -259,7 +259,8 @@ sent_then : (place : ℕ) (sent : Sent) (out : List Sent) (node : Node)
 sent_then place sent out node old mid new first rest = record {
   after = rest.after;
   changed =
-      changed_twice place first.after rest.after old.net mid.net new.net first.changed rest.changed;
+      changed_twice place first.after rest.after old.state mid.state new.state first.changed
+      rest.changed;
   server = rest.server ∙ first.server;
   taken = rest.taken ∙ first.taken;
   ways = λ to. rest.ways to ∙ ap (option_map (λ lines. lines ++ lines_on to out)) (first.ways to)
@@ -267,11 +268,11 @@ sent_then place sent out node old mid new first rest = record {
   inboxes = rest.inboxes ∙ first.inboxes;
   received = λ earlier. rest.received earlier
       ∙ ap (option_map (λ lines. lines ++ lines_to (suc earlier) out)) (first.received earlier)
-      ∙ joined (line_to_for (suc earlier)) sent out (slice_get old.net.received earlier);
+      ∙ joined (line_to_for (suc earlier)) sent out (slice_get old.state.received earlier);
 }
 
 pub all_sent : (place : ℕ) (out : List Sent) (node : Node) (progress : Progress Network)
-    → node_at progress.net place ≡ Some node
+    → node_at progress.state place ≡ Some node
     → IsSentOut place out node progress (all_sent_out place out progress)
 all_sent place [] node progress is =
     nothing_sent place [] node progress is (λ to. refl) (λ earlier. refl)

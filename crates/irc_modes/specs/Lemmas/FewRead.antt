@@ -12,7 +12,7 @@ use Rattle.irc_modes.specs.declared.modes.ModeLetter.{ModeLetter}
 use Rattle.irc_modes.specs.Letters.{letter_byte, plus_byte}
 use Rattle.irc_modes.specs.Limits.{max_mode_parameters}
 use Rattle.irc_modes.specs.ModeLaws.{LeftIsReadable, ReadChangesAreFew, SomeAskedAreReadable}
-use Rattle.irc_modes.specs.ModeWords.{Asked, Reading, is_once_with, is_sign, next_word}
+use Rattle.irc_modes.specs.ModeWords.{Asked, ReadLetter, is_once_with, is_sign, next_word}
 use Rattle.irc_modes.specs.ModeWords.{reading, words_after, counts, counted, letters_read}
 use Rattle.irc_modes.specs.ModeWords.{modes_read}
 use Rattle.irc_modes.specs.Readable.{AreSomeAsked, nothing_left, one_left_out, one_made}
@@ -55,15 +55,15 @@ few_more true true true n rest counting taking less =
     let below : n < max_mode_parameters = ltb-true n max_mode_parameters (counting refl) in
     omega (arith, less)
 
-few_counted : (earlier rs : List Reading) → AllByRecursion IsSound rs → count_by asks_parameter
+few_counted : (earlier rs : List ReadLetter) → AllByRecursion IsSound rs → count_by asks_parameter
     (counted earlier rs) ≤ max_mode_parameters - count_by (λ r. r.takes) earlier
 few_counted earlier [] sound = omega arith
 few_counted earlier (r ∷ rs) sound =
-    let n = count_by (λ (q : Reading). q.takes) earlier in
+    let n = count_by (λ (q : ReadLetter). q.takes) earlier in
     let rest = counted (earlier ++ r ∷ []) rs in
     let later : count_by asks_parameter rest ≤ max_mode_parameters - (n + cond r.takes 1 0) =
     subst (λ k. count_by asks_parameter rest ≤ max_mode_parameters - k)
-    (sum_by_push (λ (q : Reading). cond q.takes 1 0) earlier r)
+    (sum_by_push (λ (q : ReadLetter). cond q.takes 1 0) earlier r)
     (few_counted (earlier ++ r ∷ []) rs sound.1) in
     let step = few_more (counts earlier r) (asks_parameter r.asked) r.takes n
     (count_by asks_parameter rest)
@@ -94,7 +94,7 @@ or_nothing true b = refl
 or_nothing false true = refl
 or_nothing false false = refl
 
-once_counted : (which : ModeLetter) → IsOnce which → (earlier rs : List Reading)
+once_counted : (which : ModeLetter) → IsOnce which → (earlier rs : List ReadLetter)
     → AllByRecursion IsSound rs → count_by (asks_of which) (counted earlier rs) + cond
     (list_any (is_once_with (letter_byte which)) earlier) 1 0 ≤ 1
 once_counted which single earlier [] sound =
@@ -118,7 +118,7 @@ once_counted which single earlier (r ∷ rs) sound =
     ap (λ b. list_any (is_once_with b) earlier) (eqb-true byte r.byte (sound.0.byte which asks))
     ∙ not_and r.once (list_any (is_once_with r.byte) earlier)
     (second_so (not r.takes
-    || nat_lt (count_by (λ (q : Reading). q.takes) earlier) max_mode_parameters) _ verdict)
+    || nat_lt (count_by (λ (q : ReadLetter). q.takes) earlier) max_mode_parameters) _ verdict)
     (sound.0.once which single asks) in
     let step = once_more (counts earlier r) (asks_of which r.asked) met again
     (count_by (asks_of which) rest) new

@@ -11,7 +11,7 @@ use Rattle.irc_modes.specs.declared.mode_words.Asks.{Asks}
 use Rattle.irc_modes.specs.declared.mode_words.Asks.TheVariants.{Nothing, Word, WordIfAny}
 use Rattle.irc_modes.specs.declared.mode_words.Asks.TheVariants.{WordOrList}
 use Rattle.irc_modes.specs.Letters.{letter_byte}
-use Rattle.irc_modes.specs.ModeWords.{change, Reading, mode_of, needs, answer, takes, once}
+use Rattle.irc_modes.specs.ModeWords.{change, ReadLetter, mode_of, needs, answer, takes, once}
 use Rattle.irc_modes.specs.ModeWords.{reading, reading_of, next_word, words_after, is_sign}
 use Rattle.irc_modes.specs.Readable.{has_parameter, word_fits, asks_parameter, asks_of, IsOnce}
 
@@ -44,7 +44,7 @@ letter_no_sign letter.Operator = refl
 letter_no_sign letter.Voice = refl
 
 -- what a change is read as
-abbrev pub read_with : Bool → ModeLetter → Option (List ℕ) → Reading
+abbrev pub read_with : Bool → ModeLetter → Option (List ℕ) → ReadLetter
 read_with plus which word = record {
   byte = letter_byte which;
   takes = is_some word;
@@ -178,7 +178,7 @@ answer_of WordOrList plus which other None h = cc
 
 -- A letter that asks for a change with a parameter counts among those that take one, and one that
 -- changes a mode of which there is one change at most is met by its byte.
-pub record IsSound (read : Reading) : Type 0 where
+pub record IsSound (read : ReadLetter) : Type 0 where
   pub taking : asks_parameter read.asked ≡ true → read.takes ≡ true
   pub once : (which : ModeLetter) → IsOnce which → asks_of which read.asked ≡ true
       → read.once ≡ true

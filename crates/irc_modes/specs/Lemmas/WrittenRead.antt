@@ -10,7 +10,7 @@ use Rattle.irc_modes.specs.declared.modes.ModeLetter.{ModeLetter}
 use Rattle.irc_modes.specs.Letters.{letter_byte, sign_byte}
 use Rattle.irc_modes.specs.Limits.{max_mode_parameters}
 use Rattle.irc_modes.specs.ModeLaws.{WrittenIsRead, asked_for}
-use Rattle.irc_modes.specs.ModeWords.{Reading, is_once_with, counts, counted, letters_read}
+use Rattle.irc_modes.specs.ModeWords.{ReadLetter, is_once_with, counts, counted, letters_read}
 use Rattle.irc_modes.specs.ModeWords.{words_after, once}
 use Rattle.irc_modes.specs.ModeWritten.{letters_behind, letters_text}
 use Rattle.irc_modes.specs.Readable.{IsOnce, has_its_word, is_of, is_worded}
@@ -18,7 +18,7 @@ use Rattle.irc_modes.specs.Lemmas.LetterReading.{letter_no_sign, read_with, IsRe
 use Rattle.irc_modes.specs.Lemmas.LetterReading.{read_back}
 use Rattle.irc_modes.specs.Lemmas.LettersInTurn.{letter_read}
 
-abbrev pub read_as : ModeChange → Reading
+abbrev pub read_as : ModeChange → ReadLetter
 read_as c = read_with c.plus c.letter c.word
 
 -- ---- each letter takes its own word
@@ -85,7 +85,7 @@ none_counted p (x ∷ xs) few = by (p x) (omega (arith, sum_by-cons (λ y. cond 
     by false less later = later (omega arith)
 
 -- the letters before, and the changes that are left, keep the limits together
-record Left (earlier : List Reading) (changes : List ModeChange) : Type 0 where
+record Left (earlier : List ReadLetter) (changes : List ModeChange) : Type 0 where
   few : count_by (λ r. r.takes) earlier + count_by is_worded changes ≤ max_mode_parameters
   alone : (which : ModeLetter) → IsOnce which
       → count_by (is_once_with (letter_byte which)) earlier + count_by (is_of which) changes ≤ 1
@@ -107,7 +107,7 @@ at_most false false = omega arith
 one_of : (c : ModeChange) → ◌≡◌ {A = ℕ} (cond (is_of c.letter c) 1 0) 1
 one_of c = ap (λ b. cond b 1 0) (eq-eqb (letter_byte c.letter) (letter_byte c.letter) refl)
 
-it_counts : (earlier : List Reading) (c : ModeChange) (changes : List ModeChange)
+it_counts : (earlier : List ReadLetter) (c : ModeChange) (changes : List ModeChange)
     → Left earlier (c ∷ changes) → counts earlier (read_as c) ≡ true
 it_counts earlier c changes left =
     and_from _ _
@@ -122,14 +122,14 @@ it_counts earlier c changes left =
       one_of c,
     ))))
 
-one_more : (earlier : List Reading) (c : ModeChange) (changes : List ModeChange)
+one_more : (earlier : List ReadLetter) (c : ModeChange) (changes : List ModeChange)
     → Left earlier (c ∷ changes) → Left (earlier ++ read_as c ∷ []) changes
 one_more earlier c changes left = record {
   few = omega (
     arith,
     left.few,
     sum_by-cons (λ d. cond (is_worded d) 1 0) c changes,
-    sum_by_push (λ (r : Reading). cond r.takes 1 0) earlier (read_as c),
+    sum_by_push (λ (r : ReadLetter). cond r.takes 1 0) earlier (read_as c),
   );
   alone = λ which single.
       omega (
@@ -141,7 +141,7 @@ one_more earlier c changes left = record {
       );
 }
 
-all_count : (earlier : List Reading) (changes : List ModeChange) → Left earlier changes
+all_count : (earlier : List ReadLetter) (changes : List ModeChange) → Left earlier changes
     → counted earlier (map read_as changes) ≡ map asked_for changes
 all_count earlier [] left = refl
 all_count earlier (c ∷ changes) left =

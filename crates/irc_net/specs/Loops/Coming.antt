@@ -28,8 +28,8 @@ AreLinkedEnds net from to (Err fault) = IsNoWay net from to fault
 pub record ComesTo (old : NetView) (ends : EndPlaces) (count taken : ℕ) (receipts : List Receipt)
     (new : NetView) : Type 0 where
   pub taken_is : taken ≡ count_between count old.network (ends_now ends)
-  pub received : receipts ≡ (piece_between count old.network (ends_now ends)).receipts
-  pub after : new ≡ standing (piece_between count old.network (ends_now ends)).net
+  pub received : receipts ≡ (piece_between count old.network (ends_now ends)).out
+  pub after : new ≡ standing (piece_between count old.network (ends_now ends)).state
 
 -- or memory ran out
 abbrev pub HaveComeTo : NetView → EndPlaces → ℕ → Result (ℕ × List Receipt) NetFault → NetView

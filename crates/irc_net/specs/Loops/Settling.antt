@@ -15,7 +15,7 @@ pub record GoesCounted (counted : ℕ) (old new : Progress ByteNetwork) : Type 0
 -- and nothing is on its way any more
 pub record SettlesAt (counted : ℕ) (old new : Progress ByteNetwork) : Type 0 where
   pub turns : GoesCounted counted old new
-  pub rest : is_byte_rest new.net ≡ true
+  pub rest : is_byte_rest new.state ≡ true
 
 -- a network came to rest, and what clients received until then is in the output
 abbrev pub HasComeToRest : ℕ → ByteNetwork → CallOutput → ByteNetwork → CallOutput → Type 0

@@ -46,7 +46,7 @@ closed_rows (Some ends) wires = one_closed ends.far ends.near
     (without_wire ends.near ends.far wires) ∙ one_closed ends.near ends.far wires
 
 pub rows_after_item : (old : ByteNetwork) (item : Item) (net : Network) (wires : Wires)
-    → HasRows old → net ≡ (given item old.network).net
+    → HasRows old → net ≡ (given item old.network).state
     → wires ≡ wires_after old.network item old.wires → length wires ≡ length net.nodes
 rows_after_item old item net wires rows net_is wires_are =
     ap (λ (ws : Wires). length ws) wires_are ∙ closed_rows _ old.wires ∙ rows
@@ -54,11 +54,11 @@ rows_after_item old item net wires rows net_is wires_are =
 
 pub rows_after_lines : (old : ByteNetwork) (from to count : ℕ) (lines : List (List ℕ))
     (before : List Receipt) (last : Progress Network) (wires : Wires) → HasRows old
-    → last ≡ all_heard from to (record { net = old.network; receipts = before }) lines
+    → last ≡ all_heard from to (record { state = old.network; out = before }) lines
     → wires ≡ with_wire from to (advanced count (wire_at old.wires from to)) old.wires
-    → length wires ≡ length last.net.nodes
+    → length wires ≡ length last.state.nodes
 rows_after_lines old from to count lines before last wires rows last_is wires_are =
     ap (λ (ws : Wires). length ws) wires_are
     ∙ rows_stay from to (advanced count (wire_at old.wires from to)) old.wires ∙ rows
-    ∙ sym (ap (λ (c : Progress Network). length c.net.nodes) last_is
-    ∙ all_heard_stay from to (record { net = old.network; receipts = before }) lines)
+    ∙ sym (ap (λ (c : Progress Network). length c.state.nodes) last_is
+    ∙ all_heard_stay from to (record { state = old.network; out = before }) lines)

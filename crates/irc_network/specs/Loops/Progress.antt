@@ -26,7 +26,7 @@ use Rattle.irc_network.specs.Views.{receipts_of}
 use Rattle.irc_network.specs.Whole.{has_way}
 
 abbrev pub progress_of : {Net : Type 0} → Net → List KeptReceipt → Progress Net
-progress_of net lines = record { net = net; receipts = receipts_of lines }
+progress_of net lines = record { state = net; out = receipts_of lines }
 
 -- ---- places
 
@@ -66,14 +66,14 @@ line_sent from to text net =
 -- with these wires, whatever was done beside them
 abbrev pub with_wires : Wires → Progress Network → Progress ByteNetwork
 with_wires wires progress =
-    record { net = record { network = progress.net; wires = wires }; receipts = progress.receipts }
+    record { state = record { network = progress.state; wires = wires }; out = progress.out }
 
 abbrev pub byte_sent : ℕ → Sent → Progress ByteNetwork → Progress ByteNetwork
 byte_sent place (line_to client text) progress =
-    with_wires progress.net.wires (has_received client text (progress_without_wires progress))
+    with_wires progress.state.wires (has_received client text (progress_without_wires progress))
 byte_sent place (end_of client) progress = progress
 byte_sent place (line_on to text) progress =
-    record progress { net = line_sent place to text progress.net }
+    record progress { state = line_sent place to text progress.state }
 byte_sent place (end_of_link to reason) progress = progress
 
 abbrev pub byte_sent_at : ℕ → Option Sent → Progress ByteNetwork → Progress ByteNetwork
@@ -86,7 +86,7 @@ byte_sent_at place (Some sent) progress = byte_sent place sent progress
 abbrev pub asked_out : ℕ → ReadEvent → Progress ByteNetwork → Progress ByteNetwork
 asked_out place read_event progress =
     progress_written
-    (node_asked place read_event (progress_without_wires progress)) progress.net.wires
+    (node_asked place read_event (progress_without_wires progress)) progress.state.wires
 
 abbrev pub byte_counted : ByteNetwork → ByteNetwork
 byte_counted net = record net { network = line_counted net.network }
@@ -95,7 +95,7 @@ byte_counted net = record net { network = line_counted net.network }
 abbrev pub heard_out : ℕ → ℕ → Progress ByteNetwork → List ℕ → Progress ByteNetwork
 heard_out from to progress line =
     asked_out to (link_says from (read_of line))
-    (record progress { net = byte_counted progress.net })
+    (record progress { state = byte_counted progress.state })
 
 abbrev pub all_heard_out : ℕ → ℕ → Progress ByteNetwork → List (List ℕ) → Progress ByteNetwork
 all_heard_out from to progress [] = progress

@@ -4,7 +4,8 @@
 use Rattle.std.proofs.Common.{◌≡◌, ◌≢◌, ℕ, zero, suc, ◌<◌, List, ◌∷◌, ◌++◌, refl, sym, ap, subst}
 use Rattle.std.proofs.Common.{◌∙◌, arith}
 use Rattle.irc_relay.specs.Links.{Name, Link, IsForest, AreLinked, IsNextHop, toward, distance}
-use Rattle.irc_relay.specs.Relay.{Machine, Net, Streams, streams_from, SourcesMeet, one, each_other}
+use Rattle.irc_relay.specs.Relay.{Machine, RelayState, Streams, streams_from, SourcesMeet, one}
+use Rattle.irc_relay.specs.Relay.{each_other}
 use Rattle.irc_relay.specs.Relay.{own, Covers, TakesFrom, ComesInTurn, at_source, from_source}
 use Rattle.irc_relay.specs.Relay.{from_parent, after, passed_on, shown_upon, under_way, coming}
 use Rattle.irc_relay.specs.Relay.{final_shown}
@@ -162,7 +163,8 @@ module _ (State Line Shown World Act : Type 0) (m : Machine State Line Shown)
     (play : Play World Act Shown) (x : Terms State Line World Act)
     (links : List Link) (source : Name → Name) (forest : IsForest links)
     (covers : Covers links source)
-    (follows : Follows m play x links (streams_from links source)) (net : Net State Line Shown)
+    (follows : Follows m play x links (streams_from links source))
+    (net : RelayState State Line Shown)
     (world : Name → World) (acts : Name → List Act)
     (starts : Starts m play x (streams_from links source) net world acts) where
   abbrev from : Streams

@@ -3,7 +3,8 @@ use Rattle.std.proofs.Common.{◌≡◌, ◌≢◌, ℕ, zero, suc, List, [], �
 use Rattle.std.proofs.Common.{subst, ◌∙◌, arith}
 use Rattle.std.proofs.lemmas.List.{append-nil}
 use Rattle.irc_relay.specs.Links.{Name, Link}
-use Rattle.irc_relay.specs.Relay.{Machine, Net, Streams, after, passed_on, shown_upon, under_way}
+use Rattle.irc_relay.specs.Relay.{Machine, RelayState, Streams, after, passed_on, shown_upon}
+use Rattle.irc_relay.specs.Relay.{under_way}
 use Rattle.irc_relay.specs.Relay.{coming_within, coming, final, final_shown, TakesFrom, AreHarmless}
 use Rattle.irc_relay.specs.Lemmas.TellingNames.{alike, unlike, tell}
 use Rattle.irc_relay.specs.Lemmas.StreamsFlow.{IsFlow}
@@ -13,7 +14,7 @@ use Rattle.irc_relay.specs.Lemmas.Deliveries.{shown_upon_harmless, coming_from_s
 
 -- some lines are put behind those under way from x to y. Nothing else changes
 pub record Adds {State Line Shown : Type 0} (x y : Name) (lines : List Line)
-    (old new : Net State Line Shown) : Type 0 where
+    (old new : RelayState State Line Shown) : Type 0 where
   pub put : under_way new x y ≡ under_way old x y ++ lines
   pub others : (a b : Name) → (a ≡ x → b ≡ y → ⊥) → under_way new a b ≡ under_way old a b
   pub states : (u : Name) → new.state u ≡ old.state u
@@ -21,21 +22,21 @@ pub record Adds {State Line Shown : Type 0} (x y : Name) (lines : List Line)
 
 -- lines under way from x are the last that come to y: x will pass nothing on to it
 pub record AreLast {State Line Shown : Type 0} (m : Machine State Line Shown) (streams : Streams)
-    (net : Net State Line Shown) (x y : Name) : Type 0 where
+    (net : RelayState State Line Shown) (x y : Name) : Type 0 where
   pub takes_from : TakesFrom streams y x
   pub nothing_behind : (n : ℕ) → streams.depth y ≡ suc n
       → passed_on m x (streams.parent x) (net.state x) (coming_within m streams net n x) y ≡ []
 
 -- at depth n: the receiver has more to come, and the others have what they had
 pub record IsMoreAt {State Line Shown : Type 0} (m : Machine State Line Shown) (streams : Streams)
-    (y : Name) (lines : List Line) (old new : Net State Line Shown) (n : ℕ) : Type 0 where
+    (y : Name) (lines : List Line) (old new : RelayState State Line Shown) (n : ℕ) : Type 0 where
   pub steady : (u : Name) → u ≢ y → (n ≡ 0) ⊎ (streams.depth u ≡ n)
       → coming_within m streams new n u ≡ coming_within m streams old n u
   pub added : (k : ℕ) → n ≡ suc k → streams.depth y ≡ n
       → coming_within m streams new n y ≡ coming_within m streams old n y ++ lines
 
 module _ (State Line Shown : Type 0) (m : Machine State Line Shown) (links : List Link)
-    (streams : Streams) (x y : Name) (lines : List Line) (old new : Net State Line Shown)
+    (streams : Streams) (x y : Name) (lines : List Line) (old new : RelayState State Line Shown)
     (flow : IsFlow links streams) (adds : Adds x y lines old new) (last : AreLast m streams old x y)
     (harmless : AreHarmless m y x (final m streams old y) lines) where
   parent_is : streams.parent y ≡ x

@@ -3,7 +3,8 @@ use Rattle.std.proofs.Common.{◌≡◌, ◌≢◌, ℕ, zero, suc, List, [], �
 use Rattle.std.proofs.Common.{ap, subst, ◌∙◌, arith, append_assoc}
 use Rattle.std.proofs.lemmas.List.{append-nil}
 use Rattle.irc_relay.specs.Links.{Name, Link}
-use Rattle.irc_relay.specs.Relay.{Machine, Net, Streams, after, passed_on, shown_upon, under_way}
+use Rattle.irc_relay.specs.Relay.{Machine, RelayState, Streams, after, passed_on, shown_upon}
+use Rattle.irc_relay.specs.Relay.{under_way}
 use Rattle.irc_relay.specs.Relay.{coming_within, coming, ComesInTurn, at_source, from_source}
 use Rattle.irc_relay.specs.Relay.{from_parent, final, final_shown, IsAtRest, TakesFrom, AreHarmless}
 use Rattle.irc_relay.specs.Relay.{Delivers}
@@ -60,7 +61,7 @@ shown_upon_harmless m y x s (line ∷ lines) h =
 
 -- nothing is coming at rest
 pub coming_at_rest : {State Line Shown : Type 0} (m : Machine State Line Shown)
-    (streams : Streams) (net : Net State Line Shown) → IsAtRest net → (n : ℕ) (t : Name)
+    (streams : Streams) (net : RelayState State Line Shown) → IsAtRest net → (n : ℕ) (t : Name)
     → coming_within m streams net n t ≡ []
 unfolding coming_within
 coming_at_rest m streams net rest zero t = refl
@@ -73,7 +74,7 @@ coming_at_rest m streams net rest (suc n) t =
 
 -- what is coming, by what is coming to the parent
 pub comes_in_turn : {State Line Shown : Type 0} (m : Machine State Line Shown) (links : List Link)
-    (streams : Streams) (net : Net State Line Shown) (t : Name) → IsFlow links streams
+    (streams : Streams) (net : RelayState State Line Shown) (t : Name) → IsFlow links streams
     → ComesInTurn m streams net t
 unfolding coming_within
 comes_in_turn m links streams net t flow = go (streams.depth t) refl
@@ -98,14 +99,15 @@ comes_in_turn m links streams net t flow = go (streams.depth t) refl
 
 -- one net after the other, where t takes a line from its parent p and returns nothing
 pub record Takes {State Line Shown : Type 0} (m : Machine State Line Shown) (links : List Link)
-    (streams : Streams) (p t : Name) (line : Line) (old new : Net State Line Shown) : Type 0 where
+    (streams : Streams) (p t : Name) (line : Line)
+    (old new : RelayState State Line Shown) : Type 0 where
   pub delivers : Delivers m p t line [] old new
   pub no_echo : m.sends t p (old.state t) line p ≡ []
   pub takes_from : TakesFrom streams t p
 
 -- at depth n: the taker has one line less to come, and the others have what they had
 pub record IsKeptAt {State Line Shown : Type 0} (m : Machine State Line Shown) (streams : Streams)
-    (t : Name) (line : Line) (old new : Net State Line Shown) (n : ℕ) : Type 0 where
+    (t : Name) (line : Line) (old new : RelayState State Line Shown) (n : ℕ) : Type 0 where
   pub steady : (u : Name) → u ≢ t → (n ≡ 0) ⊎ (streams.depth u ≡ n)
       → coming_within m streams new n u ≡ coming_within m streams old n u
   pub taken : (k : ℕ) → n ≡ suc k → streams.depth t ≡ n
@@ -113,7 +115,7 @@ pub record IsKeptAt {State Line Shown : Type 0} (m : Machine State Line Shown) (
 
 -- what is coming from a server that does not take, whose state and own coming lines stay
 pub coming_from_still : {State Line Shown : Type 0} (m : Machine State Line Shown)
-    (streams : Streams) (old new : Net State Line Shown) (n : ℕ) (u : Name)
+    (streams : Streams) (old new : RelayState State Line Shown) (n : ℕ) (u : Name)
     → new.state (streams.parent u) ≡ old.state (streams.parent u)
     → coming_within m streams new n (streams.parent u) ≡ coming_within m streams old n
     (streams.parent u) → passed_on m (streams.parent u) (streams.parent (streams.parent u))
@@ -127,7 +129,7 @@ coming_from_still m streams old new n u e f =
     (old.state (streams.parent u)) lines u) f
 
 module _ (State Line Shown : Type 0) (m : Machine State Line Shown) (links : List Link)
-    (streams : Streams) (p t : Name) (line : Line) (old new : Net State Line Shown)
+    (streams : Streams) (p t : Name) (line : Line) (old new : RelayState State Line Shown)
     (flow : IsFlow links streams) (takes : Takes m links streams p t line old new) where
   deep : (streams.depth t ≡ 0) → ⊥
   deep e = let h = takes.takes_from.below in let q : ⊥ = omega arith in q

@@ -3,7 +3,8 @@ use Rattle.std.proofs.Common.{◌≡◌, ◌≢◌, ℕ, zero, suc, List, [], �
 use Rattle.std.proofs.Common.{subst, ◌∙◌, arith}
 use Rattle.std.proofs.lemmas.List.{append-nil}
 use Rattle.irc_relay.specs.Links.{Name, Link, AreLinked}
-use Rattle.irc_relay.specs.Relay.{Machine, Net, Streams, after, shown_upon, under_way, coming}
+use Rattle.irc_relay.specs.Relay.{Machine, RelayState, Streams, after, shown_upon, under_way}
+use Rattle.irc_relay.specs.Relay.{coming}
 use Rattle.irc_relay.specs.Relay.{final, final_shown, IsAtRest, TakesFrom, GoesAway, Delivers}
 use Rattle.irc_relay.specs.Relay.{Relays, SameOutcome, Reaches, stays, goes_on, IsFront, IsOnTheWay}
 use Rattle.irc_relay.specs.Lemmas.TellingNames.{Telling, alike, unlike, tell}
@@ -24,7 +25,7 @@ begins (a ∷ as') ys l ls e = in_front a as' refl
 -- after a delivery too, all that is under way comes to a server from its parent
 pub delivery_away : {State Line Shown : Type 0} (m : Machine State Line Shown)
     (links : List Link) (streams : Streams) (p t : Name) (line : Line) (back : List Line)
-    (old new : Net State Line Shown) → IsFlow links streams → GoesAway streams old
+    (old new : RelayState State Line Shown) → IsFlow links streams → GoesAway streams old
     → Delivers m p t line back old new → Relays m links streams p t line back old
     → GoesAway streams new
 delivery_away {State} {Line} {Shown} m links streams p t line back old new flow away d r x y l ls
@@ -77,7 +78,8 @@ delivery_away {State} {Line} {Shown} m links streams p t line back old new flow 
 
 -- a run keeps what every state will be and what every server will have shown
 pub run_outcome : {State Line Shown : Type 0} (m : Machine State Line Shown) (links : List Link)
-    (streams : Streams) (start : Net State Line Shown) (n : ℕ) (end : Net State Line Shown)
+    (streams : Streams) (start : RelayState State Line Shown) (n : ℕ)
+    (end : RelayState State Line Shown)
     → IsFlow links streams → GoesAway streams start → Reaches m links streams start n end
     → SameOutcome m streams start end × GoesAway streams end
 run_outcome m links streams start n end flow away stays =
@@ -95,24 +97,27 @@ run_outcome m links streams start n end flow away
 
 -- at rest nothing is coming
 pub rest_final : {State Line Shown : Type 0} (m : Machine State Line Shown) (streams : Streams)
-    (net : Net State Line Shown) (u : Name) → IsAtRest net → final m streams net u ≡ net.state u
+    (net : RelayState State Line Shown) (u : Name) → IsAtRest net
+    → final m streams net u ≡ net.state u
 rest_final m streams net u rest = ap (λ lines. after m u (streams.parent u) (net.state u) lines)
     (coming_at_rest m streams net rest (streams.depth u) u)
 
 pub rest_told : {State Line Shown : Type 0} (m : Machine State Line Shown)
-    (streams : Streams) (net : Net State Line Shown) (u : Name) → IsAtRest net
+    (streams : Streams) (net : RelayState State Line Shown) (u : Name) → IsAtRest net
     → final_shown m streams net u ≡ net.shown u
 rest_told m streams net u rest =
     ap (λ lines. net.shown u ++ shown_upon m u (streams.parent u) (net.state u) lines)
     (coming_at_rest m streams net rest (streams.depth u) u) ∙ append-nil (net.shown u)
 
 pub front_of_told : {State Line Shown : Type 0} (m : Machine State Line Shown) (streams : Streams)
-    (net : Net State Line Shown) (u : Name) → IsFront (net.shown u) (final_shown m streams net u)
+    (net : RelayState State Line Shown) (u : Name)
+    → IsFront (net.shown u) (final_shown m streams net u)
 front_of_told m streams net u =
     (shown_upon m u (streams.parent u) (net.state u) (coming m streams net u), refl)
 
 pub run_on_the_way : {State Line Shown : Type 0} (m : Machine State Line Shown) (links : List Link)
-    (streams : Streams) (start : Net State Line Shown) (n : ℕ) (now : Net State Line Shown)
+    (streams : Streams) (start : RelayState State Line Shown) (n : ℕ)
+    (now : RelayState State Line Shown)
     → IsFlow links streams → GoesAway streams start → Reaches m links streams start n now
     → IsOnTheWay m streams start now
 run_on_the_way m links streams start n now flow away run =

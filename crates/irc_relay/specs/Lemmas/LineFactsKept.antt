@@ -2,7 +2,8 @@
 use Rattle.std.proofs.Common.{◌≡◌, ◌≢◌, ℕ, zero, suc, List, [], ◌∷◌, ◌++◌, refl, sym, ap, subst}
 use Rattle.std.proofs.Common.{◌∙◌, arith}
 use Rattle.irc_relay.specs.Links.{Name, Link, IsForest, toward}
-use Rattle.irc_relay.specs.Relay.{Machine, Net, Streams, streams_from, Covers, TakesFrom, GoesAway}
+use Rattle.irc_relay.specs.Relay.{Machine, RelayState, Streams, streams_from, Covers, TakesFrom}
+use Rattle.irc_relay.specs.Relay.{GoesAway}
 use Rattle.irc_relay.specs.Relay.{Delivers, Relays, ComesOn, after, coming, final}
 use Rattle.irc_relay.specs.Following.{Fact, AllAlong, GoesWell}
 use Rattle.irc_relay.specs.Lemmas.TellingNames.{alike, unlike, tell}
@@ -18,7 +19,8 @@ all_along_both m good p t s (line ∷ xs) ys first second =
 
 module _ (State Line Shown : Type 0) (m : Machine State Line Shown) (links : List Link)
     (streams : Streams) (p t : Name) (line : Line) (back : List Line)
-    (old new : Net State Line Shown) (flow : IsFlow links streams) (away : GoesAway streams old)
+    (old new : RelayState State Line Shown) (flow : IsFlow links streams)
+    (away : GoesAway streams old)
     (d : Delivers m p t line back old new)
     (r : Relays m links streams p t line back old) (good : Fact State Line) where
   comes : ComesOn m streams p t line back old new
@@ -81,7 +83,8 @@ module _ (State Line Shown : Type 0) (m : Machine State Line Shown) (links : Lis
 -- its receiver comes to.
 pub delivery_goes_well : {State Line Shown : Type 0} (m : Machine State Line Shown)
     (links : List Link) (source : Name → Name) (p t : Name) (line : Line)
-    (back : List Line) (old new : Net State Line Shown) (good : Fact State Line) → IsForest links
+    (back : List Line) (old new : RelayState State Line Shown) (good : Fact State Line)
+    → IsForest links
     → Covers links source
     → GoesAway (streams_from links source) old → Delivers m p t line back old new
     → Relays m links (streams_from links source) p t line back old

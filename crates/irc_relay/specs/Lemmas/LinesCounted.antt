@@ -4,7 +4,8 @@ use Rattle.std.proofs.Common.{List, [], ◌∷◌, length, sum_by, count_by, inl
 use Rattle.std.proofs.Common.{subst, ◌∙◌, arith, length-append}
 use Rattle.std.proofs.lemmas.List.Sums.{sum_by-cons, sum_by-append}
 use Rattle.irc_relay.specs.Links.{Name, same, Link}
-use Rattle.irc_relay.specs.Relay.{Machine, Net, Streams, coming, TakesFrom, GoesAway, Delivers}
+use Rattle.irc_relay.specs.Relay.{Machine, RelayState, Streams, coming, TakesFrom, GoesAway}
+use Rattle.irc_relay.specs.Relay.{Delivers}
 use Rattle.irc_relay.specs.Relay.{Relays, ComesOn, lines_coming, lines_pending, AnswersOnce}
 use Rattle.irc_relay.specs.Relay.{IsCounted}
 use Rattle.irc_relay.specs.Lemmas.TellingNames.{Telling, alike, unlike, tell}
@@ -57,7 +58,7 @@ apart_from links streams p t flow h e = go (streams.depth t) refl
 
 -- where nothing is returned, each place of the taker in the list counts one less
 pub delivery_sums : {State Line Shown : Type 0} (m : Machine State Line Shown) (links : List Link)
-    (streams : Streams) (p t : Name) (line : Line) (old new : Net State Line Shown)
+    (streams : Streams) (p t : Name) (line : Line) (old new : RelayState State Line Shown)
     (servers : List Name) → IsFlow links streams → GoesAway streams old
     → Delivers m p t line [] old new → Relays m links streams p t line [] old
     → lines_coming m streams old servers ≡ lines_coming m streams new servers + count_by
@@ -78,7 +79,7 @@ delivery_sums m links streams p t line old new servers flow away d r =
 -- one line less is coming, and those more that were returned
 pub delivery_counts : {State Line Shown : Type 0} (m : Machine State Line Shown)
     (links : List Link) (streams : Streams) (p t : Name) (line : Line)
-    (back : List Line) (old new : Net State Line Shown) (servers : List Name)
+    (back : List Line) (old new : RelayState State Line Shown) (servers : List Name)
     → IsFlow links streams → GoesAway streams old → IsCounted streams servers
     → Delivers m p t line back old new → Relays m links streams p t line back old
     → lines_coming m streams old servers + length back ≡ suc (lines_coming m streams new servers)
@@ -124,7 +125,7 @@ delivery_counts {State} {Line} {Shown} m links streams p t line back old new ser
 -- the lines that may be answered, of those that are coming
 pub delivery_answered : {State Line Shown : Type 0} (m : Machine State Line Shown)
     (streams : Streams) (answered : Line → Bool) (p t u : Name)
-    (line : Line) (back : List Line) (old new : Net State Line Shown)
+    (line : Line) (back : List Line) (old new : RelayState State Line Shown)
     → ComesOn m streams p t line back old new → count_by answered back ≡ 0 → t ≢ p
     → (count_by answered (coming m streams new u) ≤ count_by answered (coming m streams old u))
     × (u ≡ t → answered line ≡ true → count_by answered (coming m streams old u)
@@ -165,7 +166,7 @@ delivery_answered m streams answered p t u line back old new comes none n = go (
 
 pub delivery_pending : {State Line Shown : Type 0} (m : Machine State Line Shown)
     (links : List Link) (streams : Streams) (answered : Line → Bool) (a b p t : Name)
-    (line : Line) (back : List Line) (old new : Net State Line Shown) (servers : List Name)
+    (line : Line) (back : List Line) (old new : RelayState State Line Shown) (servers : List Name)
     → IsFlow links streams → GoesAway streams old → IsCounted streams servers
     → Delivers m p t line back old new → Relays m links streams p t line back old
     → AnswersOnce answered a b p t line back → lines_pending m streams new servers answered a b

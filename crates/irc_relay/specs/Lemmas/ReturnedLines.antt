@@ -4,7 +4,7 @@ use Rattle.std.proofs.Common.{◌≡◌, ◌≢◌, ℕ, zero, suc, true, false,
 use Rattle.std.proofs.Common.{if◌then◌else◌, refl, sym, ap, subst, ◌∙◌, arith}
 use Rattle.std.proofs.lemmas.List.{append-nil}
 use Rattle.irc_relay.specs.Links.{Name, same, Link}
-use Rattle.irc_relay.specs.Relay.{Machine, Net, Streams, passed_on, under_way, coming_within}
+use Rattle.irc_relay.specs.Relay.{Machine, RelayState, Streams, passed_on, under_way, coming_within}
 use Rattle.irc_relay.specs.Relay.{coming, final, TakesFrom, GoesAway, AreHarmless, Delivers, Relays}
 use Rattle.irc_relay.specs.Relay.{SameOutcome, ComesOn, Pays}
 use Rattle.irc_relay.specs.Lemmas.TellingNames.{Telling, alike, unlike, tell, same_when}
@@ -16,14 +16,14 @@ use Rattle.irc_relay.specs.Lemmas.AddedLines.{Adds, AreLast}
 
 -- the oldest line on its way comes from the taker's parent
 pub taker_from : {State Line Shown : Type 0} (m : Machine State Line Shown) (streams : Streams)
-    (p t : Name) (line : Line) (back : List Line) (old new : Net State Line Shown)
+    (p t : Name) (line : Line) (back : List Line) (old new : RelayState State Line Shown)
     → GoesAway streams old → Delivers m p t line back old new → TakesFrom streams t p
 taker_from m streams p t line back old new away d =
     away p t line (new.queue p t ++ old.owed p t) (ap (λ v. v ++ old.owed p t) d.took)
 
 -- the net after the delivery, without what was returned
-before_return : {State Line Shown : Type 0} → Name → Name → Net State Line Shown
-    → Net State Line Shown → Net State Line Shown
+before_return : {State Line Shown : Type 0} → Name → Name → RelayState State Line Shown
+    → RelayState State Line Shown → RelayState State Line Shown
 before_return p t old new = record {
   state = new.state;
   shown = new.shown;
@@ -44,7 +44,7 @@ pair_other x y t p o = go (tell x t) (tell y p)
 
 module _ (State Line Shown : Type 0) (m : Machine State Line Shown)
     (links : List Link) (streams : Streams) (p t : Name) (line next : Line)
-    (rest : List Line) (old new : Net State Line Shown) (flow : IsFlow links streams)
+    (rest : List Line) (old new : RelayState State Line Shown) (flow : IsFlow links streams)
     (away : GoesAway streams old) (d : Delivers m p t line (next ∷ rest) old new)
     (r : Relays m links streams p t line (next ∷ rest) old) where
   takes_from : TakesFrom streams t p
@@ -57,7 +57,7 @@ module _ (State Line Shown : Type 0) (m : Machine State Line Shown)
       go zero z = let h = takes_from.below in omega arith
       go (suc k) z = flow.other t k z (takes_from.parent ∙ e)
 
-  mid : Net State Line Shown
+  mid : RelayState State Line Shown
   unfolding before_return
   mid = before_return p t old new
 
@@ -157,7 +157,7 @@ module _ (State Line Shown : Type 0) (m : Machine State Line Shown)
 -- a delivery keeps what every state will be and what every server will have shown
 pub delivery_outcome : {State Line Shown : Type 0} (m : Machine State Line Shown)
     (links : List Link) (streams : Streams) (p t : Name) (line : Line) (back : List Line)
-    (old new : Net State Line Shown) → IsFlow links streams → GoesAway streams old
+    (old new : RelayState State Line Shown) → IsFlow links streams → GoesAway streams old
     → Delivers m p t line back old new → Relays m links streams p t line back old
     → SameOutcome m streams old new
 delivery_outcome {State} {Line} {Shown} m links streams p t line [] old new flow away d r =
@@ -177,7 +177,7 @@ delivery_outcome {State} {Line} {Shown} m links streams p t line (next ∷ rest)
 -- and changes what is coming by the line that was taken, and those that were returned
 pub delivery_comes : {State Line Shown : Type 0} (m : Machine State Line Shown)
     (links : List Link) (streams : Streams) (p t : Name) (line : Line) (back : List Line)
-    (old new : Net State Line Shown) → IsFlow links streams → GoesAway streams old
+    (old new : RelayState State Line Shown) → IsFlow links streams → GoesAway streams old
     → Delivers m p t line back old new → Relays m links streams p t line back old
     → ComesOn m streams p t line back old new
 delivery_comes {State} {Line} {Shown} m links streams p t line [] old new flow away d r =
@@ -203,7 +203,8 @@ delivery_comes {State} {Line} {Shown} m links streams p t line (next ∷ rest) o
 
 -- a server that pays what it owes sends it: what is under way does not change by that
 pub paying_delivers : {State Line Shown : Type 0} (m : Machine State Line Shown) (p t : Name)
-    (line : Line) (back : List Line) (old new : Net State Line Shown) → Pays m p t line back old new
+    (line : Line) (back : List Line) (old new : RelayState State Line Shown)
+    → Pays m p t line back old new
     → Delivers m p t line back old new
 paying_delivers m p t line back old new d =
     record {

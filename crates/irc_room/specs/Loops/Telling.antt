@@ -7,7 +7,7 @@ use Rattle.irc_effects.specs.declared.fault.RoomFault.TheVariants.{Memory}
 use Rattle.irc_effects.specs.declared.shown_line.ShownLine.{ShownLine}
 use Rattle.irc_effects.specs.Room.{Room}
 use Rattle.irc_effects.specs.Effects.{is_idle}
-use Rattle.irc_effects.specs.Applying.{Kept, pairs_of, room_fault, shown_here}
+use Rattle.irc_effects.specs.Applying.{ServerRoom, pairs_of, room_fault, shown_here}
 
 -- what an effect on a room shows at the server of this name
 abbrev pub shown_at : List ℕ → Room → Effect → List (List ℕ × ArrayVec ℕ)
@@ -15,7 +15,7 @@ shown_at own room effect = shown_here (record { own = own; failed = false; room 
 
 -- An effect is shown before it is made, and whether it does anything is told. One that is refused
 -- for a cause is shown to nobody, and memory runs out for none that does nothing.
-abbrev pub IsTold : Kept → Effect → Result Bool RoomFault → ShownLine → Type 0
+abbrev pub IsTold : ServerRoom → Effect → Result Bool RoomFault → ShownLine → Type 0
 IsTold kept effect (Ok busy) shown =
     (room_fault kept effect ≡ None) × (busy ≡ not (is_idle kept.room effect))
     × (pairs_of shown ≡ shown_here kept effect)

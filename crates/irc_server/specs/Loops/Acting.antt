@@ -1,7 +1,7 @@
 -- What the code makes of one event.
 use Rattle.std.specs.Prelude.{ℕ, Option, Some, None, List}
 use Rattle.irc_room.specs.Room.{Room}
-use Rattle.irc_room.specs.Applying.{Kept}
+use Rattle.irc_room.specs.Applying.{ServerRoom}
 use Rattle.irc_commands.specs.declared.pending.Registration.{Registration}
 use Rattle.irc_commands.specs.RegisteringViews.{registered_of}
 use Rattle.irc_stage.specs.declared.clients.Client.{Client}
@@ -11,7 +11,7 @@ use Rattle.irc_stage.specs.Handle.{client_after}
 use Rattle.irc_stage.specs.View.{View}
 
 -- the room, as its code keeps it, and of a server
-abbrev pub room_kept : Kept → Room
+abbrev pub room_kept : ServerRoom → Room
 room_kept kept = kept.room
 
 abbrev pub room_of : View → Room

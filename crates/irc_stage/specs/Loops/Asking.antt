@@ -12,7 +12,7 @@ use Rattle.irc_queries.specs.declared.query.Query.{Query}
 use Rattle.irc_queries.specs.Said.{all_said}
 use Rattle.irc_commands.specs.CodeViews.{asked_steps}
 use Rattle.irc_stage.specs.declared.origin.Speaker.{Speaker}
-use Rattle.irc_stage.specs.declared.parts.Parts.{Parts}
+use Rattle.irc_stage.specs.declared.parts.ServerParts.{ServerParts}
 use Rattle.irc_stage.specs.View.{View}
 use Rattle.irc_stage.specs.Loops.Parts.{view_of}
 
@@ -32,6 +32,7 @@ IsAnsweredAt view nick conn params query old new =
     new.outs ≡ old.outs ++ all_said place (nick_under view.room nick) conn
     (asked_steps view.room place (user_under view.room nick) params query)
 
-abbrev pub AnswersSpeaker : Speaker → Option Query → List (List ℕ) → Parts → Batch → Batch → Type 0
+abbrev pub AnswersSpeaker : Speaker → Option Query → List (List ℕ) → ServerParts → Batch → Batch
+    → Type 0
 AnswersSpeaker speaker query params stage old new =
     IsAnsweredAt (view_of stage) (optional_now speaker.nick) speaker.conn params query old new

@@ -1,6 +1,6 @@
 -- What the code makes of a server while it handles an event, and of what it has put out.
 use Rattle.std.specs.Prelude.{◌≡◌, ℕ, Bool, Option, List, [], ◌∷◌}
-use Rattle.irc_batch.specs.Batches.{Sent, end_of_link, line_on}
+use Rattle.irc_batch.specs.Batches.{end_of_link, line_on}
 use Rattle.irc_batch.specs.declared.batch.Batch.{Batch}
 use Rattle.irc_batch.specs.declared.close_reason.CloseReason.{CloseReason}
 use Rattle.irc_line.specs.MessageViews.{optional_now}
@@ -11,7 +11,7 @@ use Rattle.irc_routes.specs.Known.{place_of}
 use Rattle.irc_stage.specs.declared.clients.Client.{Client}
 use Rattle.irc_stage.specs.declared.linked.Newcomer.{Newcomer}
 use Rattle.irc_stage.specs.declared.origin.Speaker.{Speaker}
-use Rattle.irc_stage.specs.declared.parts.Parts.{Parts}
+use Rattle.irc_stage.specs.declared.parts.ServerParts.{ServerParts}
 use Rattle.irc_stage.specs.ClientTold.{seated, unseated}
 use Rattle.irc_stage.specs.EffectTold.{Served, with_sent}
 use Rattle.irc_stage.specs.Ways.{but, met_links}
@@ -21,7 +21,7 @@ use Rattle.irc_stage.specs.Loops.Linking.{takes_newcomer, view_with}
 use Rattle.irc_stage.specs.Loops.Parts.{lines_on, IsServing}
 
 -- a server between two events: it serves, and nothing is put out
-pub record IsAtRest (parts : Parts) (out : Batch) : Type 0 where
+pub record IsAtRest (parts : ServerParts) (out : Batch) : Type 0 where
   pub serving : IsServing parts
   pub silent : out.outs ≡ []
 

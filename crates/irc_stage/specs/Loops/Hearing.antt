@@ -15,7 +15,7 @@ use Rattle.irc_room.specs.effect.Effect.TheVariants.{AddUser, Rename, Quit, Join
 use Rattle.irc_room.specs.effect.Effect.TheVariants.{ChangeModes, SetTopic, Say, Invite, ChangeUser}
 use Rattle.irc_room.specs.effect.Target.{Target}
 use Rattle.irc_room.specs.effect.Target.TheVariants.{Channel, User}
-use Rattle.irc_room.specs.Applying.{Kept}
+use Rattle.irc_room.specs.Applying.{ServerRoom}
 use Rattle.irc_room.specs.Effects.{is_idle}
 use Rattle.irc_room.specs.Readers.{names_of}
 use Rattle.irc_room.specs.Room.{Room}
@@ -90,7 +90,7 @@ SendsTo line conns old new = new ≡ told_to line conns old
 abbrev pub line_of : Room → Effect → Person → Option (List ℕ)
 line_of room effect viewer = if is_idle room effect then None else shown_line room effect viewer
 
-abbrev pub IsLineOf : Kept → Effect → Option (List ℕ) → Type 0
+abbrev pub IsLineOf : ServerRoom → Effect → Option (List ℕ) → Type 0
 IsLineOf kept effect line =
     (viewer : Person) → viewer.home ≡ kept.own → line_of kept.room effect viewer ≡ line
 

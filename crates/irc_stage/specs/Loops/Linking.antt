@@ -4,14 +4,14 @@ use Rattle.std.specs.FinMap.{get}
 use Rattle.irc_batch.specs.Batches.{Batch}
 use Rattle.irc_stage.specs.Ways.{but, met_links, IsMetEnd}
 use Rattle.irc_stage.specs.declared.linked.Newcomer.{Newcomer}
-use Rattle.irc_stage.specs.declared.parts.Parts.{Parts}
+use Rattle.irc_stage.specs.declared.parts.ServerParts.{ServerParts}
 use Rattle.irc_stage.specs.View.{View}
 use Rattle.irc_stage.specs.EffectTold.{with_sent}
 use Rattle.irc_stage.specs.Linked.{is_taken, with_row}
 use Rattle.irc_stage.specs.Loops.Parts.{lines_on, served_at, view_of}
 
 -- a link is open, and counts
-abbrev pub IsMetAt : ℕ → Parts → Type 0
+abbrev pub IsMetAt : ℕ → ServerParts → Type 0
 IsMetAt link stage = IsMetEnd (get (view_of stage).ends link)
 
 -- a server more, where it is taken
@@ -24,11 +24,11 @@ view_with taken newcomer view =
 abbrev pub takes_newcomer : Newcomer → View → Bool
 takes_newcomer newcomer view = is_taken view.routes newcomer.link newcomer.name.now newcomer.token
 
-abbrev pub IsKnownIf : Newcomer → Parts → Parts → Bool → Type 0
+abbrev pub IsKnownIf : Newcomer → ServerParts → ServerParts → Bool → Type 0
 IsKnownIf newcomer old new taken = view_of new ≡ view_with taken newcomer (view_of old)
 
 -- a line goes on every link that counts, but for one
-abbrev pub IsToldToAll : Option ℕ → List ℕ → Parts → Batch → Parts → Batch → Type 0
+abbrev pub IsToldToAll : Option ℕ → List ℕ → ServerParts → Batch → ServerParts → Batch → Type 0
 IsToldToAll arrival line old out new out_after =
     served_at new out_after.outs ≡ with_sent
     (lines_on (but arrival (met_links (view_of old).ends)) line) (served_at old out.outs)

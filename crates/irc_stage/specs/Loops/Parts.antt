@@ -9,7 +9,7 @@ use Rattle.irc_room.specs.effect.Effect.{Effect}
 use Rattle.irc_room.specs.effect.Effect.TheVariants.{Rename}
 use Rattle.irc_room.specs.Room.{IsWellFormed}
 use Rattle.irc_room.specs.Effects.{IsPossible}
-use Rattle.irc_room.specs.Applying.{Kept}
+use Rattle.irc_room.specs.Applying.{ServerRoom}
 use Rattle.irc_room.specs.InTurn.{IsSoFirst}
 use Rattle.irc_acts.specs.declared.act.Act.{Act}
 use Rattle.irc_acts.specs.declared.act.Act.TheVariants.{Do}
@@ -18,7 +18,7 @@ use Rattle.irc_stage.specs.declared.clients.Client.TheVariants.{Registered}
 use Rattle.irc_stage.specs.declared.clients.ClientTable.{ClientTable}
 use Rattle.irc_batch.specs.Batches.{Batch, Sent, line_on}
 use Rattle.irc_stage.specs.declared.origin.Speaker.{Speaker}
-use Rattle.irc_stage.specs.declared.parts.Parts.{Parts}
+use Rattle.irc_stage.specs.declared.parts.ServerParts.{ServerParts}
 use Rattle.irc_stage.specs.RoomMachine.{Clients, RoomMachine, client_of, each_client}
 use Rattle.irc_stage.specs.View.{View, known_peer, machine_of}
 use Rattle.irc_stage.specs.Ways.{AreEnds}
@@ -62,7 +62,7 @@ abbrev pub departed : Option Client → Table ℕ → Table ℕ
 departed (Some (Registered nick)) by_nick = alter (key nick) (λ _. None) by_nick
 departed client by_nick = by_nick
 
-abbrev pub view_of : Parts → View
+abbrev pub view_of : ServerParts → View
 view_of stage = record {
   routes = stage.routes;
   peers = map known_peer stage.peers.items;
@@ -72,17 +72,17 @@ view_of stage = record {
 }
 
 -- the room machine that it is to its clients
-abbrev pub machine_at : Parts → RoomMachine
+abbrev pub machine_at : ServerParts → RoomMachine
 machine_at stage = machine_of (view_of stage)
 
 -- what no client's event changes: what is known of other servers, the configuration, the links
-pub record Keeps (old new : Parts) : Type 0 where
+pub record Keeps (old new : ServerParts) : Type 0 where
   pub routes : new.routes ≡ old.routes
   pub peers : new.peers ≡ old.peers
   pub ends : new.ends ≡ old.ends
 
 -- the server now, and what has been put out
-abbrev pub served_at : Parts → List Sent → Served
+abbrev pub served_at : ServerParts → List Sent → Served
 served_at stage out = record { state = view_of stage; out = out }
 
 -- a line on each of these links
@@ -91,49 +91,50 @@ lines_on links line = map (λ link. line_on link line) links
 
 -- From one moment of a server, and of what it has put out, to a later one: an effect changes the
 -- room and is shown, but that an invitation of another server's user is not kept.
-abbrev pub Changes : Effect → Parts → Batch → Parts → Batch → Type 0
+abbrev pub Changes : Effect → ServerParts → Batch → ServerParts → Batch → Type 0
 Changes effect old out new out_after =
     served_at new out_after.outs ≡ changed effect (served_at old out.outs)
 
 -- An effect is applied, and told on links.
-abbrev pub Applies : Option ℕ → Effect → Parts → Batch → Parts → Batch → Type 0
+abbrev pub Applies : Option ℕ → Effect → ServerParts → Batch → ServerParts → Batch → Type 0
 Applies arrival effect old out new out_after =
     served_at new out_after.outs ≡ effect_told arrival effect (served_at old out.outs)
 
 -- An effect comes by a link, to be told on or not.
-abbrev pub ComesByLink : Option ℕ → Effect → Parts → Batch → Parts → Batch → Type 0
+abbrev pub ComesByLink : Option ℕ → Effect → ServerParts → Batch → ServerParts → Batch → Type 0
 ComesByLink arrival effect old out new out_after =
     served_at new out_after.outs ≡ effect_came arrival effect (served_at old out.outs)
 
-abbrev pub ChangesIf : Effect → Parts → Batch → Parts → Batch → Type 0
+abbrev pub ChangesIf : Effect → ServerParts → Batch → ServerParts → Batch → Type 0
 ChangesIf effect old out new out_after =
     served_at new out_after.outs ≡ changed_if effect (served_at old out.outs)
 
 -- The user of a nickname quits with this text, and the client that it is is closed.
-abbrev pub TakesOut : List ℕ → List ℕ → Parts → Batch → Parts → Batch → Type 0
+abbrev pub TakesOut : List ℕ → List ℕ → ServerParts → Batch → ServerParts → Batch → Type 0
 TakesOut nick text old out new out_after =
     served_at new out_after.outs ≡ taken_out nick text (served_at old out.outs)
 
-abbrev pub Quits : List ℕ → List ℕ → Parts → Batch → Parts → Batch → Type 0
+abbrev pub Quits : List ℕ → List ℕ → ServerParts → Batch → ServerParts → Batch → Type 0
 Quits nick text old out new out_after =
     served_at new out_after.outs ≡ quit_by nick text (served_at old out.outs)
 
-abbrev pub EndsClient : List ℕ → List ℕ → Parts → Batch → Parts → Batch → Type 0
+abbrev pub EndsClient : List ℕ → List ℕ → ServerParts → Batch → ServerParts → Batch → Type 0
 EndsClient nick text old out new out_after =
     served_at new out_after.outs ≡ client_ended nick text (served_at old out.outs)
 
 -- A step of a client is taken, or steps one after another.
-abbrev pub Takes : Speaker → Act → Parts → Batch → Parts → Batch → Type 0
+abbrev pub Takes : Speaker → Act → ServerParts → Batch → ServerParts → Batch → Type 0
 Takes speaker act old out new out_after = served_at new out_after.outs ≡ step_told speaker.conn
     (optional_now speaker.nick) act (served_at old out.outs)
 
-abbrev pub TakesAll : Speaker → List Act → Parts → Batch → Parts → Batch → Type 0
+abbrev pub TakesAll : Speaker → List Act → ServerParts → Batch → ServerParts → Batch → Type 0
 TakesAll speaker acts old out new out_after =
     served_at new out_after.outs ≡ steps_told speaker.conn (optional_now speaker.nick) acts
     (served_at old out.outs)
 
 -- The steps of a decision of a client are taken, and then the client is closed if it is to be.
-abbrev pub CarriesOut : Speaker → List Act → Bool → Parts → Batch → Parts → Batch → Type 0
+abbrev pub CarriesOut : Speaker → List Act → Bool → ServerParts → Batch → ServerParts → Batch
+    → Type 0
 CarriesOut speaker acts close old out new out_after =
     served_at new out_after.outs ≡ closed_told close speaker.conn
     (steps_told speaker.conn (optional_now speaker.nick) acts (served_at old out.outs))
@@ -143,14 +144,14 @@ abbrev pub behind_sent : List Sent → Served → Served
 behind_sent out s = record { state = s.state; out = out ++ s.out }
 
 -- a room that serves
-pub record IsSound (kept : Kept) : Type 0 where
+pub record IsSound (kept : ServerRoom) : Type 0 where
   pub serves : kept.failed ≡ false
   pub well_formed : IsWellFormed kept.room
 
 -- The room is the server's own, and serves; it is known which of its clients listen in which
 -- channel; behind which links somebody does is so where it is kept; each known server is behind a
 -- link that counts.
-pub record IsReady (stage : Parts) : Type 0 where
+pub record IsReady (stage : ServerParts) : Type 0 where
   pub own_is : stage.room.own ≡ stage.routes.name
   pub sound : IsSound stage.room
   pub indexed : IsIndexed stage.clients
@@ -159,7 +160,7 @@ pub record IsReady (stage : Parts) : Type 0 where
   pub met : AreEnds (numbered stage.ends) stage.routes
 
 -- and clients and users are matched
-pub record IsServing (stage : Parts) : Type 0 where
+pub record IsServing (stage : ServerParts) : Type 0 where
   pub ready : IsReady stage
   pub matched : IsMatched (machine_at stage)
 

@@ -1,14 +1,13 @@
 -- The words that changes are written as can stand in a line of a link: at most eleven letters with
 -- their signs, and parameters that are short and without a space.
-use Rattle.std.proofs.Common.{◌≡◌, ◌≢◌, ℕ, suc, ◌+◌, ◌*◌, ◌≤◌, Bool, true, false, cond, not, ◌&&◌}
+use Rattle.std.proofs.Common.{◌≡◌, ◌≢◌, ℕ, ◌+◌, ◌≤◌, Bool, true, false, cond, not, ◌&&◌}
 use Rattle.std.proofs.Common.{◌++◌, if◌then◌else◌, Option, Some, None, List, [], ◌∷◌, length}
-use Rattle.std.proofs.Common.{nat_eq, is_some, sum_by, count_by, refl, sym, ◌∙◌, ap, arith, IfSome}
+use Rattle.std.proofs.Common.{nat_eq, is_some, count_by, refl, sym, ◌∙◌, ap, arith, IfSome}
 use Rattle.std.specs.List.{list_all, filter_map, cons_option, AllByRecursion}
 use Rattle.std.specs.Char.{is_ascii_digit}
 use Rattle.std.specs.Cmp.{first_so, second_so}
 use Rattle.std.proofs.lemmas.Bool.{and_from}
 use Rattle.std.proofs.lemmas.Bool.Decides.{nat_tests}
-use Rattle.std.proofs.lemmas.List.Sums.{sum_by-cons}
 use Rattle.irc_line.specs.Bytes.{is_space, is_colon, begins}
 use Rattle.irc_line.specs.Carried.{is_carried, is_carried_byte}
 use Rattle.irc_line.specs.Messages.{IsPlainWord}

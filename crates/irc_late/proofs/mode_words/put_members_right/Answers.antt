@@ -6,10 +6,6 @@ use Rattle.irc_line.specs.PartViews.{words_now}
 use Rattle.irc_late.specs.Loops.Members.{put_right_if, rest_put_right}
 use Rattle.irc_late.proofs.Placing.{letter_put_right, minus_put_right, plus_put_right}
 use Rattle.irc_late.proofs.Placing.{word_put_right}
-use Rattle.irc_late.proofs.mode_words.put_members_right.Goals.{then-letter-eq43}
-use Rattle.irc_late.proofs.mode_words.put_members_right.Goals.{else-letter-eq43+then-letter-eq45}
-use Rattle.irc_late.proofs.mode_words.put_members_right.Goals.{else-letter-eq43+else-letter-eq45+then-has_word}
-use Rattle.irc_late.proofs.mode_words.put_members_right.Goals.{else-letter-eq43+else-letter-eq45+else-has_word}
 use Rattle.irc_late.proofs.mode_words.put_members_right.Goals as goal
 
 pub loop-letter-preserved : goal.loop-letter-preserved
@@ -28,19 +24,19 @@ loop-letter-preserved c =
     (drop_more letters index 0 c.loop-letter-test.true)) ∙ c.loop-letter.invariant.0 in
     let within : place ≤ 2 + index = c.loop-letter.invariant.1 in
     elim c.if-letter-eq43.branch [
-      | then-letter-eq43 w ↦ (
+      | goal.then-letter-eq43 w ↦ (
         (λ i. rest_put_right memory (w.plus-is i) rest (w.place-is i) (words_now (w.words-is i)))
             ∙ sym (plus_put_right memory plus letter rest place words
             (eq-eqb letter 43 w.if-letter-eq43.true)) ∙ so_far,
         (let at : c.if-letter-eq43.place ≡ place = w.place-is in omega (arith, at, within)),
       )
-      | else-letter-eq43+then-letter-eq45 w ↦ (
+      | goal.else-letter-eq43+then-letter-eq45 w ↦ (
         (λ i. rest_put_right memory (w.plus-is i) rest (w.place-is i) (words_now (w.words-is i)))
             ∙ sym (minus_put_right memory plus letter rest place words (ne_eqb letter 43
             w.if-letter-eq43.false) (eq-eqb letter 45 w.if-letter-eq45.true)) ∙ so_far,
         (let at : c.if-letter-eq43.place ≡ place = w.place-is in omega (arith, at, within)),
       )
-      | else-letter-eq43+else-letter-eq45+then-has_word w ↦ (
+      | goal.else-letter-eq43+else-letter-eq45+then-has_word w ↦ (
         let next : place + 1 ≡ suc place = omega arith in
             let right : words_now w.put_right_if.new.words
             ≡ put_right_if w.names_member.result memory place words = w.put_right_if.ensures in
@@ -52,7 +48,7 @@ loop-letter-preserved c =
             ∙ so_far,
         (let at : c.if-letter-eq43.place ≡ place + 1 = w.place-is in omega (arith, at, within)),
       )
-      | else-letter-eq43+else-letter-eq45+else-has_word w ↦ (
+      | goal.else-letter-eq43+else-letter-eq45+else-has_word w ↦ (
         (λ i. rest_put_right memory (w.plus-is i) rest (w.place-is i) (words_now (w.words-is i)))
             ∙ sym (letter_put_right memory plus letter rest place words
             (ne_eqb letter 43 w.if-letter-eq43.false)

@@ -75,7 +75,7 @@ returns-clause-given g c =
     subst (λ (old : NetView). IsGiven old item (Ok answer) new) c.self.view_is
     (given_it c.if-self.false (record {
       none = sym c.in_default.ensures;
-      after = ap (λ (last : Progress ByteNetwork). standing last.net) c.in_ok-give.ensures;
+      after = ap (λ (last : Progress ByteNetwork). standing last.state) c.in_ok-give.ensures;
       client = c.number_given-client.ensures;
-      receipts = ap (λ (last : Progress ByteNetwork). last.receipts) c.in_ok-give.ensures;
+      receipts = ap (λ (last : Progress ByteNetwork). last.out) c.in_ok-give.ensures;
     }))

@@ -17,6 +17,6 @@ loop-line-preserved g c =
           c.in_ok-hear.ensures
           ∙ ap (λ items. all_heard_out from to now (bytes_of items)) (sym c.in-Some.ensures.items)
           ∙ c.loop-line.invariant.0,
-      subst (λ (progress : Progress ByteNetwork). IsTidy progress.net) (sym c.in_ok-hear.ensures)
+      subst (λ (progress : Progress ByteNetwork). IsTidy progress.state) (sym c.in_ok-hear.ensures)
           (heard_tidy from to now c.in-Some.line.items c.loop-line.invariant.1),
     )

@@ -37,7 +37,8 @@ ask-requires-2 g c =
     let past = g.H.History.past i.history in
     record {
       tidy =
-          subst (λ (progress : Progress ByteNetwork). IsTidy progress.net) (sym c.in_ok-ask.ensures)
+          subst (λ (progress : Progress ByteNetwork). IsTidy progress.state)
+          (sym c.in_ok-ask.ensures)
           (asked_tidy ends.near (link_up c.link-2.result (Some c.copy.result))
           (progress_of c.open_way-2.new.self c.args.output.now.lines.items)
           (opened_tidily c.args.near.now c.args.far.now ends i.forest c.link.new.self i.nodes.items

@@ -1,5 +1,5 @@
 use Rattle.std.proofs.Common.{◌≡◌, List, ◌∷◌, length, vec_len, sym, arith}
-use Rattle.irc_relay.specs.declared.news.Sent.{Sent}
+use Rattle.irc_relay.specs.declared.news.NewsSent.{NewsSent}
 use Rattle.irc_relay.proofs.SettlingNews.{settling_start, settling_on, settled, first_apart}
 use Rattle.irc_relay.proofs.SettlingNews.{first_fall, away_now, forest_now, first_of, none_left}
 use Rattle.irc_relay.proofs.news.News.settle.Goals as goal
@@ -11,7 +11,7 @@ pub deliver-requires : goal.deliver-requires
 deliver-requires c =
     let long : vec_len c.loop-self.self.flying ≡ length c.loop-self.self.flying.items =
     omega arith in
-    let found : (rest : List Sent) × (c.loop-self.self.flying.items ≡ c.index-next.result.now
+    let found : (rest : List NewsSent) × (c.loop-self.self.flying.items ≡ c.index-next.result.now
     ∷ rest) = first_of c.loop-self.self.flying.items (vec_len c.loop-self.self.flying)
     c.index-next.result.now long (sym c.loop-self-test.ensures) c.index-next.ensures in
     first_apart c.args.source c.loop-self.self c.index-next.result.now found.0 (forest_now
@@ -22,7 +22,7 @@ pub loop-self-smaller : goal.loop-self-smaller
 loop-self-smaller c =
     let long : vec_len c.loop-self.self.flying ≡ length c.loop-self.self.flying.items =
     omega arith in
-    let found : (rest : List Sent) × (c.loop-self.self.flying.items ≡ c.index-next.result.now
+    let found : (rest : List NewsSent) × (c.loop-self.self.flying.items ≡ c.index-next.result.now
     ∷ rest) = first_of c.loop-self.self.flying.items (vec_len c.loop-self.self.flying)
     c.index-next.result.now long (sym c.loop-self-test.ensures) c.index-next.ensures in
     first_fall c.args.source c.loop-self.self c.deliver.new.self c.index-next.result.now found.0

@@ -15,5 +15,5 @@ settle-requires c = record {
       ∙ ap (quit_by c.args.nick.now c.args.text.now) c.handling.ensures)))
       (taken_out_stays c.args.nick.now c.args.text.now c.args.self
       (subst Holds c.self.view_is
-      (holds_at c.self.inside.parts c.self.inside.out.outs c.self.invariant))).matched;
+      (holds_at c.self.inside.parts.value c.self.inside.out.outs c.self.invariant))).matched;
 }

@@ -1,0 +1,10 @@
+pub mod JoinAsked
+pub mod JoinOne
+pub mod PartOne
+pub mod KickMember
+pub mod KickAsked
+pub mod KickOne
+pub mod LimitWords
+pub mod BansBehind
+pub mod ChangesFollowed
+pub mod LettersServed

@@ -1,0 +1,12 @@
+pub mod Limits
+pub mod Join
+pub mod Part
+pub mod Kick
+pub mod Invite
+pub mod Judging
+pub mod UserMode
+pub mod ModesShown
+pub mod ChannelMode
+pub mod Mode
+pub mod Laws
+pub mod Loops

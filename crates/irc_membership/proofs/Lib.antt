@@ -1,6 +1,0 @@
-pub mod JoinAsked
-pub mod JoinOne
-pub mod PartOne
-pub mod KickMember
-pub mod KickAsked
-pub mod KickOne

@@ -1,5 +1,0 @@
-use Rattle.std.proofs.Common.{rules}
-use Rattle.irc_membership.proofs.admission.kept_out.Goals as goal
-
-pub returns-then-is_full : goal.returns-then-is_full
-returns-then-is_full c = search rules

@@ -1,5 +1,0 @@
-use Rattle.std.proofs.Common.{rules}
-use Rattle.irc_membership.proofs.join.is_zero.Goals as goal
-
-pub returns : goal.returns
-returns c = search rules

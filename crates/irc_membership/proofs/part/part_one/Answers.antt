@@ -1,5 +1,0 @@
-use Rattle.irc_acts.specs.MoveLaws.{leaves_are_moves}
-use Rattle.irc_membership.proofs.part.part_one.Goals as goal
-
-pub flags-requires : goal.flags-requires
-flags-requires c = leaves_are_moves c.args.context.now.room.now.room c.args.steps.now c.requires

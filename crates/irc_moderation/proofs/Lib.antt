@@ -1,4 +1,0 @@
-pub mod LimitWords
-pub mod BansBehind
-pub mod ChangesFollowed
-pub mod LettersServed

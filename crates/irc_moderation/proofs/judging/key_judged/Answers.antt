@@ -1,5 +1,0 @@
-use Rattle.std.proofs.Common.{rules}
-use Rattle.irc_moderation.proofs.judging.key_judged.Goals as goal
-
-pub returns-in-Some-before : goal.returns-in-Some-before
-returns-in-Some-before c = search rules

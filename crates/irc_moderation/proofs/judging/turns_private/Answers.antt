@@ -1,5 +1,0 @@
-use Rattle.std.proofs.Common.{rules}
-use Rattle.irc_moderation.proofs.judging.turns_private.Goals as goal
-
-pub returns-in-Secret : goal.returns-in-Secret
-returns-in-Secret c = search rules

@@ -1,5 +1,0 @@
-use Rattle.std.proofs.Common.{rules}
-use Rattle.irc_moderation.proofs.modes_shown.key_shown.Goals as goal
-
-pub returns-else-member : goal.returns-else-member
-returns-else-member c = search rules

@@ -1,7 +1,0 @@
-use Rattle.std.proofs.Common.{◌≡◌, true, drop}
-use Rattle.irc_moderation.specs.UserMode.{invisible_after}
-use Rattle.irc_moderation.proofs.user_mode.invisible_after.Given as goal
-
-abbrev pub invariant-loop-byte : goal.invariant-loop-byte
-invariant-loop-byte l = invisible_after l.plus l.invisible (drop l.byte-index l.letters)
-    ≡ invisible_after true l.initial.invisible l.letters
