@@ -3,14 +3,10 @@
 #![tactic(auto)]
 
 mod agreeing;
-#[cfg(test)]
-mod agreement_tests;
 mod alike;
 mod forest;
 mod parts;
 mod places;
-#[cfg(test)]
-mod tests;
 
 pub use agreeing::agree;
 pub use forest::{Forest, MAX_SERVERS};

@@ -8,8 +8,6 @@ pub mod laws;
 mod making;
 mod net;
 mod step;
-#[cfg(test)]
-mod tests;
 
 pub use answer::Answer;
 pub use fault::NetFault;

@@ -13,8 +13,6 @@ mod script;
 mod script_run;
 mod sim;
 mod sink;
-#[cfg(test)]
-mod tests;
 
 pub use fault::{SimFault, Trouble, Unwritten};
 pub use number::read_number;
