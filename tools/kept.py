@@ -25,13 +25,10 @@ def loaded(name, path):
 def crates_of(top):
     """The kit's `rt`, and the crates of crates.txt, each after those that it stands on."""
     sys.dont_write_bytecode = True
-    once = loaded("rt_once", f"{top}/rt-once")
-    rt = once.loaded(os.path.realpath(shutil.which("rt")))
-    rtlib = sys.modules["rtlib"]
-    once.read_once(rtlib, once.walking(rtlib.Crate))
+    rt = loaded("rt_once", f"{top}/rt-once").kit()
     os.chdir(top)
     rt.Crate.allowed = rt.handles_of(top)
-    rtlib.Crate.cuts_libraries = True
+    rt.Crate.cuts_libraries = True
     known = {}
     with open("crates.txt", encoding="utf-8") as it:
         names = [line.split(":")[0] for line in it if ":" in line and not line.startswith("#")]
