@@ -109,7 +109,7 @@ def answers(pairs):
     with tempfile.TemporaryDirectory() as folder:
         top = pathlib.Path(folder)
         shutil.copytree(REPOSITORY / "crates" / "irc_names", top / "crates" / "irc_names",
-                        ignore=shutil.ignore_patterns("out", "must-fail"))
+                        ignore=shutil.ignore_patterns("out", "wrong"))
         (top / "crates.txt").write_text("irc_names: arrayvec\ncompare_masks: irc_names\n")
         crate = top / "crates" / "compare_masks"
         (crate / "src").mkdir(parents=True)

@@ -8,6 +8,7 @@ text of a wrong body of the crate. Beside `use` lines and comments only white sp
 comment that is indented behind its mark is a row of columns, and stays as it is: who is told of
 one breaks it by hand. `columns.py --tell CRATE..` only lists what is too long.
 """
+import glob
 import os
 import re
 import sys
@@ -242,10 +243,10 @@ def broken_rt(text, kept_whole):
 
 def texts_of_wrong_bodies(crate):
     """The `old:` texts of a crate's wrong bodies, by file."""
-    by_file, folder = {}, f"{crate}/must-fail"
-    for name in sorted(os.listdir(folder)) if os.path.isdir(folder) else []:
+    by_file = {}
+    for file in glob.glob(f"{crate}/must-fail/*.edit") + glob.glob(f"{crate}/wrong/**/*.edit", recursive=True):
         path = None
-        with open(f"{folder}/{name}", encoding="utf-8") as it:
+        with open(file, encoding="utf-8") as it:
             for line in it.read().split("\n"):
                 if line.startswith("file: "):
                     path = line[len("file: ") :].strip()
