@@ -10,7 +10,7 @@ A variable that is named like a word in scope counts as that word, so there may 
 
 It prints crate by crate, from the network down to bytes, each file, its number of lines, and how many words of it are read; with --words which ones. What one
 server does, to which the word `node_asked` leads, comes apart, behind all others. Other functions of `Net`, or laws, may be named. With --check it prints what
-docs/THEOREM.md has wrong of the list, and then its status is 1: a file that is not there or is not read, one that is left out, another number of lines.
+docs/THEOREM.md has wrong of the list, and then its status is 1: another number of files or lines.
 """
 
 import argparse
@@ -29,8 +29,9 @@ HEAD = re.compile(r"(?:(?:abbrev|unfoldable|pub|record|data) )*([A-Za-z_][\w-]*)
 WORD = re.compile(r"(?<![\w.])[A-Za-z_][\w-]*(?:\.[A-Za-z_]\w*)?")
 # what one server does, and what it has
 SERVER = ("node_asked", "IsOneRoomNet")
-# a file and its number of lines, with its folder or behind one of the same folder
-NAMED = re.compile(r"(irc_\w+/(?:specs|src)/)?(\w+(?:/\w+)*\.(?:antt|rt))(?: (\d+))?")
+# a crate that the document lists, and a folder of it, so many files of so many lines
+LISTED = re.compile(r"^ {4}(irc_\w+) +(.*)$", re.MULTILINE)
+FOLDER = re.compile(r"\b(specs|src) (\d+) of (\d+)")
 
 
 class File:
@@ -153,28 +154,34 @@ def in_order(seen):
     return sorted(seen, key=lambda path: -crates.index(path.relative_to(CRATES).parts[0]))
 
 
-def listed():
-    """Each file that the document names, with the number of lines that it has there, or 0."""
-    for line in (REPOSITORY / "docs/THEOREM.md").read_text(encoding="utf-8").split("\n"):
-        folder = None
-        for named in NAMED.finditer(line):
-            folder = named[1] or folder
-            if folder:
-                yield CRATES / (folder + named[2]), int(named[3] or 0)
+def counted(seen):
+    """How many files of each folder are read, and how many lines these have."""
+    found = {}
+    for path in seen:
+        folder = path.relative_to(CRATES).parts[:2]
+        files, lines = found.get(folder, (0, 0))
+        found[folder] = files + 1, lines + file_at(path).lines
+    return found
 
 
-def faults(seen):
+def listed(text):
+    """The folders that the document lists, each with its numbers of files and lines there."""
+    return {(crate, folder): (int(files), int(lines)) for crate, folders in LISTED.findall(text)
+            for folder, files, lines in FOLDER.findall(folders)}
+
+
+def faults(first, servers):
     """What the document has wrong of the files that are read."""
-    told = dict(sorted(listed()))
-    for path in sorted({*told, *seen}):
-        if not path.is_file():
-            yield path, "is no file"
-        elif not told.get(path):
-            yield path, "is left out"
-        elif path not in seen:
-            yield path, "is not read"
-        elif told[path] != file_at(path).lines:
-            yield path, f"has {file_at(path).lines} lines"
+    text = (REPOSITORY / "docs/THEOREM.md").read_text(encoding="utf-8")
+    told, read = listed(text), counted(first)
+    for folder in sorted({*told, *read}):
+        if told.get(folder) != read.get(folder):
+            files, lines = read.get(folder, (0, 0))
+            yield f"{'/'.join(folder)}: {files} of {lines}"
+    for part in (first, servers):
+        whole = f"{len(part)} files of {sum(file_at(path).lines for path in part):,} lines"
+        if whole not in re.sub(r"\s+", " ", text):
+            yield f"{whole}, of all"
 
 
 def show(title, seen, with_words):
@@ -192,8 +199,8 @@ def main():
     given = options.parse_args()
     first, servers = both_parts(given.functions)
     if given.check:
-        wrong = [f"{path.relative_to(CRATES)} {fault}" for path, fault in faults({**first, **servers})]
-        print("\n".join(wrong) or "docs/THEOREM.md has all of them")
+        wrong = list(faults(first, servers))
+        print("\n".join(wrong) or "docs/THEOREM.md has their numbers")
         sys.exit(1 if wrong else 0)
     show("What clients are owed", first, given.words)
     show("What one server does", servers, given.words)
