@@ -11,6 +11,12 @@ ghost use Rattle.tests_networks.specs.Played.{AnswersAsOwed, Begins, GoesOn, IsW
 ghost use Rattle.tests_networks.specs.Played.{ReadsOwed, RunsAreOwed, TookFew};
 
 #[cfg(test)]
+mod agreeing;
+#[cfg(test)]
+mod configs;
+#[cfg(test)]
+mod making;
+#[cfg(test)]
 mod tests;
 
 use irc_line::Text;

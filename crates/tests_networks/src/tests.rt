@@ -1,35 +1,13 @@
 //! A network of two servers, of which one calls the other.
+use crate::configs::two;
 use crate::{begun, give, let_come, lines, lines_taken, rooms, settle};
 use irc_names::{Host, ServerName};
-use irc_net::{ClientNumber, Config, Item, Kept, Net, NetFault, Peer};
-use irc_routes::Own;
-use std::alloc::{AllocError, Global};
+use irc_net::{ClientNumber, Item, Kept, Net, NetFault};
+use std::alloc::Global;
 
 const ONE: &[u8] = b"a.net";
 
 const OTHER: &[u8] = b"b.net";
-
-/// A server that has another as its peer.
-fn config(alloc: Global, name: &[u8], peer: &[u8]) -> Result<Config, AllocError> {
-    let own = Own {
-        name: Vec::from_slice(alloc, name)?,
-        info: Vec::from_slice(alloc, b"Test server")?,
-        created: Vec::from_slice(alloc, b"2024-01-01")?,
-    };
-    let mut peers = Vec::new(alloc);
-    peers.push(Peer {
-        name: Vec::from_slice(alloc, peer)?,
-        password: Vec::from_slice(alloc, b"pw")?,
-    })?;
-    Ok(Config { own, peers })
-}
-
-fn two(alloc: Global) -> Result<Vec<Config, Global>, AllocError> {
-    let mut configs = Vec::new(alloc);
-    configs.push(config(alloc, ONE, OTHER)?)?;
-    configs.push(config(alloc, OTHER, ONE)?)?;
-    Ok(configs)
-}
 
 /// They are linked, byte by byte at first; nothing is given while a byte is on its way, and
 /// somebody can connect then.

@@ -1,9 +1,13 @@
 //! Tests of names, lines and replies, and of rooms and what they stand on: what the standard and
-//! the tables of replies and effects say of them, row by row.
+//! the tables of replies and effects say of them, row by row. And of the servers that links join.
 #![tactic(auto)]
 
 #[cfg(test)]
 mod channels;
+#[cfg(test)]
+mod forest;
+#[cfg(test)]
+mod halves;
 #[cfg(test)]
 mod lines;
 #[cfg(test)]

@@ -184,7 +184,7 @@ fn effect_on(rt: &impl Abort, alloc: Global, row: ScriptRow<'_>) -> Effect {
 }
 
 /// Whether the nickname that an effect brings is free, as whoever applies one has to know.
-fn brings_free(room: &Room, effect: &Effect) -> bool
+pub fn brings_free(room: &Room, effect: &Effect) -> bool
     ensures { result ≡ brings_free room.now.room effect.now }
 {
     match effect {

@@ -1,10 +1,15 @@
-//! Tests of commands, by scripts and what they print.
+//! Tests of commands, by scripts and what they print; and of scripts that are bad, and devices that
+//! fail.
 #![tactic(auto)]
 
+#[cfg(test)]
+mod bad_script_tests;
 #[cfg(test)]
 mod channel_tests;
 #[cfg(test)]
 mod clash_tests;
+#[cfg(test)]
+mod device_tests;
 #[cfg(test)]
 mod invite_tests;
 #[cfg(test)]
