@@ -142,6 +142,29 @@ const TOPICS: &str = "\
 2 :bo!u@h TOPIC #Rust :%
 > say 3 TOPIC #rust
 3 :a.net 332 cy #Rust :%
+> say 1 MODE #rust +t
+1 :al!u@h MODE #Rust +t
+2 :al!u@h MODE #Rust +t
+> say 2 TOPIC #rust :mine
+2 :a.net 482 bo #Rust :You're not channel operator
+> say 1 MODE #rust +v bo
+1 :al!u@h MODE #Rust +v bo
+2 :al!u@h MODE #Rust +v bo
+> say 2 TOPIC #rust :mine
+2 :a.net 482 bo #Rust :You're not channel operator
+> say 3 TOPIC #rust :mine
+3 :a.net 442 cy #Rust :You're not on that channel
+> say 1 TOPIC #rust :ours
+1 :al!u@h TOPIC #Rust :ours
+2 :al!u@h TOPIC #Rust :ours
+> say 2 TOPIC #rust
+2 :a.net 332 bo #Rust :ours
+> say 1 MODE #rust +o bo
+1 :al!u@h MODE #Rust +o bo
+2 :al!u@h MODE #Rust +o bo
+> say 2 TOPIC #rust :
+1 :bo!u@h TOPIC #Rust :
+2 :bo!u@h TOPIC #Rust :
 ";
 
 #[test]

@@ -88,6 +88,52 @@ const BY_INVITATION: &str = "\
 1 :al!u@h MODE #c +i
 > say 3 JOIN #c
 3 :a.net 473 cy #c :Cannot join channel (+i)
+> say 3 INVITE al #c
+3 :a.net 442 cy #c :You're not on that channel
+> say 1 INVITE bo #c
+1 :a.net 341 al #c bo
+2 :al!u@h INVITE bo #c
+> say 2 JOIN #c
+1 :bo!u@h JOIN #c
+2 :bo!u@h JOIN #c
+2 :a.net 353 bo = #c :@al bo
+2 :a.net 366 bo #c :End of NAMES list
+> say 2 INVITE al #c
+2 :a.net 443 bo al #c :is already on channel
+> say 2 INVITE cy #c
+2 :a.net 482 bo #c :You're not channel operator
+> say 1 MODE #c +v bo
+1 :al!u@h MODE #c +v bo
+2 :al!u@h MODE #c +v bo
+> say 2 INVITE cy #c
+2 :a.net 482 bo #c :You're not channel operator
+> say 1 MODE #c +b cy!*@*
+1 :al!u@h MODE #c +b cy!*@*
+2 :al!u@h MODE #c +b cy!*@*
+> say 1 INVITE cy #c
+1 :a.net 341 al #c cy
+3 :al!u@h INVITE cy #c
+> say 3 JOIN #c
+3 :a.net 474 cy #c :Cannot join channel (+b)
+> say 1 MODE #c -b+k cy!*@* pw
+1 :al!u@h MODE #c -b+k cy!*@* pw
+2 :al!u@h MODE #c -b+k cy!*@* pw
+> say 3 JOIN #c
+3 :a.net 475 cy #c :Cannot join channel (+k)
+> say 1 MODE #c -k+l pw 2
+1 :al!u@h MODE #c -k+l pw 2
+2 :al!u@h MODE #c -k+l pw 2
+> say 3 JOIN #c
+3 :a.net 471 cy #c :Cannot join channel (+l)
+> say 1 MODE #c -l
+1 :al!u@h MODE #c -l
+2 :al!u@h MODE #c -l
+> say 3 JOIN #c
+1 :cy!u@h JOIN #c
+2 :cy!u@h JOIN #c
+3 :cy!u@h JOIN #c
+3 :a.net 353 cy = #c :@al +bo cy
+3 :a.net 366 cy #c :End of NAMES list
 ";
 
 #[test]

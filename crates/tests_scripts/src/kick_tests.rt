@@ -91,6 +91,19 @@ const REFUSED: &str = "\
 1 :a.net 441 al Cy #C :They aren't on that channel
 > say 1 KICK #c Nobody
 1 :a.net 441 al Nobody #C :They aren't on that channel
+> say 1 MODE #c +v bo
+1 :al!u@h MODE #C +v bo
+2 :al!u@h MODE #C +v bo
+> say 2 KICK #c al
+2 :a.net 482 bo #C :You're not channel operator
+> say 2 KICK #c bo
+2 :a.net 482 bo #C :You're not channel operator
+> say 1 MODE #c +o bo
+1 :al!u@h MODE #C +o bo
+2 :al!u@h MODE #C +o bo
+> say 2 KICK #c al
+1 :bo!u@h KICK #C al :bo
+2 :bo!u@h KICK #C al :bo
 ";
 
 #[test]

@@ -36,3 +36,5 @@ mod registration_tests;
 mod running;
 #[cfg(test)]
 mod script_tests;
+#[cfg(test)]
+mod secrecy_tests;

@@ -127,6 +127,28 @@ const BANS: &str = "\
 2 :a.net 368 bo #c :End of channel ban list
 > say 1 MODE #c +b ::x
 > say 1 MODE #c +b :a b
+> say 1 MODE #c +bb c!*@*
+1 :a.net 367 al #c a!*@*
+1 :a.net 367 al #c b!*@*
+1 :a.net 368 al #c :End of channel ban list
+1 :al!u@h MODE #c +b c!*@*
+> say 1 MODE #c -bb c!*@*
+1 :a.net 367 al #c a!*@*
+1 :a.net 367 al #c b!*@*
+1 :a.net 367 al #c c!*@*
+1 :a.net 368 al #c :End of channel ban list
+1 :al!u@h MODE #c -b c!*@*
+> say 1 MODE #c bb
+1 :a.net 367 al #c a!*@*
+1 :a.net 367 al #c b!*@*
+1 :a.net 368 al #c :End of channel ban list
+> say 1 MODE #c +bovv
+1 :a.net 367 al #c a!*@*
+1 :a.net 367 al #c b!*@*
+1 :a.net 368 al #c :End of channel ban list
+1 :a.net 461 al MODE :Not enough parameters
+1 :a.net 461 al MODE :Not enough parameters
+1 :a.net 461 al MODE :Not enough parameters
 ";
 
 #[test]
@@ -219,6 +241,34 @@ const SILENCED: &str = "\
 2 :al!u@h MODE #c +v bo
 > say 2 PRIVMSG #c :eight
 1 :bo!u@h PRIVMSG #c :eight
+> say 1 MODE #c +o bo
+1 :al!u@h MODE #c +o bo
+2 :al!u@h MODE #c +o bo
+> say 1 NAMES #c
+1 :a.net 353 al = #c :@al @bo
+1 :a.net 366 al #c :End of NAMES list
+> say 2 PRIVMSG #c :nine
+1 :bo!u@h PRIVMSG #c :nine
+> say 1 MODE #c -o bo
+1 :al!u@h MODE #c -o bo
+2 :al!u@h MODE #c -o bo
+> say 1 NAMES #c
+1 :a.net 353 al = #c :@al +bo
+1 :a.net 366 al #c :End of NAMES list
+> say 2 PART #c
+1 :bo!u@h PART #c :bo
+2 :bo!u@h PART #c :bo
+> say 2 PRIVMSG #c :ten
+2 :a.net 404 bo #c :Cannot send to channel
+> say 2 NOTICE #c :ten
+> say 1 MODE #c +m-b *!u@h
+1 :al!u@h MODE #c +m-b *!u@h
+> say 2 PRIVMSG #c :eleven
+2 :a.net 404 bo #c :Cannot send to channel
+> say 1 MODE #c -m
+1 :al!u@h MODE #c -m
+> say 2 PRIVMSG #c :twelve
+1 :bo!u@h PRIVMSG #c :twelve
 ";
 
 #[test]
@@ -364,6 +414,10 @@ const REFUSED: &str = "\
 2 :al!u@h MODE #c -o+m al
 > say 1 MODE #c +n
 1 :a.net 482 al #c :You're not channel operator
+> say 2 MODE #c
+2 :a.net 324 bo #c +m
+> say 2 MODE #c +ntp-m+ov zz al
+2 :a.net 482 bo #c :You're not channel operator
 > say 2 MODE #c
 2 :a.net 324 bo #c +m
 ";

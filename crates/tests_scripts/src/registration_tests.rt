@@ -23,6 +23,18 @@ const EITHER_ORDER: &str = "\
 2 :a.net 003 bo :This server was created 2024-01-01
 2 :a.net 004 bo a.net treeircd-1 i biklmnopstv
 2 :a.net 422 bo :MOTD File is missing
+> connect a.net h
+> say 3 NICK cy
+> say 3 USER u 0 * Cy of the last word
+3 :a.net 001 cy :Welcome to the Internet Relay Network cy!u@h
+3 :a.net 002 cy :Your host is a.net, running version treeircd-1
+3 :a.net 003 cy :This server was created 2024-01-01
+3 :a.net 004 cy a.net treeircd-1 i biklmnopstv
+3 :a.net 422 cy :MOTD File is missing
+> say 3 WHOIS cy
+3 :a.net 311 cy cy u h * :Cy
+3 :a.net 312 cy cy a.net :Test server
+3 :a.net 318 cy cy :End of WHOIS list
 ";
 
 #[test]
