@@ -325,6 +325,39 @@ static OF_TWO_SERVERS: [EventRow; 4] = [
     ),
 ];
 
+/// al comes, client 1, and asks about users of three servers.
+static DESCRIBED: [EventRow; 1] = [(
+    &[
+        LinkEvent::Connects(1),
+        LinkEvent::Says(1, b"NICK al"),
+        LinkEvent::Says(1, b"USER u 0 * :Al"),
+        LinkEvent::Says(1, b"WHOIS bo,cy,al"),
+    ],
+    &[
+        Out::LinkLine(7, b"NICK al 1 u h 1 + :Al"),
+        Out::Line(
+            1,
+            b":a.net 001 al :Welcome to the Internet Relay Network al!u@h",
+        ),
+        Out::Line(
+            1,
+            b":a.net 002 al :Your host is a.net, running version treeircd-1",
+        ),
+        Out::Line(1, b":a.net 003 al :This server was created 2024-01-01"),
+        Out::Line(1, b":a.net 004 al a.net treeircd-1 i biklmnopstv"),
+        Out::Line(1, b":a.net 422 al :MOTD File is missing"),
+        Out::Line(1, b":a.net 311 al bo u h * :Bo"),
+        Out::Line(1, b":a.net 312 al bo b.net :B"),
+        Out::Line(1, b":a.net 319 al bo :@#c"),
+        Out::Line(1, b":a.net 311 al cy u h * :Cy"),
+        Out::Line(1, b":a.net 312 al cy aa.net :Far"),
+        Out::Line(1, b":a.net 319 al cy :+#c"),
+        Out::Line(1, b":a.net 311 al al u h * :Al"),
+        Out::Line(1, b":a.net 312 al al a.net :A"),
+        Out::Line(1, b":a.net 318 al bo,cy,al :End of WHOIS list"),
+    ],
+)];
+
 #[test]
 fn handshakes_of_an_empty_server(rt: HostRuntime) {
     assert!(rt; rows_hold(rt.alloc(), &NOBODY, &OF_NOBODY));
@@ -338,4 +371,9 @@ fn a_client_is_told_in_a_burst(rt: HostRuntime) {
 #[test]
 fn servers_are_told_in_a_burst(rt: HostRuntime) {
     assert!(rt; rows_hold(rt.alloc(), &TWO_SERVERS, &OF_TWO_SERVERS));
+}
+
+#[test]
+fn a_user_is_told_with_what_its_server_says_of_itself(rt: HostRuntime) {
+    assert!(rt; rows_hold(rt.alloc(), &TWO_SERVERS, &DESCRIBED));
 }
