@@ -42,6 +42,24 @@ const JOINING: &str = "\
 3 :a.net 366 cy #aaaaaaaaaabbbbbbbbbbccccccccccddddddddddeeeeeeeee :End of NAMES list
 > say 3 JOIN #aaaaaaaaaabbbbbbbbbbccccccccccddddddddddeeeeeeeeef
 3 :a.net 403 cy #aaaaaaaaaabbbbbbbbbbccccccccccddddddddddeeeeeeeeef :No such channel
+> say 1 join
+1 :a.net 461 al JOIN :Not enough parameters
+> say 1 JOIN #a\x07b,0,#x]\\~
+1 :a.net 403 al #a\x07b :No such channel
+1 :a.net 403 al 0 :No such channel
+1 :al!u@h JOIN #x]\\~
+1 :a.net 353 al = #x]\\~ :@al
+1 :a.net 366 al #x]\\~ :End of NAMES list
+> say 2 JOIN #X}|^
+1 :bo!u@h JOIN #x]\\~
+2 :bo!u@h JOIN #x]\\~
+2 :a.net 353 bo = #x]\\~ :@al bo
+2 :a.net 366 bo #X}|^ :End of NAMES list
+> say 1 JOIN 0,#y
+1 :a.net 403 al 0 :No such channel
+1 :al!u@h JOIN #y
+1 :a.net 353 al = #y :@al
+1 :a.net 366 al #y :End of NAMES list
 ";
 
 #[test]
@@ -92,11 +110,19 @@ const JOINING_MANY: &str = "\
 1 :al!u@h JOIN #K
 1 :a.net 353 al = #K :@al
 1 :a.net 366 al #K :End of NAMES list
+> say 2 JOIN #i
+2 :bo!u@h JOIN #i
+2 :a.net 353 bo = #i :@bo
+2 :a.net 366 bo #i :End of NAMES list
+> say 2 MODE #i +i
+2 :bo!u@h MODE #i +i
+> say 1 JOIN #I
+1 :a.net 405 al #I :You have joined too many channels
 ";
 
 #[test]
 fn the_eleventh_channel_is_too_many(rt: HostRuntime) {
-    assert!(rt; prints(rt.alloc(), 1, JOINING_MANY));
+    assert!(rt; prints(rt.alloc(), 2, JOINING_MANY));
 }
 
 /// A topic is cut to 160 bytes. The same topic is shown again, and an empty one clears it.
@@ -215,6 +241,10 @@ const NAMING: &str = "\
 1 :a.net 353 al = #b :@Zed
 1 :a.net 353 al = #Rust :@al Zed [bo
 1 :a.net 366 al * :End of NAMES list
+> say 1 MODE #rust +v zed
+1 :al!u@h MODE #Rust +v Zed
+3 :al!u@h MODE #Rust +v Zed
+2 :al!u@h MODE #Rust +v Zed
 ";
 
 #[test]

@@ -134,6 +134,73 @@ const BY_INVITATION: &str = "\
 3 :cy!u@h JOIN #c
 3 :a.net 353 cy = #c :@al +bo cy
 3 :a.net 366 cy #c :End of NAMES list
+> say 3 PART #c
+1 :cy!u@h PART #c :cy
+2 :cy!u@h PART #c :cy
+3 :cy!u@h PART #c :cy
+> say 1 MODE #c -i
+1 :al!u@h MODE #c -i
+2 :al!u@h MODE #c -i
+> say 1 INVITE cy #c
+1 :a.net 341 al #c cy
+3 :al!u@h INVITE cy #c
+> say 1 MODE #c +i
+1 :al!u@h MODE #c +i
+2 :al!u@h MODE #c +i
+> say 3 NICK di
+3 :cy!u@h NICK di
+> say 3 JOIN #c
+1 :di!u@h JOIN #c
+2 :di!u@h JOIN #c
+3 :di!u@h JOIN #c
+3 :a.net 353 di = #c :@al +bo di
+3 :a.net 366 di #c :End of NAMES list
+> say 3 PART #c
+1 :di!u@h PART #c :di
+2 :di!u@h PART #c :di
+3 :di!u@h PART #c :di
+> say 1 INVITE di #c
+1 :a.net 341 al #c di
+3 :al!u@h INVITE di #c
+> say 3 NICK cy
+3 :di!u@h NICK cy
+> say 2 PART #c
+1 :bo!u@h PART #c :bo
+2 :bo!u@h PART #c :bo
+> say 2 NICK di
+2 :bo!u@h NICK di
+> say 2 JOIN #c
+2 :a.net 473 di #c :Cannot join channel (+i)
+> say 1 INVITE di #c
+1 :a.net 341 al #c di
+2 :al!u@h INVITE di #c
+> say 2 JOIN #c
+1 :di!u@h JOIN #c
+2 :di!u@h JOIN #c
+2 :a.net 353 di = #c :@al di
+2 :a.net 366 di #c :End of NAMES list
+> say 3 JOIN #c
+1 :cy!u@h JOIN #c
+3 :cy!u@h JOIN #c
+2 :cy!u@h JOIN #c
+3 :a.net 353 cy = #c :@al cy di
+3 :a.net 366 cy #c :End of NAMES list
+> say 3 PART #c
+1 :cy!u@h PART #c :cy
+3 :cy!u@h PART #c :cy
+2 :cy!u@h PART #c :cy
+> say 1 INVITE cy #c
+1 :a.net 341 al #c cy
+3 :al!u@h INVITE cy #c
+> say 3 QUIT
+3 ERROR :Closing link (cy)
+> say 2 PART #c
+1 :di!u@h PART #c :di
+2 :di!u@h PART #c :di
+> say 2 NICK cy
+2 :di!u@h NICK cy
+> say 2 JOIN #c
+2 :a.net 473 cy #c :Cannot join channel (+i)
 ";
 
 #[test]

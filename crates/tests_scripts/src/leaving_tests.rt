@@ -65,6 +65,8 @@ const PARTING: &str = "\
 > say 3 PART #d,#D
 3 :a.net 442 cy #d :You're not on that channel
 3 :a.net 442 cy #d :You're not on that channel
+> say 1 PART #d one two
+1 :al!u@h PART #d :one
 ";
 
 #[test]

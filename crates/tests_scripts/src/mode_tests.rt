@@ -41,6 +41,22 @@ const CHANGING: &str = "\
 2 :bo!u@h MODE #c -l+mnti
 3 :bo!u@h MODE #c -l+mnti
 > say 1 MODE #c +m
+> say 1 MODE #c l 7
+1 :al!u@h MODE #c +l 7
+2 :al!u@h MODE #c +l 7
+3 :al!u@h MODE #c +l 7
+> say 1 MODE #c +l-l 6
+1 :al!u@h MODE #c +l 6
+2 :al!u@h MODE #c +l 6
+3 :al!u@h MODE #c +l 6
+> say 1 MODE #c +l 0
+> say 1 MODE #c +l 65536
+> say 1 MODE #c +l 000005
+> say 1 MODE #c -l
+1 :al!u@h MODE #c -l
+2 :al!u@h MODE #c -l
+3 :al!u@h MODE #c -l
+> say 1 MODE #c -l
 ";
 
 #[test]
@@ -96,6 +112,19 @@ const KEYS: &str = "\
 2 :a.net 366 bo #c :End of NAMES list
 > say 2 MODE #c
 2 :a.net 324 bo #c +
+> say 2 MODE #c +k
+2 :a.net 461 bo MODE :Not enough parameters
+> say 2 MODE #c +k abcdefghijklmnopqrstuvwx
+> say 2 MODE #c +k ::pw
+> say 2 MODE #c +k p,w
+> say 2 MODE #c +k p\x7f
+> say 2 MODE #c +k abcdefghijklmnopqrstuvw
+2 :bo!u@h MODE #c +k abcdefghijklmnopqrstuvw
+> say 2 MODE #c +k ::pw
+> say 2 MODE #c +k abcdefghijklmnopqrstuvw
+2 :a.net 467 bo #c :Channel key already set
+> say 2 MODE #c -k+bbb pw a b c
+2 :bo!u@h MODE #c -k+bb abcdefghijklmnopqrstuvw a b
 ";
 
 #[test]
@@ -149,6 +178,24 @@ const BANS: &str = "\
 1 :a.net 461 al MODE :Not enough parameters
 1 :a.net 461 al MODE :Not enough parameters
 1 :a.net 461 al MODE :Not enough parameters
+> say 1 MODE #c +v BO
+1 :a.net 441 al bo #c :They aren't on that channel
+> say 1 MODE #c -l+bbb x y z
+1 :al!u@h MODE #c +bbb x y z
+> say 1 MODE #c +obbb al u v w
+1 :al!u@h MODE #c +bb u v
+> say 1 MODE #c +lbbb 5 r s t
+1 :al!u@h MODE #c +lbb 5 r s
+> say 1 MODE #c +ibbb o p q
+1 :al!u@h MODE #c +ibbb o p q
+> say 1 MODE #c +kkbb aa bb m n
+1 :al!u@h MODE #c +kb aa m
+> say 1 MODE #c +bbboz j k l
+1 :a.net 472 al z :is unknown mode char to me for #c
+1 :al!u@h MODE #c +bbb j k l
+> say 1 MODE #c +b abcdefghijklmnopqrstuvwxyzabcdefghijklmnopqrstuvwxyzabcdefghijklmnopqrstuvwxyzabcdefghijklm
+> say 1 MODE #c +b abcdefghijklmnopqrstuvwxyzabcdefghijklmnopqrstuvwxyzabcdefghijklmnopqrstuvwxyzabcdefghijkl
+1 :al!u@h MODE #c +b abcdefghijklmnopqrstuvwxyzabcdefghijklmnopqrstuvwxyzabcdefghijklmnopqrstuvwxyzabcdefghijkl
 ";
 
 #[test]
@@ -191,6 +238,34 @@ const KEPT_OUT: &str = "\
 2 :bo!u@h JOIN #c
 2 :a.net 353 bo = #c :@al bo
 2 :a.net 366 bo #c :End of NAMES list
+> say 2 PART #c
+1 :bo!u@h PART #c :bo
+2 :bo!u@h PART #c :bo
+> say 2 JOIN ,#C pw
+2 :a.net 475 bo #c :Cannot join channel (+k)
+> say 2 JOIN ,#c x,pw
+1 :bo!u@h JOIN #c
+2 :bo!u@h JOIN #c
+2 :a.net 353 bo = #c :@al bo
+2 :a.net 366 bo #c :End of NAMES list
+> say 2 PART #c
+1 :bo!u@h PART #c :bo
+2 :bo!u@h PART #c :bo
+> say 2 JOIN #d,#c ,pw
+2 :bo!u@h JOIN #d
+2 :a.net 353 bo = #d :@bo
+2 :a.net 366 bo #d :End of NAMES list
+1 :bo!u@h JOIN #c
+2 :bo!u@h JOIN #c
+2 :a.net 353 bo = #c :@al bo
+2 :a.net 366 bo #c :End of NAMES list
+> say 2 PART #c
+1 :bo!u@h PART #c :bo
+2 :bo!u@h PART #c :bo
+> say 1 MODE #c +b bo!*@*
+1 :al!u@h MODE #c +b bo!*@*
+> say 2 JOIN #c
+2 :a.net 474 bo #c :Cannot join channel (+b)
 ";
 
 #[test]
@@ -269,6 +344,11 @@ const SILENCED: &str = "\
 1 :al!u@h MODE #c -m
 > say 2 PRIVMSG #c :twelve
 1 :bo!u@h PRIVMSG #c :twelve
+> say 1 MODE #c +v al
+1 :al!u@h MODE #c +v al
+> say 1 NAMES #c
+1 :a.net 353 al = #c :@al
+1 :a.net 366 al #c :End of NAMES list
 ";
 
 #[test]
@@ -340,6 +420,7 @@ const FULL: &str = "\
 1 :a.net 367 al #c n29
 1 :a.net 367 al #c n30
 1 :a.net 368 al #c :End of channel ban list
+> say 1 MODE #c +b ::x
 ";
 
 #[test]

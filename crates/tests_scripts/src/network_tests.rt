@@ -265,6 +265,25 @@ const TREE: &str = "\
 ! 5
 > deliver a.net c.net
 ! 4
+> say 1 PRIVMSG bo :hi
+> settle
+2 :al!u@h PRIVMSG bo :hi
+= 1
+> say 1 INVITE bo #d
+1 :a.net 341 al #d bo
+> settle
+2 :al!u@h INVITE bo #d
+= 1
+> say 3 PART #c
+3 :cy!u@h PART #c :cy
+> settle
+2 :cy!u@h PART #c :cy
+1 :cy!u@h PART #c :cy
+= 2
+> say 1 PRIVMSG #c :hi
+> settle
+2 :al!u@h PRIVMSG #c :hi
+= 1
 ";
 
 #[test]

@@ -41,6 +41,18 @@ const NICKNAMES: &str = "\
 2 :dan!u@h PRIVMSG AL :x
 > say 1 NICK 9
 1 :a.net 432 dan 9 :Erroneous nickname
+> say 1 NICK -a
+1 :a.net 432 dan -a :Erroneous nickname
+> say 1 NICK a~b
+1 :a.net 432 dan a~b :Erroneous nickname
+> say 1 NICK a]b
+1 :dan!u@h NICK a]b
+> say 2 NICK A}B
+2 :a.net 433 AL A}B :Nickname is already in use
+> say 1 NICK a\\b
+1 :a]b!u@h NICK a\\b
+> say 2 NICK A|B
+2 :a.net 433 AL A|B :Nickname is already in use
 ";
 
 #[test]

@@ -16,6 +16,10 @@ const ISON: &str = "\
 2 :a.net 303 bo :
 > say 2 ISON AL al
 2 :a.net 303 bo :al al
+> say 2 ISON 1 2 3 4 5 6 7 8 9 10 11 12 13 14 :al
+2 :a.net 303 bo :al
+> say 2 ISON 1 2 3 4 5 6 7 8 9 10 11 12 13 14 15 :al
+2 :a.net 303 bo :
 ";
 
 #[test]
@@ -37,6 +41,12 @@ const LUSERS: &str = "\
 2 :a.net 254 bo 1 :channels formed
 2 :a.net 255 bo :I have 2 clients and 0 servers
 > say 2 LUSERS x y
+2 :a.net 251 bo :There are 2 users and 0 services on 1 servers
+2 :a.net 254 bo 1 :channels formed
+2 :a.net 255 bo :I have 2 clients and 0 servers
+> say 1 MODE #c +s
+1 :al!u@h MODE #c +s
+> say 2 LUSERS
 2 :a.net 251 bo :There are 2 users and 0 services on 1 servers
 2 :a.net 254 bo 1 :channels formed
 2 :a.net 255 bo :I have 2 clients and 0 servers
@@ -194,6 +204,15 @@ const WHO: &str = "\
 2 :a.net 315 bo b? :End of WHO list
 > say 2 WHO A.N?T o
 2 :a.net 315 bo A.N?T :End of WHO list
+> say 2 WHO bo*
+2 :a.net 352 bo * u h a.net bo H :0 Bo
+2 :a.net 315 bo bo* :End of WHO list
+> say 2 WHO bo?
+2 :a.net 315 bo bo? :End of WHO list
+> say 2 WHO al\\*
+2 :a.net 315 bo al\\* :End of WHO list
+> say 2 WHO a\\?
+2 :a.net 315 bo a\\? :End of WHO list
 ";
 
 #[test]

@@ -25,16 +25,39 @@ const EITHER_ORDER: &str = "\
 2 :a.net 422 bo :MOTD File is missing
 > connect a.net h
 > say 3 NICK cy
-> say 3 USER u 0 * Cy of the last word
-3 :a.net 001 cy :Welcome to the Internet Relay Network cy!u@h
+> say 3 USER ~a-b_c.d+e 0 * Real of the last word
+3 :a.net 001 cy :Welcome to the Internet Relay Network cy!~a-b_c.d_e@h
 3 :a.net 002 cy :Your host is a.net, running version treeircd-1
 3 :a.net 003 cy :This server was created 2024-01-01
 3 :a.net 004 cy a.net treeircd-1 i biklmnopstv
 3 :a.net 422 cy :MOTD File is missing
-> say 3 WHOIS cy
-3 :a.net 311 cy cy u h * :Cy
+> say 3 WHOIS cy,bo
+3 :a.net 311 cy cy ~a-b_c.d_e h * :Real
 3 :a.net 312 cy cy a.net :Test server
-3 :a.net 318 cy cy :End of WHOIS list
+3 :a.net 311 cy bo we_rd.name 192.0.2.7 * :Bo
+3 :a.net 312 cy bo a.net :Test server
+3 :a.net 318 cy cy,bo :End of WHOIS list
+> say 3 WHO CY
+3 :a.net 352 cy * ~a-b_c.d_e h a.net cy H :0 Real
+3 :a.net 315 cy CY :End of WHO list
+> say 3 WHO real
+3 :a.net 352 cy * ~a-b_c.d_e h a.net cy H :0 Real
+3 :a.net 315 cy real :End of WHO list
+> say 3 WHO 192.0.2.?
+3 :a.net 352 cy * we_rd.name 192.0.2.7 a.net bo H :0 Bo
+3 :a.net 315 cy 192.0.2.? :End of WHO list
+> connect a.net h
+> say 4 NICK dd
+> say 4 USER u 0 * :A real name of many bytes, of which fifty are kept.
+4 :a.net 001 dd :Welcome to the Internet Relay Network dd!u@h
+4 :a.net 002 dd :Your host is a.net, running version treeircd-1
+4 :a.net 003 dd :This server was created 2024-01-01
+4 :a.net 004 dd a.net treeircd-1 i biklmnopstv
+4 :a.net 422 dd :MOTD File is missing
+> say 4 WHOIS dd
+4 :a.net 311 dd dd u h * :A real name of many bytes, of which fifty are kept
+4 :a.net 312 dd dd a.net :Test server
+4 :a.net 318 dd dd :End of WHOIS list
 ";
 
 #[test]
@@ -85,6 +108,11 @@ const BEFORE: &str = "\
 1 :a.net 003 al :This server was created 2024-01-01
 1 :a.net 004 al a.net treeircd-1 i biklmnopstv
 1 :a.net 422 al :MOTD File is missing
+> connect a.net h
+> say 2 JOIN
+2 :a.net 451 * :You have not registered
+> say 2 KICK #c
+2 :a.net 451 * :You have not registered
 ";
 
 #[test]
@@ -213,6 +241,10 @@ const READ: &str = "\
 > say 1 QUIT\rPING x
 1 ERROR :Closing link (al)
 ! 3
+> say 2   :BO PING x
+2 :a.net PONG a.net :x
+> say 2 :bo   PING x
+2 :a.net PONG a.net :x
 ";
 
 #[test]

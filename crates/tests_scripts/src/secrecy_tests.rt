@@ -26,6 +26,11 @@ const HIDDEN: &str = "\
 1 :al!u@h TOPIC #sec :hush
 > say 3 MODE cy +i
 3 :cy!u@h MODE cy +i
+> say 3 WHO cy
+3 :a.net 352 cy * u h a.net cy H :0 Cy
+3 :a.net 315 cy cy :End of WHO list
+> say 2 WHO cy
+2 :a.net 315 bo cy :End of WHO list
 > say 3 JOIN #open,#sec,#own
 1 :cy!u@h JOIN #open
 3 :cy!u@h JOIN #open
@@ -46,6 +51,9 @@ const HIDDEN: &str = "\
 > say 2 LIST #sec,#priv,#open
 2 :a.net 322 bo #priv 1 :quiet
 2 :a.net 322 bo #open 1 :
+2 :a.net 323 bo :End of LIST
+> say 2 LIST #own
+2 :a.net 322 bo #own 0 :
 2 :a.net 323 bo :End of LIST
 > say 2 NAMES
 2 :a.net 353 bo = #open :@al
@@ -87,6 +95,11 @@ const HIDDEN: &str = "\
 2 :a.net 332 bo #priv :quiet
 > say 2 TOPIC #priv :mine
 2 :a.net 442 bo #priv :You're not on that channel
+> say 2 PRIVMSG #sec,#priv,cy :psst
+1 :bo!u@h PRIVMSG #sec :psst
+3 :bo!u@h PRIVMSG #sec :psst
+1 :bo!u@h PRIVMSG #priv :psst
+3 :bo!u@h PRIVMSG cy :psst
 > say 2 MODE #sec
 2 :a.net 324 bo #sec +s
 > say 2 MODE #priv
