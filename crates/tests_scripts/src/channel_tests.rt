@@ -67,7 +67,8 @@ fn members_see_who_joins(rt: HostRuntime) {
     assert!(rt; prints(rt.alloc(), 3, JOINING));
 }
 
-/// A channel that was left makes room for another.
+/// A channel that was left makes room for another. Who is in ten is told so before anything of the
+/// channel.
 const JOINING_MANY: &str = "\
 > say 1 JOIN #0,#1,#2,#3,#4,#5,#6,#7,#8,#9,#k
 1 :al!u@h JOIN #0
@@ -125,7 +126,8 @@ fn the_eleventh_channel_is_too_many(rt: HostRuntime) {
     assert!(rt; prints(rt.alloc(), 2, JOINING_MANY));
 }
 
-/// A topic is cut to 160 bytes. The same topic is shown again, and an empty one clears it.
+/// A topic is cut to 160 bytes. The same topic is shown again, and an empty one clears it. Under
+/// mode t an operator alone sets one.
 const TOPICS: &str = "\
 > say 1 JOIN #Rust
 1 :al!u@h JOIN #Rust

@@ -49,8 +49,8 @@ fn members_invite_outsiders(rt: HostRuntime) {
     assert!(rt; prints(rt.alloc(), 3, INVITING));
 }
 
-/// Under mode i only an operator invites. An invitation is used up by joining, and ends with its
-/// channel.
+/// Under mode i only an operator invites. An invitation lifts that mode alone. It is used up by
+/// joining, goes with the nickname, and ends with its user and with its channel.
 const BY_INVITATION: &str = "\
 > say 1 JOIN #c
 1 :al!u@h JOIN #c

@@ -62,7 +62,7 @@ fn members_see_who_is_kicked(rt: HostRuntime) {
 }
 
 /// A kicker that is no member is told so first, then that it is no operator, and last that the
-/// other is no member.
+/// other is no member. Voice makes no operator.
 const REFUSED: &str = "\
 > say 1 KICK
 1 :a.net 461 al KICK :Not enough parameters

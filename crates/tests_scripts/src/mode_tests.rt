@@ -3,7 +3,7 @@
 use crate::running::prints;
 
 /// Changes are shown as their letters in order, with a sign wherever it changes, and their
-/// parameters behind them.
+/// parameters behind them. A limit is from 1 to 65535, of five digits at most.
 const CHANGING: &str = "\
 > say 1 JOIN #c
 1 :al!u@h JOIN #c
@@ -88,7 +88,7 @@ fn private_is_no_second_secret(rt: HostRuntime) {
 }
 
 /// Another key wants the first to be taken away, which is shown with the key; a channel that was
-/// left keeps none.
+/// left keeps none. It has 23 bytes at most, none a comma, and does not begin with a colon.
 const KEYS: &str = "\
 > say 1 JOIN #c
 1 :al!u@h JOIN #c
@@ -132,7 +132,8 @@ fn a_key_is_set_once(rt: HostRuntime) {
     assert!(rt; prints(rt.alloc(), 2, KEYS));
 }
 
-/// Three letters with a parameter count; a ban is listed and taken away as it was spelled first.
+/// Three letters with a parameter count; a ban is listed and taken away as it was spelled first. A
+/// request of the list is none of the three, and tells what stood at the start.
 const BANS: &str = "\
 > say 1 JOIN #c
 1 :al!u@h JOIN #c
@@ -204,7 +205,7 @@ fn bans_are_listed_in_folded_order(rt: HostRuntime) {
 }
 
 /// An invitation is wanted under mode i; then no ban may match, the key has to be right, and there
-/// has to be room.
+/// has to be room. Of a list each channel has the key at its own place.
 const KEPT_OUT: &str = "\
 > say 1 JOIN #c
 1 :al!u@h JOIN #c
@@ -274,7 +275,7 @@ fn who_may_not_join_is_told_why(rt: HostRuntime) {
 }
 
 /// An outsider under mode n, who has no voice under mode m, and whom a ban matches, are not heard;
-/// a voice helps.
+/// a voice helps. Voice stays under an operator's flag.
 const SILENCED: &str = "\
 > say 1 JOIN #c
 1 :al!u@h JOIN #c

@@ -212,7 +212,7 @@ fn a_link_is_lost_and_is_back(rt: HostRuntime) {
 }
 
 /// What bo says goes to both neighbours of its server, whichever is first; what al says to cy
-/// passes by.
+/// passes by. A line for one user, or for a channel, goes no further than it has to.
 const TREE: &str = "\
 > say 1 JOIN #c
 1 :al!u@h JOIN #c

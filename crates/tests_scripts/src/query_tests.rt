@@ -2,7 +2,7 @@
 use crate::running::prints;
 
 /// Words are parted by spaces, in each parameter; nicknames are written as stored, in the order
-/// given.
+/// given. The fifteenth is the rest of the line.
 const ISON: &str = "\
 > say 2 ISON
 2 :a.net 461 bo ISON :Not enough parameters
@@ -27,7 +27,7 @@ fn nicknames_are_looked_up(rt: HostRuntime) {
     assert!(rt; prints(rt.alloc(), 3, ISON));
 }
 
-/// Without a channel there is no line of channels.
+/// Without a channel there is no line of channels. A secret one is counted.
 const LUSERS: &str = "\
 > say 2 LUSERS
 2 :a.net 251 bo :There are 2 users and 0 services on 1 servers

@@ -3,7 +3,7 @@
 use crate::running::prints;
 
 /// The user name is cut to 10 bytes, and a byte that is none of its own becomes `_`; a later USER
-/// replaces an earlier.
+/// replaces an earlier. The fourth word is the real name, of which 50 bytes are kept.
 const EITHER_ORDER: &str = "\
 > server a.net
 > connect a.net h
