@@ -234,7 +234,7 @@ def tried(turned, source, scripts):
 
 def turns_of(source, words):
     """The turns that are asked for."""
-    blocks = [block for block in TURNS.read_text().strip("\n").split("\n\n")]
+    blocks = TURNS.read_text().strip("\n").split("\n\n")
     turns = [turn(block) for block in blocks if not block.startswith("# ")] + list(made(source))
     names = [each.name for each in turns]
     if len(names) != len(set(names)):
@@ -243,7 +243,7 @@ def turns_of(source, words):
 
 
 def main(words):
-    start, source = time.monotonic(), MODEL.read_text()
+    source = MODEL.read_text()
     scripts = [each for each in Gate().scripts if not re.search(rb"^bytes ", each.lines, re.M)]
     differs = noticed_by(source, scripts)
     if differs:
@@ -259,7 +259,7 @@ def main(words):
             problem = problem or "noticed by no script"
         if problem:
             print(f"{turned.name}: {problem}", flush=True)
-    print(f"{len(scripts)} scripts, {time.monotonic() - start:.0f} s")
+    print(f"{len(scripts)} scripts, {time.process_time():.0f} s of a processor")
     print(f"{len(turns)} turns, {unnoticed} noticed by no script, "
           f"{without} of these without a reason")
     return 1 if without or faults else 0

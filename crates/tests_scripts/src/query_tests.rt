@@ -27,7 +27,8 @@ fn nicknames_are_looked_up(rt: HostRuntime) {
     assert!(rt; prints(rt.alloc(), 3, ISON));
 }
 
-/// Without a channel there is no line of channels. A secret one is counted.
+/// Without a channel there is no line of channels. A secret one is counted, and no client that has
+/// not registered.
 const LUSERS: &str = "\
 > say 2 LUSERS
 2 :a.net 251 bo :There are 2 users and 0 services on 1 servers
@@ -46,6 +47,12 @@ const LUSERS: &str = "\
 2 :a.net 255 bo :I have 2 clients and 0 servers
 > say 1 MODE #c +s
 1 :al!u@h MODE #c +s
+> say 2 LUSERS
+2 :a.net 251 bo :There are 2 users and 0 services on 1 servers
+2 :a.net 254 bo 1 :channels formed
+2 :a.net 255 bo :I have 2 clients and 0 servers
+> connect a.net h
+> say 3 NICK cy
 > say 2 LUSERS
 2 :a.net 251 bo :There are 2 users and 0 services on 1 servers
 2 :a.net 254 bo 1 :channels formed
