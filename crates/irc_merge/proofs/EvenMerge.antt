@@ -143,14 +143,18 @@ nobody (user ∷ users) none =
     let clash : true ≡ false = sym there ∙ none (key user.nick) in
     absurd (cc clash)
 
-all_stay : (one other : Room) → IsWellFormed one → ShareNoNickname one other
+pub none_clash : (one other : Room) → IsWellFormed one → ShareNoNickname one other
+    → clash one other ≡ []
+none_clash one other well apart =
+    nobody (clash one other) (λ q. clashing one other well q ∙ apart q)
+
+pub all_stay : (one other : Room) → IsWellFormed one → ShareNoNickname one other
     → room_without one other ≡ one
 unfolding room_without
 all_stay one other well apart =
-    ap (λ users. after_all one (quits_of collision_text users))
-    (nobody (clash one other) (λ q. clashing one other well q ∙ apart q))
+    ap (λ users. after_all one (quits_of collision_text users)) (none_clash one other well apart)
 
-apart_turned : (one other : Room) → ShareNoNickname one other → ShareNoNickname other one
+pub apart_turned : (one other : Room) → ShareNoNickname one other → ShareNoNickname other one
 apart_turned one other apart q = and_comm (is_some (row other.users q)) (is_some (row one.users q))
     ∙ apart q
 
@@ -165,7 +169,7 @@ apart_of_both one next last first second q =
     by_rows None y z here there = there
     by_rows (Some user) y z here there = here
 
-merged_whole : (one other : Room) → IsWellFormed one → IsWellFormed other
+pub merged_whole : (one other : Room) → IsWellFormed one → IsWellFormed other
     → ShareNoNickname one other → merge one other ≡ union one other
 unfolding merge
 merged_whole one other well_one well_other apart =

@@ -16,6 +16,7 @@ pub mod Sides
 pub mod ExamplesProved
 pub mod JudgedAtOnce
 pub mod AgreeTells
+pub mod GivenBack
 pub mod Rejoined
 pub mod CanBeDone
 pub mod OwnInvitations

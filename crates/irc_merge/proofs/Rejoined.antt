@@ -30,11 +30,14 @@ use Rattle.irc_merge.specs.MergeShown.{member_arrival, mode_lines, raised_line, 
 use Rattle.irc_merge.specs.MergeShown.{raised_topic, channel_seen, channel_arrivals, arrivals}
 use Rattle.irc_merge.specs.MergeShown.{merge_shown}
 use Rattle.irc_merge.specs.Split.{split}
-use Rattle.irc_merge.specs.Laws.{ComesOf, CanBeTold}
-use Rattle.irc_merge.specs.Rejoined.{comers, all_comers, AgreedShowComers, SidesAgree}
-use Rattle.irc_merge.specs.Rejoined.{RejoinShowsComers}
+use Rattle.irc_merge.specs.Laws.{ComesOf, CanBeTold, ShareNoNickname}
+use Rattle.irc_merge.specs.Rejoined.{comers, all_comers, comers_shown, AgreedShowComers}
+use Rattle.irc_merge.specs.Rejoined.{SidesAgree}
+use Rattle.irc_merge.specs.Rejoined.{RejoinShowsComers, RejoinShowsOnlyComers}
 use Rattle.irc_merge.specs.Lemmas.Clashing.{without_well}
 use Rattle.irc_merge.specs.Lemmas.TableWords.{true_is, entries_all}
+use Rattle.irc_merge.proofs.EvenMerge.{all_stay, apart_turned, none_clash}
+use Rattle.irc_merge.proofs.GivenBack.{sides_share_no_nickname}
 use Rattle.irc_merge.proofs.Lines.{joined_lines}
 use Rattle.irc_merge.proofs.ChannelTold.{all_mode_lines}
 use Rattle.irc_merge.proofs.NothingNew.{split_has_nothing_new, without_comes}
@@ -229,3 +232,21 @@ rejoin_shows_comers near_text far_text lost others room well told =
     agreed_show_comers (split near_text lost room) (split far_text others room)
     (split_is_well_formed near_text lost room well) (split_is_well_formed far_text others room well)
     (side_told near_text lost room well told) (sides_agree near_text far_text lost others room well)
+
+-- ---- nobody quits
+
+none_quit : (room other : Room) → IsWellFormed room → IsWellFormed other
+    → ShareNoNickname room other → (viewer : List ℕ) → comers_shown room other viewer
+    ≡ option_map_or (all_comers room other) (row room.users (key viewer)) []
+none_quit room other well well_other apart viewer = λ i.
+    shown_along viewer room (quits_of collision_text (none_clash room other well apart i))
+    ++ option_map_or (all_comers (all_stay room other well apart i)
+    (all_stay other room well_other (apart_turned room other apart) i))
+    (row (all_stay room other well apart i).users (key viewer)) []
+
+pub rejoin_shows_only_comers : RejoinShowsOnlyComers
+rejoin_shows_only_comers near_text far_text lost others room well told sides viewer =
+    rejoin_shows_comers near_text far_text lost others room well told viewer
+    ∙ none_quit (split near_text lost room) (split far_text others room)
+    (split_is_well_formed near_text lost room well) (split_is_well_formed far_text others room well)
+    (sides_share_no_nickname near_text far_text lost others room well sides) viewer

@@ -25,7 +25,9 @@ ghost use Rattle.irc_merge.specs.Laws.{
 ghost use Rattle.irc_merge.specs.LimitLaws.{MergeIsWithinLimits, SplitIsWithinLimits};
 ghost use Rattle.irc_merge.specs.LimitLaws.{WithinLimitsIsTold};
 ghost use Rattle.irc_merge.specs.OwnInvitations.{ServerReadsMerge, ServerShowsMerge};
-ghost use Rattle.irc_merge.specs.Rejoined.{AgreedShowComers, RejoinShowsComers, SidesAgree};
+ghost use Rattle.irc_merge.specs.Rejoined.{AgreedShowComers, RejoinGivesAllBack, RejoinGivesBack};
+ghost use Rattle.irc_merge.specs.Rejoined.{RejoinShowsComers, RejoinShowsOnlyComers, SidesAgree};
+ghost use Rattle.irc_merge.specs.Rejoined.{SidesShareNoNickname};
 ghost use Rattle.irc_merge.specs.StayingMembers.{MembersStay};
 
 /// The room that two halves of a network become is the same whichever is named first.
@@ -46,10 +48,26 @@ pub fn agreed_show_comers()
 {}
 
 /// A lost link leaves two sides that have the same of each channel. So where it is made again, and
-/// nothing was changed meanwhile, each user sees who comes and nothing more.
+/// nothing was changed meanwhile, each user sees who comes and nothing more: nobody quits, since
+/// nobody is on both sides.
 pub fn rejoin_shows_comers()
     ensures agree { SidesAgree }
     ensures comers { RejoinShowsComers }
+    ensures only { RejoinShowsOnlyComers }
+{}
+
+/// The two sides that a lost link leaves of a room have no nickname in common.
+pub fn sides_share_no_nickname()
+    ensures { SidesShareNoNickname }
+{}
+
+/// A link that is lost and made again gives the room back, where nothing was changed meanwhile: its
+/// users, channels, members with their flags, modes, bans and topics are what they were. Of
+/// invitations those ended whose side had no member of the channel; where none ended, the room is
+/// what it was.
+pub fn rejoin_gives_back()
+    ensures but_ended { RejoinGivesBack }
+    ensures whole { RejoinGivesAllBack }
 {}
 
 /// Two well-formed rooms become a well-formed one.
