@@ -24,7 +24,7 @@ use Rattle.irc_room.specs.effect.By.TheVariants as by
 use Rattle.irc_room.specs.effect.Effect.{Effect}
 use Rattle.irc_room.specs.effect.Effect.TheVariants.{AddUser, SetTopic}
 use Rattle.irc_room.specs.Effects.{has_user}
-use Rattle.irc_room.specs.Examples.{room_after, flags_of}
+use Rattle.irc_room.specs.Examples.{room_after, flags_of, invited_to}
 use Rattle.irc_room.specs.Lemmas.Listed.{table_of, row_listed}
 use Rattle.irc_room.specs.Lemmas.ListedRooms.{room_of, all_listed, no_list}
 use Rattle.irc_room.specs.Lemmas.ListedSeen.{user_listed, channel_listed}
@@ -38,11 +38,14 @@ use Rattle.irc_merge.specs.Examples.{an_operator, a_member, of_a, with_modes, al
 use Rattle.irc_merge.specs.Examples.{secret_side, keyed_side, modes_written, bo_has_come}
 use Rattle.irc_merge.specs.Examples.{topic_of_b, zeds_side, other_zeds_side, ChannelIsTold}
 use Rattle.irc_merge.specs.Examples.{ThirtyOneMembers, ChannelsAreJoined, ModesAreJoined}
-use Rattle.irc_merge.specs.Examples.{GreaterTopicIsSet, NicknameOnBothSides}
+use Rattle.irc_merge.specs.Examples.{GreaterTopicIsSet, NicknameOnBothSides, two_channels}
+use Rattle.irc_merge.specs.Examples.{LinkIsMadeAgain}
 use Rattle.irc_merge.proofs.ChannelTold.{one_passes}
 use Rattle.irc_merge.specs.Lemmas.ListedMerge.{AreInOrder, burst_listed, user_merged}
 use Rattle.irc_merge.specs.Lemmas.ListedMerge.{channel_merged, merge_listed}
+use Rattle.irc_merge.specs.Split.{split}
 use Rattle.irc_merge.proofs.FlagsMerged.{flags_merged}
+use Rattle.irc_merge.proofs.ListedSplit.{invited_merged, list_split, split_listed}
 
 made : (effects : List Effect) → room_after effects ≡ room_of (list_room effects)
 made effects = all_listed no_list effects
@@ -183,4 +186,34 @@ nickname_on_both_sides =
           (made other_zeds_side i) (does (AddUser (of_a (codes "zed")))))
           ∙ ap (λ o. option_map_or (λ (holder : User). kills (codes "b.net") holder.nick ∷ []) o
           (does (AddUser (of_a (codes "zed"))) ∷ [])) (user_listed other (key (codes "zed"))),
+    )
+
+pub link_is_made_again : LinkIsMadeAgain
+unfolding fold fold_table
+link_is_made_again =
+    let all = list_room two_channels in
+    let near = list_split (codes "a.net b.net") (codes "b.net" ∷ []) all in
+    let far = list_split (codes "b.net a.net") (codes "a.net" ∷ []) all in
+    let order : AreInOrder all = record { users = tt; channels = tt; members = (tt, (tt, tt)) } in
+    let first : AreInOrder near = record { users = tt; channels = tt; members = (tt, (tt, tt)) } in
+    let second : AreInOrder far = record { users = tt; channels = tt; members = (tt, tt) } in
+    let back : merge
+    (split (codes "a.net b.net") (codes "b.net" ∷ []) (room_after two_channels))
+    (split (codes "b.net a.net") (codes "a.net" ∷ []) (room_after two_channels))
+    ≡ merge (room_of near) (room_of far) =
+    λ i. merge
+    ((ap (split (codes "a.net b.net") (codes "b.net" ∷ [])) (made two_channels)
+    ∙ split_listed (codes "a.net b.net") (codes "b.net" ∷ []) all order) i)
+    ((ap (split (codes "b.net a.net") (codes "a.net" ∷ [])) (made two_channels)
+    ∙ split_listed (codes "b.net a.net") (codes "a.net" ∷ []) all order) i) in (
+      ap (λ r. flags_of r (codes "al") (codes "#c")) back
+          ∙ flags_merged near far first second (key (codes "al")) (key (codes "#c")),
+      ap (λ r. flags_of r (codes "bo") (codes "#c")) back
+          ∙ flags_merged near far first second (key (codes "bo")) (key (codes "#c")),
+      ap (λ r. flags_of r (codes "al") (codes "#d")) back
+          ∙ flags_merged near far first second (key (codes "al")) (key (codes "#d")),
+      ap (λ r. invited_to r (codes "cy") (codes "#c")) back
+          ∙ invited_merged near far first second (key (codes "cy")) (key (codes "#c")),
+      ap (λ r. invited_to r (codes "cy") (codes "#d")) back
+          ∙ invited_merged near far first second (key (codes "cy")) (key (codes "#d")),
     )

@@ -78,8 +78,8 @@ pub one_side : (lost others : List (List ℕ)) (room : Room) → AreSides lost o
     → is_lost others room.users q ≡ not (is_lost lost room.users q)
 one_side lost others room sides q there = by_row (row room.users q) refl there
   where
-    by_row : (o : Option User) → row room.users q ≡ o → is_some o ≡ true
-        → option_map_or (has_home_in others) o false ≡ not (option_map_or (has_home_in lost) o false)
+    by_row : (o : Option User) → row room.users q ≡ o → is_some o ≡ true → option_map_or
+        (has_home_in others) o false ≡ not (option_map_or (has_home_in lost) o false)
     by_row None at there = not_true there
     by_row (Some user) at there = sides.apart q user at
 
@@ -105,7 +105,8 @@ sides_share_no_nickname near_text far_text lost others room well sides q =
 some_kept : {X : Type 0} (table : Table X) (p : List ℕ → Bool)
     → list_any p (keys table) ≡ not (is_nil (keys (retain_keys table p)))
 some_kept {X} table p =
-    any_kept (entries table) ∙ ap (λ es. not (is_nil (map (λ e. e.0) es))) (sym (entries_kept table p))
+    any_kept (entries table)
+    ∙ ap (λ es. not (is_nil (map (λ e. e.0) es))) (sym (entries_kept table p))
   where
     any_kept : (es : List (List ℕ × X)) → list_any p (map (λ e. e.0) es)
         ≡ not (is_nil (map (λ e. e.0) (filter (λ e. p e.0) es)))
@@ -182,7 +183,8 @@ module _ {X : Type 0} (table : Table X) (gone other : List ℕ → Bool)
   pub all_far : is_nil (keys near) ≡ true → far ≡ table
   all_far none = whole_kept table (λ q. not (other q)) (λ q there.
       ap not (apart q there)
-      ∙ ap (λ b. not (not b)) (not_false (gone q) (none_kept table (λ q. not (gone q)) none q there)))
+      ∙ ap (λ b. not (not b))
+      (not_false (gone q) (none_kept table (λ q. not (gone q)) none q there)))
 
   pub all_near : is_nil (keys far) ≡ true → near ≡ table
   all_near none = whole_kept table (λ q. not (gone q)) (λ q there.

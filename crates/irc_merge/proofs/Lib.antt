@@ -13,6 +13,7 @@ pub mod ShownMembers
 pub mod ShownMerge
 pub mod NothingNew
 pub mod Sides
+pub mod ListedSplit
 pub mod ExamplesProved
 pub mod JudgedAtOnce
 pub mod AgreeTells

@@ -15,13 +15,15 @@ use Rattle.irc_modes.specs.ModeWritten.{changes_written}
 use Rattle.irc_room.specs.effect.By.TheVariants as by
 use Rattle.irc_room.specs.effect.Effect.{Effect}
 use Rattle.irc_room.specs.effect.Effect.TheVariants.{AddUser, Join, ChangeModes, SetTopic}
+use Rattle.irc_room.specs.effect.Effect.TheVariants.{Invite}
 use Rattle.irc_room.specs.Effects.{has_user}
-use Rattle.irc_room.specs.Examples.{room_after, somebody, set, flags_of}
+use Rattle.irc_room.specs.Examples.{room_after, somebody, set, flags_of, invited_to}
 use Rattle.irc_merge.specs.Deeds.{Deed, does, kills, brings, sets, tops, effects_of}
 use Rattle.irc_merge.specs.Bursts.{in_lines, members_a_line, burst}
 use Rattle.irc_merge.specs.BurstRead.{read_deed}
 use Rattle.irc_merge.specs.Merge.{merge}
 use Rattle.irc_merge.specs.MergeShown.{merge_shown}
+use Rattle.irc_merge.specs.Split.{split}
 
 -- a user of a.net, and one of b.net
 abbrev pub of_a : List ℕ → User
@@ -173,3 +175,24 @@ NicknameOnBothSides =
     × (read_deed (codes "b.net") (λ home. pointwise nat_eq home (codes "a.net")) other
     (does (AddUser (of_a (codes "zed"))))
     ≡ kills (codes "b.net") (codes "Zed") ∷ [])
+
+-- al on a.net has made #c and #d; bo of b.net is in #c, and cy of b.net is invited to both
+abbrev pub two_channels : List Effect
+two_channels =
+    AddUser (of_a (codes "al")) ∷ AddUser (of_b (codes "bo")) ∷ AddUser (of_b (codes "cy"))
+    ∷ Join (codes "al") (codes "#c") true ∷ Join (codes "bo") (codes "#c") false
+    ∷ Join (codes "al") (codes "#d") true ∷ Invite (codes "al") (codes "cy") (codes "#c")
+    ∷ Invite (codes "al") (codes "cy") (codes "#d") ∷ []
+
+-- The link of a.net and b.net is lost and made again. All are members as they were; cy is still
+-- invited to #c, in which bo stayed, and not to #d, which ended on b.net.
+abbrev pub LinkIsMadeAgain : Type 0
+LinkIsMadeAgain =
+    let room = room_after two_channels in
+    let near = split (codes "a.net b.net") (codes "b.net" ∷ []) room in
+    let far = split (codes "b.net a.net") (codes "a.net" ∷ []) room in
+    (flags_of (merge near far) (codes "al") (codes "#c") ≡ Some an_operator)
+    × (flags_of (merge near far) (codes "bo") (codes "#c") ≡ Some a_member)
+    × (flags_of (merge near far) (codes "al") (codes "#d") ≡ Some an_operator)
+    × (invited_to (merge near far) (codes "cy") (codes "#c") ≡ true)
+    × (invited_to (merge near far) (codes "cy") (codes "#d") ≡ false)

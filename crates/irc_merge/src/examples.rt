@@ -1,6 +1,7 @@
 //! Small networks that are joined, by example.
 ghost use Rattle.irc_merge.specs.Examples.{ChannelIsTold, ChannelsAreJoined, GreaterTopicIsSet};
-ghost use Rattle.irc_merge.specs.Examples.{ModesAreJoined, NicknameOnBothSides, ThirtyOneMembers};
+ghost use Rattle.irc_merge.specs.Examples.{LinkIsMadeAgain, ModesAreJoined, NicknameOnBothSides};
+ghost use Rattle.irc_merge.specs.Examples.{ThirtyOneMembers};
 
 /// A channel is told by its members, its modes, its bans and its topic.
 pub fn channel_is_told()
@@ -31,4 +32,10 @@ pub fn greater_topic_is_set()
 /// Both holders of a nickname are killed.
 pub fn nickname_on_both_sides()
     ensures { NicknameOnBothSides }
+{}
+
+/// A link that is lost and made again gives members back, and an invitation where somebody of its
+/// side stayed in the channel.
+pub fn link_is_made_again()
+    ensures { LinkIsMadeAgain }
 {}

@@ -54,7 +54,7 @@ values_itself : {X : Type 0} (es : List (List ℕ × X))
 values_itself [] = refl
 values_itself (e ∷ es) = ap (λ xs. e.1 ∷ xs) (values_itself es)
 
-users_listed : (room : ListedRoom) → AreInOrder room
+pub users_listed : (room : ListedRoom) → AreInOrder room
     → values (room_of room).users ≡ map (λ e. e.1) room.users
 users_listed room order = ap (map (λ (e : List ℕ × User). e.1))
     (entries_listed (λ u. u) room.users order.users) ∙ values_itself room.users
@@ -119,7 +119,8 @@ clash_listed room other order = λ i. filter
 abbrev pub list_without : ListedRoom → ListedRoom → ListedRoom
 list_without room other = fold list_after room (quits_of collision_text (list_clash room other))
 
-in_turn : (room : Room) (effects : List Effect) → after_all room effects ≡ fold after room effects
+pub in_turn : (room : Room) (effects : List Effect)
+    → after_all room effects ≡ fold after room effects
 in_turn room [] = refl
 in_turn room (effect ∷ effects) = in_turn (after room effect) effects
 
