@@ -7,3 +7,4 @@ pub mod StaysOneRoom
 pub mod Settling
 pub mod AnswersReceived
 pub mod Running
+pub mod Played

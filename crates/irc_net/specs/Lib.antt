@@ -28,4 +28,5 @@ pub mod Making
 pub mod Loops
 pub mod OneRoom
 pub mod Running
+pub mod Played
 pub mod Laws

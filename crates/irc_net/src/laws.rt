@@ -2,6 +2,7 @@
 //! and its contract is the law.
 ghost use Rattle.irc_net.specs.Laws.{AnswersAreReceived, EachSettles, EveryNetworkIsOneRoom};
 ghost use Rattle.irc_net.specs.Laws.{EveryRunIsKept, KeptIsOwed, SettingsStay, StaysKept};
+ghost use Rattle.irc_net.specs.Played.{PlayIsRun};
 
 /// The lines that an item, bytes that come, a delivery or a settling answer are just those that
 /// clients have received by it.
@@ -66,6 +67,12 @@ pub fn every_run_is_kept()
     networks_stay_sound();
     settings_stay();
 }
+
+/// A play is a run, so what is said of all that a network has run to is said of what a play leaves.
+/// One that stops leaves a network that has failed.
+pub fn play_is_run()
+    ensures { PlayIsRun }
+{}
 
 /// A network is one room: whatever was given to one that was made of some configurations, and in
 /// whatever order and pieces lines were delivered.
