@@ -1,18 +1,21 @@
 #!/usr/bin/env python3
 """Tries what may stand between a link's bytes and a server, so that late lines are read as they were meant.
 
-    python3 tests/late_model.py [--wire plain|late|exact|all] [--servers 2|3] [--things N] [--tries N] [--seed S] [--show N]
+    python3 tests/late_model.py [--wire plain|late|exact|all] [--servers 2|3] [--people 3|4] [--things N] [--tries N] [--seed S]
+                                [--show N]
 
 Not part of the gate, and of no program: a model, from which the definitions are taken. Servers are those of hostile_links/model.py,
 linked in a line and at rest; each of some people does things in turn (NICK, JOIN, KICK, MODE, TOPIC, QUIT, a text, or comes), and lines
 between servers are delivered one at a time. Of each set of things *every* order is walked: of what people do and of what is delivered.
+Of three people each is there at the start; of four two are, and one comes at each end.
 It counts sets by their worst end: a link that is closed, servers that differ at rest, or neither; and prints the first of each.
 
 The wire at an end of a link:
     plain    gives each line on as it comes;
     late     remembers the nicknames for which a KILL was put out by the link, each until the other end introduces or takes that name, and
-             of those by which the other end's NICK was met, that it has yet to kill, rename or lose the holder that it knows; and the
-             changes of nicknames put out by the link, each until either end introduces or takes one of its names;
+             of those by which the other end's NICK was met, that it has yet to kill, rename or lose the holder that it knows; the
+             changes of nicknames put out by the link, each until either end introduces or takes one of its names; and the nicknames
+             that this side's users have, as they were put out by the link;
     exact    knows of each line how many of this end's lines the other end had read when it wrote it (a PING behind each line that
              changes nicknames, answered in turn, would say so), and so whom each nickname meant there.
 """
@@ -50,8 +53,8 @@ parse = MODULES[b"a.net"].rooms.parse
 class Wire:
     """What one end of a link remembers of what it has put out; here nothing."""
 
-    def __init__(self, own):
-        self.own = own
+    def __init__(self, name):
+        self.name = name
 
     def put_out(self, line):
         """A line that this end puts out."""
@@ -72,23 +75,25 @@ class Wire:
 
 
 class LateWire(Wire):
-    """Remembers whom this end has killed, and which nicknames its users gave up, each with the one that its user has now; as irc_late does."""
+    """Remembers whom this end has killed, which nicknames its users gave up, each with the one that its user has now, and which they have;
+    as irc_late does."""
 
-    def __init__(self, own):
-        super().__init__(own)
+    def __init__(self, name):
+        super().__init__(name)
         self.killed = {}        # each with whether the other end has yet to tell of it what it has done: it has crossed
         self.now = {}
-        self.introduced = set() # of these, those whose introduction by the other end was met
+        self.introduced = set() # of these, those whose introduction by the other end was met, and whom no KILL is to find yet
+        self.own = frozenset()  # nicknames that users of this side have
         self.met = None         # the nickname of the NICK that the server has just been given, and whether it introduces a user
 
     def copied(self):
-        other = type(self)(self.own)
+        other = type(self)(self.name)
         other.killed, other.now, other.met = dict(self.killed), dict(self.now), self.met
-        other.introduced = set(self.introduced)
+        other.introduced, other.own = set(self.introduced), self.own
         return other
 
     def key(self):
-        return tuple(sorted(self.killed.items())), tuple(sorted(self.introduced)), tuple(sorted(self.now.items()))
+        return tuple(sorted(self.killed.items())), tuple(sorted(self.introduced)), tuple(sorted(self.now.items())), tuple(sorted(self.own))
 
     def has_another(self, nick):
         """A nickname has another user now: changes from it and to it are not remembered any more."""
@@ -96,6 +101,12 @@ class LateWire(Wire):
 
     def put_out(self, line):
         prefix, command, words = parse(line)
+        if command == b"NICK":
+            self.own = self.own - {fold(prefix or b"")} | {fold(words[0])}
+        elif command in (b"QUIT", b"KILL"):
+            self.own -= {fold(prefix if command == b"QUIT" else words[0])}
+        elif command == b"SQUIT":
+            self.own = frozenset()
         if command == b"KILL":
             self.killed[fold(words[0])] = self.met is not None and fold(words[0]) == self.met[0]
             self.introduced.discard(fold(words[0]))
@@ -124,21 +135,29 @@ class LateWire(Wire):
             self.met = fold(words[0]), prefix is None
         if command in (b"NICK", b"KILL"):
             self.killed.pop(fold(words[0]), None)
+        if command == b"KILL":
+            self.own -= {fold(parse(given)[2][0])}
         if command == b"SQUIT":
             self.killed = {nick: False for nick in self.killed}
             self.introduced = set()
         return [given], []
 
     def from_killed(self, command, prefix, words):
-        """A line of a user whom this end has killed, whose KILL has not come there yet: it is left out; and what is written back."""
+        """A line of a user whom this end has killed, whose KILL has not come there yet: it is left out; and what is written back. None is
+        for a nickname that a user of this side has: that user's NICK is on its way there, and meets whoever has it."""
         was_introduced = fold(prefix) in self.introduced
         if command in (b"QUIT", b"NICK"):
             del self.killed[fold(prefix)]
             self.introduced.discard(fold(prefix))
-        if command == b"NICK":
-            self.killed[fold(words[0])] = False
-            self.introduced.discard(fold(words[0]))
-        return [b":" + self.own + b" KILL " + words[0] + b" :Nick collision"] if command == b"NICK" and was_introduced else []
+        if command != b"NICK":
+            return []
+        self.killed[fold(words[0])] = False
+        self.introduced.discard(fold(words[0]))
+        if was_introduced and fold(words[0]) in self.own:
+            self.introduced.add(fold(words[0]))
+        elif was_introduced:
+            return [b":" + self.name + b" KILL " + words[0] + b" :Nick collision"]
+        return []
 
     def has_now(self, nick):
         return self.now.get(fold(nick), nick)
@@ -150,7 +169,7 @@ class LateWire(Wire):
         elif command in (b"KILL", b"INVITE") or command in (b"PRIVMSG", b"NOTICE") and not words[0].startswith(b"#"):
             words = [self.has_now(words[0]), *words[1:]]
         elif command == b"MODE" and words[0].startswith(b"#"):
-            module = MODULES[self.own]
+            module = MODULES[self.name]
             changes = module.changes_of(words[1:])
             changes = [change._replace(word=self.has_now(change.word)) if change.letter in b"ov" else change for change in changes]
             words = [words[0], *module.changes_written(changes)]
@@ -164,8 +183,8 @@ class ExactWire(Wire):
     """Knows of each line that comes how many of this end's lines the other end had read when it wrote it. So it knows whom a nickname
     meant there, and gives the line on with the nickname that this user has now, or not at all where the user is gone."""
 
-    def __init__(self, own):
-        super().__init__(own)
+    def __init__(self, name):
+        super().__init__(name)
         self.written = 0        # lines that this end has put out
         self.unread = ()        # those that change nicknames, with their numbers, which the other end had not read
         self.view, self.now = {}, {}    # users of this side by nickname: as the other end knew them, and as they are
@@ -274,7 +293,7 @@ class ExactWire(Wire):
             named = self.current(words[0])
             return [b" ".join([b":" + prefix, command, named, b":" + words[1]])] if named else []
         if command == b"MODE" and words[0].startswith(b"#"):
-            module = MODULES[self.own]
+            module = MODULES[self.name]
             changes = []
             for change in module.changes_of(words[1:]):
                 if change.letter not in b"ov":
@@ -466,19 +485,24 @@ def ends(net):
     return found
 
 
-PEOPLE = {2: [(b"a.net", 1, b"p"), (b"b.net", 2, b"q"), (b"b.net", 3, b"r")],
-          3: [(b"a.net", 1, b"p"), (b"b.net", 2, b"q"), (b"c.net", 3, b"r")]}
+# of so many servers and people; without a nickname who comes later
+PEOPLE = {(2, 3): [(b"a.net", 1, b"p"), (b"b.net", 2, b"q"), (b"b.net", 3, b"r")],
+          (3, 3): [(b"a.net", 1, b"p"), (b"b.net", 2, b"q"), (b"c.net", 3, b"r")],
+          (2, 4): [(b"a.net", 1, b"p"), (b"b.net", 2, b"q"), (b"b.net", 3, None), (b"a.net", 4, None)],
+          (3, 4): [(b"a.net", 1, b"p"), (b"c.net", 2, b"q"), (b"c.net", 3, None), (b"a.net", 4, None)]}
 
 
-def begun(count, wire):
-    """A network at rest in which each is in one channel, the first two as operators."""
+def begun(people, count, wire):
+    """A network at rest in which each who is there is in one channel, the first two as operators."""
     net = Net(count, wire)
-    for name, conn, nick in PEOPLE[count]:
+    for name, conn, nick in people:
+        if nick is None:
+            continue
         net.act((name, conn, b"COME " + nick))
         net.settle()
         net.act((name, conn, b"JOIN " + ROOM))
         net.settle()
-    net.act((PEOPLE[count][0][0], 1, b"MODE " + ROOM + b" +o q"))
+    net.act((people[0][0], 1, b"MODE " + ROOM + b" +o q"))
     net.settle()
     return net
 
@@ -497,17 +521,33 @@ RACES = {                   # each loses a link without memory, or leaves one us
 }
 
 
-def by_chance(chance, things):
-    """Things of three people, in turn for each."""
-    own = {1: [], 2: [], 3: []}
+# Of four people the two who come do so under one name, and one of them goes on to another, before the other end knows; that name others take.
+# Among them is who takes it, and talks, as the first has left.
+FOUR_RACES = {
+    f"four, {number}": {1: [b"NICK y", *first], 2: second, 3: [b"COME z", b"NICK y", *third], 4: [b"COME z"]}
+    for number, (third, first, second) in enumerate(itertools.product(
+        [[], [b"QUIT :gone"], [b"NICK x"]],
+        [[], [b"PRIVMSG #r :hello"], [b"QUIT :gone"], [b"NICK x"]],
+        [[], [b"NICK y"], [b"NICK x"]]))}
+FOUR_WORDS = [b"NICK z", b"NICK y", b"NICK y", b"NICK x", b"QUIT :gone", b"COME z", b"COME y", b"PRIVMSG #r :hello", b"JOIN #r"]
+
+
+def by_chance(chance, people, things):
+    """Things of so many people, in turn for each."""
+    own = {conn: [] for conn in range(1, people + 1)}
+    if people == 4:
+        own[3], own[4] = [chance.choice([b"COME z", b"COME y"])], [chance.choice([b"COME z", b"COME y"])]
+        for _ in range(things - 2):
+            own[chance.choice([1, 2, 3, 4])].append(chance.choice(FOUR_WORDS))
+        return own
     for _ in range(things):
         own[chance.choice([1, 2, 3])].append(chance.choice(WORDS if chance.random() < 0.4 else NAMES_TAKEN))
     return own
 
 
-def tried(count, wire, own):
-    net = begun(count, WIRES[wire])
-    homes = {conn: name for name, conn, _ in PEOPLE[count]}
+def tried(people, count, wire, own):
+    net = begun(people, count, WIRES[wire])
+    homes = {conn: name for name, conn, _ in people}
     net.todo = tuple(tuple((homes[conn], conn, line) for line in lines) for conn, lines in own.items() if lines)
     return ends(net)
 
@@ -523,6 +563,7 @@ def main():
     ask = argparse.ArgumentParser()
     ask.add_argument("--wire", default="all")
     ask.add_argument("--servers", type=int, default=2)
+    ask.add_argument("--people", type=int, default=3)
     ask.add_argument("--things", type=int, default=4)
     ask.add_argument("--tries", type=int, default=50)
     ask.add_argument("--seed", type=int, default=1)
@@ -530,14 +571,15 @@ def main():
     given = ask.parse_args()
     wires = list(WIRES) if given.wire == "all" else [given.wire]
     chance = random.Random(given.seed)
-    sets = list(RACES.items()) + [(f"by chance {turn}", by_chance(chance, given.things)) for turn in range(given.tries)]
+    people, chosen = PEOPLE[given.servers, given.people], RACES if given.people == 3 else FOUR_RACES
+    sets = list(chosen.items()) + [(f"by chance {turn}", by_chance(chance, given.people, given.things)) for turn in range(given.tries)]
     counts, shown = {wire: collections.Counter() for wire in wires}, collections.Counter()
     for title, own in sets:
-        results = {wire: tried(given.servers, wire, own) for wire in wires}
+        results = {wire: tried(people, given.servers, wire, own) for wire in wires}
         ranks = {wire: worst(found) for wire, found in results.items()}
         for wire, rank in ranks.items():
             counts[wire][rank] += 1
-        if title in RACES or len(set(ranks.values())) > 1:
+        if title in chosen or len(set(ranks.values())) > 1:
             print(title, {conn: [line.decode() for line in lines] for conn, lines in own.items()}, ranks)
         for wire, found in results.items():
             if ranks[wire] != "alike" and wire != "plain" and shown[wire, ranks[wire]] < given.show:
