@@ -6,7 +6,8 @@ use Rattle.irc_line.specs.Reading.{read_of}
 use Rattle.irc_names.specs.Fold.{fold, fold_table}
 use Rattle.irc_names.specs.Names.{is_nick}
 use Rattle.irc_late.specs.Laws.{CrossedKillIsLeftOut, CrossedNickIsKilled, CrossedRenameIsLeftOut}
-use Rattle.irc_late.specs.Laws.{KeyStays, KickIsPutRight, KilledIsLeftOut, ModeIsPutRight}
+use Rattle.irc_late.specs.Laws.{GivenUpNickIsKilled, KeyStays, KickIsPutRight, KilledIsLeftOut}
+use Rattle.irc_late.specs.Laws.{ModeIsPutRight, NextNickIsKilled, OwnNickIsSpared}
 
 pub killed_is_left_out : KilledIsLeftOut
 unfolding read_of is_nick fold fold_table
@@ -35,3 +36,15 @@ crossed_nick_is_killed = refl
 pub crossed_rename_is_left_out : CrossedRenameIsLeftOut
 unfolding read_of is_nick fold fold_table
 crossed_rename_is_left_out = refl
+
+pub own_nick_is_spared : OwnNickIsSpared
+unfolding read_of is_nick fold fold_table
+own_nick_is_spared = refl
+
+pub next_nick_is_killed : NextNickIsKilled
+unfolding read_of is_nick fold fold_table
+next_nick_is_killed = refl
+
+pub given_up_nick_is_killed : GivenUpNickIsKilled
+unfolding read_of is_nick fold fold_table
+given_up_nick_is_killed = refl

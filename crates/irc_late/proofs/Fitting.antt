@@ -1,6 +1,6 @@
 -- A line that is written again fits.
 use Rattle.std.proofs.Common.{◌≡◌, ◌+◌, ◌≤◌, ℕ, List, Result, Ok, Err, length, take, subst, arith}
-use Rattle.std.proofs.Common.{length-append, length-take, Bool, true, false, ◌&&◌, []}
+use Rattle.std.proofs.Common.{length-append, length-take, Bool, true, false, not, ◌&&◌, []}
 use Rattle.std.proofs.Common.{if◌then◌else◌, unwrap_or}
 use Rattle.std.specs.Bool.{⊤}
 use Rattle.std.specs.Cmp.Lexicographic.{pointwise}
@@ -14,7 +14,7 @@ use Rattle.irc_names.specs.Names.{is_nick}
 use Rattle.irc_late.specs.declared.hearing.LineFate.{LineFate}
 use Rattle.irc_late.specs.declared.hearing.LineFate.TheVariants.{Unchanged, Changed, LeftOut}
 use Rattle.irc_late.specs.declared.hearing.LineFate.TheVariants.{KillBack}
-use Rattle.irc_late.specs.Remembering.{Remembered, was_introduced}
+use Rattle.irc_late.specs.Remembering.{Remembered, is_own, was_introduced}
 use Rattle.irc_late.specs.Late.{is_late, is_met_kill, is_nick_line, word_at, params_put_right}
 use Rattle.irc_late.specs.Late.{read_heard, with_params}
 use Rattle.irc_late.specs.Laws.{ChangedFits}
@@ -43,7 +43,8 @@ read_fits memory (Ok message) =
     let params = params_put_right memory message.command message.params in
     let nick = word_at 0 message in
     let back = is_nick_line message
-    && (was_introduced memory (unwrap_or message.prefix []) && is_nick nick) in
+    && (was_introduced memory (unwrap_or message.prefix [])
+    && (not (is_own memory nick) && is_nick nick)) in
     each_way Fits (is_late memory message) (is_met_kill memory message)
     (pointwise bytes_eq params message.params)
     (if back then KillBack nick else LeftOut) LeftOut Unchanged

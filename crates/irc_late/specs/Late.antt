@@ -13,7 +13,9 @@
 --   `:b.net KILL zed :..`     left out: it has met a.net's, and who may have the name by now
 --                             is another
 --   `:zed NICK zoe`           left out, and a KILL for zoe is to be written back: that of zed finds
---                             a.net's own on b.net
+--                             a.net's own on b.net. Not where a user of a.net has become zoe: that
+--                             line of a.net's finds zed there, or zed has left, or tells of its
+--                             next nickname, and a KILL for that one is to be written back
 -- al of a.net has become ally, and b.net does not know it yet when it writes
 --   `:bo KICK #c al :out`     becomes `:bo KICK #c ally :out`; so do a KILL, an INVITE, and a
 --                             PRIVMSG or NOTICE for al
@@ -21,7 +23,7 @@
 -- Each other line is given on byte for byte.
 use Rattle.std.specs.Prelude.{ℕ, zero, suc, ◌-◌, Bool, true, false, ◌&&◌, ◌||◌, Option, Some, None}
 use Rattle.std.specs.Prelude.{Result, Ok, Err, List, [], ◌∷◌, codes, length, take, get_or, nat_eq}
-use Rattle.std.specs.Prelude.{unwrap_or, if◌then◌else◌}
+use Rattle.std.specs.Prelude.{unwrap_or, not, if◌then◌else◌}
 use Rattle.std.specs.List.{slice_get}
 use Rattle.std.specs.Option.{is_none, option_map_or}
 use Rattle.std.specs.Cmp.Lexicographic.{pointwise}
@@ -35,8 +37,9 @@ use Rattle.irc_late.specs.declared.hearing.LineFate.{LineFate}
 use Rattle.irc_late.specs.declared.hearing.LineFate.TheVariants.{Unchanged, Changed, LeftOut}
 use Rattle.irc_late.specs.declared.hearing.LineFate.TheVariants.{KillBack}
 use Rattle.irc_late.specs.Remembering.{Remembered, has_crossed, is_killed, is_met, is_met_new}
-use Rattle.irc_late.specs.Remembering.{nick_now, none_crossed, with_change, with_killed, with_met}
-use Rattle.irc_late.specs.Remembering.{was_introduced, without_changes, without_killed}
+use Rattle.irc_late.specs.Remembering.{is_own, nick_now, none_crossed, was_introduced, with_change}
+use Rattle.irc_late.specs.Remembering.{with_killed, with_met, with_own, without_changes}
+use Rattle.irc_late.specs.Remembering.{without_killed, without_own}
 
 -- a word of a line; no bytes where the line has fewer
 abbrev pub word_at : ℕ → Parsed → List ℕ
@@ -58,15 +61,25 @@ is_squit_line message = is_command (codes "SQUIT") message.command
 
 -- A NICK without a prefix introduces a user, and one with a prefix is a change of its nickname.
 abbrev pub nick_put_out : Option (List ℕ) → List ℕ → Remembered → Remembered
-nick_put_out None nick memory = without_changes nick memory
-nick_put_out (Some old) nick memory = with_change old nick memory
+nick_put_out None nick memory = with_own nick true (without_changes nick memory)
+nick_put_out (Some old) nick memory =
+    with_own nick true (with_own old false (with_change old nick memory))
+
+-- a QUIT of its own, or of nobody
+abbrev pub quit_put_out : Option (List ℕ) → Remembered → Remembered
+quit_put_out None memory = memory
+quit_put_out (Some name) memory = with_own name false memory
 
 abbrev pub message_put_out : Remembered → Parsed → Remembered
 message_put_out memory message =
-    if is_kill_line message then with_killed (word_at 0 message) (is_met memory (word_at 0 message))
-    (is_met_new memory (word_at 0 message)) memory
+    if is_kill_line message then
+    with_own (word_at 0 message) false
+    (with_killed (word_at 0 message) (is_met memory (word_at 0 message))
+    (is_met_new memory (word_at 0 message)) memory)
     else (if is_nick_line message then nick_put_out message.prefix (word_at 0 message) memory
-    else memory)
+    else (if is_quit_line message then quit_put_out message.prefix memory
+    else (if is_squit_line message then without_own memory
+    else memory)))
 
 abbrev pub read_put_out : Remembered → Result Parsed LineFault → Remembered
 read_put_out memory (Ok message) = message_put_out memory message
@@ -180,10 +193,13 @@ other_heard memory message =
 
 -- A line of somebody who was killed is left out. Where it takes another nickname, and the KILL
 -- has crossed the line that has introduced it, a KILL for that nickname is to be written back:
--- the one for the old nickname finds this end's own user there.
+-- the one for the old nickname finds this end's own user there. But where a user of this side has
+-- that nickname, its own NICK meets whoever has it there, and a KILL behind it would find the user
+-- of this side.
 abbrev pub late_heard : Remembered → List ℕ → Parsed → LineFate
 late_heard memory name message =
-    if is_nick_line message && (was_introduced memory name && is_nick (word_at 0 message))
+    if is_nick_line message && (was_introduced memory name && (not (is_own memory
+    (word_at 0 message)) && is_nick (word_at 0 message)))
     then KillBack (word_at 0 message) else LeftOut
 
 abbrev pub message_heard : Remembered → Parsed → LineFate
@@ -202,12 +218,20 @@ heard memory line = read_heard memory (read_of line)
 -- ---- what is remembered behind it
 
 -- Somebody who was killed takes another nickname, and is to be killed under that one; or leaves.
+-- Where no KILL was written back, since a user of this side has that nickname, one is to be for
+-- its next one.
 abbrev pub after_late : Remembered → List ℕ → Parsed → Remembered
 after_late memory name message =
-    if is_nick_line message
-    then with_killed (word_at 0 message) false false (without_killed name memory)
+    if is_nick_line message then
+    with_killed (word_at 0 message) false
+    (was_introduced memory name && is_own memory (word_at 0 message)) (without_killed name memory)
     else (if is_quit_line message then without_killed name memory
     else memory)
+
+-- The other end has killed a user of this side, unless its KILL has met one of this end's.
+abbrev pub own_killed : List ℕ → Remembered → Remembered
+own_killed nick memory =
+    if has_crossed memory nick then memory else with_own (put_right memory nick) false memory
 
 -- The other end introduces or takes a nickname, or has killed its holder: it says no more of
 -- whoever had it. Where it loses a server, users leave of whom nothing more is said.
@@ -216,7 +240,8 @@ after_message memory message =
     if is_nick_line message then
     with_met (word_at 0 message) (is_none message.prefix)
     (without_killed (word_at 0 message) (without_changes (word_at 0 message) memory))
-    else (if is_kill_line message then without_killed (word_at 0 message) memory
+    else (if is_kill_line message then
+    without_killed (word_at 0 message) (own_killed (word_at 0 message) memory)
     else (if is_squit_line message then none_crossed memory
     else memory))
 

@@ -1,6 +1,6 @@
 -- What holds of late lines, whatever is remembered and whatever comes.
-use Rattle.std.specs.Prelude.{◌≡◌, ℕ, ◌≤◌, Bool, true, false, ◌||◌, Some, Ok, List, [], ◌++◌, codes}
-use Rattle.std.specs.Prelude.{length}
+use Rattle.std.specs.Prelude.{◌≡◌, ℕ, ◌≤◌, Bool, true, false, ◌||◌, Some, Ok, List, [], ◌∷◌, ◌++◌}
+use Rattle.std.specs.Prelude.{codes, length}
 use Rattle.std.specs.List.{list_all, list_any}
 use Rattle.std.specs.Option.{is_some}
 use Rattle.arrayvec.specs.ArrayVec.{ArrayVec}
@@ -15,7 +15,8 @@ use Rattle.irc_late.specs.declared.hearing.LineFate.TheVariants.{Unchanged, Chan
 use Rattle.irc_late.specs.declared.hearing.LineFate.TheVariants.{KillBack}
 use Rattle.irc_late.specs.declared.memory.Killed.{Killed}
 use Rattle.irc_late.specs.Remembering.{Remembered, is_killed, nick_now, nothing_remembered}
-use Rattle.irc_late.specs.Late.{after_hearing, heard, is_late, line_put_out, names_first, word_at}
+use Rattle.irc_late.specs.Late.{after_hearing, heard, is_late, line_put_out, lines_put_out}
+use Rattle.irc_late.specs.Late.{names_first, word_at}
 
 -- ---- nothing is remembered
 
@@ -127,3 +128,22 @@ abbrev pub CrossedRenameIsLeftOut : Type 0
 CrossedRenameIsLeftOut =
     heard_crossed (codes ":al NICK zed") (codes ":a.net KILL zed :Nick collision")
     (codes ":zed NICK zoe") ≡ LeftOut
+
+-- what is remembered where somebody of b.net was introduced as zed while zed was killed, and then
+-- a user of this side has become zoe
+abbrev pub zoe_is_own : Remembered
+zoe_is_own = lines_put_out (after_hearing nothing_remembered (codes "NICK zed 1 u h 1 + :Z"))
+    (codes ":a.net KILL zed :Nick collision" ∷ codes ":al NICK zoe" ∷ [])
+
+abbrev pub OwnNickIsSpared : Type 0
+OwnNickIsSpared = heard zoe_is_own (codes ":zed NICK zoe") ≡ LeftOut
+
+-- what is killed under its next nickname
+abbrev pub NextNickIsKilled : Type 0
+NextNickIsKilled = heard (after_hearing zoe_is_own (codes ":zed NICK zoe"))
+    (codes ":zoe NICK zap") ≡ KillBack (codes "zap")
+
+-- a nickname that a user of this side had, and has no more
+abbrev pub GivenUpNickIsKilled : Type 0
+GivenUpNickIsKilled = heard (line_put_out zoe_is_own (codes ":zoe QUIT :bye"))
+    (codes ":zed NICK zoe") ≡ KillBack (codes "zoe")

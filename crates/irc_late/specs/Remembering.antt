@@ -5,9 +5,10 @@
 --     a.net -> b.net   `:a.net KILL zed :Nick collision`
 --                      zed is killed: what still comes from zed was said before
 --     a.net -> b.net   `:al NICK ally`
---                      al is ally now: a KICK of al that still comes is meant for ally
+--                      al is ally now: a KICK of al that still comes is meant for ally, and ally is
+--                      a nickname of this side until `:ally QUIT`, say
 use Rattle.std.specs.Prelude.{ℕ, ◌-◌, Bool, false, not, ◌&&◌, ◌||◌, Option, Some, None, List, []}
-use Rattle.std.specs.Prelude.{◌∷◌, ◌++◌, length, drop, filter, map, if◌then◌else◌}
+use Rattle.std.specs.Prelude.{◌∷◌, ◌++◌, length, drop, filter, map, fold, if◌then◌else◌}
 use Rattle.std.specs.List.{find, list_any}
 use Rattle.std.specs.Option.{option_map, option_map_or}
 use Rattle.irc_names.specs.Fold.{same}
@@ -15,6 +16,7 @@ use Rattle.irc_names.specs.Names.{is_nick}
 use Rattle.irc_late.specs.declared.memory.NickChange.{NickChange}
 use Rattle.irc_late.specs.declared.memory.Killed.{Killed}
 use Rattle.irc_late.specs.declared.memory.Met.{Met}
+use Rattle.irc_late.specs.declared.memory.OwnNick.{OwnNick}
 
 -- what an end of a link remembers, the oldest first
 pub record Remembered : Type 0 where
@@ -22,14 +24,16 @@ pub record Remembered : Type 0 where
   pub killed : List Killed
   -- the nicknames that users have given up, each with the one that its user has now
   pub changes : List NickChange
+  -- the nicknames that users of this side have taken or given up, as this end has put it out
+  pub own : List OwnNick
   -- the nickname that the line at hand introduces or takes: a KILL for it that is put out now
   -- meets that line
   pub met : Option Met
 
 abbrev pub nothing_remembered : Remembered
-nothing_remembered = record { killed = []; changes = []; met = None }
+nothing_remembered = record { killed = []; changes = []; own = []; met = None }
 
--- Of killed nicknames, and of changes, 1024 are remembered: where one more comes, the oldest goes.
+-- 1024 of each are remembered: where one more comes, the oldest goes.
 abbrev pub newest : {A : Type 0} → List A → List A
 newest items = drop (length items - 1024) items
 
@@ -56,10 +60,11 @@ abbrev pub without_killed : List ℕ → Remembered → Remembered
 without_killed nick memory = record memory { killed = filter (is_other_killed nick) memory.killed }
 
 -- Whether it has crossed the line by which the other end has introduced its user. If that user
--- has another nickname by then, the KILL finds this end's own user there.
+-- has another nickname by then, the KILL finds this end's own user there; so it is to be killed
+-- under that one.
 abbrev pub was_introduced : Remembered → List ℕ → Bool
 was_introduced memory nick =
-    list_any (λ (k : Killed). k.crossed && (k.introduced && same k.nick nick)) memory.killed
+    list_any (λ (k : Killed). k.introduced && same k.nick nick) memory.killed
 
 -- a KILL is put out for a nickname; a word that is none is nobody's
 abbrev pub with_killed : List ℕ → (crossed introduced : Bool) → Remembered → Remembered
@@ -72,9 +77,10 @@ with_killed nick crossed introduced memory =
     else memory
 
 abbrev pub not_crossed : Killed → Killed
-not_crossed killed = record killed { crossed = false }
+not_crossed killed = record killed { crossed = false; introduced = false }
 
--- no KILL is taken for one that has crossed any more
+-- no KILL is taken for one that has crossed any more, and nobody is to be killed under another
+-- nickname
 abbrev pub none_crossed : Remembered → Remembered
 none_crossed memory = record memory { killed = map not_crossed memory.killed }
 
@@ -138,3 +144,24 @@ with_change old new memory =
           ++ (record { given_up = old; now = new }) ∷ []);
     }
     else memory
+
+-- ---- who of this side has a nickname
+
+-- whether a user of this side has a nickname, as this end has put it out
+abbrev pub is_own : Remembered → List ℕ → Bool
+is_own memory nick =
+    fold (λ (taken : Bool) (own : OwnNick). if same own.nick nick then own.is_taken else taken)
+    false memory.own
+
+-- a user of this side has taken a nickname or given it up; a word that is none is nobody's
+abbrev pub with_own : List ℕ → (taken : Bool) → Remembered → Remembered
+with_own nick taken memory =
+    if is_nick nick then
+    record memory {
+      own = newest (memory.own ++ (record { nick = nick; is_taken = taken }) ∷ []);
+    }
+    else memory
+
+-- users of this side have left of whom nothing was put out
+abbrev pub without_own : Remembered → Remembered
+without_own memory = record memory { own = [] }

@@ -8,8 +8,9 @@ ghost use Rattle.irc_line.specs.Messages.{text};
 ghost use Rattle.irc_line.specs.PartViews.{sender, words_now};
 ghost use Rattle.irc_late.specs.Late.{after_hearing, after_late, after_message, heard, heard_with};
 ghost use Rattle.irc_late.specs.Late.{late_heard, line_put_out, may_meet, names_first, other_heard};
-ghost use Rattle.irc_late.specs.Late.{params_put_right, put_right, put_right_at, put_right_heard};
-ghost use Rattle.irc_late.specs.Late.{sender_again, with_params, word_at, words_put_right};
+ghost use Rattle.irc_late.specs.Late.{own_killed, params_put_right, put_right, put_right_at};
+ghost use Rattle.irc_late.specs.Late.{put_right_heard, sender_again, with_params, word_at};
+ghost use Rattle.irc_late.specs.Late.{words_put_right};
 
 use crate::memory::Memory;
 use crate::mode_words::put_modes_right;
@@ -47,11 +48,22 @@ impl Memory {
         if is_command(b"KILL", message.command) {
             let (crossed, introduced) = (self.is_met(nick), self.is_met_new(nick));
             self.kill(nick, crossed, introduced);
+            self.note_own(nick, false);
         } else if is_command(b"NICK", message.command) {
             match message.prefix {
-                Some(old) => self.rename(old, nick),
+                Some(old) => {
+                    self.rename(old, nick);
+                    self.note_own(old, false);
+                }
                 None => self.forget_changes(nick),
             }
+            self.note_own(nick, true);
+        } else if is_command(b"QUIT", message.command) {
+            if let Some(name) = message.prefix {
+                self.note_own(name, false);
+            }
+        } else if is_command(b"SQUIT", message.command) {
+            self.forget_own();
         }
     }
 
@@ -79,9 +91,11 @@ impl Memory {
     fn hear_late(&self, name: &[u8], message: &Message<'_>) -> LineFate
         ensures { result ≡ late_heard self.now name.now (parsed message.now) }
     {
+        let nick = word_at(message, 0);
         if is_command(b"NICK", message.command)
             && self.was_introduced(name)
-            && let Some(nick) = Nick::read(word_at(message, 0))
+            && !self.is_own(nick)
+            && let Some(nick) = Nick::read(nick)
         {
             return LineFate::KillBack(nick);
         }
@@ -92,9 +106,11 @@ impl Memory {
     fn note_late(&mut self, name: &[u8], message: &Message<'_>)
         ensures { self.new ≡ after_late self.old name.now (parsed message.now) }
     {
+        let nick = word_at(message, 0);
         if is_command(b"NICK", message.command) {
+            let introduced = self.was_introduced(name) && self.is_own(nick);
             self.forget_killed(name);
-            self.kill(word_at(message, 0), false, false);
+            self.kill(nick, false, introduced);
         } else if is_command(b"QUIT", message.command) {
             self.forget_killed(name);
         }
@@ -120,9 +136,21 @@ impl Memory {
             self.forget_killed(nick);
             self.meet(nick, message.prefix.is_none());
         } else if is_command(b"KILL", message.command) {
+            self.note_own_killed(nick);
             self.forget_killed(nick);
         } else if is_command(b"SQUIT", message.command) {
             self.forget_crossed();
+        }
+    }
+
+    /// The other end has killed a user of this side, unless its KILL has met one of this end's.
+    fn note_own_killed(&mut self, nick: &[u8])
+        ensures { self.new ≡ own_killed nick.now self.old }
+    {
+        if !self.has_crossed(nick)
+            && let Some(now) = Nick::read(put_word_right(self, nick))
+        {
+            self.note_own(now.as_bytes(), false);
         }
     }
 }

@@ -2,9 +2,10 @@
 //! that does nothing, and its contract is the law: the check proves it, and a crate above may
 //! cite it.
 ghost use Rattle.irc_late.specs.Laws.{ChangedFits, CrossedKillIsLeftOut, CrossedNickIsKilled};
-ghost use Rattle.irc_late.specs.Laws.{CrossedRenameIsLeftOut, KeyStays, KickIsPutRight};
-ghost use Rattle.irc_late.specs.Laws.{KilledIsLeftOut, ModeIsPutRight, NobodyIsUnchanged};
-ghost use Rattle.irc_late.specs.Laws.{NothingIsNoted, NothingIsUnchanged, ServersAreUnchanged};
+ghost use Rattle.irc_late.specs.Laws.{CrossedRenameIsLeftOut, GivenUpNickIsKilled, KeyStays};
+ghost use Rattle.irc_late.specs.Laws.{KickIsPutRight, KilledIsLeftOut, ModeIsPutRight};
+ghost use Rattle.irc_late.specs.Laws.{NextNickIsKilled, NobodyIsUnchanged, NothingIsNoted};
+ghost use Rattle.irc_late.specs.Laws.{NothingIsUnchanged, OwnNickIsSpared, ServersAreUnchanged};
 
 /// With nothing remembered each line is given on as it came, and nothing is remembered behind it.
 pub fn nothing_remembered()
@@ -42,4 +43,12 @@ pub fn crossed_lines()
     ensures kill { CrossedKillIsLeftOut }
     ensures nick { CrossedNickIsKilled }
     ensures rename { CrossedRenameIsLeftOut }
+{}
+
+/// The same change to a nickname that a user of this side has, the next one of that user, and a
+/// nickname that a user of this side had.
+pub fn own_nicks()
+    ensures own { OwnNickIsSpared }
+    ensures next { NextNickIsKilled }
+    ensures given_up { GivenUpNickIsKilled }
 {}

@@ -23,7 +23,8 @@ pub struct Killed {
     /// Whether the other end has still to tell of whoever had it there: it had given it to a user
     /// of its own before it knew of this end's.
     pub crossed: bool,
-    /// Whether it has introduced that user just then.
+    /// Whether it has introduced that user just then, and no KILL that was put out finds it under
+    /// another nickname.
     pub introduced: bool,
 }
 
@@ -44,11 +45,20 @@ pub struct NickChange {
     pub now: MarkedNick,
 }
 
+/// A nickname that a user of this side takes or gives up.
+#[derive(Drop)]
+pub struct OwnNick {
+    pub nick: Nick,
+    /// Whether it is taken, and not given up.
+    pub is_taken: bool,
+}
+
 /// What one end of a link remembers of what it has told the other one, each the oldest first.
 #[derive(Drop)]
 pub struct Memory {
     killed: HeapCircularBuffer<Killed, Global>,
     changes: HeapCircularBuffer<NickChange, Global>,
+    own: HeapCircularBuffer<OwnNick, Global>,
     /// The nickname that the line at hand introduces or takes.
     met: Option<Met>,
 }
@@ -62,17 +72,20 @@ impl Model for Memory {
     ghost view = { λ memory. record {
       killed = memory.killed.items;
       changes = memory.changes.items;
+      own = memory.own.items;
       met = memory.met;
     } };
 
-    ghost invariant = { λ memory. (memory.killed.capacity ≡ 1024) × (memory.changes.capacity ≡ 1024) };
+    ghost invariant = { λ memory. (memory.killed.capacity ≡ 1024) × (memory.changes.capacity ≡ 1024)
+        × (memory.own.capacity ≡ 1024) };
 }
 
 impl Memory {
     ghost use Rattle.irc_late.specs.Remembering.{nothing_remembered, has_crossed, is_killed};
-    ghost use Rattle.irc_late.specs.Remembering.{is_met, is_met_new, nick_now, none_crossed};
-    ghost use Rattle.irc_late.specs.Remembering.{with_killed, with_change, with_met, with_none_met};
-    ghost use Rattle.irc_late.specs.Remembering.{was_introduced, without_changes, without_killed};
+    ghost use Rattle.irc_late.specs.Remembering.{is_met, is_met_new, is_own, nick_now};
+    ghost use Rattle.irc_late.specs.Remembering.{none_crossed, was_introduced, with_change};
+    ghost use Rattle.irc_late.specs.Remembering.{with_killed, with_met, with_none_met, with_own};
+    ghost use Rattle.irc_late.specs.Remembering.{without_changes, without_killed, without_own};
 
     /// Nothing.
     ///
@@ -84,6 +97,7 @@ impl Memory {
         Ok(Memory {
             killed: HeapCircularBuffer::with_capacity(alloc, MAX_REMEMBERED)?,
             changes: HeapCircularBuffer::with_capacity(alloc, MAX_REMEMBERED)?,
+            own: HeapCircularBuffer::with_capacity(alloc, MAX_REMEMBERED)?,
             met: None,
         })
     }
@@ -105,13 +119,12 @@ impl Memory {
         self.killed.iter().any(|killed| killed.crossed && same(killed.nick.as_bytes(), nick))
     }
 
-    /// Whether it has crossed the line by which the other end has introduced that user.
+    /// Whether it has crossed the line by which the other end has introduced that user, who is to
+    /// be killed under another nickname.
     pub fn was_introduced(&self, nick: &[u8]) -> bool
         ensures { result ≡ was_introduced self.now nick.now }
     {
-        self.killed.iter().any(|killed| killed.crossed
-            && killed.introduced
-            && same(killed.nick.as_bytes(), nick))
+        self.killed.iter().any(|killed| killed.introduced && same(killed.nick.as_bytes(), nick))
     }
 
     /// Whether the line at hand introduces or takes a nickname.
@@ -148,7 +161,8 @@ impl Memory {
         self.met = None;
     }
 
-    /// No KILL is taken for one that has crossed any more.
+    /// No KILL is taken for one that has crossed any more, and nobody is to be killed under another
+    /// nickname.
     pub fn forget_crossed(&mut self)
         ensures { self.new ≡ none_crossed self.old }
     {
@@ -165,6 +179,36 @@ impl Memory {
             .iter()
             .find(|change| change.given_up.is(&nick))?;
         Some(change.now.as_nick())
+    }
+
+    /// Whether a user of this side has a nickname, as this end has put it out.
+    pub fn is_own(&self, nick: &[u8]) -> bool
+        ensures { result ≡ is_own self.now nick.now }
+    {
+        self.own.iter().fold(
+            false,
+            |taken, own| if same(own.nick.as_bytes(), nick) {
+                own.is_taken
+            } else {
+                taken
+            },
+        )
+    }
+
+    /// A user of this side takes a nickname or gives it up, if it is one.
+    pub fn note_own(&mut self, nick: &[u8], is_taken: bool)
+        ensures { self.new ≡ with_own nick.now is_taken self.old }
+    {
+        if let Some(nick) = Nick::read(nick) {
+            let _oldest = self.own.push_back(OwnNick { nick, is_taken });
+        }
+    }
+
+    /// Users of this side have left of whom nothing is put out.
+    pub fn forget_own(&mut self)
+        ensures { self.new ≡ without_own self.old }
+    {
+        self.own.clear();
     }
 
     /// A KILL is put out for a nickname, if it is one.
@@ -235,7 +279,7 @@ fn turn_name(killed: &mut HeapCircularBuffer<Killed, Global>, nick: &[u8])
     }
 }
 
-/// Killed nicknames of which none has crossed.
+/// Killed nicknames of which none has crossed, and none is to be killed under another one.
 fn mark_not_crossed(killed: &mut HeapCircularBuffer<Killed, Global>)
     ensures { ChangesAll not_crossed killed.old killed.new }
 {
@@ -252,6 +296,7 @@ fn mark_first(killed: &mut HeapCircularBuffer<Killed, Global>)
 {
     if let Some(mut first) = killed.pop_front() {
         first.crossed = false;
+        first.introduced = false;
         let _none = killed.push_back(first);
     }
 }
