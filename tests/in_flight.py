@@ -6,6 +6,8 @@ links to each daemon in turn and reads all that it tells, so daemons that differ
   random     three in a line, 12 clients that do anything by chance with few names: phases that end differently
   race_a     two take one nickname at once, a third takes it behind them, and the first goes on talking
   race_b     the same, and the first has gone on to another nickname, which the third takes
+  race_c     two come under one nickname at once, one of them takes another and leaves; a third takes that one and goes on talking, a fourth takes
+             it behind them
   rejoin     a new link with twenty nicknames on both sides, each of which comes back at once under its name when it is killed
   bots       two clients with one nickname, which come back at once, and the server between them away and back
   dup        two connections that take one nickname, join and talk, again and again
@@ -372,10 +374,15 @@ def matrix(program, given):
 class Anybody(Stream):
     """A client that may be registered or not, or killed at any time."""
 
-    def __init__(self, network, server, nick):
+    def __init__(self, network, server, nick=None):
         super().__init__(network, network[server].port)
         self.server = server
-        self.tries(f"NICK {nick}", f"USER {nick} 0 * :x")
+        if nick is not None:
+            self.comes(nick)
+
+    def comes(self, nick, *lines):
+        """Registers, and says more at once."""
+        self.tries(f"NICK {nick}", f"USER {nick} 0 * :x", *lines)
 
     def tries(self, *lines):
         """Says what it may be too late to say."""
@@ -466,10 +473,10 @@ def random_use(program, given):
                     + why(field.reasons()))
 
 
-def race(program, part, lines, taken):
-    """p@a and q@b take z at once, r@b another name behind them, and p talks meanwhile."""
+def race(program, part, delays, begins, taken, is_time=lambda r: True):
+    """p@a takes a name as others do something, r@b this one behind them, from some time on, and p talks meanwhile."""
     results, held, reasons = [], True, collections.Counter()
-    for delay in DELAYS:
+    for delay in delays:
         lost = 0
         with Field(program, 2, delay) as field:
             for number in range(TRIES):
@@ -477,18 +484,18 @@ def race(program, part, lines, taken):
                 for one in (p, q, r):
                     one.syncs()
                 field.rests(1)
-                p.tries(*(f"NICK {word}{number}" for word in lines))
-                q.tries(f"NICK z{number}")
+                others = begins(field, number, p, q, r)
                 end = time.monotonic() + 4 * delay + 0.05
                 while time.monotonic() < end and not field.lost():
                     p.tries("PRIVMSG watchb :a word")
-                    r.tries(f"NICK {taken}{number}")
+                    if is_time(r):
+                        r.tries(f"NICK {taken}{number}")
                     time.sleep(0.001)
                 for one in (p, q, r):
                     one.syncs()
                 field.rests()
                 lost += field.counts_lost() > 0
-                for one in (p, q, r):
+                for one in (p, q, r, *others):
                     one.socket.close()
             held = held and lost == 0 and field.all_run()
             results.append(f"{lost} of {TRIES} behind {delay * 1000:.0f} ms")
@@ -497,11 +504,39 @@ def race(program, part, lines, taken):
 
 
 def race_a(program, _):
-    return race(program, "race_a", ["z"], "z")
+    def begins(_, number, p, q, r):
+        p.tries(f"NICK z{number}")
+        q.tries(f"NICK z{number}")
+        return []
+    return race(program, "race_a", DELAYS, begins, "z")
 
 
 def race_b(program, _):
-    return race(program, "race_b", ["z", "y"], "y")
+    def begins(_, number, p, q, r):
+        p.tries(f"NICK z{number}", f"NICK y{number}")
+        q.tries(f"NICK z{number}")
+        return []
+    return race(program, "race_b", DELAYS, begins, "y")
+
+
+def race_c(program, _):
+    """Two come as z at once, and the one on b.net goes on to y, and leaves; so p@a takes y."""
+    def begins(field, number, p, _, r):
+        here, there = Anybody(field, "a.net"), Anybody(field, "b.net")
+        for one in (p, r):
+            one.tries(f"JOIN #den{number}")
+            one.syncs()
+        field.rests(1)
+        there.comes(f"z{number}", f"NICK y{number}", "QUIT :bye")
+        here.comes(f"z{number}")
+        p.tries(f"NICK y{number}")
+        return [here, there]
+
+    def sees_it(r):
+        while r.pump(0):
+            pass
+        return any(" NICK " in line for line in r.seen)
+    return race(program, "race_c", [0.05, 0.02, 0.005, 0.0], begins, "y", sees_it)
 
 
 class Returning(Anybody):
@@ -685,8 +720,8 @@ def chase(program, _):
                     f"of those who take another nickname every 20 ms {' and '.join(results)}; links lost: {lost}{why(field.reasons())}")
 
 
-PARTS = {"matrix": matrix, "random": random_use, "race_a": race_a, "race_b": race_b, "rejoin": rejoin, "bots": bots, "dup": dup, "half_gone": half_gone,
-         "chase": chase}
+PARTS = {"matrix": matrix, "random": random_use, "race_a": race_a, "race_b": race_b, "race_c": race_c, "rejoin": rejoin, "bots": bots, "dup": dup,
+         "half_gone": half_gone, "chase": chase}
 
 
 def holds(name, program, given):
