@@ -1,22 +1,20 @@
 //! Bursts, line by line, and the other lines of servers (RFC 2813 sections 4 and 5.3.2).
-use crate::stage::{add_neighbour, channel, come, join, nick, routes, server, set, set_topic};
-use arrayvec::ArrayVec;
+use crate::stage::{
+    LINKED, Scene, Stage, StageStep, changes, channel, description, nick, server, stage_of,
+};
 use irc_burst_lines::{
     MEMBERS_A_LINE, NewMember, burst, kill_text, mode_text, njoin_text, server_text, squit_text,
     topic_text,
 };
 use irc_channels::{Flags, Words};
 use irc_line::Text;
-use irc_link_words::{greeting_text, pass_text, read_changes};
-use irc_room::Room;
-use irc_routes::{Info, Routes};
-use itoa::Buffer;
+use irc_link_words::{greeting_text, pass_text};
+use irc_routes::Routes;
 use std::alloc::Global;
 use std::process::Abort;
-use std::test::Fail;
 
 /// What a.net tells of al, who is alone in #m.
-static ALONE: [&[u8]; 6] = [
+const ALONE: &[&[u8]] = &[
     b"NICK al 1 u h 1 + :Al\r\n",
     b":a.net NJOIN #m :@al\r\n",
     b":a.net MODE #m +ntl 5\r\n",
@@ -26,7 +24,7 @@ static ALONE: [&[u8]; 6] = [
 ];
 
 /// What it tells c.net besides, once b.net is linked and bo of b.net is in #m.
-static BOTH: [&[u8]; 8] = [
+const BOTH: &[&[u8]] = &[
     b":a.net SERVER b.net 2 2 :B\r\n",
     b"NICK al 1 u h 1 + :Al\r\n",
     b"NICK bo 2 u h 2 + :Bo\r\n",
@@ -37,60 +35,126 @@ static BOTH: [&[u8]; 8] = [
     b":a.net TOPIC #m :hello\r\n",
 ];
 
-/// The link of a burst, and its lines, where 31 users of a.net are in #c: only the last four of the
-/// lines are looked at.
-static LAST_FOUR: [&[u8]; 4] = [
+/// The last four lines of a burst, where 31 users of a.net are in #c.
+const LAST_FOUR: &[&[u8]] = &[
     b":a.net NJOIN #c :@n01,n02,n03,n04,n05,n06,n07,n08,n09,n10\r\n",
     b":a.net NJOIN #c :n11,n12,n13,n14,n15,n16,n17,n18,n19,n20\r\n",
     b":a.net NJOIN #c :n21,n22,n23,n24,n25,n26,n27,n28,n29,n30\r\n",
     b":a.net NJOIN #c :n31\r\n",
 ];
 
-/// The lines of servers, as they are written.
-static WRITTEN: [&[u8]; 6] = [
-    b"PASS pw 0210010001 TREE|\r\n",
-    b"SERVER a.net 1 1 :Test server\r\n",
-    b":a.net SERVER b.net 2 2 :B\r\n",
-    b":a.net SQUIT b.net :a.net b.net\r\n",
-    b":a.net KILL al :Nick collision\r\n",
-    b":a.net NJOIN #c :@al,+bo,@+cy,dee\r\n",
-];
+/// A user of a channel, and whether it is an operator there and may speak.
+type MemberRow = (&'static [u8], bool, bool);
 
-/// A nickname, a server's name, a channel's, a mask of a ban, a text and a description, each as
-/// long as one may be.
-static LONG_NICK: &[u8] = b"nnnnnnnnnnnnnnnnnnnnnnnnnnnnnn";
+/// What lines of servers name.
+struct LineNames {
+    password: &'static [u8],
+    by: &'static [u8],
+    other: &'static [u8],
+    nick: &'static [u8],
+    channel: &'static [u8],
+    text: &'static [u8],
+    info: &'static [u8],
+    members: &'static [MemberRow],
+    modes: &'static [&'static [u8]],
+}
 
-static LONG_SERVER: &[u8] = b"sssssssssssssssssssssssssssssssssssssssssssssssssssssssssss.net";
+static SHORT: LineNames = LineNames {
+    password: b"pw",
+    by: b"a.net",
+    other: b"b.net",
+    nick: b"al",
+    channel: b"#c",
+    text: b"a.net b.net",
+    info: b"B",
+    members: &[
+        (b"al", true, false),
+        (b"bo", false, true),
+        (b"cy", true, true),
+        (b"dee", false, false),
+    ],
+    modes: &[],
+};
 
-static LONG_CHANNEL: &[u8] = b"#ccccccccccccccccccccccccccccccccccccccccccccccccc";
+/// A nickname, a server's name and a mask of a ban, each as long as one may be.
+const LONG_NICK: &[u8] = b"nnnnnnnnnnnnnnnnnnnnnnnnnnnnnn";
 
-static LONG_MASK: &[u8] =
+const LONG_SERVER: &[u8] = b"sssssssssssssssssssssssssssssssssssssssssssssssssssssssssss.net";
+
+const LONG_MASK: &[u8] =
     b"bbbbbbbbbbbbbbbbbbbbbbbbbbbbbbbbbbbbbbbbbbbbbbbbbbbbbbbbbbbbbbbbbbbbbbbbbbbbbbbbbbbbbb!*@*";
 
-static LONG_TEXT: &[u8] =
-    b"wwwwwwwwwwwwwwwwwwwwwwwwwwwwwwwwwwwwwwwwwwwwwwwwwwwwwwwwwwwwwwwwwwwwwwwwwwwwwwwwwwwwwwwwwwww\
-      wwwwwwwwwwwwwwwwwwwwwwwwwwwwwwwwwwwwwwwwwwwwwwwwwwwwwwwwwwwwwwwwwwww";
+/// Everything is as long as it may be.
+static LONG: LineNames = LineNames {
+    password: b"pppppppppppppppppppp",
+    by: LONG_SERVER,
+    other: LONG_SERVER,
+    nick: LONG_NICK,
+    channel: b"#ccccccccccccccccccccccccccccccccccccccccccccccccc",
+    text: b"wwwwwwwwwwwwwwwwwwwwwwwwwwwwwwwwwwwwwwwwwwwwwwwwwwwwwwwwwwwwwwwwwwwwwwwwwwwwwwwwwwwwwwwwwwww\
+      wwwwwwwwwwwwwwwwwwwwwwwwwwwwwwwwwwwwwwwwwwwwwwwwwwwwwwwwwwwwwwwwwwww",
+    info: b"iiiiiiiiiiiiiiiiiiiiiiiiiiiiiiiiiiiiiiiiiiiiiiiiiiiiiiiiiiiiiii",
+    members: &[(LONG_NICK, true, true); MEMBERS_A_LINE],
+    modes: &[b"+bbb", LONG_MASK, LONG_MASK, LONG_MASK],
+};
 
-static LONG_INFO: &[u8] = b"iiiiiiiiiiiiiiiiiiiiiiiiiiiiiiiiiiiiiiiiiiiiiiiiiiiiiiiiiiiiiii";
+/// A line of servers. `Greeting` is the one by which a server names itself, `Server` that by which
+/// it names another.
+#[derive(Clone, Copy)]
+enum LineKind {
+    Pass,
+    Greeting,
+    Server,
+    Squit,
+    Kill,
+    Njoin,
+    Modes,
+    Topic,
+}
 
-/// How long the longest line of each kind is with its CR LF, and how it ends: none is cut.
-static LONGEST: [(usize, &[u8]); 7] = [
-    (44, b" 0210010001 TREE|\r\n"),
+/// A line, how long it is with its CR LF, and how it ends.
+type WrittenRow = (LineKind, usize, &'static [u8]);
+
+/// Where b.net is linked: whole lines.
+static WRITTEN: [WrittenRow; 6] = [
+    (LineKind::Pass, 26, b"PASS pw 0210010001 TREE|\r\n"),
+    (LineKind::Greeting, 31, b"SERVER a.net 1 1 :Test server\r\n"),
+    (LineKind::Server, 28, b":a.net SERVER b.net 2 2 :B\r\n"),
+    (LineKind::Squit, 33, b":a.net SQUIT b.net :a.net b.net\r\n"),
+    (LineKind::Kill, 32, b":a.net KILL al :Nick collision\r\n"),
     (
+        LineKind::Njoin,
+        35,
+        b":a.net NJOIN #c :@al,+bo,@+cy,dee\r\n",
+    ),
+];
+
+/// The longest line of each kind, where no other server is known: none is cut.
+static LONGEST: [WrittenRow; 7] = [
+    (LineKind::Pass, 44, b" 0210010001 TREE|\r\n"),
+    (
+        LineKind::Server,
         206,
         b".net 1 0 :iiiiiiiiiiiiiiiiiiiiiiiiiiiiiiiiiiiiiiiiiiiiiiiiiiiiiiiiiiiiiii\r\n",
     ),
     (
+        LineKind::Squit,
         298,
         b" :wwwwwwwwwwwwwwwwwwwwwwwwwwwwwwwwwwwwwwwwwwwwwwwwwwwwwwwwwwwwwwwwwwwwwwwwwwwwwwwwwwwwww\
           wwwwwwwwwwwwwwwwwwwwwwwwwwwwwwwwwwwwwwwwwwwwwwwwwwwwwwwwwwwwwwwwwwwwwwwwww\r\n",
     ),
-    (118, b" nnnnnnnnnnnnnnnnnnnnnnnnnnnnnn :Nick collision\r\n"),
     (
+        LineKind::Kill,
+        118,
+        b" nnnnnnnnnnnnnnnnnnnnnnnnnnnnnn :Nick collision\r\n",
+    ),
+    (
+        LineKind::Njoin,
         454,
         b",@+nnnnnnnnnnnnnnnnnnnnnnnnnnnnnn,@+nnnnnnnnnnnnnnnnnnnnnnnnnnnnnn\r\n",
     ),
     (
+        LineKind::Modes,
         400,
         b" +bbb bbbbbbbbbbbbbbbbbbbbbbbbbbbbbbbbbbbbbbbbbbbbbbbbbbbbbbbbbbbbbbbbbbbbbbbbbbbbbbbbbb\
           bbbb!*@* bbbbbbbbbbbbbbbbbbbbbbbbbbbbbbbbbbbbbbbbbbbbbbbbbbbbbbbbbbbbbbbbbbbbbbbbbbbbbbb\
@@ -98,6 +162,7 @@ static LONGEST: [(usize, &[u8]); 7] = [
           bbbbbbbbbb!*@*\r\n",
     ),
     (
+        LineKind::Topic,
         285,
         b" :wwwwwwwwwwwwwwwwwwwwwwwwwwwwwwwwwwwwwwwwwwwwwwwwwwwwwwwwwwwwwwwwwwwwwwwwwwwwwwwwwwwwww\
           wwwwwwwwwwwwwwwwwwwwwwwwwwwwwwwwwwwwwwwwwwwwwwwwwwwwwwwwwwwwwwwwwwwwwwwwww\r\n",
@@ -106,13 +171,9 @@ static LONGEST: [(usize, &[u8]); 7] = [
 
 /// Whether lines are these, from one of them on.
 fn are_from(lines: &[Text], first: usize, rows: &[&[u8]]) -> bool {
-    if lines.len() < first {
-        return false;
-    }
-    let rest = &lines[first..];
-    let mut all = rest.len() == rows.len();
+    let mut all = lines.len() == first.saturating_add(rows.len());
     for (place, row) in rows.iter().enumerate() {
-        all &= match rest.get(place) {
+        all &= match lines.get(first.saturating_add(place)) {
             Some(line) => line.as_slice() == *row,
             None => false,
         };
@@ -120,174 +181,169 @@ fn are_from(lines: &[Text], first: usize, rows: &[&[u8]]) -> bool {
     all
 }
 
-/// Whether a neighbour is told just these lines, but for so many that stand before them.
-fn is_told(room: &Room, routes: &Routes, link: u64, first: usize, rows: &[&[u8]]) -> bool {
-    match burst(room, routes, link) {
-        Ok(lines) => are_from(&lines, first, rows),
+/// What there is, the link of a neighbour, and the lines that it is told, but for so many that
+/// stand before them.
+struct Burst {
+    scenes: &'static [Scene],
+    link: u64,
+    first: usize,
+    lines: &'static [&'static [u8]],
+}
+
+const AL: Scene = &[
+    StageStep::Comes(b"al", b"a.net", b"Al"),
+    StageStep::Joins(b"al", true, b"#m"),
+    StageStep::Sets(b"#m", &[b"+ntl", b"5"]),
+    StageStep::Sets(b"#m", &[b"+bbb", b"c!*@*", b"b!*@*", b"d!*@*"]),
+    StageStep::Sets(b"#m", &[b"+b", b"a!*@*"]),
+    StageStep::SetsTopic(b"#m", b"hello"),
+];
+
+/// bo of b.net is there too.
+const BO: Scene = &[
+    StageStep::Comes(b"bo", b"b.net", b"Bo"),
+    StageStep::Joins(b"bo", false, b"#m"),
+];
+
+/// bo is in a channel of its own besides.
+const OWN: Scene = &[StageStep::Joins(b"bo", true, b"#own")];
+
+const CROWD: Scene = &[StageStep::Crowds];
+
+static ONE_SIDE: Burst = Burst {
+    scenes: &[AL],
+    link: 1,
+    first: 0,
+    lines: ALONE,
+};
+
+static BEHIND: Burst = Burst {
+    scenes: &[LINKED, AL, BO, OWN],
+    link: 1,
+    first: 0,
+    lines: ALONE,
+};
+
+static ANOTHER: Burst = Burst {
+    scenes: &[LINKED, AL, BO],
+    link: 2,
+    first: 0,
+    lines: BOTH,
+};
+
+static THIRTY_ONE: Burst = Burst {
+    scenes: &[CROWD],
+    link: 1,
+    first: 31,
+    lines: LAST_FOUR,
+};
+
+/// Whether a neighbour is told just these lines.
+fn is_told(stage: &Stage, told: &Burst) -> bool {
+    match &burst(&stage.room, &stage.routes, told.link) {
+        Ok(lines) => are_from(lines, told.first, told.lines),
         Err(_) => false,
     }
 }
 
-/// Whether lines are as long as these rows say, and end so.
-fn are_long(lines: &[Text], rows: &[(usize, &[u8])]) -> bool {
-    let mut all = lines.len() == rows.len();
-    for (place, (length, end)) in rows.iter().enumerate() {
-        all &= match lines.get(place) {
-            Some(line) => line.len() == *length && line.ends_with(end),
-            None => false,
-        };
+fn tells(rt: &impl Abort, alloc: Global, told: &Burst) -> bool {
+    let stage = stage_of(rt, alloc, told.scenes);
+    is_told(&stage, told)
+}
+
+#[test]
+fn one_side_is_told_in_six_lines_and_not_what_is_behind_the_link(rt: HostRuntime) {
+    assert!(rt; tells(&rt, rt.alloc(), &ONE_SIDE));
+    assert!(rt; tells(&rt, rt.alloc(), &BEHIND));
+}
+
+#[test]
+fn another_neighbour_is_told_of_all(rt: HostRuntime) {
+    assert!(rt; tells(&rt, rt.alloc(), &ANOTHER));
+}
+
+#[test]
+fn thirty_one_members_are_told_in_four_lines(rt: HostRuntime) {
+    assert!(rt; tells(&rt, rt.alloc(), &THIRTY_ONE));
+}
+
+/// The members of a line.
+fn members(rt: &impl Abort, alloc: Global, rows: &[MemberRow]) -> Vec<NewMember, Global> {
+    let mut members = Vec::new(alloc);
+    for (name, op, voice) in rows {
+        let _ = members.push(NewMember {
+            nick: nick(rt, name),
+            flags: Flags {
+                op: *op,
+                voice: *voice,
+            },
+        });
+    }
+    members
+}
+
+/// The line of a kind with these names.
+fn line_of(
+    rt: &impl Abort,
+    alloc: Global,
+    routes: &Routes,
+    kind: LineKind,
+    names: &LineNames,
+) -> Text {
+    let by = server(rt, names.by);
+    let to = channel(rt, names.channel);
+    let text = Words::cut(names.text);
+    match kind {
+        LineKind::Pass => pass_text(names.password),
+        LineKind::Greeting => greeting_text(routes),
+        LineKind::Server => {
+            let other = server(rt, names.other);
+            server_text(routes, &by, &other, &description(rt, names.info))
+        }
+        LineKind::Squit => squit_text(&by, &server(rt, names.other), &text),
+        LineKind::Kill => kill_text(&by, &nick(rt, names.nick)),
+        LineKind::Njoin => njoin_text(&by, &to, &members(rt, alloc, names.members)),
+        LineKind::Modes => mode_text(&by, &to, changes(alloc, names.modes).as_slice()),
+        LineKind::Topic => topic_text(&by, &to, &text),
+    }
+}
+
+/// Whether a line is written as its row says.
+fn is_written(
+    rt: &impl Abort,
+    alloc: Global,
+    routes: &Routes,
+    names: &LineNames,
+    row: &WrittenRow,
+) -> bool {
+    let line = line_of(rt, alloc, routes, row.0, names);
+    line.len() == row.1 && line.ends_with(row.2)
+}
+
+/// Whether each line with these names is written as its row says, where there is this.
+fn are_written(
+    rt: &impl Abort,
+    alloc: Global,
+    scenes: &[Scene],
+    names: &LineNames,
+    rows: &[WrittenRow],
+) -> bool {
+    let stage = stage_of(rt, alloc, scenes);
+    let mut all = true;
+    for row in rows {
+        all &= is_written(rt, alloc, &stage.routes, names, row);
     }
     all
 }
 
-/// A member with these flags.
-fn member(rt: &impl Abort, name: &[u8], op: bool, voice: bool) -> NewMember {
-    let nick = nick(rt, name);
-    let flags = Flags { op, voice };
-    NewMember { nick, flags }
-}
+/// No other server is known.
+static NOBODY: [Scene; 0] = [];
 
-/// As many members as a line brings, each with a nickname that is as long as may be.
-fn longest_members(rt: &impl Abort, alloc: Global) -> Result<Vec<NewMember, Global>, Fail> {
-    let mut members = Vec::new(alloc);
-    for _ in 0..MEMBERS_A_LINE {
-        members.push(member(rt, LONG_NICK, true, true))?;
-    }
-    Ok(members)
-}
-
-/// The line of a MODE with three bans of this mask.
-fn three_bans(rt: &impl Abort, alloc: Global, mask: &[u8]) -> Text {
-    let by = server(rt, LONG_SERVER);
-    let to = channel(rt, LONG_CHANNEL);
-    match read_changes(alloc, &[b"+bbb", mask, mask, mask]) {
-        Ok(Some(changes)) => mode_text(&by, &to, changes.as_slice()),
-        _ => Text::new(),
-    }
-}
-
-fn furnish(rt: &impl Abort, alloc: Global, room: &mut Room) {
-    come(rt, alloc, room, b"al", b"a.net", b"Al");
-    join(rt, alloc, room, b"al", true, b"#m");
-    set(rt, alloc, room, b"#m", &[b"+ntl", b"5"]);
-    set(
-        rt,
-        alloc,
-        room,
-        b"#m",
-        &[b"+bbb", b"c!*@*", b"b!*@*", b"d!*@*"],
-    );
-    set(rt, alloc, room, b"#m", &[b"+b", b"a!*@*"]);
-    set_topic(rt, alloc, room, b"#m", b"hello");
-}
-
-/// 31 users who join #c, each with a number behind `n`.
-fn crowd(rt: &impl Abort, alloc: Global, room: &mut Room) {
-    for number in 1..32_u32 {
-        let mut name: ArrayVec<u8, 3> = ArrayVec::new();
-        let _ = name.try_extend_from_slice(if number < 10 {
-            b"n0".as_slice()
-        } else {
-            b"n".as_slice()
-        });
-        let _ = name.try_extend_from_slice(Buffer::new().format(number).as_bytes());
-        come(rt, alloc, room, &name, b"a.net", b"N");
-        join(rt, alloc, room, &name, number == 1, b"#c");
-    }
-}
+/// b.net is linked.
+static THERE: [Scene; 1] = [LINKED];
 
 #[test]
-fn one_side_is_told_in_six_lines(rt: HostRuntime) -> Result<(), Fail> {
-    let alloc = rt.alloc();
-    let routes = routes(&rt, alloc)?;
-    let mut room = Room::new(alloc, server(&rt, b"a.net"));
-    furnish(&rt, alloc, &mut room);
-    assert!(rt; is_told(&room, &routes, 1, 0, &ALONE));
-    Ok(())
-}
-
-#[test]
-fn what_is_behind_the_link_is_not_told(rt: HostRuntime) -> Result<(), Fail> {
-    let alloc = rt.alloc();
-    let mut routes = routes(&rt, alloc)?;
-    add_neighbour(&rt, &mut routes);
-    let mut room = Room::new(alloc, server(&rt, b"a.net"));
-    furnish(&rt, alloc, &mut room);
-    come(&rt, alloc, &mut room, b"bo", b"b.net", b"Bo");
-    join(&rt, alloc, &mut room, b"bo", false, b"#m");
-    join(&rt, alloc, &mut room, b"bo", true, b"#own");
-    assert!(rt; is_told(&room, &routes, 1, 0, &ALONE));
-    Ok(())
-}
-
-#[test]
-fn another_neighbour_is_told_of_all(rt: HostRuntime) -> Result<(), Fail> {
-    let alloc = rt.alloc();
-    let mut routes = routes(&rt, alloc)?;
-    add_neighbour(&rt, &mut routes);
-    let mut room = Room::new(alloc, server(&rt, b"a.net"));
-    furnish(&rt, alloc, &mut room);
-    come(&rt, alloc, &mut room, b"bo", b"b.net", b"Bo");
-    join(&rt, alloc, &mut room, b"bo", false, b"#m");
-    assert!(rt; is_told(&room, &routes, 2, 0, &BOTH));
-    Ok(())
-}
-
-#[test]
-fn thirty_one_members_are_told_in_four_lines(rt: HostRuntime) -> Result<(), Fail> {
-    let alloc = rt.alloc();
-    let routes = routes(&rt, alloc)?;
-    let mut room = Room::new(alloc, server(&rt, b"a.net"));
-    crowd(&rt, alloc, &mut room);
-    assert!(rt; is_told(&room, &routes, 1, 31, &LAST_FOUR));
-    Ok(())
-}
-
-#[test]
-fn lines_of_servers_are_written(rt: HostRuntime) -> Result<(), Fail> {
-    let alloc = rt.alloc();
-    let mut routes = routes(&rt, alloc)?;
-    add_neighbour(&rt, &mut routes);
-    let own = server(&rt, b"a.net");
-    let other = server(&rt, b"b.net");
-    let info = Info::read(b"B").expect(&rt, "a description");
-    let lines = [
-        pass_text(b"pw"),
-        greeting_text(&routes),
-        server_text(&routes, &own, &other, &info),
-        squit_text(&own, &other, &Words::cut(b"a.net b.net")),
-        kill_text(&own, &nick(&rt, b"al")),
-        njoin_text(
-            &own,
-            &channel(&rt, b"#c"),
-            &[
-                member(&rt, b"al", true, false),
-                member(&rt, b"bo", false, true),
-                member(&rt, b"cy", true, true),
-                member(&rt, b"dee", false, false),
-            ],
-        ),
-    ];
-    assert!(rt; are_from(&lines, 0, &WRITTEN));
-    Ok(())
-}
-
-#[test]
-fn the_longest_lines_are_whole(rt: HostRuntime) -> Result<(), Fail> {
-    let alloc = rt.alloc();
-    let routes = routes(&rt, alloc)?;
-    let by = server(&rt, LONG_SERVER);
-    let to = channel(&rt, LONG_CHANNEL);
-    let info = Info::read(LONG_INFO).expect(&rt, "a description");
-    let lines = [
-        pass_text(b"pppppppppppppppppppp"),
-        server_text(&routes, &by, &by, &info),
-        squit_text(&by, &by, &Words::cut(LONG_TEXT)),
-        kill_text(&by, &nick(&rt, LONG_NICK)),
-        njoin_text(&by, &to, &longest_members(&rt, alloc)?),
-        three_bans(&rt, alloc, LONG_MASK),
-        topic_text(&by, &to, &Words::cut(LONG_TEXT)),
-    ];
-    assert!(rt; are_long(&lines, &LONGEST));
-    Ok(())
+fn lines_of_servers_are_written_whole(rt: HostRuntime) {
+    assert!(rt; are_written(&rt, rt.alloc(), &THERE, &SHORT, &WRITTEN));
+    assert!(rt; are_written(&rt, rt.alloc(), &NOBODY, &LONG, &LONGEST));
 }

@@ -1,15 +1,14 @@
 //! Why a link is closed, each reason in a handshake or behind it; and that no other link is.
 use crate::events::{
-    EventRow, LinkEvent, are_put, event_of, happens, line_of, rows_hold, server, takes,
+    EventRow, LinkEvent, are_put_from, happens, line_of, rows_hold, server, takes,
 };
 use irc_batch::{Batch, Out};
-use irc_line::Line;
 use irc_server::{CloseReason, Event, Server, ServerFault};
-use itoa::Buffer;
 use std::alloc::Global;
+use std::process::Abort;
 
 /// c.net is linked by 8, and cy is its user; al is client 1. b.net opens the link 7.
-static BEFORE: [LinkEvent; 8] = [
+const BEFORE: &[LinkEvent] = &[
     LinkEvent::Connects(1),
     LinkEvent::Says(1, b"NICK al"),
     LinkEvent::Says(1, b"USER u 0 * :Al"),
@@ -21,13 +20,13 @@ static BEFORE: [LinkEvent; 8] = [
 ];
 
 /// b.net gives its password and its name.
-static GREETING: [LinkEvent; 2] = [
+const GREETING: &[LinkEvent] = &[
     LinkEvent::Hears(7, b"PASS pw 0210010001 TREE|"),
     LinkEvent::Hears(7, b"SERVER b.net 1 1 :B"),
 ];
 
 /// f.net is behind it, and al is in a channel with zo of b.net and ed of f.net.
-static CROWD: [LinkEvent; 7] = [
+const CROWD: &[LinkEvent] = &[
     LinkEvent::Says(1, b"JOIN #c"),
     LinkEvent::Hears(7, b"PASS pw 0210010001 TREE|"),
     LinkEvent::Hears(7, b"SERVER b.net 1 1 :B"),
@@ -37,27 +36,61 @@ static CROWD: [LinkEvent; 7] = [
     LinkEvent::Hears(7, b":b.net NJOIN #c :ed,zo"),
 ];
 
-/// How far b.net has come.
-#[derive(Clone, Copy)]
-enum HandshakeState {
-    /// It has not named itself.
-    Strange,
-    /// It is linked.
-    Linked,
-    /// Others are behind it.
-    Crowded,
+/// How far b.net has come: what happened, and what is put out behind the end of its link: what the
+/// loss does, server by server, and then a word by the other link.
+struct Standing {
+    scenes: &'static [&'static [LinkEvent]],
+    behind: &'static [Out<'static>],
 }
 
-impl HandshakeState {
-    /// What it does for that.
-    fn steps(self) -> &'static [LinkEvent] {
-        match self {
-            HandshakeState::Strange => &[],
-            HandshakeState::Linked => &GREETING,
-            HandshakeState::Crowded => &CROWD,
-        }
-    }
-}
+/// What passes by the other link once that one is closed.
+const WORD: Out<'static> = Out::LinkLine(8, b":al PRIVMSG cy :yo");
+
+/// The end of b.net, as c.net is told of it.
+const LOSS: Out<'static> = Out::LinkLine(8, b":a.net SQUIT b.net :a.net b.net");
+
+/// The same where f.net is behind b.net, and people of both are in a channel.
+const LOST_CROWD: &[Out<'static>] = &[
+    Out::Line(1, b":zo!u@h QUIT :a.net b.net"),
+    LOSS,
+    Out::Line(1, b":ed!u@h QUIT :a.net b.net"),
+    Out::LinkLine(8, b":a.net SQUIT f.net :a.net b.net"),
+    WORD,
+];
+
+/// It has not named itself.
+static STRANGE: Standing = Standing {
+    scenes: &[BEFORE],
+    behind: &[WORD],
+};
+
+/// It is linked.
+static LINKED: Standing = Standing {
+    scenes: &[BEFORE, GREETING],
+    behind: &[LOSS, WORD],
+};
+
+/// Others are behind it.
+static CROWDED: Standing = Standing {
+    scenes: &[BEFORE, CROWD],
+    behind: LOST_CROWD,
+};
+
+// The same, where 256 servers are known.
+static FULL_STRANGE: Standing = Standing {
+    scenes: &[BEFORE, &[LinkEvent::Fills(256)]],
+    behind: &[WORD],
+};
+
+static FULL_LINKED: Standing = Standing {
+    scenes: &[BEFORE, GREETING, &[LinkEvent::Fills(255)]],
+    behind: &[LOSS, WORD],
+};
+
+static FULL_CROWDED: Standing = Standing {
+    scenes: &[BEFORE, CROWD, &[LinkEvent::Fills(254)]],
+    behind: LOST_CROWD,
+};
 
 /// A word passes by the other link, and the number of the closed one is free.
 static AFTERWARDS: [LinkEvent; 2] = [
@@ -219,151 +252,107 @@ static TWICE: [EventRow; 2] = [
     ),
 ];
 
-/// What is refused behind the handshake of c.net, and why.
-static REFUSED: [(LinkEvent, ServerFault); 8] = [
-    (LinkEvent::IsCalled(8), ServerFault::LinkThere),
-    (LinkEvent::Calls(8, b"b.net"), ServerFault::LinkThere),
-    (LinkEvent::Calls(7, b"x.net"), ServerFault::LinkThere),
-    (
-        LinkEvent::Hears(9, b"PASS pw 0210010001 TREE|"),
-        ServerFault::NoSuchLink,
-    ),
-    (LinkEvent::Loses(1), ServerFault::NoSuchLink),
-    (LinkEvent::Connects(1), ServerFault::ConnectionThere),
-    (LinkEvent::Says(8, b"PING x"), ServerFault::NoSuchConnection),
-    (LinkEvent::Leaves(8), ServerFault::NoSuchConnection),
-];
+/// What is refused behind the handshake of c.net, and why; and what comes then is taken.
+static REFUSED: [EventRow; 1] = [(
+    &[
+        LinkEvent::Refuses(&LinkEvent::IsCalled(8), ServerFault::LinkThere),
+        LinkEvent::Refuses(&LinkEvent::Calls(8, b"b.net"), ServerFault::LinkThere),
+        LinkEvent::Refuses(&LinkEvent::Calls(7, b"x.net"), ServerFault::LinkThere),
+        LinkEvent::Refuses(
+            &LinkEvent::Hears(9, b"PASS pw 0210010001 TREE|"),
+            ServerFault::NoSuchLink,
+        ),
+        LinkEvent::Refuses(&LinkEvent::Loses(1), ServerFault::NoSuchLink),
+        LinkEvent::Refuses(&LinkEvent::Connects(1), ServerFault::ConnectionThere),
+        LinkEvent::Refuses(
+            &LinkEvent::Says(8, b"PING x"),
+            ServerFault::NoSuchConnection,
+        ),
+        LinkEvent::Refuses(&LinkEvent::Leaves(8), ServerFault::NoSuchConnection),
+        LinkEvent::Hears(7, b"FOO"),
+        LinkEvent::Says(1, b"PRIVMSG cy :yo"),
+        LinkEvent::IsCalled(7),
+    ],
+    &[Out::LinkClose(7, CloseReason::UnknownCommand), WORD],
+)];
 
-/// The line that tells of a server behind c.net, another one for each number.
-fn server_line(number: u32) -> Line {
-    let mut digits = Buffer::new();
-    let word = digits.format(number).as_bytes();
-    let mut line = line_of(b":c.net SERVER n");
-    let _ = line.try_extend_from_slice(word);
-    let _ = line.try_extend_from_slice(b".net 2 ");
-    let _ = line.try_extend_from_slice(word);
-    let _ = line.try_extend_from_slice(b" :N");
-    line
-}
-
-/// Whether a server takes servers behind c.net, one for each number from 2 up to this.
-fn fills(server: &mut Server, end: u32, out: &mut Batch) -> bool {
-    let mut all = true;
-    for number in 2..end {
-        all &= takes(server, &Event::LinkLine(8, server_line(number)), out);
-    }
-    all
-}
-
-/// Whether what is put out is the end of the link 7 for this reason, then what its loss does,
-/// server by server, and then the word by the other link.
-fn is_put_for(out: &Batch, standing: HandshakeState, reason: CloseReason) -> bool {
-    let end = Out::LinkClose(7, reason);
-    let loss = Out::LinkLine(8, b":a.net SQUIT b.net :a.net b.net");
-    let word = Out::LinkLine(8, b":al PRIVMSG cy :yo");
-    match standing {
-        HandshakeState::Strange => are_put(out, &[end, word]),
-        HandshakeState::Linked => are_put(out, &[end, loss, word]),
-        HandshakeState::Crowded => {
-            let near = Out::Line(1, b":zo!u@h QUIT :a.net b.net");
-            let far = Out::Line(1, b":ed!u@h QUIT :a.net b.net");
-            let behind = Out::LinkLine(8, b":a.net SQUIT f.net :a.net b.net");
-            are_put(out, &[end, near, loss, far, behind, word])
-        }
+/// Whether what is put out is the end of the link 7 for this reason, and this behind it.
+fn is_put_for(out: &Batch, reason: CloseReason, behind: &[Out<'_>]) -> bool {
+    match out.get(0) {
+        Some(Out::LinkClose(7, why)) => why == reason && are_put_from(out, 1, behind),
+        _ => false,
     }
 }
 
-/// Whether a server takes the lines of a row and what comes after them.
-fn takes_lines(alloc: Global, server: &mut Server, lines: &[&[u8]], out: &mut Batch) -> bool {
+/// Whether a server takes these lines by the link 7.
+fn hears(server: &mut Server, lines: &[&[u8]], out: &mut Batch) -> bool {
     let mut all = true;
     for line in lines {
         all &= takes(server, &Event::LinkLine(7, line_of(line)), out);
     }
-    all && happens(alloc, server, &AFTERWARDS, out)
+    all
 }
 
-/// Whether a link is closed as a row says, where b.net has come so far, and c.net has told of
-/// servers with numbers below this.
-fn closes(alloc: Global, standing: HandshakeState, end: u32, closing: &Closing) -> bool {
-    let Some(mut server) = server(alloc) else {
-        return false;
-    };
-    let mut out = Batch::new(alloc);
-    let stands = happens(alloc, &mut server, &BEFORE, &mut out)
-        && happens(alloc, &mut server, standing.steps(), &mut out)
-        && fills(&mut server, end, &mut out);
-    out.clear();
-    let (lines, reason) = closing;
-    stands
-        && takes_lines(alloc, &mut server, lines, &mut out)
-        && is_put_for(&out, standing, *reason)
-}
-
-/// Whether a link is closed as each row says.
-fn all_close(alloc: Global, standing: HandshakeState, end: u32, closings: &[Closing]) -> bool {
+/// Whether a server takes what happens in scenes.
+fn stands(alloc: Global, server: &mut Server, scenes: &[&[LinkEvent]], out: &mut Batch) -> bool {
     let mut all = true;
-    for closing in closings {
-        all &= closes(alloc, standing, end, closing);
+    for scene in scenes {
+        all &= happens(alloc, server, scene, out);
     }
     all
 }
 
-/// Whether a server refuses a step for this, and puts nothing out.
-fn is_refused(server: &mut Server, step: &LinkEvent, wanted: ServerFault, out: &mut Batch) -> bool {
-    let Some(event) = event_of(step) else {
-        return false;
-    };
-    match server.handle(&event, out) {
-        Ok(()) => false,
-        Err(fault) => fault == wanted && out.len() == 0,
-    }
+/// Whether a link is closed as a row says behind that, and the server goes on.
+fn closes_then(
+    alloc: Global,
+    server: &mut Server,
+    standing: &Standing,
+    closing: &Closing,
+    out: &mut Batch,
+) -> bool {
+    let stands = stands(alloc, server, standing.scenes, out);
+    out.clear();
+    stands
+        && hears(server, closing.0, out)
+        && happens(alloc, server, &AFTERWARDS, out)
+        && is_put_for(out, closing.1, standing.behind)
 }
 
-/// Whether a server refuses each of these steps, and goes on.
-fn all_are_refused(alloc: Global) -> bool {
-    let Some(mut server) = server(alloc) else {
-        return false;
-    };
+fn closes(rt: &impl Abort, alloc: Global, standing: &Standing, closing: &Closing) -> bool {
+    let mut server = server(rt, alloc);
     let mut out = Batch::new(alloc);
-    let mut all = happens(alloc, &mut server, &BEFORE, &mut out);
-    out.clear();
-    for (step, fault) in &REFUSED {
-        all &= is_refused(&mut server, step, *fault, &mut out);
+    closes_then(alloc, &mut server, standing, closing, &mut out)
+}
+
+/// Whether a link is closed as each row says.
+fn all_close(rt: &impl Abort, alloc: Global, standing: &Standing, closings: &[Closing]) -> bool {
+    let mut all = true;
+    for closing in closings {
+        all &= closes(rt, alloc, standing, closing);
     }
-    all && takes_lines(alloc, &mut server, &[b"FOO"], &mut out)
-        && is_put_for(&out, HandshakeState::Strange, CloseReason::UnknownCommand)
+    all
 }
 
 #[test]
 fn a_handshake_closes_a_link(rt: HostRuntime) {
-    assert!(rt; all_close(rt.alloc(), HandshakeState::Strange, 2, &IN_HANDSHAKE));
+    assert!(rt; all_close(&rt, rt.alloc(), &STRANGE, &IN_HANDSHAKE));
 }
 
 #[test]
 fn a_line_behind_the_handshake_closes_a_link(rt: HostRuntime) {
-    assert!(rt; all_close(rt.alloc(), HandshakeState::Linked, 2, &BEHIND_HANDSHAKE));
-}
-
-#[test]
-fn all_behind_a_closed_link_are_lost(rt: HostRuntime) {
-    assert!(rt; all_close(rt.alloc(), HandshakeState::Crowded, 2, &BEHIND_HANDSHAKE));
+    assert!(rt; all_close(&rt, rt.alloc(), &LINKED, &BEHIND_HANDSHAKE));
+    assert!(rt; all_close(&rt, rt.alloc(), &CROWDED, &BEHIND_HANDSHAKE));
 }
 
 #[test]
 fn no_server_comes_beyond_the_last(rt: HostRuntime) {
-    assert!(rt; all_close(rt.alloc(), HandshakeState::Strange, 256, &FULL_IN_HANDSHAKE));
-    assert!(rt;
-        all_close(rt.alloc(), HandshakeState::Linked, 255, &FULL_BEHIND)
-            && all_close(rt.alloc(), HandshakeState::Crowded, 254, &FULL_BEHIND)
-    );
+    assert!(rt; all_close(&rt, rt.alloc(), &FULL_STRANGE, &FULL_IN_HANDSHAKE));
+    assert!(rt; all_close(&rt, rt.alloc(), &FULL_LINKED, &FULL_BEHIND));
+    assert!(rt; all_close(&rt, rt.alloc(), &FULL_CROWDED, &FULL_BEHIND));
 }
 
 #[test]
-fn nothing_comes_twice(rt: HostRuntime) {
-    assert!(rt; rows_hold(rt.alloc(), &BEFORE, &TWICE));
-}
-
-#[test]
-fn events_of_links_that_are_not_there_are_refused(rt: HostRuntime) {
-    assert!(rt; all_are_refused(rt.alloc()));
+fn nothing_comes_twice_and_what_is_not_there_is_refused(rt: HostRuntime) {
+    assert!(rt; rows_hold(&rt, rt.alloc(), STRANGE.scenes[0], &TWICE));
+    assert!(rt; rows_hold(&rt, rt.alloc(), STRANGE.scenes[0], &REFUSED));
 }

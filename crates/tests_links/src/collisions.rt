@@ -229,15 +229,15 @@ static KILLS: [EventRow; 5] = [
 
 #[test]
 fn a_change_of_nickname_kills_both(rt: HostRuntime) {
-    assert!(rt; rows_hold(rt.alloc(), &SCENE, &RENAMES));
+    assert!(rt; rows_hold(&rt, rt.alloc(), &SCENE, &RENAMES));
 }
 
 #[test]
 fn an_introduction_kills_the_one_who_is_known(rt: HostRuntime) {
-    assert!(rt; rows_hold(rt.alloc(), &SCENE, &NEWCOMERS));
+    assert!(rt; rows_hold(&rt, rt.alloc(), &SCENE, &NEWCOMERS));
 }
 
 #[test]
 fn a_kill_goes_on(rt: HostRuntime) {
-    assert!(rt; rows_hold(rt.alloc(), &SCENE, &KILLS));
+    assert!(rt; rows_hold(&rt, rt.alloc(), &SCENE, &KILLS));
 }

@@ -1,19 +1,16 @@
 //! Lines of servers, each with what it tells, or why it closes the link (RFC 2813 section 4, RFC
 //! 2812 section 3.7.1).
-use crate::deed_shown::{ShownDeeds, append, reason_word};
-use crate::stage::{add_neighbour, come, fill, join, routes, server};
-use arrayvec::ArrayVec;
-use irc_burst::{
-    Deed, Killing, Loss, ModeSetting, NewMember, NewMembers, NewServer, Topic, read_burst_line,
-};
+use crate::deed_shown::reason_word;
+use crate::shown::{ShownText, append_word};
+use crate::stage::{FULL, LINKED, Scene, Stage, StageStep, stage_of};
+use irc_burst::{Deed, ModeSetting, NewMember, NewMembers, read_burst_line};
 use irc_line::limits::MAX_LINE;
 use irc_line::{Line, parse};
 use irc_modes::ModeChange;
-use irc_room::Room;
-use irc_routes::Routes;
+use irc_names::ServerName;
 use itoa::Buffer;
 use std::alloc::Global;
-use std::test::Fail;
+use std::process::Abort;
 
 /// A line by the link to b.net, and what a.net reads of it.
 type DeedRow = (&'static [u8], &'static [u8]);
@@ -186,158 +183,149 @@ static CROWDED: [DeedRow; 3] = [
     (b":b.net SERVER c.net 2 1 :C", b" token"),
 ];
 
-fn show_member(member: &NewMember, shown: &mut ShownDeeds) {
+fn show_member(member: &NewMember, shown: &mut ShownText) {
     let mark: &[u8] = match (member.flags.op, member.flags.voice) {
         (true, true) => b"@+",
         (true, false) => b"@",
         (false, true) => b"+",
         (false, false) => b".",
     };
-    append(shown, mark);
-    append(shown, member.nick.as_bytes());
+    append_word(shown, mark);
+    append_word(shown, member.nick.as_bytes());
 }
 
-fn show_change(change: &ModeChange, shown: &mut ShownDeeds) {
-    append(shown, &[change.letter.byte()]);
+fn show_change(change: &ModeChange, shown: &mut ShownText) {
+    append_word(shown, &[change.letter.byte()]);
     if let Some(word) = &change.word {
-        append(shown, word.as_bytes());
+        append_word(shown, word.as_bytes());
     }
 }
 
-fn show_words(words: &[&[u8]], shown: &mut ShownDeeds) {
-    for word in words {
-        append(shown, word);
-    }
+/// Shows what a server tells, and of whom or what.
+fn show_told(kind: &[u8], by: &ServerName, name: &[u8], shown: &mut ShownText) {
+    append_word(shown, kind);
+    append_word(shown, by.as_bytes());
+    append_word(shown, name);
 }
 
-fn show_server(server: &NewServer, shown: &mut ShownDeeds) {
-    show_words(
-        &[b"server", server.uplink.as_bytes(), server.name.as_bytes()],
+fn show_arrivals(arrivals: &NewMembers, shown: &mut ShownText) {
+    show_told(
+        b"members",
+        &arrivals.server,
+        arrivals.channel.as_bytes(),
         shown,
     );
-    append(shown, Buffer::new().format(server.distance).as_bytes());
-    append(shown, Buffer::new().format(server.token).as_bytes());
-    append(shown, server.info.as_bytes());
-}
-
-fn show_loss(loss: &Loss, shown: &mut ShownDeeds) {
-    show_words(
-        &[b"lost", loss.server.as_bytes(), loss.name.as_bytes()],
-        shown,
-    );
-    append(shown, loss.text.as_bytes());
-}
-
-fn show_killing(killing: &Killing, shown: &mut ShownDeeds) {
-    show_words(
-        &[b"kill", killing.server.as_bytes(), killing.nick.as_bytes()],
-        shown,
-    );
-}
-
-fn show_arrivals(arrivals: &NewMembers, shown: &mut ShownDeeds) {
-    let channel = arrivals.channel.as_bytes();
-    show_words(&[b"members", arrivals.server.as_bytes(), channel], shown);
     for member in arrivals.members.as_slice() {
         show_member(member, shown);
     }
 }
 
-fn show_setting(setting: &ModeSetting, shown: &mut ShownDeeds) {
-    let channel = setting.channel.as_bytes();
-    show_words(&[b"modes", setting.server.as_bytes(), channel], shown);
+fn show_setting(setting: &ModeSetting, shown: &mut ShownText) {
+    show_told(b"modes", &setting.server, setting.channel.as_bytes(), shown);
     for change in setting.changes.as_slice() {
         show_change(change, shown);
     }
 }
 
-fn show_topic(topic: &Topic, shown: &mut ShownDeeds) {
-    show_words(
-        &[b"topic", topic.server.as_bytes(), topic.channel.as_bytes()],
-        shown,
-    );
-    append(shown, topic.text.as_bytes());
-}
-
-fn show(deed: &Deed, shown: &mut ShownDeeds) {
+fn show(deed: &Deed, shown: &mut ShownText) {
     match deed {
-        Deed::Does(_) => append(shown, b"does"),
-        Deed::Server(server) => show_server(server, shown),
-        Deed::Lost(loss) => show_loss(loss, shown),
-        Deed::Kill(killing) => show_killing(killing, shown),
+        Deed::Does(_) => append_word(shown, b"does"),
+        Deed::Server(server) => {
+            show_told(b"server", &server.uplink, server.name.as_bytes(), shown);
+            append_word(shown, Buffer::new().format(server.distance).as_bytes());
+            append_word(shown, Buffer::new().format(server.token).as_bytes());
+            append_word(shown, server.info.as_bytes());
+        }
+        Deed::Lost(loss) => {
+            show_told(b"lost", &loss.server, loss.name.as_bytes(), shown);
+            append_word(shown, loss.text.as_bytes());
+        }
+        Deed::Kill(killing) => show_told(b"kill", &killing.server, killing.nick.as_bytes(), shown),
         Deed::Members(arrivals) => show_arrivals(arrivals, shown),
         Deed::Modes(setting) => show_setting(setting, shown),
-        Deed::Topic(topic) => show_topic(topic, shown),
+        Deed::Topic(topic) => {
+            show_told(b"topic", &topic.server, topic.channel.as_bytes(), shown);
+            append_word(shown, topic.text.as_bytes());
+        }
+    }
+}
+
+fn show_all(deeds: &[Deed], shown: &mut ShownText) {
+    for deed in deeds {
+        show(deed, shown);
     }
 }
 
 /// Shows what is read of a line.
-fn show_read(alloc: Global, room: &Room, routes: &Routes, line: &[u8], shown: &mut ShownDeeds) {
+fn show_read(alloc: Global, stage: &Stage, line: &[u8], shown: &mut ShownText) {
     if let Ok(message) = parse(line) {
-        match read_burst_line(alloc, &message, room, routes, 1) {
-            Ok(deeds) => {
-                for deed in deeds.as_slice() {
-                    show(deed, shown);
-                }
-            }
-            Err(fault) => append(shown, reason_word(fault)),
+        match read_burst_line(alloc, &message, &stage.room, &stage.routes, 1) {
+            Ok(deeds) => show_all(deeds.as_slice(), shown),
+            Err(fault) => append_word(shown, reason_word(fault)),
         }
     }
 }
 
-/// Whether what is read of each line is what its row says.
-fn rows_hold(alloc: Global, room: &Room, routes: &Routes, rows: &[DeedRow]) -> bool {
+/// A line that begins so and goes on with so many `x`, as far as a line may go.
+fn filled(front: &[u8], more: usize) -> Line {
+    let mut line = Line::new();
+    let _ = line.try_extend_from_slice(front);
+    for _ in 0..more {
+        let _ = line.try_push(b'x');
+    }
+    line
+}
+
+/// Whether what is read of a row's line, with so many `x` behind it, is what the row says.
+fn row_holds(alloc: Global, stage: &Stage, row: &DeedRow, more: usize) -> bool {
+    let mut shown = ShownText::new();
+    show_read(alloc, stage, &filled(row.0, more), &mut shown);
+    shown.as_slice() == row.1
+}
+
+fn rows_hold(alloc: Global, stage: &Stage, rows: &[DeedRow], more: usize) -> bool {
     let mut all = true;
-    for (line, said) in rows {
-        let mut shown: ShownDeeds = ArrayVec::new();
-        show_read(alloc, room, routes, line, &mut shown);
-        all &= shown.as_slice() == *said;
+    for row in rows {
+        all &= row_holds(alloc, stage, row, more);
     }
     all
 }
 
-/// The same of lines that are made as long as a line may be.
-fn filled_rows_hold(alloc: Global, room: &Room, routes: &Routes, rows: &[DeedRow]) -> bool {
-    let mut all = true;
-    for (front, said) in rows {
-        let mut line: Line = ArrayVec::new();
-        let _ = line.try_extend_from_slice(front);
-        for _ in 0..MAX_LINE {
-            let _ = line.try_push(b'x');
-        }
-        let mut shown: ShownDeeds = ArrayVec::new();
-        show_read(alloc, room, routes, &line, &mut shown);
-        all &= shown.as_slice() == *said;
-    }
-    all
+/// al is in #d, bo of b.net in #o, and both are in #m.
+const PEOPLE: Scene = &[
+    StageStep::Comes(b"al", b"a.net", b"Al"),
+    StageStep::Comes(b"bo", b"b.net", b"Bo"),
+    StageStep::Joins(b"al", true, b"#d"),
+    StageStep::Joins(b"bo", true, b"#o"),
+    StageStep::Joins(b"al", true, b"#m"),
+    StageStep::Joins(b"bo", true, b"#m"),
+];
+
+/// b.net is linked, and they are there.
+static THERE: [Scene; 2] = [LINKED, PEOPLE];
+
+fn are_read(rt: &impl Abort, alloc: Global) -> bool {
+    let stage = stage_of(rt, alloc, &THERE);
+    rows_hold(alloc, &stage, &ROWS, 0)
+        & rows_hold(alloc, &stage, &WORDS, 0)
+        & rows_hold(alloc, &stage, &SMALL, 0)
+        & rows_hold(alloc, &stage, &FILLED, MAX_LINE)
+}
+
+/// As many servers are known as there is room for.
+static KNOWN: [Scene; 1] = [FULL];
+
+fn are_refused(rt: &impl Abort, alloc: Global) -> bool {
+    let stage = stage_of(rt, alloc, &KNOWN);
+    rows_hold(alloc, &stage, &CROWDED, 0)
 }
 
 #[test]
-fn lines_of_servers_are_read(rt: HostRuntime) -> Result<(), Fail> {
-    let alloc = rt.alloc();
-    let mut routes = routes(&rt, alloc)?;
-    add_neighbour(&rt, &mut routes);
-    let mut room = Room::new(alloc, server(&rt, b"a.net"));
-    come(&rt, alloc, &mut room, b"al", b"a.net", b"Al");
-    come(&rt, alloc, &mut room, b"bo", b"b.net", b"Bo");
-    join(&rt, alloc, &mut room, b"al", true, b"#d");
-    join(&rt, alloc, &mut room, b"bo", true, b"#o");
-    join(&rt, alloc, &mut room, b"al", true, b"#m");
-    join(&rt, alloc, &mut room, b"bo", true, b"#m");
-    assert!(rt; rows_hold(alloc, &room, &routes, &ROWS));
-    assert!(rt; rows_hold(alloc, &room, &routes, &WORDS));
-    assert!(rt; rows_hold(alloc, &room, &routes, &SMALL));
-    assert!(rt; filled_rows_hold(alloc, &room, &routes, &FILLED));
-    Ok(())
+fn lines_of_servers_are_read(rt: HostRuntime) {
+    assert!(rt; are_read(&rt, rt.alloc()));
 }
 
 #[test]
-fn one_server_more_than_there_is_room_for_is_refused(rt: HostRuntime) -> Result<(), Fail> {
-    let alloc = rt.alloc();
-    let mut routes = routes(&rt, alloc)?;
-    add_neighbour(&rt, &mut routes);
-    fill(&rt, &mut routes);
-    let room = Room::new(alloc, server(&rt, b"a.net"));
-    assert!(rt; rows_hold(alloc, &room, &routes, &CROWDED));
-    Ok(())
+fn one_server_more_than_there_is_room_for_is_refused(rt: HostRuntime) {
+    assert!(rt; are_refused(&rt, rt.alloc()));
 }

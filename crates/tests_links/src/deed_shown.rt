@@ -1,16 +1,6 @@
-//! What is read of a line, as the rows of a test show it.
-use arrayvec::ArrayVec;
+//! The words for why a line of a link is refused, as the rows of a test show them.
 use irc_batch::CloseReason;
 use irc_burst::BurstFault;
-
-/// What is read of a line.
-pub type ShownDeeds = ArrayVec<u8, 200>;
-
-/// Appends a word behind a space.
-pub fn append(shown: &mut ShownDeeds, word: &[u8]) {
-    let _ = shown.try_extend_from_slice(b" ");
-    let _ = shown.try_extend_from_slice(word);
-}
 
 /// The word for a reason to close a link.
 pub fn close_word(reason: CloseReason) -> &'static [u8] {

@@ -1,10 +1,13 @@
 //! What happens to a server a.net, and what it puts out then.
+use crate::stage::bytes;
 use irc_batch::{Batch, Out};
 use irc_line::{Line, lines_of_pieces};
 use irc_names::{Host, ServerName};
 use irc_routes::Own;
-use irc_server::{Config, Event, Peer, Server};
-use std::alloc::{AllocError, Global};
+use irc_server::{Config, Event, Peer, Server, ServerFault};
+use itoa::Buffer;
+use std::alloc::Global;
+use std::process::Abort;
 
 /// Something that happens to it.
 pub enum LinkEvent {
@@ -24,40 +27,50 @@ pub enum LinkEvent {
     Reads(u64, &'static [u8]),
     /// A link is lost.
     Loses(u64),
+    /// c.net tells by the link 8 of servers behind it, one for each number from 2 up to this.
+    Fills(u32),
+    /// It refuses something for this, and puts nothing out.
+    Refuses(&'static LinkEvent, ServerFault),
+    /// Whether the user of this nickname is invited to a channel.
+    Invited(&'static [u8], &'static [u8], bool),
 }
 
 /// What happens, and what is put out for that, in order. A line is without its CR LF here.
 pub type EventRow = (&'static [LinkEvent], &'static [Out<'static>]);
 
-/// a.net, which describes itself as A, may be linked to b.net, c.net and d.net; these give the
-/// passwords pw, pq and pd.
-pub fn server(alloc: Global) -> Option<Server> {
-    match config(alloc) {
-        Ok(config) => Server::new(alloc, config).ok(),
-        Err(_) => None,
+/// The peers of a.net, and the passwords that they give.
+static PEERS: [(&[u8], &[u8]); 3] = [(b"b.net", b"pw"), (b"c.net", b"pq"), (b"d.net", b"pd")];
+
+fn peer(rt: &impl Abort, alloc: Global, name: &[u8], password: &[u8]) -> Peer {
+    Peer {
+        name: bytes(rt, alloc, name),
+        password: bytes(rt, alloc, password),
     }
 }
 
-fn config(alloc: Global) -> Result<Config, AllocError> {
+fn peers(rt: &impl Abort, alloc: Global) -> Vec<Peer, Global> {
     let mut peers = Vec::new(alloc);
-    peers.push(peer(alloc, b"b.net", b"pw")?)?;
-    peers.push(peer(alloc, b"c.net", b"pq")?)?;
-    peers.push(peer(alloc, b"d.net", b"pd")?)?;
-    Ok(Config {
-        own: Own {
-            name: Vec::from_slice(alloc, b"a.net")?,
-            info: Vec::from_slice(alloc, b"A")?,
-            created: Vec::from_slice(alloc, b"2024-01-01")?,
-        },
-        peers,
-    })
+    for (name, password) in &PEERS {
+        let _ = peers.push(peer(rt, alloc, name, password));
+    }
+    peers
 }
 
-fn peer(alloc: Global, name: &[u8], password: &[u8]) -> Result<Peer, AllocError> {
-    Ok(Peer {
-        name: Vec::from_slice(alloc, name)?,
-        password: Vec::from_slice(alloc, password)?,
-    })
+fn own(rt: &impl Abort, alloc: Global) -> Own {
+    Own {
+        name: bytes(rt, alloc, b"a.net"),
+        info: bytes(rt, alloc, b"A"),
+        created: bytes(rt, alloc, b"2024-01-01"),
+    }
+}
+
+/// a.net, which describes itself as A.
+pub fn server(rt: &impl Abort, alloc: Global) -> Server {
+    let config = Config {
+        own: own(rt, alloc),
+        peers: peers(rt, alloc),
+    };
+    Server::new(alloc, config).expect(rt, "a server")
 }
 
 /// The line of this text.
@@ -84,8 +97,53 @@ fn reads(alloc: Global, server: &mut Server, link: u64, bytes: &[u8], out: &mut 
     all
 }
 
-/// The event of a step; bytes are none before they complete a line.
-pub fn event_of(step: &LinkEvent) -> Option<Event> {
+/// The line by which c.net tells of a server behind it, another one for each number.
+fn server_line(number: u32) -> Line {
+    let mut digits = Buffer::new();
+    let word = digits.format(number).as_bytes();
+    let mut line = line_of(b":c.net SERVER n");
+    let _ = line.try_extend_from_slice(word);
+    let _ = line.try_extend_from_slice(b".net 2 ");
+    let _ = line.try_extend_from_slice(word);
+    let _ = line.try_extend_from_slice(b" :N");
+    line
+}
+
+/// Whether a server takes servers behind c.net, one for each number from 2 up to this.
+fn fills(server: &mut Server, end: u32, out: &mut Batch) -> bool {
+    let mut all = true;
+    for number in 2..end {
+        all &= takes(server, &Event::LinkLine(8, server_line(number)), out);
+    }
+    all
+}
+
+fn is_refused(handled: Result<(), ServerFault>, wanted: ServerFault) -> bool {
+    match handled {
+        Ok(()) => false,
+        Err(fault) => fault == wanted,
+    }
+}
+
+/// Whether a server refuses a step for this, and puts nothing out.
+fn refuses(server: &mut Server, step: &LinkEvent, wanted: ServerFault, out: &mut Batch) -> bool {
+    let before = out.len();
+    match event_of(step) {
+        Some(event) => is_refused(server.handle(&event, out), wanted) && out.len() == before,
+        None => false,
+    }
+}
+
+/// Whether a user is invited to a channel, as far as the server knows.
+fn is_invited(server: &Server, nick: &[u8], channel: &[u8]) -> bool {
+    match server.room() {
+        Some(room) => room.invited(nick, channel),
+        None => false,
+    }
+}
+
+/// The event of a step, where it is one.
+fn event_of(step: &LinkEvent) -> Option<Event> {
     match step {
         LinkEvent::Connects(conn) => Some(Event::Connect(*conn, Host::read(b"h")?)),
         LinkEvent::Says(conn, text) => Some(Event::Line(*conn, line_of(text))),
@@ -94,18 +152,26 @@ pub fn event_of(step: &LinkEvent) -> Option<Event> {
         LinkEvent::Calls(link, name) => Some(Event::LinkUp(*link, ServerName::read(name))),
         LinkEvent::Hears(link, text) => Some(Event::LinkLine(*link, line_of(text))),
         LinkEvent::Loses(link) => Some(Event::LinkDown(*link)),
-        LinkEvent::Reads(..) => None,
+        _ => None,
+    }
+}
+
+/// Whether a server takes the event of a step.
+fn takes_event(server: &mut Server, step: &LinkEvent, out: &mut Batch) -> bool {
+    match event_of(step) {
+        Some(event) => takes(server, &event, out),
+        None => false,
     }
 }
 
 /// Whether a server takes a step.
 fn takes_step(alloc: Global, server: &mut Server, step: &LinkEvent, out: &mut Batch) -> bool {
-    if let LinkEvent::Reads(link, bytes) = step {
-        return reads(alloc, server, *link, bytes, out);
-    }
-    match event_of(step) {
-        Some(event) => takes(server, &event, out),
-        None => false,
+    match step {
+        LinkEvent::Reads(link, bytes) => reads(alloc, server, *link, bytes, out),
+        LinkEvent::Fills(end) => fills(server, *end, out),
+        LinkEvent::Refuses(step, fault) => refuses(server, step, *fault, out),
+        LinkEvent::Invited(nick, channel, wanted) => is_invited(server, nick, channel) == *wanted,
+        _ => takes_event(server, step, out),
     }
 }
 
@@ -137,11 +203,11 @@ fn is_put(put: Out<'_>, said: Out<'_>) -> bool {
     }
 }
 
-/// Whether what is put out is what a row says.
-pub fn are_put(out: &Batch, said: &[Out<'_>]) -> bool {
-    let mut all = out.len() == said.len();
+/// Whether what is put out, from one place on, is what a row says.
+pub fn are_put_from(out: &Batch, first: usize, said: &[Out<'_>]) -> bool {
+    let mut all = out.len() == first.saturating_add(said.len());
     for (place, wanted) in said.iter().enumerate() {
-        all &= match out.get(place) {
+        all &= match out.get(first.saturating_add(place)) {
             Some(put) => is_put(put, *wanted),
             None => false,
         };
@@ -149,23 +215,31 @@ pub fn are_put(out: &Batch, said: &[Out<'_>]) -> bool {
     all
 }
 
-/// Whether a server that has been through a scene does what a row says.
-fn row_holds(alloc: Global, scene: &[LinkEvent], row: &EventRow) -> bool {
-    let Some(mut server) = server(alloc) else {
-        return false;
-    };
-    let mut out = Batch::new(alloc);
-    let stands = happens(alloc, &mut server, scene, &mut out);
+/// Whether a server that goes through a scene does what a row says then.
+fn does_so(
+    alloc: Global,
+    server: &mut Server,
+    scene: &[LinkEvent],
+    row: &EventRow,
+    out: &mut Batch,
+) -> bool {
+    let stands = happens(alloc, server, scene, out);
     out.clear();
-    let (steps, said) = row;
-    stands && happens(alloc, &mut server, steps, &mut out) && are_put(&out, said)
+    stands && happens(alloc, server, row.0, out) && are_put_from(out, 0, row.1)
+}
+
+/// Whether a server does what a row says behind a scene.
+fn row_holds(rt: &impl Abort, alloc: Global, scene: &[LinkEvent], row: &EventRow) -> bool {
+    let mut server = server(rt, alloc);
+    let mut out = Batch::new(alloc);
+    does_so(alloc, &mut server, scene, row, &mut out)
 }
 
 /// Whether each row holds behind a scene.
-pub fn rows_hold(alloc: Global, scene: &[LinkEvent], rows: &[EventRow]) -> bool {
+pub fn rows_hold(rt: &impl Abort, alloc: Global, scene: &[LinkEvent], rows: &[EventRow]) -> bool {
     let mut all = true;
     for row in rows {
-        all &= row_holds(alloc, scene, row);
+        all &= row_holds(rt, alloc, scene, row);
     }
     all
 }

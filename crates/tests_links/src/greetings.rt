@@ -360,20 +360,20 @@ static DESCRIBED: [EventRow; 1] = [(
 
 #[test]
 fn handshakes_of_an_empty_server(rt: HostRuntime) {
-    assert!(rt; rows_hold(rt.alloc(), &NOBODY, &OF_NOBODY));
+    assert!(rt; rows_hold(&rt, rt.alloc(), &NOBODY, &OF_NOBODY));
 }
 
 #[test]
 fn a_client_is_told_in_a_burst(rt: HostRuntime) {
-    assert!(rt; rows_hold(rt.alloc(), &ONE_CLIENT, &OF_ONE_CLIENT));
+    assert!(rt; rows_hold(&rt, rt.alloc(), &ONE_CLIENT, &OF_ONE_CLIENT));
 }
 
 #[test]
 fn servers_are_told_in_a_burst(rt: HostRuntime) {
-    assert!(rt; rows_hold(rt.alloc(), &TWO_SERVERS, &OF_TWO_SERVERS));
+    assert!(rt; rows_hold(&rt, rt.alloc(), &TWO_SERVERS, &OF_TWO_SERVERS));
 }
 
 #[test]
 fn a_user_is_told_with_what_its_server_says_of_itself(rt: HostRuntime) {
-    assert!(rt; rows_hold(rt.alloc(), &TWO_SERVERS, &DESCRIBED));
+    assert!(rt; rows_hold(&rt, rt.alloc(), &TWO_SERVERS, &DESCRIBED));
 }

@@ -1,16 +1,16 @@
 //! The lines with which a link begins, each with what it says, or why it closes the link (RFC 2813
 //! section 4.1); and who may link.
-use crate::deed_shown::{ShownDeeds, append, close_word};
-use crate::stage::{add_neighbour, fill, routes, server};
-use arrayvec::ArrayVec;
+use crate::deed_shown::close_word;
+use crate::shown::{ShownText, append_word};
+use crate::stage::{FULL, LINKED, Scene, Stage, stage_of};
+use irc_batch::CloseReason;
 use irc_burst::read_handshake_line;
 use irc_line::parse;
 use irc_link_reader::Arrival;
 use irc_link_words::{Opening, refusal};
-use irc_room::Room;
 use irc_routes::Routes;
 use std::alloc::Global;
-use std::test::Fail;
+use std::process::Abort;
 
 /// Whether a password has come, a line by a new link, and what a.net makes of it.
 type HandshakeRow = (bool, &'static [u8], &'static [u8]);
@@ -69,53 +69,83 @@ type PeerRow = (
     Option<&'static [u8]>,
     &'static [u8],
     &'static [u8],
-    &'static [u8],
+    Option<CloseReason>,
 );
 
 /// b.net is linked already.
 static PEERS: [PeerRow; 6] = [
-    (Some(b"pw"), b"pw", b"c.net", b""),
-    (None, b"pw", b"c.net", b" peer"),
-    (None, b"pw", b"b.net", b" peer"),
-    (Some(b"pw"), b"pv", b"c.net", b" password"),
-    (Some(b"pw"), b"pv", b"b.net", b" password"),
-    (Some(b"pw"), b"pw", b"b.net", b" known"),
+    (Some(b"pw"), b"pw", b"c.net", None),
+    (None, b"pw", b"c.net", Some(CloseReason::UnknownPeer)),
+    (None, b"pw", b"b.net", Some(CloseReason::UnknownPeer)),
+    (Some(b"pw"), b"pv", b"c.net", Some(CloseReason::Password)),
+    (Some(b"pw"), b"pv", b"b.net", Some(CloseReason::Password)),
+    (
+        Some(b"pw"),
+        b"pw",
+        b"b.net",
+        Some(CloseReason::AlreadyKnown),
+    ),
 ];
 
 /// The same, where 256 servers are known.
 static CROWDED: [PeerRow; 3] = [
-    (Some(b"pw"), b"pw", b"c.net", b" full"),
-    (Some(b"pw"), b"pw", b"b.net", b" known"),
-    (Some(b"pw"), b"pv", b"c.net", b" password"),
+    (Some(b"pw"), b"pw", b"c.net", Some(CloseReason::Full)),
+    (
+        Some(b"pw"),
+        b"pw",
+        b"b.net",
+        Some(CloseReason::AlreadyKnown),
+    ),
+    (Some(b"pw"), b"pv", b"c.net", Some(CloseReason::Password)),
 ];
 
-fn show(opening: &Opening, shown: &mut ShownDeeds) {
+fn show(opening: &Opening, shown: &mut ShownText) {
     match opening {
         Opening::Password(password) => {
-            append(shown, b"gives");
-            append(shown, password.as_bytes());
+            append_word(shown, b"gives");
+            append_word(shown, password.as_bytes());
         }
         Opening::Greeting { name, info } => {
-            append(shown, b"names");
-            append(shown, name.as_bytes());
-            append(shown, info.as_bytes());
+            append_word(shown, b"names");
+            append_word(shown, name.as_bytes());
+            append_word(shown, info.as_bytes());
         }
     }
 }
 
-/// Whether what is read of each line is what its row says.
-fn rows_hold(alloc: Global, at: Arrival<'_>, rows: &[HandshakeRow]) -> bool {
-    let mut all = true;
-    for (has_password, line, said) in rows {
-        let mut shown: ShownDeeds = ArrayVec::new();
-        if let Ok(message) = parse(line) {
-            match read_handshake_line(alloc, &message, at, *has_password) {
-                Ok(Ok(opening)) => show(&opening, &mut shown),
-                Ok(Err(reason)) => append(&mut shown, close_word(reason)),
-                Err(_) => append(&mut shown, b"memory"),
-            }
+/// Shows what is read of a line by a new link.
+fn show_read(
+    alloc: Global,
+    at: Arrival<'_>,
+    has_password: bool,
+    line: &[u8],
+    shown: &mut ShownText,
+) {
+    if let Ok(message) = parse(line) {
+        match read_handshake_line(alloc, &message, at, has_password) {
+            Ok(Ok(opening)) => show(&opening, shown),
+            Ok(Err(reason)) => append_word(shown, close_word(reason)),
+            Err(_) => append_word(shown, b"memory"),
         }
-        all &= shown.as_slice() == *said;
+    }
+}
+
+/// Whether what is read of a row's line is what the row says.
+fn row_holds(alloc: Global, stage: &Stage, row: &HandshakeRow) -> bool {
+    let at = Arrival {
+        room: &stage.room,
+        routes: &stage.routes,
+        link: 2,
+    };
+    let mut shown = ShownText::new();
+    show_read(alloc, at, row.0, row.1, &mut shown);
+    shown.as_slice() == row.2
+}
+
+fn rows_hold(alloc: Global, stage: &Stage, rows: &[HandshakeRow]) -> bool {
+    let mut all = true;
+    for row in rows {
+        all &= row_holds(alloc, stage, row);
     }
     all
 }
@@ -123,37 +153,34 @@ fn rows_hold(alloc: Global, at: Arrival<'_>, rows: &[HandshakeRow]) -> bool {
 /// Whether each peer is refused as its row says.
 fn peers_hold(routes: &Routes, rows: &[PeerRow]) -> bool {
     let mut all = true;
-    for (kept, given, name, said) in rows {
-        let mut shown: ShownDeeds = ArrayVec::new();
-        if let Some(reason) = refusal(*kept, given, routes, name) {
-            append(&mut shown, close_word(reason));
-        }
-        all &= shown.as_slice() == *said;
+    for (kept, given, name, wanted) in rows {
+        all &= refusal(*kept, given, routes, name) == *wanted;
     }
     all
 }
 
-#[test]
-fn a_link_begins_with_a_password_and_a_name(rt: HostRuntime) -> Result<(), Fail> {
-    let alloc = rt.alloc();
-    let mut routes = routes(&rt, alloc)?;
-    add_neighbour(&rt, &mut routes);
-    let room = Room::new(alloc, server(&rt, b"a.net"));
-    let at = Arrival {
-        room: &room,
-        routes: &routes,
-        link: 2,
-    };
-    assert!(rt; rows_hold(alloc, at, &ROWS));
-    assert!(rt; peers_hold(&routes, &PEERS));
-    Ok(())
+/// b.net is linked.
+static THERE: [Scene; 1] = [LINKED];
+
+/// As many servers are known as there is room for.
+static KNOWN: [Scene; 1] = [FULL];
+
+fn are_read(rt: &impl Abort, alloc: Global) -> bool {
+    let stage = stage_of(rt, alloc, &THERE);
+    rows_hold(alloc, &stage, &ROWS) & peers_hold(&stage.routes, &PEERS)
+}
+
+fn are_refused(rt: &impl Abort, alloc: Global) -> bool {
+    let stage = stage_of(rt, alloc, &KNOWN);
+    peers_hold(&stage.routes, &CROWDED)
 }
 
 #[test]
-fn a_neighbour_more_than_there_is_room_for_is_refused(rt: HostRuntime) -> Result<(), Fail> {
-    let mut routes = routes(&rt, rt.alloc())?;
-    add_neighbour(&rt, &mut routes);
-    fill(&rt, &mut routes);
-    assert!(rt; peers_hold(&routes, &CROWDED));
-    Ok(())
+fn a_link_begins_with_a_password_and_a_name(rt: HostRuntime) {
+    assert!(rt; are_read(&rt, rt.alloc()));
+}
+
+#[test]
+fn a_neighbour_more_than_there_is_room_for_is_refused(rt: HostRuntime) {
+    assert!(rt; are_refused(&rt, rt.alloc()));
 }

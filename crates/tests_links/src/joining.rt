@@ -597,28 +597,28 @@ static TWENTY_MORE: [EventRow; 1] = [(
 
 #[test]
 fn what_the_other_side_raises_is_shown(rt: HostRuntime) {
-    assert!(rt; rows_hold(rt.alloc(), &OUR_SIDE, &THEIRS));
-    assert!(rt; rows_hold(rt.alloc(), &OTHER_SIDE, &OURS));
+    assert!(rt; rows_hold(&rt, rt.alloc(), &OUR_SIDE, &THEIRS));
+    assert!(rt; rows_hold(&rt, rt.alloc(), &OTHER_SIDE, &OURS));
 }
 
 #[test]
 fn a_servers_line_counts_where_somebody_is_behind_the_link(rt: HostRuntime) {
-    assert!(rt; rows_hold(rt.alloc(), &OUR_SIDE, &LATER));
+    assert!(rt; rows_hold(&rt, rt.alloc(), &OUR_SIDE, &LATER));
 }
 
 #[test]
 fn a_channel_that_has_ended_tells_nothing(rt: HostRuntime) {
-    assert!(rt; rows_hold(rt.alloc(), &ZED, &ZEDS));
-    assert!(rt; rows_hold(rt.alloc(), &ALONE, &ENDED));
+    assert!(rt; rows_hold(&rt, rt.alloc(), &ZED, &ZEDS));
+    assert!(rt; rows_hold(&rt, rt.alloc(), &ALONE, &ENDED));
 }
 
 #[test]
 fn a_server_between_two_sides_joins_them(rt: HostRuntime) {
-    assert!(rt; rows_hold(rt.alloc(), &MIDDLE, &PASSED_ON));
-    assert!(rt; rows_hold(rt.alloc(), &LAST, &COME_TO_THE_LAST));
+    assert!(rt; rows_hold(&rt, rt.alloc(), &MIDDLE, &PASSED_ON));
+    assert!(rt; rows_hold(&rt, rt.alloc(), &LAST, &COME_TO_THE_LAST));
 }
 
 #[test]
 fn bans_of_both_sides_may_be_more_than_thirty(rt: HostRuntime) {
-    assert!(rt; rows_hold(rt.alloc(), &TWENTY_BANS, &TWENTY_MORE));
+    assert!(rt; rows_hold(&rt, rt.alloc(), &TWENTY_BANS, &TWENTY_MORE));
 }

@@ -182,5 +182,5 @@ static ROWS: [EventRow; 9] = [
 
 #[test]
 fn all_behind_a_link_are_lost_with_it(rt: HostRuntime) {
-    assert!(rt; rows_hold(rt.alloc(), &SCENE, &ROWS));
+    assert!(rt; rows_hold(&rt, rt.alloc(), &SCENE, &ROWS));
 }

@@ -1,19 +1,12 @@
 //! Lines of a link, each with the effects that it tells of and what is written of these, or why it
 //! is refused (RFC 2813 section 4).
-ghost use Rattle.std.specs.Prelude.{◌≡◌};
-ghost use Rattle.irc_room.specs.Effects.{brings_free};
-
-use crate::shown::{ShownEffects, append, show, show_fault};
-use arrayvec::ArrayVec;
+use crate::shown::{ShownText, append, show, show_fault};
+use crate::stage::{LINKED, Scene, Stage, StageStep, apply, stage_of};
 use irc_line::parse;
-use irc_names::{ChannelName, Host, Nick, ServerName, is_server};
-use irc_room::{Effect, Room, ShownLine};
-use irc_routes::{Info, Own, Routes};
-use irc_users::{RealName, User, UserName};
+use irc_room::Effect;
 use irc_wire::{read_effect, write_effect};
 use std::alloc::Global;
 use std::process::Abort;
-use std::test::Fail;
 
 /// The link of a line, the line, what is read of it, and what is written of that to another server.
 /// The effects are done, so that the next line meets them.
@@ -23,7 +16,7 @@ type LineRow = (u64, &'static [u8], &'static [u8], &'static [u8]);
 const ONWARDS: u64 = 2;
 
 /// Users come, and are heard of.
-const USERS: [LineRow; 15] = [
+const USERS: &[LineRow] = &[
     (
         1,
         b"NICK bo 1 u h 1 + :Bo",
@@ -77,7 +70,7 @@ const USERS: [LineRow; 15] = [
 ];
 
 /// A channel of users behind the link, and one of a user who is not.
-const CHANNELS: [LineRow; 14] = [
+const CHANNELS: &[LineRow] = &[
     (
         1,
         b":bo JOIN #c\x07o",
@@ -150,7 +143,7 @@ const CHANNELS: [LineRow; 14] = [
 ];
 
 /// Lines that are refused, each for the first cause.
-const REFUSED: [LineRow; 24] = [
+const REFUSED: &[LineRow] = &[
     (1, b"FOO", b" unknown command", b""),
     (1, b":b.net SQUIT b.net :x", b" unknown command", b""),
     (1, b":bo PART #c", b" parameters", b""),
@@ -179,7 +172,7 @@ const REFUSED: [LineRow; 24] = [
 
 /// The words of a MODE, by the rules of their letters: those at their limits are taken, and handed
 /// on; those outside are refused.
-const MODE_WORDS: [LineRow; 18] = [
+const MODE_WORDS: &[LineRow] = &[
     (
         1,
         b"NICK bo 1 u h 1 + :Bo",
@@ -230,134 +223,86 @@ const MODE_WORDS: [LineRow; 18] = [
     (2, b":bo MODE #c +l 007", b" parameters", b""),
 ];
 
-/// Whether the nickname that an effect brings is free, as whoever applies one has to know.
-fn brings_free(room: &Room, effect: &Effect) -> bool
-    ensures { result ≡ brings_free room.now.room effect.now }
-{
-    match effect {
-        Effect::AddUser(user) => room.user(user.nick.as_bytes()).is_none(),
-        Effect::Rename { nick, new } => room.user(new.as_bytes()).is_none() || nick == new,
-        _ => true,
+/// The tables that are read one behind another.
+static EFFECTS: [&[LineRow]; 3] = [USERS, CHANNELS, REFUSED];
+
+static MODES: [&[LineRow]; 1] = [MODE_WORDS];
+
+/// al is there and alone in #d.
+const AL: Scene = &[
+    StageStep::Comes(b"al", b"a.net", b"Al"),
+    StageStep::Joins(b"al", true, b"#d"),
+];
+
+/// b.net is linked, and al is there.
+static THERE: [Scene; 2] = [LINKED, AL];
+
+/// Writes what was read of a line to another server, and does it.
+fn pass_on(
+    alloc: Global,
+    stage: &mut Stage,
+    effects: &[Effect],
+    shown: &mut ShownText,
+    written: &mut ShownText,
+) {
+    for effect in effects {
+        show(effect, shown);
+        append(
+            written,
+            &write_effect(effect, &stage.room, &stage.routes, ONWARDS),
+        );
+        apply(alloc, &mut stage.room, effect);
     }
 }
 
-fn apply(alloc: Global, room: &mut Room, effect: &Effect) {
-    if brings_free(room, effect) {
-        let _ = room.apply(effect, &mut ShownLine::new(alloc));
-    }
-}
-
-/// What a server makes of a line.
-#[derive(Drop)]
-struct ReadLine {
-    /// What it reads.
-    shown: ShownEffects,
-    /// What it writes of that to another server.
-    written: ShownEffects,
-}
-
-/// Reads a line, writes what is read of it to another server, and does it.
-fn say_line(alloc: Global, room: &mut Room, routes: &Routes, link: u64, line: &[u8]) -> ReadLine {
-    let mut said = ReadLine {
-        shown: ArrayVec::new(),
-        written: ArrayVec::new(),
-    };
-    let Ok(message) = parse(line) else {
-        return said;
-    };
-    match read_effect(alloc, &message, room, routes, link) {
-        Ok(effects) => {
-            for effect in effects.as_slice() {
-                show(effect, &mut said.shown);
-                append(
-                    &mut said.written,
-                    &write_effect(effect, room, routes, ONWARDS),
-                );
-                apply(alloc, room, effect);
-            }
+/// Shows what is read of a row's line, and what is written of that.
+fn say_line(
+    alloc: Global,
+    stage: &mut Stage,
+    row: &LineRow,
+    shown: &mut ShownText,
+    written: &mut ShownText,
+) {
+    if let Ok(message) = parse(row.1) {
+        match read_effect(alloc, &message, &stage.room, &stage.routes, row.0) {
+            Ok(effects) => pass_on(alloc, stage, effects.as_slice(), shown, written),
+            Err(fault) => show_fault(fault, shown),
         }
-        Err(fault) => show_fault(fault, &mut said.shown),
     }
-    said
 }
 
-/// Whether of each line is read and written what its row says.
-fn rows_hold(alloc: Global, room: &mut Room, routes: &Routes, rows: &[LineRow]) -> bool {
+/// Whether of a row's line is read and written what the row says.
+fn row_holds(alloc: Global, stage: &mut Stage, row: &LineRow) -> bool {
+    let mut shown = ShownText::new();
+    let mut written = ShownText::new();
+    say_line(alloc, stage, row, &mut shown, &mut written);
+    shown.as_slice() == row.2 && written.as_slice() == row.3
+}
+
+fn rows_hold(alloc: Global, stage: &mut Stage, rows: &[LineRow]) -> bool {
     let mut all = true;
-    for (link, line, shown, written) in rows {
-        let said = say_line(alloc, room, routes, *link, line);
-        all &= said.shown.as_slice() == *shown && said.written.as_slice() == *written;
+    for row in rows {
+        all &= row_holds(alloc, stage, row);
     }
     all
 }
 
-fn nick(rt: &impl Abort) -> Nick {
-    Nick::read(b"al").expect(rt, "a nickname")
-}
-
-/// The room of a.net, with `al` there and alone in #d.
-fn stand(rt: &impl Abort, alloc: Global) -> Room {
-    let home = ServerName::read(b"a.net").expect(rt, "a name");
-    let mut room = Room::new(alloc, home.copy());
-    let user = User {
-        nick: nick(rt),
-        user: UserName::clean(b"u"),
-        host: Host::read(b"h").expect(rt, "a host"),
-        real: RealName::cut(b"Al"),
-        home,
-        invisible: false,
-    };
-    apply(alloc, &mut room, &Effect::AddUser(user));
-    let channel = ChannelName::read(b"#d").expect(rt, "a channel's name");
-    apply(
-        alloc,
-        &mut room,
-        &Effect::Join {
-            nick: nick(rt),
-            channel,
-            op: true,
-        },
-    );
-    room
-}
-
-/// Of a server, b.net: behind link 1, one link away, with the number 1 there.
-fn add_neighbour(rt: &impl Abort, routes: &mut Routes) {
-    let home = ServerName::read(b"a.net").expect(rt, "a name");
-    let info = Info::read(b"B").expect(rt, "a description");
-    if routes.token_in(1, 1).is_none() {
-        let _ = routes.add_server(1, &home, b"b.net", 1, 1, &info);
+/// Whether the rows of some tables hold, one table behind another.
+fn tables_hold(rt: &impl Abort, alloc: Global, tables: &[&[LineRow]]) -> bool {
+    let mut stage = stage_of(rt, alloc, &THERE);
+    let mut all = true;
+    for rows in tables {
+        all &= rows_hold(alloc, &mut stage, rows);
     }
+    all
 }
 
 #[test]
-fn lines_are_read_as_effects_and_written_so(rt: HostRuntime) -> Result<(), Fail> {
-    let own = Own {
-        name: Vec::from_slice(rt.alloc(), b"a.net")?,
-        info: Vec::new(rt.alloc()),
-        created: Vec::new(rt.alloc()),
-    };
-    assert!(rt; is_server(&own.name));
-    let mut routes = Routes::new(own);
-    add_neighbour(&rt, &mut routes);
-    let mut room = stand(&rt, rt.alloc());
-    assert!(rt; rows_hold(rt.alloc(), &mut room, &routes, &USERS));
-    assert!(rt; rows_hold(rt.alloc(), &mut room, &routes, &CHANNELS));
-    assert!(rt; rows_hold(rt.alloc(), &mut room, &routes, &REFUSED));
-    Ok(())
+fn lines_are_read_as_effects_and_written_so(rt: HostRuntime) {
+    assert!(rt; tables_hold(&rt, rt.alloc(), &EFFECTS));
 }
 
 #[test]
-fn words_of_a_mode_keep_the_rules_of_their_letters(rt: HostRuntime) -> Result<(), Fail> {
-    let own = Own {
-        name: Vec::from_slice(rt.alloc(), b"a.net")?,
-        info: Vec::new(rt.alloc()),
-        created: Vec::new(rt.alloc()),
-    };
-    assert!(rt; is_server(&own.name));
-    let mut routes = Routes::new(own);
-    add_neighbour(&rt, &mut routes);
-    let mut room = stand(&rt, rt.alloc());
-    assert!(rt; rows_hold(rt.alloc(), &mut room, &routes, &MODE_WORDS));
-    Ok(())
+fn words_of_a_mode_keep_the_rules_of_their_letters(rt: HostRuntime) {
+    assert!(rt; tables_hold(&rt, rt.alloc(), &MODES));
 }

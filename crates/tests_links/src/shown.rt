@@ -6,16 +6,16 @@ use irc_room::{By, Effect, Target};
 use irc_users::{User, UserChange};
 use irc_wire::WireFault;
 
-/// What is read of a line.
-pub type ShownEffects = ArrayVec<u8, 600>;
+/// What is read of a line, or written.
+pub type ShownText = ArrayVec<u8, 600>;
 
 /// Appends bytes.
-pub fn append(shown: &mut ShownEffects, bytes: &[u8]) {
+pub fn append(shown: &mut ShownText, bytes: &[u8]) {
     let _ = shown.try_extend_from_slice(bytes);
 }
 
 /// Appends a word behind a space.
-fn append_word(shown: &mut ShownEffects, word: &[u8]) {
+pub fn append_word(shown: &mut ShownText, word: &[u8]) {
     append(shown, b" ");
     append(shown, word);
 }
@@ -54,7 +54,7 @@ fn letter_word(letter: ModeLetter) -> &'static [u8] {
     }
 }
 
-fn show_change(change: &ModeChange, shown: &mut ShownEffects) {
+fn show_change(change: &ModeChange, shown: &mut ShownText) {
     append_word(shown, flag_word(change.plus));
     append_word(shown, letter_word(change.letter));
     if let Some(word) = &change.word {
@@ -62,7 +62,7 @@ fn show_change(change: &ModeChange, shown: &mut ShownEffects) {
     }
 }
 
-fn show_user(user: &User, shown: &mut ShownEffects) {
+fn show_user(user: &User, shown: &mut ShownText) {
     append_word(shown, b"adds");
     append_word(shown, user.nick.as_bytes());
     append_word(shown, user.user.as_bytes());
@@ -73,7 +73,7 @@ fn show_user(user: &User, shown: &mut ShownEffects) {
 }
 
 /// Shows an effect on a channel.
-fn show_on_channel(effect: &Effect, shown: &mut ShownEffects) {
+fn show_on_channel(effect: &Effect, shown: &mut ShownText) {
     match effect {
         Effect::Join { nick, channel, op } => {
             append_word(shown, b"joins");
@@ -125,7 +125,7 @@ fn show_on_channel(effect: &Effect, shown: &mut ShownEffects) {
     }
 }
 
-fn show_user_change(nick: &Nick, change: &UserChange, shown: &mut ShownEffects) {
+fn show_user_change(nick: &Nick, change: &UserChange, shown: &mut ShownText) {
     match change {
         UserChange::Invisible(invisible) => {
             append_word(shown, b"hides");
@@ -136,7 +136,7 @@ fn show_user_change(nick: &Nick, change: &UserChange, shown: &mut ShownEffects) 
 }
 
 /// Shows an effect.
-pub fn show(effect: &Effect, shown: &mut ShownEffects) {
+pub fn show(effect: &Effect, shown: &mut ShownText) {
     match effect {
         Effect::AddUser(user) => show_user(user, shown),
         Effect::Rename { nick, new } => {
@@ -173,7 +173,7 @@ pub fn show(effect: &Effect, shown: &mut ShownEffects) {
 }
 
 /// Shows why a line is refused.
-pub fn show_fault(fault: WireFault, shown: &mut ShownEffects) {
+pub fn show_fault(fault: WireFault, shown: &mut ShownText) {
     let word: &[u8] = match fault {
         WireFault::UnknownCommand => b"unknown command",
         WireFault::Parameters => b"parameters",

@@ -1,8 +1,7 @@
 //! The links by which a line goes on: along the tree, toward those whom it is for, and never back
 //! (RFC 2813 section 5).
-use crate::events::{EventRow, LinkEvent, happens, rows_hold, server};
-use irc_batch::{Batch, Out};
-use std::alloc::Global;
+use crate::events::{EventRow, LinkEvent, rows_hold};
+use irc_batch::Out;
 
 /// b.net is linked by 7, with bo and ben, c.net by 8, with cy and cas, and d.net by 9, with dee.
 /// al, client 1, is the operator of #c; an, client 2, and all of b.net and c.net are in it. A link
@@ -201,7 +200,7 @@ static TEXTS: [EventRow; 14] = [
     (&[LinkEvent::Hears(7, b":zz PRIVMSG al :hi")], &[]),
 ];
 
-static INVITATIONS: [EventRow; 7] = [
+static INVITATIONS: [EventRow; 8] = [
     (
         &[LinkEvent::Says(1, b"INVITE dee #c")],
         &[
@@ -268,6 +267,28 @@ static INVITATIONS: [EventRow; 7] = [
     ),
     // To somebody of whom nobody knows.
     (&[LinkEvent::Hears(7, b":bo INVITE zz #c")], &[]),
+    // The invitation of the server's own user is kept, and that of another server's is not.
+    (
+        &[
+            LinkEvent::Says(1, b"INVITE dee #c"),
+            LinkEvent::Says(1, b"JOIN #e"),
+            LinkEvent::Says(1, b"INVITE an #e"),
+            LinkEvent::Invited(b"an", b"#e", true),
+            LinkEvent::Invited(b"dee", b"#c", false),
+        ],
+        &[
+            Out::Line(1, b":a.net 341 al #c dee"),
+            Out::LinkLine(9, b":al INVITE dee #c"),
+            Out::Line(1, b":al!u@h JOIN #e"),
+            Out::LinkLine(7, b":al JOIN #e\x07o"),
+            Out::LinkLine(8, b":al JOIN #e\x07o"),
+            Out::LinkLine(9, b":al JOIN #e\x07o"),
+            Out::Line(1, b":a.net 353 al = #e :@al"),
+            Out::Line(1, b":a.net 366 al #e :End of NAMES list"),
+            Out::Line(1, b":a.net 341 al #e an"),
+            Out::Line(2, b":al!u@h INVITE an #e"),
+        ],
+    ),
 ];
 
 /// Everything else goes to all links but the one by which it came, and to none that is not up yet.
@@ -448,39 +469,17 @@ static OTHERS: [EventRow; 14] = [
     ),
 ];
 
-/// dee of d.net and an of a.net are invited.
-static INVITED: [LinkEvent; 3] = [
-    LinkEvent::Says(1, b"INVITE dee #c"),
-    LinkEvent::Says(1, b"JOIN #e"),
-    LinkEvent::Says(1, b"INVITE an #e"),
-];
-
-/// Whether the invitation of the server's own user is kept, and that of another server's is not.
-fn are_kept(alloc: Global) -> bool {
-    let Some(mut server) = server(alloc) else {
-        return false;
-    };
-    let mut out = Batch::new(alloc);
-    let stands = happens(alloc, &mut server, &SCENE, &mut out)
-        && happens(alloc, &mut server, &INVITED, &mut out);
-    match server.room() {
-        Some(room) => stands && room.invited(b"an", b"#e") && !room.invited(b"dee", b"#c"),
-        None => false,
-    }
-}
-
 #[test]
 fn texts_go_where_somebody_hears_them(rt: HostRuntime) {
-    assert!(rt; rows_hold(rt.alloc(), &SCENE, &TEXTS));
+    assert!(rt; rows_hold(&rt, rt.alloc(), &SCENE, &TEXTS));
 }
 
 #[test]
 fn invitations_go_to_one_server(rt: HostRuntime) {
-    assert!(rt; rows_hold(rt.alloc(), &SCENE, &INVITATIONS));
-    assert!(rt; are_kept(rt.alloc()));
+    assert!(rt; rows_hold(&rt, rt.alloc(), &SCENE, &INVITATIONS));
 }
 
 #[test]
 fn the_rest_goes_to_all_but_where_it_came_from(rt: HostRuntime) {
-    assert!(rt; rows_hold(rt.alloc(), &SCENE, &OTHERS));
+    assert!(rt; rows_hold(&rt, rt.alloc(), &SCENE, &OTHERS));
 }

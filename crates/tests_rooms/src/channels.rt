@@ -1,5 +1,7 @@
 //! Members, invitations and modes of channels (RFC 2811, sections 2 to 4).
-use crate::script::{channel, nick, room_holds};
+use crate::script::{
+    ScriptRow, ScriptStage, ShownText, append, channel, nick, room_holds, script_holds, show_state,
+};
 use irc_channels::{Channels, ChannelsFault};
 use std::alloc::Global;
 use std::process::Abort;
@@ -112,43 +114,90 @@ part cy #chat x = (cy)
 make bo #CHAT = bo :bo!u@h JOIN #CHAT
 state #chat = #CHAT + : @bo";
 
-/// The spelling that a channel was made in, the one that comes, and the greater of the two.
-static SPELLINGS: [[&str; 3]; 6] = [
-    ["#Chat", "#chat", "#chat"],
-    ["#chat", "#Chat", "#chat"],
-    ["#chat", "#chat", "#chat"],
-    ["#[a]", "#{A}", "#{A}"],
-    ["#{A}", "#[a]", "#{A}"],
-    ["#cHAT", "#ChAT", "#cHAT"],
+/// Channels alone, of whom nobody is shown anything: `make NICK CHANNEL`, `invite NICK CHANNEL`,
+/// `uninvite NICK CHANNEL`, `respell CHANNEL` and `state CHANNEL`. Of a spelling that a channel was
+/// made in and one that comes the greater stays; a channel that is not there is refused.
+static SPELLINGS: [&str; 6] = [
+    "\
+make al #Chat =
+respell #other = no channel
+respell #chat =
+state #Chat = #chat + : @al",
+    "\
+make al #chat =
+respell #other = no channel
+respell #Chat =
+state #chat = #chat + : @al",
+    "\
+make al #chat =
+respell #other = no channel
+respell #chat =
+state #chat = #chat + : @al",
+    "\
+make al #[a] =
+respell #other = no channel
+respell #{A} =
+state #[a] = #{A} + : @al",
+    "\
+make al #{A} =
+respell #other = no channel
+respell #[a] =
+state #{A} = #{A} + : @al",
+    "\
+make al #cHAT =
+respell #other = no channel
+respell #ChAT =
+state #cHAT = #cHAT + : @al",
 ];
 
-/// Whether a channel that was made in the first spelling, and then spelled as the second where
-/// that is greater, has the third; and whether a channel that is not there is refused.
-fn is_spelled(rt: &impl Abort, alloc: Global, row: [&str; 3]) -> bool {
-    let [made, given, stays] = row;
-    let mut channels = Channels::new(alloc);
-    let joined = channels.join(&nick(rt, "al"), &channel(rt, made), true);
-    let other = channels.respell(&channel(rt, "#other"));
-    let respelled = channels.respell(&channel(rt, given));
-    joined.is_ok()
-        && other == Err(ChannelsFault::NoSuchChannel)
-        && respelled.is_ok()
-        && is_stored(&channels, made, stays)
-}
+/// An invitation that is taken back.
+const TAKEN_BACK: &str = "\
+make al #c =
+invite bo #c =
+invite cy #c =
+uninvite BO #c =
+state #C = #c + : @al ?cy";
 
-/// Whether a channel is stored in a spelling.
-fn is_stored(channels: &Channels, name: &str, spelling: &str) -> bool {
-    match channels.find(name.as_bytes()) {
-        Some(found) => found.name.as_bytes() == spelling.as_bytes(),
-        None => false,
+fn show_fault(done: Result<(), ChannelsFault>, shown: &mut ShownText) {
+    match done {
+        Ok(()) => {}
+        Err(ChannelsFault::NoSuchChannel) => append(shown, b" no channel"),
+        Err(_) => append(shown, b" no memory"),
     }
 }
 
-/// Whether each row holds.
+impl ScriptStage for Channels {
+    fn perform(
+        &mut self,
+        rt: &impl Abort,
+        _alloc: Global,
+        row: ScriptRow<'_>,
+        shown: &mut ShownText,
+    ) {
+        let done = match row.verb {
+            "make" => self.join(&nick(rt, row.first), &channel(rt, row.second), true),
+            "invite" => self.invite(&nick(rt, row.first), &channel(rt, row.second)),
+            "uninvite" => self.uninvite(&nick(rt, row.first), &channel(rt, row.second)),
+            "respell" => self.respell(&channel(rt, row.first)),
+            _ => {
+                show_state(self.find(row.first.as_bytes()), shown);
+                Ok(())
+            }
+        };
+        show_fault(done, shown);
+    }
+}
+
+/// Whether a script holds where there is no channel.
+fn channels_hold(rt: &impl Abort, alloc: Global, script: &str) -> bool {
+    let mut channels = Channels::new(alloc);
+    script_holds(rt, alloc, &mut channels, script)
+}
+
 fn are_spelled(rt: &impl Abort, alloc: Global) -> bool {
     let mut all = true;
-    for row in SPELLINGS {
-        all &= is_spelled(rt, alloc, row);
+    for script in &SPELLINGS {
+        all &= channels_hold(rt, alloc, script);
     }
     all
 }
@@ -162,24 +211,11 @@ fn the_greater_spelling_stays(rt: HostRuntime) {
 #[test]
 fn members_come_and_go(rt: HostRuntime) {
     assert!(rt; room_holds(&rt, rt.alloc(), MEMBERS));
+    assert!(rt; channels_hold(&rt, rt.alloc(), TAKEN_BACK));
 }
 
 #[test]
 fn modes_are_read_and_changed(rt: HostRuntime) {
     assert!(rt; room_holds(&rt, rt.alloc(), MODES));
     assert!(rt; room_holds(&rt, rt.alloc(), READING));
-}
-
-#[test]
-fn an_invitation_is_taken_back(rt: HostRuntime) {
-    let mut channels = Channels::new(rt.alloc());
-    let name = channel(&rt, "#c");
-    assert!(rt; channels.join(&nick(&rt, "al"), &name, true).is_ok());
-    assert!(rt; channels.invite(&nick(&rt, "bo"), &name).is_ok());
-    assert!(rt; channels.invite(&nick(&rt, "cy"), &name).is_ok());
-    assert!(rt; channels.uninvite(&nick(&rt, "BO"), &name).is_ok());
-    let found = channels.find(b"#C").expect(&rt, "the channel");
-    assert!(rt; found.invited.get(b"bo").is_none());
-    assert!(rt; found.invited.get(b"cy").is_some());
-    assert!(rt; found.members.len() == 1);
 }

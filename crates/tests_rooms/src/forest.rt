@@ -2,28 +2,32 @@
 ghost use Rattle.std.specs.Prelude.{◌<◌, length, IfSome};
 ghost use Rattle.irc_names.specs.Names.{IsServer};
 
+use crate::script::{ScriptRow, ScriptStage, ShownText, append, script_holds};
 use irc_forest::{Forest, ServerPlace};
 use irc_names::ServerName;
 use std::alloc::{AllocError, Global};
+use std::process::Abort;
 
-/// Two servers, whether they are linked, and whether they are joined.
-type LinkRow = (&'static [u8], &'static [u8], bool, bool);
+/// `link` links two servers and `cut` takes out the link between two; `two` shows whether two are
+/// linked, and whether they are joined.
+const IN_LINE: &str = "\
+link a.net b.net =
+link c.net b.net =
+two a.net a.net = joined
+two a.net b.net = linked joined
+two b.net a.net = linked joined
+two a.net c.net = joined
+two b.net c.net = linked joined
+two d.net a.net =";
 
-static IN_LINE: [LinkRow; 6] = [
-    (b"a.net", b"a.net", false, true),
-    (b"a.net", b"b.net", true, true),
-    (b"b.net", b"a.net", true, true),
-    (b"a.net", b"c.net", false, true),
-    (b"b.net", b"c.net", true, true),
-    (b"d.net", b"a.net", false, false),
-];
-
-static ONCE_CUT: [LinkRow; 4] = [
-    (b"a.net", b"b.net", false, false),
-    (b"a.net", b"c.net", false, false),
-    (b"c.net", b"b.net", true, true),
-    (b"a.net", b"a.net", false, true),
-];
+const ONCE_CUT: &str = "\
+link a.net b.net =
+link c.net b.net =
+cut b.net a.net =
+two a.net b.net =
+two a.net c.net =
+two c.net b.net = linked joined
+two a.net a.net = joined";
 
 /// The server of this name.
 fn server(name: &[u8]) -> ServerName
@@ -48,74 +52,58 @@ fn apart(alloc: Global) -> Result<Forest, AllocError> {
 }
 
 /// The place of a server.
-fn place(forest: &Forest, name: &[u8]) -> Option<ServerPlace>
+fn place(forest: &Forest, name: &str) -> Option<ServerPlace>
     ensures { IfSome result (λ place. place < length forest.now.names) }
 {
-    forest.place_of(&ServerName::read(name)?)
+    forest.place_of(&ServerName::read(name.as_bytes())?)
 }
 
-/// Links two servers, and tells whether it could.
-fn link(forest: &mut Forest, one: &[u8], other: &[u8]) -> bool {
-    let Some(near) = place(forest, one) else {
-        return false;
-    };
-    let Some(far) = place(forest, other) else {
-        return false;
-    };
-    forest.link(near, far).is_ok()
+fn show_two(linked: bool, joined: bool, shown: &mut ShownText) {
+    append(shown, if linked { b" linked" } else { b"" });
+    append(shown, if joined { b" joined" } else { b"" });
 }
 
-/// Takes out the link between two servers.
-fn cut(forest: &mut Forest, one: &[u8], other: &[u8]) -> Option<()> {
-    let near = place(forest, one)?;
-    let far = place(forest, other)?;
-    forest.cut(near, far);
-    Some(())
+fn show_linked(linked: Result<(), AllocError>, shown: &mut ShownText) {
+    append(shown, if linked.is_ok() { b"" } else { b" no memory" });
 }
 
-/// Whether two servers are linked, and whether they are joined, where both are there.
-fn relation(forest: &Forest, one: &[u8], other: &[u8]) -> Option<(bool, bool)> {
-    let near = place(forest, one)?;
-    let far = place(forest, other)?;
-    Some((forest.are_linked(near, far), forest.are_joined(near, far)))
+impl ScriptStage for Forest {
+    fn perform(
+        &mut self,
+        _rt: &impl Abort,
+        _alloc: Global,
+        row: ScriptRow<'_>,
+        shown: &mut ShownText,
+    ) {
+        match (place(self, row.first), place(self, row.second)) {
+            (Some(near), Some(far)) => match row.verb {
+                "link" => show_linked(self.link(near, far), shown),
+                "cut" => self.cut(near, far),
+                _ => show_two(
+                    self.are_linked(near, far),
+                    self.are_joined(near, far),
+                    shown,
+                ),
+            },
+            _ => append(shown, b" no server"),
+        }
+    }
 }
 
-/// Whether each row is as it says.
-fn rows_hold(forest: &Forest, rows: &[LinkRow]) -> bool {
-    rows.iter().all(|(one, other, linked, joined)| {
-        relation(forest, one, other) == Some((*linked, *joined))
-    })
-}
-
-/// Links a.net, b.net and c.net in a line, and tells whether it could.
-fn link_in_line(forest: &mut Forest) -> bool {
-    link(forest, b"a.net", b"b.net") && link(forest, b"c.net", b"b.net")
-}
-
-fn are_in_line(alloc: Global) -> bool {
+/// Whether a script holds of four servers with no link.
+fn servers_hold(rt: &impl Abort, alloc: Global, script: &str) -> bool {
     match apart(alloc) {
-        Ok(mut forest) => link_in_line(&mut forest) && rows_hold(&forest, &IN_LINE),
+        Ok(mut forest) => script_holds(rt, alloc, &mut forest, script),
         Err(_) => false,
     }
 }
 
 #[test]
 fn three_in_a_line(rt: HostRuntime) {
-    assert!(rt; are_in_line(rt.alloc()));
-}
-
-fn are_parted(alloc: Global) -> bool {
-    match apart(alloc) {
-        Ok(mut forest) => {
-            link_in_line(&mut forest)
-                && cut(&mut forest, b"b.net", b"a.net").is_some()
-                && rows_hold(&forest, &ONCE_CUT)
-        }
-        Err(_) => false,
-    }
+    assert!(rt; servers_hold(&rt, rt.alloc(), IN_LINE));
 }
 
 #[test]
 fn a_cut_parts_them(rt: HostRuntime) {
-    assert!(rt; are_parted(rt.alloc()));
+    assert!(rt; servers_hold(&rt, rt.alloc(), ONCE_CUT));
 }

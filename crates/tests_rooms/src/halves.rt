@@ -1,97 +1,142 @@
 //! Halves of a network that agree, and halves that do not.
-use crate::script::{brings_free, channel, nick, server};
-use irc_channels::Words;
+use crate::script::{script_holds, server};
 use irc_forest::agree;
-use irc_modes::{ModeChange, ModeLetter, ModeWord};
-use irc_names::Host;
-use irc_room::{By, Effect, ModeChanges, Room, ShownLine};
-use irc_users::{RealName, User, UserName};
-use std::alloc::{AllocError, Global};
+use irc_room::Room;
+use std::alloc::Global;
 use std::process::Abort;
 
-/// Two halves, and whether they agree. A half is the members of its channel, the channel, its ban
-/// and its topic.
-static CASES: [(&str, &str, bool); 9] = [
-    ("al #c x!*@* Hi", "bo #c x!*@* Hi", true),
-    ("al #c x!*@* Hi", "bo #c x!*@* hi", false),
-    ("al #c x!*@* Hi", "bo #C x!*@* Hi", false),
-    ("al #c x!*@* Hi", "bo #c X!*@* Hi", false),
-    ("al #c x!*@* Hi", "bo #d y!*@* Ho", true),
-    ("al #c x!*@* Hi", "AL #c y!*@* Ho", true),
-    ("al #c x!*@* Hi", "al,bo #c y!*@* Ho", true),
-    ("al,cy #c x!*@* Hi", "al #c y!*@* Ho", true),
-    ("al,cy #c x!*@* Hi", "al,bo #c y!*@* Ho", false),
+/// Two halves, each a script on a room without users, and whether they agree.
+type HalvesCase = (&'static str, &'static str, bool);
+
+/// al is in #c, which has a ban and a topic.
+const AL: &str = "\
+user al a.net h Al =
+make al #c = al :al!u@h JOIN #c
+mode * #c +b x!*@* = al :a.net MODE #c +b x!*@*
+topic * #c Hi = al :a.net TOPIC #c :Hi";
+
+/// The same, and cy is there too.
+const AL_AND_CY: &str = "\
+user al a.net h Al =
+make al #c = al :al!u@h JOIN #c
+user cy a.net h Cy =
+make cy #c = al cy :cy!u@h JOIN #c
+mode * #c +b x!*@* = al cy :a.net MODE #c +b x!*@*
+topic * #c Hi = al cy :a.net TOPIC #c :Hi";
+
+static CASES: [HalvesCase; 9] = [
+    (
+        AL,
+        "\
+user bo a.net h Bo =
+make bo #c = bo :bo!u@h JOIN #c
+mode * #c +b x!*@* = bo :a.net MODE #c +b x!*@*
+topic * #c Hi = bo :a.net TOPIC #c :Hi",
+        true,
+    ),
+    (
+        AL,
+        "\
+user bo a.net h Bo =
+make bo #c = bo :bo!u@h JOIN #c
+mode * #c +b x!*@* = bo :a.net MODE #c +b x!*@*
+topic * #c hi = bo :a.net TOPIC #c :hi",
+        false,
+    ),
+    (
+        AL,
+        "\
+user bo a.net h Bo =
+make bo #C = bo :bo!u@h JOIN #C
+mode * #C +b x!*@* = bo :a.net MODE #C +b x!*@*
+topic * #C Hi = bo :a.net TOPIC #C :Hi",
+        false,
+    ),
+    (
+        AL,
+        "\
+user bo a.net h Bo =
+make bo #c = bo :bo!u@h JOIN #c
+mode * #c +b X!*@* = bo :a.net MODE #c +b X!*@*
+topic * #c Hi = bo :a.net TOPIC #c :Hi",
+        false,
+    ),
+    (
+        AL,
+        "\
+user bo a.net h Bo =
+make bo #d = bo :bo!u@h JOIN #d
+mode * #d +b y!*@* = bo :a.net MODE #d +b y!*@*
+topic * #d Ho = bo :a.net TOPIC #d :Ho",
+        true,
+    ),
+    (
+        AL,
+        "\
+user AL a.net h Al =
+make AL #c = AL :AL!u@h JOIN #c
+mode * #c +b y!*@* = AL :a.net MODE #c +b y!*@*
+topic * #c Ho = AL :a.net TOPIC #c :Ho",
+        true,
+    ),
+    (
+        AL,
+        "\
+user al a.net h Al =
+make al #c = al :al!u@h JOIN #c
+user bo a.net h Bo =
+make bo #c = al bo :bo!u@h JOIN #c
+mode * #c +b y!*@* = al bo :a.net MODE #c +b y!*@*
+topic * #c Ho = al bo :a.net TOPIC #c :Ho",
+        true,
+    ),
+    (
+        AL_AND_CY,
+        "\
+user al a.net h Al =
+make al #c = al :al!u@h JOIN #c
+mode * #c +b y!*@* = al :a.net MODE #c +b y!*@*
+topic * #c Ho = al :a.net TOPIC #c :Ho",
+        true,
+    ),
+    (
+        AL_AND_CY,
+        "\
+user al a.net h Al =
+make al #c = al :al!u@h JOIN #c
+user bo a.net h Bo =
+make bo #c = al bo :bo!u@h JOIN #c
+mode * #c +b y!*@* = al bo :a.net MODE #c +b y!*@*
+topic * #c Ho = al bo :a.net TOPIC #c :Ho",
+        false,
+    ),
 ];
 
-fn apply(rt: &impl Abort, alloc: Global, room: &mut Room, effect: &Effect) {
-    let mut shown = ShownLine::new(alloc);
-    if brings_free(room, effect) {
-        room.apply(effect, &mut shown).expect(rt, "room for it");
-    }
+/// Whether two rooms become what a case says, and agree as it says, whichever is named first.
+fn holds(
+    rt: &impl Abort,
+    alloc: Global,
+    one: &mut Room,
+    other: &mut Room,
+    case: &HalvesCase,
+) -> bool {
+    let (left, right, want) = case;
+    script_holds(rt, alloc, one, left)
+        && script_holds(rt, alloc, other, right)
+        && agree(one, other) == *want
+        && agree(other, one) == *want
 }
 
-/// A user comes and joins a channel.
-fn come(rt: &impl Abort, alloc: Global, room: &mut Room, word: &str, name: &str) {
-    let user = User {
-        nick: nick(rt, word),
-        user: UserName::clean(b"u"),
-        host: Host::read(b"h").expect(rt, "a host"),
-        real: RealName::cut(b""),
-        home: room.own().copy(),
-        invisible: false,
-    };
-    let joining = Effect::Join {
-        nick: nick(rt, word),
-        channel: channel(rt, name),
-        op: true,
-    };
-    apply(rt, alloc, room, &Effect::AddUser(user));
-    apply(rt, alloc, room, &joining);
+fn case_holds(rt: &impl Abort, alloc: Global, case: &HalvesCase) -> bool {
+    let mut one = Room::new(alloc, server(rt, "a.net"));
+    let mut other = Room::new(alloc, server(rt, "a.net"));
+    holds(rt, alloc, &mut one, &mut other, case)
 }
 
-/// The change that adds a ban.
-fn banning(alloc: Global, mask: &str) -> Result<ModeChanges, AllocError> {
-    let mut changes = Vec::new(alloc);
-    changes.push(ModeChange {
-        plus: true,
-        letter: ModeLetter::Ban,
-        word: ModeWord::read(mask.as_bytes()),
-    })?;
-    Ok(ModeChanges::new(changes))
-}
-
-/// The half that a text describes.
-fn half(rt: &impl Abort, alloc: Global, text: &str) -> Room {
-    let mut room = Room::new(alloc, server(rt, "a.net"));
-    let mut words = text.splitn(4, ' ');
-    let members = words.next().unwrap_or("");
-    let name = words.next().unwrap_or("");
-    let mask = words.next().unwrap_or("");
-    for member in members.split(',') {
-        come(rt, alloc, &mut room, member, name);
-    }
-    let ban = Effect::ChangeModes {
-        by: By::Home,
-        channel: channel(rt, name),
-        changes: banning(alloc, mask).expect(rt, "memory"),
-    };
-    let topic = Effect::SetTopic {
-        by: By::Home,
-        channel: channel(rt, name),
-        text: Words::cut(words.next().unwrap_or("").as_bytes()),
-    };
-    apply(rt, alloc, &mut room, &ban);
-    apply(rt, alloc, &mut room, &topic);
-    room
-}
-
-/// Whether the halves of each case agree as it says, whichever is named first.
 fn all_hold(rt: &impl Abort, alloc: Global) -> bool {
     let mut all = true;
-    for (left, right, want) in &CASES {
-        let one = half(rt, alloc, left);
-        let other = half(rt, alloc, right);
-        all &= agree(&one, &other) == *want && agree(&other, &one) == *want;
+    for case in &CASES {
+        all &= case_holds(rt, alloc, case);
     }
     all
 }

@@ -1,10 +1,11 @@
 //! Lines cut out of streams, read as messages and written (RFC 2812, section 2.3).
-use arrayvec::ArrayVec;
+use crate::script::{ScriptRow, ScriptStage, ShownText, append, script_holds};
 use irc_line::{
     Framer, LineFault, Message, Parts, Prefix, body, lines_of_pieces, parse, write_message,
 };
 use irc_names::first_bytes;
 use std::alloc::Global;
+use std::process::Abort;
 
 /// Streams, and the lines in each, every one of them with a `|` behind it.
 static STREAMS: [(&[u8], &[u8]); 6] = [
@@ -16,32 +17,25 @@ static STREAMS: [(&[u8], &[u8]); 6] = [
     (b" a \n\n b\r", b" a | b|"),
 ];
 
-/// What is left of some lines behind the first one; `?` where that is another.
-fn behind<'a>(lines: &'a [u8], first: &[u8]) -> &'a [u8] {
-    match lines.strip_prefix(first) {
-        Some(rest) => rest.strip_prefix(b"|").unwrap_or(b"?"),
-        None => b"?",
-    }
-}
-
-/// Whether a stream has these lines.
-fn has_lines(alloc: Global, stream: &[u8], want: &[u8]) -> bool {
-    match lines_of_pieces(alloc, &[stream]) {
+/// Shows the lines of a stream.
+fn show_lines(alloc: Global, stream: &[u8], shown: &mut ShownText) {
+    match &lines_of_pieces(alloc, &[stream]) {
         Ok(lines) => {
-            let mut left = want;
-            for line in &lines {
-                left = behind(left, line);
+            for line in lines.as_slice() {
+                append(shown, line);
+                append(shown, b"|");
             }
-            left.is_empty()
         }
-        Err(_) => false,
+        Err(_) => append(shown, b"no memory"),
     }
 }
 
 fn streams_have_their_lines(alloc: Global) -> bool {
     let mut all = true;
     for (stream, want) in &STREAMS {
-        all &= has_lines(alloc, stream, want);
+        let mut shown = ShownText::new();
+        show_lines(alloc, stream, &mut shown);
+        all &= shown.as_slice() == *want;
     }
     all
 }
@@ -65,76 +59,64 @@ fn streams_are_cut_into_lines(rt: HostRuntime) {
     );
 }
 
-/// Each line: a line of a client, and what it is read as: the prefix behind a colon, the command
+/// Each row: a line of a client, and what it is read as: the prefix behind a colon, the command
 /// and the parameters, parted by `|`; or its fault.
 const MESSAGES: &str = "\
-PING => PING
-ping x => ping|x
-C a  : => C|a|
-C a :b  c => C|a|b  c
-C a:b : c => C|a:b| c
-  :zz  PING   x  => :zz|PING|x
-:al!u@h PRIVMSG #c ::) => :al!u@h|PRIVMSG|#c|:)
-C 1 2 3 4 5 6 7 8 9 10 11 12 13 14 15 => C|1|2|3|4|5|6|7|8|9|10|11|12|13|14|15
-C 1 2 3 4 5 6 7 8 9 10 11 12 13 14 x y z => C|1|2|3|4|5|6|7|8|9|10|11|12|13|14|x y z
-C 1 2 3 4 5 6 7 8 9 10 11 12 13 14 :x y => C|1|2|3|4|5|6|7|8|9|10|11|12|13|14|x y
- => empty
-    => empty
-:al  => no command
-:al => no command
-  \0 => NUL
-PING \0 => NUL";
+PING = PING
+ping x = ping|x
+C a  : = C|a|
+C a :b  c = C|a|b  c
+C a:b : c = C|a:b| c
+  :zz  PING   x  = :zz|PING|x
+:al!u@h PRIVMSG #c ::) = :al!u@h|PRIVMSG|#c|:)
+C 1 2 3 4 5 6 7 8 9 10 11 12 13 14 15 = C|1|2|3|4|5|6|7|8|9|10|11|12|13|14|15
+C 1 2 3 4 5 6 7 8 9 10 11 12 13 14 x y z = C|1|2|3|4|5|6|7|8|9|10|11|12|13|14|x y z
+C 1 2 3 4 5 6 7 8 9 10 11 12 13 14 :x y = C|1|2|3|4|5|6|7|8|9|10|11|12|13|14|x y
+ = empty
+    = empty
+:al  = no command
+:al = no command
+  \0 = NUL
+PING \0 = NUL";
 
-type ShownMessage = ArrayVec<u8, 100>;
-
-fn append(text: &mut ShownMessage, bytes: &[u8]) {
-    let _ = text.try_extend_from_slice(bytes);
-}
-
-fn show_message(message: &Message<'_>, text: &mut ShownMessage) {
+fn show_message(message: &Message<'_>, shown: &mut ShownText) {
     if let Some(prefix) = message.prefix {
-        append(text, b":");
-        append(text, prefix);
-        append(text, b"|");
+        append(shown, b":");
+        append(shown, prefix);
+        append(shown, b"|");
     }
-    append(text, message.command);
+    append(shown, message.command);
     for param in &message.params {
-        append(text, b"|");
-        append(text, param);
+        append(shown, b"|");
+        append(shown, param);
     }
 }
 
-fn show(line: &[u8], text: &mut ShownMessage) {
-    match parse(line) {
-        Ok(message) => show_message(&message, text),
-        Err(LineFault::Empty) => append(text, b"empty"),
-        Err(LineFault::NoCommand) => append(text, b"no command"),
-        Err(LineFault::HasNul) => append(text, b"NUL"),
-    }
-}
+/// The lines of a client that are read.
+#[derive(Drop)]
+struct ClientLines;
 
-fn is_read(row: &str) -> bool {
-    match row.split_once(" => ") {
-        Some((line, want)) => {
-            let mut text = ArrayVec::new();
-            show(line.as_bytes(), &mut text);
-            text.as_slice() == want.as_bytes()
+impl ScriptStage for ClientLines {
+    fn perform(
+        &mut self,
+        _rt: &impl Abort,
+        _alloc: Global,
+        row: ScriptRow<'_>,
+        shown: &mut ShownText,
+    ) {
+        append(shown, b" ");
+        match parse(row.line.as_bytes()) {
+            Ok(message) => show_message(&message, shown),
+            Err(LineFault::Empty) => append(shown, b"empty"),
+            Err(LineFault::NoCommand) => append(shown, b"no command"),
+            Err(LineFault::HasNul) => append(shown, b"NUL"),
         }
-        None => false,
     }
-}
-
-fn are_read(rows: &str) -> bool {
-    let mut all = true;
-    for row in rows.lines() {
-        all &= is_read(row);
-    }
-    all
 }
 
 #[test]
 fn lines_are_read_as_messages(rt: HostRuntime) {
-    assert!(rt; are_read(MESSAGES));
+    assert!(rt; script_holds(&rt, rt.alloc(), &mut ClientLines, MESSAGES));
 }
 
 /// Messages, and their lines.

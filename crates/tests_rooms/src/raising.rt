@@ -100,15 +100,16 @@ static SIDES: [Sides; 10] = [
     },
 ];
 
-/// Modes, a line of changes on them, and those of it that raise something: each is judged behind
-/// those before it. What is taken away counts always, and so does a mode of a member.
-static LINES: [(&str, &str, &str); 6] = [
-    ("+b A!*@*", "+bb a!*@* A!*@*", " +b a!*@*"),
-    ("+k m", "+o-k bo m", " +o-k bo m"),
-    ("+m", "-m+o bo", " -m+o bo"),
-    ("", "-i+v bo", " -i+v bo"),
-    ("+s", "+p-s", " -s"),
-    ("+l 65535", "+l 00042", ""),
+/// Modes, a line of changes on them, those of it that raise something, and the modes then: each
+/// change is judged behind those before it. What is taken away counts always, and so does a mode of
+/// a member.
+static LINES: [(&str, &str, &str, &str); 6] = [
+    ("+b A!*@*", "+bb a!*@* A!*@*", " +b a!*@*", " + a!*@*"),
+    ("+k m", "+o-k bo m", " +o-k bo m", " +"),
+    ("+m", "-m+o bo", " -m+o bo", " +"),
+    ("", "-i+v bo", " -i+v bo", " +"),
+    ("+s", "+p-s", " -s", " +"),
+    ("+l 65535", "+l 00042", "", " + 65535"),
 ];
 
 /// The modes that some lines make.
@@ -150,36 +151,36 @@ fn raise(alloc: Global, modes: &mut Modes, lines: &str, shown: &mut ShownText) {
     }
 }
 
-/// Whether this is what some modes show of what is raised in them, and what they are then.
-fn raises(alloc: Global, modes: &str, lines: &str, seen: &str, both: &str) -> bool {
-    let mut modes = made(alloc, modes);
+/// Whether this is what modes show of what is raised in them, and what they are then.
+fn raises_in(alloc: Global, modes: &mut Modes, lines: &str, seen: &str, then: &str) -> bool {
     let mut shown = ShownText::new();
-    raise(alloc, &mut modes, lines, &mut shown);
-    let mut after = ShownText::new();
-    show_modes(&modes, &mut after);
-    shown.as_slice() == seen.as_bytes() && after.as_slice() == both.as_bytes()
+    raise(alloc, modes, lines, &mut shown);
+    let is_seen = shown.as_slice() == seen.as_bytes();
+    shown.clear();
+    show_modes(modes, &mut shown);
+    is_seen && shown.as_slice() == then.as_bytes()
+}
+
+fn raises(alloc: Global, modes: &str, lines: &str, seen: &str, then: &str) -> bool {
+    let mut modes = made(alloc, modes);
+    raises_in(alloc, &mut modes, lines, seen, then)
 }
 
 fn sides_join(alloc: Global) -> bool {
+    let mut all = true;
     for row in &SIDES {
-        if !raises(alloc, row.one, row.other, row.seen_by_one, row.both)
-            || !raises(alloc, row.other, row.one, row.seen_by_other, row.both)
-        {
-            return false;
-        }
+        all &= raises(alloc, row.one, row.other, row.seen_by_one, row.both);
+        all &= raises(alloc, row.other, row.one, row.seen_by_other, row.both);
     }
-    true
+    all
 }
 
 fn lines_raise(alloc: Global) -> bool {
-    for (modes, line, seen) in &LINES {
-        let mut shown = ShownText::new();
-        raise(alloc, &mut made(alloc, modes), line, &mut shown);
-        if shown.as_slice() != seen.as_bytes() {
-            return false;
-        }
+    let mut all = true;
+    for (modes, line, seen, then) in &LINES {
+        all &= raises(alloc, modes, line, seen, then);
     }
-    true
+    all
 }
 
 #[test]

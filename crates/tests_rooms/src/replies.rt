@@ -1,11 +1,12 @@
 //! The words of each reply.
+use crate::script::{channel, nick, row_of, server};
 use arrayvec::ArrayVec;
 use irc_line::body;
 use irc_names::{BanMask, ChannelName, Host, Key, Nick, RealName, ServerName, UserName, cut_copy};
 use irc_numerics::{
     ClientWords, Listed, MemberMark, NameList, OnChannel, Reply, Visibility, reply_line,
 };
-use std::alloc::Global;
+use std::alloc::{AllocError, Global};
 use std::process::Abort;
 
 /// The lines of the server a.net to al, or to a client that has no nickname yet. Other users and
@@ -72,13 +73,22 @@ struct ReplyNames {
     mask: BanMask,
 }
 
-fn given(rt: &impl Abort) -> ReplyNames {
+fn host(rt: &impl Abort) -> Host {
+    Host::read(b"h").expect(rt, "a host")
+}
+
+fn mask(rt: &impl Abort) -> BanMask {
+    BanMask::read(b"a!*@*").expect(rt, "a ban's mask")
+}
+
+/// What they speak of, with these names.
+fn given(rt: &impl Abort, name: &str, place: &str, by: &str) -> ReplyNames {
     ReplyNames {
-        nick: Nick::read(b"bo").expect(rt, "a nickname"),
-        channel: ChannelName::read(b"#c").expect(rt, "a channel's name"),
-        host: Host::read(b"h").expect(rt, "a host"),
-        server: ServerName::read(b"a.net").expect(rt, "a server's name"),
-        mask: BanMask::read(b"a!*@*").expect(rt, "a ban's mask"),
+        nick: nick(rt, name),
+        channel: channel(rt, place),
+        host: host(rt),
+        server: server(rt, by),
+        mask: mask(rt),
     }
 }
 
@@ -256,13 +266,10 @@ fn says(given: &ReplyNames, client: &str, reply: &Reply, line: &str) -> bool {
 
 /// Whether the reply that a line numbers is written as that line.
 fn is_said(given: &ReplyNames, line: &str) -> bool {
-    let mut words = line.split(' ').skip(1);
-    match (words.next(), words.next()) {
-        (Some(number), Some(client)) => match reply_of(given, number.parse().unwrap_or(0)) {
-            Some(reply) => says(given, client, &reply, line),
-            None => false,
-        },
-        _ => false,
+    let row = row_of(line);
+    match reply_of(given, row.first.parse().unwrap_or(0)) {
+        Some(reply) => says(given, row.second, &reply, line),
+        None => false,
     }
 }
 
@@ -272,12 +279,6 @@ fn are_said(given: &ReplyNames, lines: &str) -> bool {
         all &= is_said(given, line);
     }
     all
-}
-
-#[test]
-fn each_reply_has_its_words(rt: HostRuntime) {
-    let given = given(&rt);
-    assert!(rt; are_said(&given, LINES));
 }
 
 /// Whether a channel's modes are written as this line.
@@ -321,17 +322,17 @@ fn modes_of_channels_are_written(given: &ReplyNames) -> bool {
     all
 }
 
-#[test]
-fn modes_are_written(rt: HostRuntime) {
-    let given = given(&rt);
-    let plain = Reply::UserModeIs { invisible: false };
-    assert!(rt; modes_of_channels_are_written(&given));
-    assert!(rt; says(&given, "al", &plain, ":a.net 221 al +"));
-}
-
 /// What bo is on a channel, who may know of that, and how it stands in the answers to WHOIS, WHO
 /// and NAMES.
-static MARKS: [(MemberMark, Visibility, &str, &str, &str); 3] = [
+type MarksRow = (
+    MemberMark,
+    Visibility,
+    &'static str,
+    &'static str,
+    &'static str,
+);
+
+static MARKS: [MarksRow; 3] = [
     (
         MemberMark::Operator,
         Visibility::Public,
@@ -368,73 +369,43 @@ fn shows_channels(given: &ReplyNames, mark: MemberMark, line: &str) -> bool {
     says(given, "al", &Reply::WhoisChannels { nick, channels }, line)
 }
 
-/// Whether a channel and two members of it are written as this line.
-fn shows_names(
+/// So many members of a channel, who all have this nickname and mark.
+fn members(
     alloc: Global,
-    given: &ReplyNames,
     mark: MemberMark,
-    visibility: Visibility,
-    line: &str,
-) -> bool {
+    nick: &Nick,
+    count: usize,
+) -> Result<NameList, AllocError> {
     let mut names = ArrayVec::new();
-    for _ in 0..2 {
+    for _ in 0..count {
         let _ = names.try_push(Listed {
             mark,
-            nick: given.nick.copy(),
-        });
-    }
-    let Ok(names) = NameList::new(alloc, names) else {
-        return false;
-    };
-    let reply = Reply::NamReply {
-        visibility,
-        channel: given.channel.copy(),
-        names,
-    };
-    says(given, "al", &reply, line)
-}
-
-/// A nickname, a server's name and a channel's, each as long as one may be.
-static LONG_NICK: &[u8] = b"nnnnnnnnnnnnnnnnnnnnnnnnnnnnnn";
-
-static LONG_SERVER: &[u8] = b"sssssssssssssssssssssssssssssssssssssssssssssssssssssssssss.net";
-
-static LONG_CHANNEL: &[u8] = b"#ccccccccccccccccccccccccccccccccccccccccccccccccc";
-
-/// How long the longest 353 is, and how it ends.
-static LONGEST: (usize, &[u8]) = (
-    473,
-    b" @nnnnnnnnnnnnnnnnnnnnnnnnnnnnnn @nnnnnnnnnnnnnnnnnnnnnnnnnnnnnn",
-);
-
-/// Whether ten members with the longest nicknames are written whole.
-fn longest_names_are_whole(alloc: Global, by: &ServerName, nick: &Nick, to: ChannelName) -> bool {
-    let mut names = ArrayVec::new();
-    for _ in 0..10 {
-        let _ = names.try_push(Listed {
-            mark: MemberMark::Operator,
             nick: nick.copy(),
         });
     }
-    let Ok(names) = NameList::new(alloc, names) else {
-        return false;
-    };
-    let reply = Reply::NamReply {
-        visibility: Visibility::Public,
-        channel: to,
-        names,
-    };
-    let text = reply_line(by, Some(nick), &reply);
-    let line = body(&text);
-    line.len() == LONGEST.0 && line.ends_with(LONGEST.1)
+    NameList::new(alloc, names)
 }
 
-#[test]
-fn the_longest_names_are_whole(rt: HostRuntime) {
-    let nick = Nick::read(LONG_NICK).expect(&rt, "a nickname");
-    let by = ServerName::read(LONG_SERVER).expect(&rt, "a server's name");
-    let to = ChannelName::read(LONG_CHANNEL).expect(&rt, "a channel's name");
-    assert!(rt; longest_names_are_whole(rt.alloc(), &by, &nick, to));
+/// Whether a channel and these members are written to a client as this line.
+fn shows_names(
+    given: &ReplyNames,
+    client: &str,
+    visibility: Visibility,
+    members: Result<NameList, AllocError>,
+    line: &str,
+) -> bool {
+    match members {
+        Ok(names) => {
+            let channel = given.channel.copy();
+            let reply = Reply::NamReply {
+                visibility,
+                channel,
+                names,
+            };
+            says(given, client, &reply, line)
+        }
+        Err(_) => false,
+    }
 }
 
 /// Whether bo, perhaps on a channel, is written as this line.
@@ -457,26 +428,80 @@ fn shows_user(
     says(given, "al", &reply, line)
 }
 
+/// Whether the marks of a row stand in each of the three answers.
+fn is_marked(alloc: Global, given: &ReplyNames, row: &MarksRow) -> bool {
+    let (mark, visibility, channels, user, names) = row;
+    shows_channels(given, *mark, channels)
+        & shows_user(given, Some(given.channel.copy()), *mark, user)
+        & shows_names(
+            given,
+            "al",
+            *visibility,
+            members(alloc, *mark, &given.nick, 2),
+            names,
+        )
+}
+
 fn marks_are_written(alloc: Global, given: &ReplyNames) -> bool {
     let mut all = true;
-    for (mark, visibility, channels, user, names) in &MARKS {
-        all &= shows_channels(given, *mark, channels);
-        all &= shows_user(given, Some(given.channel.copy()), *mark, user);
-        all &= shows_names(alloc, given, *mark, *visibility, names);
+    for row in &MARKS {
+        all &= is_marked(alloc, given, row);
     }
     all
 }
 
-#[test]
-fn members_are_written_with_their_marks(rt: HostRuntime) {
-    let given = given(&rt);
-    assert!(rt; marks_are_written(rt.alloc(), &given));
-    assert!(rt;
-        shows_user(
-            &given,
+/// Modes of a user and of channels, and who is where.
+fn are_written(alloc: Global, given: &ReplyNames) -> bool {
+    modes_of_channels_are_written(given)
+        & marks_are_written(alloc, given)
+        & says(
+            given,
+            "al",
+            &Reply::UserModeIs { invisible: false },
+            ":a.net 221 al +",
+        )
+        & shows_user(
+            given,
             None,
             MemberMark::Plain,
-            ":a.net 352 al * u h a.net bo H :0 Bo Li"
+            ":a.net 352 al * u h a.net bo H :0 Bo Li",
         )
-    );
+}
+
+fn all_are_written(rt: &impl Abort, alloc: Global) -> bool {
+    let given = given(rt, "bo", "#c", "a.net");
+    are_said(&given, LINES) & are_written(alloc, &given)
+}
+
+#[test]
+fn each_reply_has_its_words(rt: HostRuntime) {
+    assert!(rt; all_are_written(&rt, rt.alloc()));
+}
+
+/// A nickname, a channel's name and a server's, each as long as one may be.
+static LONG_NICK: &str = "nnnnnnnnnnnnnnnnnnnnnnnnnnnnnn";
+
+static LONG_CHANNEL: &str = "#ccccccccccccccccccccccccccccccccccccccccccccccccc";
+
+static LONG_SERVER: &str = "sssssssssssssssssssssssssssssssssssssssssssssssssssssssssss.net";
+
+/// The longest 353: ten members with the longest nicknames, written whole.
+static LONGEST: &str = "\
+:sssssssssssssssssssssssssssssssssssssssssssssssssssssssssss.net 353 \
+    nnnnnnnnnnnnnnnnnnnnnnnnnnnnnn = #ccccccccccccccccccccccccccccccccccccccccccccccccc :\
+    @nnnnnnnnnnnnnnnnnnnnnnnnnnnnnn @nnnnnnnnnnnnnnnnnnnnnnnnnnnnnn \
+    @nnnnnnnnnnnnnnnnnnnnnnnnnnnnnn @nnnnnnnnnnnnnnnnnnnnnnnnnnnnnn \
+    @nnnnnnnnnnnnnnnnnnnnnnnnnnnnnn @nnnnnnnnnnnnnnnnnnnnnnnnnnnnnn \
+    @nnnnnnnnnnnnnnnnnnnnnnnnnnnnnn @nnnnnnnnnnnnnnnnnnnnnnnnnnnnnn \
+    @nnnnnnnnnnnnnnnnnnnnnnnnnnnnnn @nnnnnnnnnnnnnnnnnnnnnnnnnnnnnn";
+
+fn longest_is_whole(rt: &impl Abort, alloc: Global) -> bool {
+    let given = given(rt, LONG_NICK, LONG_CHANNEL, LONG_SERVER);
+    let members = members(alloc, MemberMark::Operator, &given.nick, 10);
+    shows_names(&given, LONG_NICK, Visibility::Public, members, LONGEST)
+}
+
+#[test]
+fn the_longest_names_are_whole(rt: HostRuntime) {
+    assert!(rt; longest_is_whole(&rt, rt.alloc()));
 }

@@ -4,9 +4,8 @@ use arrayvec::ArrayVec;
 use irc_names::{MAX_SERVER, ServerName, is_server};
 use irc_routes::{Info, Own, Routes, RoutesFault, ServerRow};
 use itoa::Buffer;
-use std::alloc::Global;
+use std::alloc::{AllocError, Global};
 use std::process::Abort;
-use std::test::Fail;
 
 /// `add LINK UPLINK NAME NUMBER` adds a server that is so many links away and has that number on
 /// its link, and `fill LINK COUNT` as many more; `lose LINK` loses those behind a link. `out` shows
@@ -53,15 +52,19 @@ fn show_name(name: Option<&ServerName>, shown: &mut ShownText) {
     }
 }
 
-fn show_names(names: &[&ServerName], shown: &mut ShownText) {
-    for name in names {
-        append_word(shown, b"", name.as_bytes());
+fn show_names(found: &Result<Vec<&ServerName, Global>, AllocError>, shown: &mut ShownText) {
+    if let Ok(names) = found {
+        for name in names.as_slice() {
+            append_word(shown, b"", name.as_bytes());
+        }
     }
 }
 
-fn show_rows(rows: &[&ServerRow], shown: &mut ShownText) {
-    for row in rows {
-        append_word(shown, b"", row.name.as_bytes());
+fn show_rows(found: &Result<Vec<&ServerRow, Global>, AllocError>, shown: &mut ShownText) {
+    if let Ok(rows) = found {
+        for row in rows.as_slice() {
+            append_word(shown, b"", row.name.as_bytes());
+        }
     }
 }
 
@@ -105,22 +108,31 @@ fn fill(rt: &impl Abort, routes: &mut Routes, link: u64, count: u32, shown: &mut
     }
 }
 
+/// Adds the server of a row.
+fn add_one(
+    rt: &impl Abort,
+    routes: &mut Routes,
+    link: u64,
+    row: ScriptRow<'_>,
+    shown: &mut ShownText,
+) {
+    let (name, number) = row.text.split_once(' ').unwrap_or(("", ""));
+    let added = add(
+        rt,
+        routes,
+        link,
+        row.second,
+        name.as_bytes(),
+        number_of(number),
+    );
+    show_fault(added, shown);
+}
+
 /// Does what a row that changes something says.
 fn change(rt: &impl Abort, routes: &mut Routes, row: ScriptRow<'_>, shown: &mut ShownText) {
     let link = u64::from(number_of(row.first));
     match row.verb {
-        "add" => {
-            let (name, number) = row.text.split_once(' ').unwrap_or(("", ""));
-            let added = add(
-                rt,
-                routes,
-                link,
-                row.second,
-                name.as_bytes(),
-                number_of(number),
-            );
-            show_fault(added, shown);
-        }
+        "add" => add_one(rt, routes, link, row, shown),
         "fill" => fill(rt, routes, link, number_of(row.second), shown),
         _ => routes.lose(link),
     }
@@ -130,7 +142,7 @@ impl ScriptStage for Routes {
     fn perform(
         &mut self,
         rt: &impl Abort,
-        alloc: Global,
+        _alloc: Global,
         row: ScriptRow<'_>,
         shown: &mut ShownText,
     ) {
@@ -140,23 +152,30 @@ impl ScriptStage for Routes {
             "via" => show_name(self.uplink(row.first.as_bytes()), shown),
             "away" => show_number(self.distance(row.first.as_bytes()), shown),
             "in" => show_name(self.token_in(link, number_of(row.second)), shown),
-            "behind" => show_names(&self.behind(link).unwrap_or(Vec::new(alloc)), shown),
-            "told" => show_rows(&self.told_on(link).unwrap_or(Vec::new(alloc)), shown),
-            "all" => show_names(&self.servers().unwrap_or(Vec::new(alloc)), shown),
+            "behind" => show_names(&self.behind(link), shown),
+            "told" => show_rows(&self.told_on(link), shown),
+            "all" => show_names(&self.servers(), shown),
             _ => change(rt, self, row, shown),
         }
     }
 }
 
-#[test]
-fn servers_are_numbered_and_found(rt: HostRuntime) -> Result<(), Fail> {
-    let own = Own {
-        name: Vec::from_slice(rt.alloc(), b"a.net")?,
-        info: Vec::new(rt.alloc()),
-        created: Vec::new(rt.alloc()),
-    };
+fn own(alloc: Global) -> Result<Own, AllocError> {
+    Ok(Own {
+        name: Vec::from_slice(alloc, b"a.net")?,
+        info: Vec::new(alloc),
+        created: Vec::new(alloc),
+    })
+}
+
+fn servers_hold(rt: &impl Abort, alloc: Global) -> bool {
+    let own = own(alloc).expect(rt, "memory");
     assert!(rt; is_server(&own.name));
     let mut routes = Routes::new(own);
-    assert!(rt; script_holds(&rt, rt.alloc(), &mut routes, SERVERS));
-    Ok(())
+    script_holds(rt, alloc, &mut routes, SERVERS)
+}
+
+#[test]
+fn servers_are_numbered_and_found(rt: HostRuntime) {
+    assert!(rt; servers_hold(&rt, rt.alloc()));
 }

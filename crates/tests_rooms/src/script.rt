@@ -1,8 +1,7 @@
-//! A language of small scripts on one room, that of the server a.net.
-//!
-//! A line is a verb and its words, then ` =`, and what comes of it. What comes of an effect is who
-//! sees it, those of other servers in brackets, and the line that they are shown; that it is idle,
-//! as it does nothing; or why it is refused.
+//! Scripts: a line is a verb and its words, then ` =`, and what comes of it. What scripts are run
+//! on says what its verbs are. Here are those of one room, that of the server a.net. What comes of
+//! an effect is who sees it, those of other servers in brackets, and the line that they are shown;
+//! that it is idle, as it does nothing; or why it is refused.
 //!
 //! - `user NICK HOME HOST REAL`, `nick NICK NEW`, `quit NICK TEXT`, `make NICK CHANNEL`,
 //!   `join NICK CHANNEL`, `part NICK CHANNEL TEXT`, `kick BY CHANNEL NICK`,
@@ -21,33 +20,45 @@ ghost use Rattle.irc_room.specs.Effects.{brings_free};
 use arrayvec::ArrayVec;
 use irc_channels::{Channel, Words};
 use irc_line::body;
-use irc_modes::{ModeItem, Modes, Privacy, read_modes};
+use irc_modes::{ModeChange, ModeItem, Modes, Privacy, read_modes};
 use irc_names::{ChannelName, Host, Nick, ServerName, cut_copy};
 use irc_room::{By, Effect, ModeChanges, Room, RoomFault, ShownLine, Target};
 use irc_users::{RealName, User, UserChange, UserName};
 use itoa::Buffer;
-use std::alloc::Global;
+use std::alloc::{AllocError, Global};
 use std::process::Abort;
 
 /// What comes of a line.
 pub type ShownText = ArrayVec<u8, 200>;
 
-/// A verb, two words, and the text behind them.
+/// A line of a script without what comes of it: a verb and the words behind it, of which two and
+/// the text behind these.
 #[derive(Clone, Copy)]
 pub struct ScriptRow<'a> {
+    pub line: &'a str,
     pub verb: &'a str,
+    pub words: &'a str,
     pub first: &'a str,
     pub second: &'a str,
     pub text: &'a str,
 }
 
-fn row_of(line: &str) -> ScriptRow<'_> {
-    let mut words = line.splitn(4, ' ');
+/// The first word of a text, and what is behind it.
+fn first_word(text: &str) -> (&str, &str) {
+    text.split_once(' ').unwrap_or((text, ""))
+}
+
+pub fn row_of(line: &str) -> ScriptRow<'_> {
+    let (verb, words) = first_word(line);
+    let (first, more) = first_word(words);
+    let (second, text) = first_word(more);
     ScriptRow {
-        verb: words.next().unwrap_or(""),
-        first: words.next().unwrap_or(""),
-        second: words.next().unwrap_or(""),
-        text: words.next().unwrap_or(""),
+        line,
+        verb,
+        words,
+        first,
+        second,
+        text,
     }
 }
 
@@ -87,6 +98,15 @@ pub fn user(rt: &impl Abort, row: ScriptRow<'_>) -> User {
     }
 }
 
+/// Adds what an item asks to be changed, where it does.
+fn add_change(item: &ModeItem<'_>, made: &mut Vec<ModeChange, Global>) {
+    if let ModeItem::Change(asked) = item
+        && let Some(change) = asked.kept()
+    {
+        let _ = made.push(change);
+    }
+}
+
 /// The changes that the words of a MODE ask for.
 pub fn changes(alloc: Global, words: &str) -> ModeChanges {
     let mut params: ArrayVec<&[u8], 15> = ArrayVec::new();
@@ -94,11 +114,9 @@ pub fn changes(alloc: Global, words: &str) -> ModeChanges {
         let _ = params.try_push(word.as_bytes());
     }
     let mut made = Vec::new(alloc);
-    for item in read_modes(alloc, &params).unwrap_or(Vec::new(alloc)) {
-        if let ModeItem::Change(asked) = item
-            && let Some(change) = asked.kept()
-        {
-            let _ = made.push(change);
+    if let Ok(items) = &read_modes(alloc, &params) {
+        for item in items.as_slice() {
+            add_change(item, &mut made);
         }
     }
     ModeChanges::new(made)
@@ -214,22 +232,34 @@ fn show_viewers(viewers: &[Nick], told: &ShownLine, shown: &mut ShownText) {
     }
 }
 
+/// Shows what came of an effect that does something or not, and who sees it.
+fn show_applied(
+    applied: Result<(), RoomFault>,
+    does: bool,
+    viewers: &[Nick],
+    told: &ShownLine,
+    shown: &mut ShownText,
+) {
+    match applied {
+        Ok(()) if !does => append(shown, b" idle"),
+        Ok(()) => show_viewers(viewers, told, shown),
+        Err(RoomFault::NoSuchUser) => append(shown, b" no user"),
+        Err(RoomFault::NoSuchChannel) => append(shown, b" no channel"),
+        Err(_) => append(shown, b" no memory"),
+    }
+}
+
 /// Applies an effect, and shows what came of it.
 fn apply(alloc: Global, room: &mut Room, effect: &Effect, shown: &mut ShownText) {
-    let viewers = room.audience(effect).unwrap_or(Vec::new(alloc));
-    let mut told = ShownLine::new(alloc);
     if !brings_free(room, effect) {
         append(shown, b" taken");
         return;
     }
     let does = room.does(effect);
-    match room.apply(effect, &mut told) {
-        Ok(()) if !does => append(shown, b" idle"),
-        Ok(()) => show_viewers(&viewers, &told, shown),
-        Err(RoomFault::NoSuchUser) => append(shown, b" no user"),
-        Err(RoomFault::NoSuchChannel) => append(shown, b" no channel"),
-        Err(_) => append(shown, b" no memory"),
-    }
+    let viewers = room.audience(effect).unwrap_or(Vec::new(alloc));
+    let mut told = ShownLine::new(alloc);
+    let applied = room.apply(effect, &mut told);
+    show_applied(applied, does, &viewers, &told, shown);
 }
 
 fn append_if(shown: &mut ShownText, flag: bool, letter: &[u8]) {
@@ -273,35 +303,45 @@ fn show_channel(channel: &Channel, shown: &mut ShownText) {
     }
 }
 
+/// Shows a channel, or that there is none.
+pub fn show_state(channel: Option<&Channel>, shown: &mut ShownText) {
+    match channel {
+        Some(channel) => show_channel(channel, shown),
+        None => append(shown, b" none"),
+    }
+}
+
 /// Shows users.
-pub fn show_users(users: &[&User], shown: &mut ShownText) {
+fn show_each(users: &[&User], shown: &mut ShownText) {
     for user in users {
         append_word(shown, b"", user.nick.as_bytes());
     }
 }
 
-/// Shows the channels of a user.
-fn show_channels_of(alloc: Global, room: &Room, nick: &str, shown: &mut ShownText) {
-    for row in room.channels_of(nick.as_bytes()).unwrap_or(Vec::new(alloc)) {
-        append_word(shown, b"", row.value.channel().name.as_bytes());
+/// Shows the users that were found.
+pub fn show_users(found: &Result<Vec<&User, Global>, AllocError>, shown: &mut ShownText) {
+    if let Ok(users) = found {
+        show_each(users, shown);
     }
 }
 
-/// Shows the users of a server.
-fn show_home(rt: &impl Abort, alloc: Global, room: &Room, home: &str, shown: &mut ShownText) {
-    let found = room.users_at(&server(rt, home));
-    show_users(&found.unwrap_or(Vec::new(alloc)), shown);
+/// Shows the channels of a user.
+fn show_channels_of(room: &Room, nick: &str, shown: &mut ShownText) {
+    if let Ok(rows) = &room.channels_of(nick.as_bytes()) {
+        for row in rows.as_slice() {
+            append_word(shown, b"", row.value.channel().name.as_bytes());
+        }
+    }
 }
 
-/// Shows whether a user is invited to a channel.
-fn show_invited(room: &Room, row: ScriptRow<'_>, shown: &mut ShownText) {
-    let invited = room.invited(row.first.as_bytes(), row.second.as_bytes());
-    append_word(shown, b"", if invited { b"yes" } else { b"no" });
+/// Shows whether something is so.
+pub fn show_flag(flag: bool, shown: &mut ShownText) {
+    append(shown, if flag { b" yes" } else { b" no" });
 }
 
-/// Spells a channel's name as given, where that is greater, and shows why not, if it is not.
-fn respell(room: &mut Room, channel: &ChannelName, shown: &mut ShownText) {
-    match room.respell(channel) {
+/// Shows why a channel's name is not spelled as given, if it is not.
+fn show_respelled(respelled: Result<(), RoomFault>, shown: &mut ShownText) {
+    match respelled {
         Ok(()) => {}
         Err(RoomFault::NoSuchChannel) => append(shown, b" no channel"),
         Err(_) => append(shown, b" failed"),
@@ -329,15 +369,15 @@ impl ScriptStage for Room {
         shown: &mut ShownText,
     ) {
         match row.verb {
-            "state" => match self.channel(row.first.as_bytes()) {
-                Some(channel) => show_channel(channel, shown),
-                None => append(shown, b" none"),
-            },
-            "users" => show_users(&self.users().unwrap_or(Vec::new(alloc)), shown),
-            "home" => show_home(rt, alloc, self, row.first, shown),
-            "invited" => show_invited(self, row, shown),
-            "channels" => show_channels_of(alloc, self, row.first, shown),
-            "respell" => respell(self, &channel(rt, row.first), shown),
+            "state" => show_state(self.channel(row.first.as_bytes()), shown),
+            "users" => show_users(&self.users(), shown),
+            "home" => show_users(&self.users_at(&server(rt, row.first)), shown),
+            "invited" => show_flag(
+                self.invited(row.first.as_bytes(), row.second.as_bytes()),
+                shown,
+            ),
+            "channels" => show_channels_of(self, row.first, shown),
+            "respell" => show_respelled(self.respell(&channel(rt, row.first)), shown),
             _ => apply(alloc, self, &effect_of(rt, alloc, row), shown),
         }
     }

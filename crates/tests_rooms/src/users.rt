@@ -1,9 +1,10 @@
 //! Users by their server, by masks and by their numbers.
 use crate::script::{
-    ScriptRow, ScriptStage, ShownText, append, append_word, nick, script_holds, server, show_users,
-    user,
+    ScriptRow, ScriptStage, ShownText, append, append_word, nick, script_holds, server, show_flag,
+    show_users, user,
 };
-use irc_users::{UserName, Users, UsersFault};
+use irc_names::Nick;
+use irc_users::{Users, UsersFault};
 use std::alloc::Global;
 use std::process::Abort;
 
@@ -45,31 +46,11 @@ struct UsersAndNumber {
     number: Option<usize>,
 }
 
-/// Shows those users that a row asks for.
-fn find(rt: &impl Abort, alloc: Global, users: &Users, row: ScriptRow<'_>, shown: &mut ShownText) {
-    let found = match row.verb {
-        "home" => users.by_home(&server(rt, row.first)),
-        _ => users.matching(row.first.as_bytes()),
-    };
-    show_users(&found.unwrap_or(Vec::new(alloc)), shown);
-}
-
-impl ScriptStage for Users {
-    fn perform(
-        &mut self,
-        rt: &impl Abort,
-        alloc: Global,
-        row: ScriptRow<'_>,
-        shown: &mut ShownText,
-    ) {
-        match row.verb {
-            "user" => match self.add(user(rt, row)) {
-                Ok(()) => {}
-                Err(UsersFault::Taken) => append(shown, b" taken"),
-                Err(UsersFault::Memory) => append(shown, b" no memory"),
-            },
-            _ => find(rt, alloc, self, row, shown),
-        }
+fn show_fault(added: Result<(), UsersFault>, shown: &mut ShownText) {
+    match added {
+        Ok(()) => {}
+        Err(UsersFault::Taken) => append(shown, b" taken"),
+        Err(UsersFault::Memory) => append(shown, b" no memory"),
     }
 }
 
@@ -84,46 +65,49 @@ fn show_at(held: &UsersAndNumber, shown: &mut ShownText) {
     }
 }
 
+fn rename(users: &mut Users, nick: &Nick, new: &Nick) {
+    let _ = users.rename(nick, new);
+}
+
+fn remove(users: &mut Users, nick: &Nick) {
+    let _ = users.remove(nick);
+}
+
 impl ScriptStage for UsersAndNumber {
     fn perform(
         &mut self,
         rt: &impl Abort,
-        alloc: Global,
+        _alloc: Global,
         row: ScriptRow<'_>,
         shown: &mut ShownText,
     ) {
         match row.verb {
+            "user" => show_fault(self.users.add(user(rt, row)), shown),
+            "home" => show_users(&self.users.by_home(&server(rt, row.first)), shown),
+            "like" => show_users(&self.users.matching(row.first.as_bytes()), shown),
             "hold" => self.number = self.users.number(&nick(rt, row.first)),
-            "held" => {
-                let same = self.users.number(&nick(rt, row.first)) == self.number;
-                append_word(shown, b"", if same { b"yes" } else { b"no" });
-            }
-            "at" => show_at(self, shown),
-            "nick" => {
-                let _ = self
-                    .users
-                    .rename(&nick(rt, row.first), &nick(rt, row.second));
-            }
-            "gone" => {
-                let _ = self.users.remove(&nick(rt, row.first));
-            }
-            _ => self.users.perform(rt, alloc, row, shown),
+            "held" => show_flag(
+                self.users.number(&nick(rt, row.first)) == self.number,
+                shown,
+            ),
+            "nick" => rename(&mut self.users, &nick(rt, row.first), &nick(rt, row.second)),
+            "gone" => remove(&mut self.users, &nick(rt, row.first)),
+            _ => show_at(self, shown),
         }
     }
 }
 
-#[test]
-fn a_user_keeps_its_number(rt: HostRuntime) {
+/// Whether a script holds where there is no user.
+fn users_hold(rt: &impl Abort, alloc: Global, script: &str) -> bool {
     let mut held = UsersAndNumber {
-        users: Users::new(rt.alloc()),
+        users: Users::new(alloc),
         number: None,
     };
-    assert!(rt; script_holds(&rt, rt.alloc(), &mut held, NUMBERS));
+    script_holds(rt, alloc, &mut held, script)
 }
 
 #[test]
-fn users_are_found_by_server_and_by_mask(rt: HostRuntime) {
-    let mut users = Users::new(rt.alloc());
-    assert!(rt; script_holds(&rt, rt.alloc(), &mut users, USERS));
-    assert!(rt; UserName::clean(b"a b!c@~d-._x").as_bytes() == b"a_b_c_~d-.".as_slice());
+fn users_are_found_by_server_mask_and_number(rt: HostRuntime) {
+    assert!(rt; users_hold(&rt, rt.alloc(), USERS));
+    assert!(rt; users_hold(&rt, rt.alloc(), NUMBERS));
 }
