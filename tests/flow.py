@@ -63,7 +63,7 @@ line.join()
 # Clients that say some lines once, and then others without end. @ is the nickname of each. They read all that comes.
 TALKERS = """
 import selectors
-look, unsaid = selectors.DefaultSelector(), {}
+look, unsaid, total, last = selectors.DefaultSelector(), {}, 0, time.monotonic()
 for nick in sys.argv[2].encode().split(b","):
     s = person(nick)
     once, always = [word.encode().replace(b"@", nick) for word in sys.argv[3:5]]
@@ -77,14 +77,20 @@ while look.get_map():
         s = key.fileobj
         block, place = unsaid[s]
         try:
-            if events & selectors.EVENT_READ and not s.recv(1 << 20):
-                raise ConnectionError
+            if events & selectors.EVENT_READ:
+                count = len(s.recv(1 << 20))
+                if not count:
+                    raise ConnectionError
+                total += count
             if events & selectors.EVENT_WRITE:
                 unsaid[s] = (block, (place + s.send(block[place:])) % len(block))
         except BlockingIOError:
             pass
         except ConnectionError:
             look.unregister(s)
+    if time.monotonic() > last + 0.2:
+        last = time.monotonic()
+        print("read", total, flush=True)
 """
 
 # One that reads what is said in a channel: so many bytes a second, or all that it can; where it is one of several, it is slow in its turn alone. Where it is
@@ -395,11 +401,13 @@ def parting(program, given):
         with Tree(program, TWO, {TWO[0]: rate}, link_room=room) as tree:
             for number in range(2):
                 tree.helps(TICKER, tree["b.net"].port, f"p{number}", "PING x\r\n", 0)
-            tree.helps(TALKERS, tree["b.net"].port, ",".join(f"j{number}" for number in range(50)), "", f"JOIN {names}\r\nPART {names} :{'x' * 160}\r\n")
+            fifty = ",".join(f"j{number}" for number in range(50))
+            joiners = tree.helps(TALKERS, tree["b.net"].port, fifty, "", f"JOIN {names}\r\nPART {names} :{'x' * 160}\r\n")
             took = tree.watches(given.seconds(15))
-            held = told("parting", tree.stands(),
+            came = joiners.last("read")
+            held = told("parting", tree.stands() and came > 50_000,
                         f"wanted: no link is lost as fifty join and part over {over(rate)}, link_room {room // MIB} MiB; "
-                        f"came: {tree.what_came(took)}") and held
+                        f"came: {tree.what_came(took)}, they are told {came / 1e6:.2f} MB") and held
     return held
 
 
@@ -508,15 +516,15 @@ def quiet(program, given):
         for count in (1, 10, 50):
             with Tree(program, TWO, {TWO[0]: rate}) as tree:
                 room = QuietRoom(tree, ["a.net", "b.net"])
-                tree.reader("a.net")
+                reader = tree.reader("a.net")
                 flood = tree.flooders("b.net", count)
                 took = tree.watches(given.seconds(8), room.turn)
                 flood.ends()
                 has_come = tree.stands() and room.comes(3 * SECONDS)
-                longest = room.longest(room.people[1])
+                longest, read = room.longest(room.people[1]), reader.last("read") / 1e6
                 held = told("quiet", has_come and (longest < 1 or rate < RATES[1]),
                             f"{'wanted: less than a second for' if rate == RATES[1] else 'figure:'} a line of somebody quiet over {over(rate)} beside {count} "
-                            f"who flood over it; came: {longest:.2f} s at most, {room.missing()}; {tree.what_came(took)}") and held
+                            f"who flood over it; came: {longest:.2f} s at most, {room.missing()}; {tree.what_came(took)}, {read:.2f} MB read") and held
     return held
 
 
