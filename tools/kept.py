@@ -1,8 +1,8 @@
 #!/usr/bin/env python3
 """kept.py [CHECKOUT]: gives a checkout the libraries that a gate on this machine has proved.
 
-`rt ci` keeps what it proved beside the kit, by the sums of all that it read. `rt check` does not
-look there: in a new checkout it begins with the lowest library. This puts into crates/NAME/out what
+`./rt-once ci` keeps what it proved, by the sums of all that it read. `rt check` does not look
+there: in a new checkout it begins with the lowest library. This puts into crates/NAME/out what
 was kept of the same text, lowest crate first, so that a check of any crate above begins at once,
 reads its libraries as they were proved, and is whole. It tells which crates are still missing; no
 verdict rests on it. Run it again while a gate goes on.
@@ -23,9 +23,10 @@ def loaded(name, path):
 
 
 def crates_of(top):
-    """The kit's `rt`, and the crates of crates.txt, each after those that it stands on."""
+    """rt-once, the kit's `rt`, and the crates of crates.txt, each after those that it stands on."""
     sys.dont_write_bytecode = True
-    rt = loaded("rt_once", f"{top}/rt-once").kit()
+    once = loaded("rt_once", f"{top}/rt-once")
+    rt = once.kit()
     os.chdir(top)
     rt.Crate.allowed = rt.handles_of(top)
     rt.Crate.cuts_libraries = True
@@ -35,24 +36,31 @@ def crates_of(top):
     for folder in [f"{top}/crates/{name}" for name in names]:
         if folder not in known:
             known[folder] = rt.Crate(folder, top, known)
-    return rt, list(known.values())
+    return once, rt, list(known.values())
+
+
+def given_by_kit(kept, crate):
+    """Has a kit that keeps what it proves put a library into its crate's `out`, if it has it."""
+    key = kept.key(crate)
+    if os.path.isdir(kept.place(crate, False, key)):
+        # (beside files of another build `rt` would take what it kept for damaged, and drop it)
+        shutil.rmtree(f"{crate.folder}/out/rlib", ignore_errors=True)
+    return kept.give(crate, False, key)
 
 
 def main():
-    rt, crates = crates_of(os.path.realpath(sys.argv[1] if len(sys.argv) > 1 else "."))
-    kept, given, missing = rt.Kept(crates), [], []
+    once, rt, crates = crates_of(os.path.realpath(sys.argv[1] if len(sys.argv) > 1 else "."))
+    kept = rt.Kept(crates) if hasattr(rt, "Kept") else None
+    store, given, missing = once.Store(), [], []
     for crate in [it for it in crates if it.makes_rlib()]:
         if any(it.name in missing for it in crate.below()):
             missing.append(crate.name)
             continue
-        stamp, key = f"{crate.folder}/out/rlib/stamp", kept.key(crate)
-        if os.path.isdir(kept.place(crate, False, key)):
-            # (beside files of another build `rt` would take what it kept for damaged, and drop it)
-            shutil.rmtree(f"{crate.folder}/out/rlib", ignore_errors=True)
-        if kept.give(crate, False, key):
-            with open(stamp, "w", encoding="utf-8") as it:
+        if given_by_kit(kept, crate) if kept else store.give(crate, False):
+            with open(f"{crate.folder}/out/rlib/stamp", "w", encoding="utf-8") as it:
                 it.write(crate.stamp())
-            kept.is_built(crate)
+            if kept:
+                kept.is_built(crate)
             given.append(crate.name)
         else:
             missing.append(crate.name)

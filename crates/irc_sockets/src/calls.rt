@@ -4,6 +4,8 @@ ghost use Rattle.std.specs.List.{slice_get};
 ghost use Rattle.std.specs.Option.{option_copied};
 ghost use Rattle.irc_turns.specs.Spreads.{spread_on};
 
+use crate::tokens::CALLS;
+use irc_moments::Moment;
 use irc_names::ServerName;
 use irc_outbox::Unreached;
 use irc_turns::Retries;
@@ -64,7 +66,7 @@ impl Calls {
     ghost use Rattle.irc_sockets.specs.Calling.{IsCalled, Knows, name_at, name_of, rows_closed};
     ghost use Rattle.irc_sockets.specs.Calling.{rows_ended, rows_reached};
 
-    /// Calls each of these, and waits for none of them: the system reports under the token when one
+    /// Calls each of these, and waits for none of them: the system reports under [`CALLS`] when one
     /// is through or has failed. A server that the system refuses to call is passed over.
     ///
     /// # Errors
@@ -74,7 +76,7 @@ impl Calls {
         asked: Vec<Callee, Global>,
         spread: u64,
         registry: &Registry,
-        token: Token,
+        now: Moment,
     ) -> Result<Self, AllocError>
         ensures asked { IfOk result (λ calls. calls.asked ≡ asked) }
         ensures spread { IfOk result (λ calls. calls.retries.spread ≡ spread) }
@@ -86,18 +88,18 @@ impl Calls {
             may_have: false,
             failed: VecDeque::new(alloc),
         };
-        calls.begin_all(registry, token)?;
+        calls.begin_all(registry, now)?;
         Ok(calls)
     }
 
-    fn begin_all(&mut self, registry: &Registry, token: Token) -> Result<(), AllocError>
+    fn begin_all(&mut self, registry: &Registry, now: Moment) -> Result<(), AllocError>
         ensures asked { OnOk result (self.new.asked ≡ self.old.asked) }
         ensures spread { OnOk result (self.new.retries.spread ≡ self.old.retries.spread) }
     {
         for place in 0..self.asked.len() {
             let retry = self.retry_of(place);
             self.retries.add(retry)?;
-            self.call(place, false, registry, token);
+            self.call(place, false, registry, now);
         }
         Ok(())
     }
@@ -108,35 +110,34 @@ impl Calls {
     }
 
     /// Calls the one at a place, the first time or again.
-    fn call(&mut self, place: usize, is_again: bool, registry: &Registry, token: Token)
+    fn call(&mut self, place: usize, is_again: bool, registry: &Registry, now: Moment)
         ensures asked { self.new.asked ≡ self.old.asked }
         ensures spread { self.new.retries.spread ≡ (if is_again
             then spread_on self.old.retries.spread 1 else self.old.retries.spread) }
-        ensures rows { IsCalled place self.old.retries.visits self.old.retries.rows.items
+        ensures rows { IsCalled place self.old.retries.visits now self.old.retries.rows.items
             self.new.retries.rows.items }
         ensures called { self.new.retries.called_at
-            ≡ (if is_again then Some self.old.retries.passed else self.old.retries.called_at) }
+            ≡ (if is_again then Some now else self.old.retries.called_at) }
         ensures looked { self.new.retries.looked_at ≡ self.old.retries.looked_at }
-        ensures passed { self.new.retries.passed ≡ self.old.retries.passed }
         ensures visits { self.new.retries.visits ≡ self.old.retries.visits }
     {
-        self.retries.begin(place, is_again);
-        if let Err(error) = self.try_call(place, registry, token) {
-            self.fail(place, error);
+        self.retries.begin(place, is_again, now);
+        if let Err(error) = self.try_call(place, registry) {
+            self.fail(place, error, now);
         }
     }
 
     /// The call of the one at a place has failed. Where there is no memory for it, that is not
     /// told.
-    pub fn fail(&mut self, place: usize, error: io::Error)
+    pub fn fail(&mut self, place: usize, error: io::Error, now: Moment)
         ensures asked { self.new.asked ≡ self.old.asked }
         ensures under_way { self.new.under_way ≡ self.old.under_way }
         ensures rows { self.new.retries.rows.items
-            ≡ rows_ended place self.old.retries.visits self.old.retries.rows.items }
+            ≡ rows_ended place self.old.retries.visits now self.old.retries.rows.items }
         ensures retries { self.new.retries
             ≡ record self.old.retries { rows = self.new.retries.rows } }
     {
-        self.retries.end(place);
+        self.retries.end(place, now);
         let _noted = self.failed.push_back((place, error));
     }
 
@@ -151,14 +152,14 @@ impl Calls {
     ///
     /// # Errors
     /// Where the system refuses, or memory runs out.
-    fn try_call(&mut self, place: usize, registry: &Registry, token: Token) -> io::Result<()>
+    fn try_call(&mut self, place: usize, registry: &Registry) -> io::Result<()>
         ensures asked { self.new.asked ≡ self.old.asked }
         ensures retries { self.new.retries ≡ self.old.retries }
     {
         let Some(callee) = self.asked.get(place) else {
             return Ok(());
         };
-        let stream = begin_call(callee.address, registry, token)?;
+        let stream = begin_call(callee.address, registry)?;
         self.under_way.push(Calling { stream, place })?;
         Ok(())
     }
@@ -176,7 +177,7 @@ impl Calls {
 
     /// A call that is through, and the place of whom it has reached. Those that have failed are
     /// given up.
-    pub fn next(&mut self) -> Option<(TcpStream, usize)> {
+    pub fn next(&mut self, now: Moment) -> Option<(TcpStream, usize)> {
         let mut at = 0;
         while at < self.under_way.len() {
             match self.under_way[at].standing() {
@@ -187,7 +188,7 @@ impl Calls {
                 }
                 CallState::Failed(error) => {
                     let calling = self.under_way.swap_remove(at);
-                    self.fail(calling.place, error);
+                    self.fail(calling.place, error, now);
                 }
             }
         }
@@ -209,14 +210,14 @@ impl Calls {
     }
 
     /// A connection was closed, which may be a link that a call has become.
-    pub fn close(&mut self, link: u64)
-        ensures rows { self.new.retries.rows.items ≡ rows_closed link self.old.retries }
+    pub fn close(&mut self, link: u64, now: Moment)
+        ensures rows { self.new.retries.rows.items ≡ rows_closed link now self.old.retries }
         ensures retries { self.new.retries
             ≡ record self.old.retries { rows = self.new.retries.rows } }
         ensures others { self.new ≡ record self.old { retries = self.new.retries } }
     {
         if let Some(place) = self.retries.place_of(link) {
-            self.retries.end(place);
+            self.retries.end(place, now);
         }
     }
 
@@ -228,13 +229,13 @@ impl Calls {
         Some(&self.asked.get(place)?.name)
     }
 
-    /// Takes in whether that one is known, and calls it where that is due.
-    pub fn know(&mut self, is_known: bool, yields: bool, registry: &Registry, token: Token)
+    /// Takes in whether that one is known at this moment, and calls it where that is due.
+    pub fn know(&mut self, is_known: bool, yields: bool, registry: &Registry, now: Moment)
         ensures asked { self.new.asked ≡ self.old.asked }
-        ensures known { Knows is_known yields self.old.retries self.new.retries }
+        ensures known { Knows is_known yields now self.old.retries self.new.retries }
     {
-        if let Some(place) = self.retries.know(is_known, yields) {
-            self.call(place, true, registry, token);
+        if let Some(place) = self.retries.know(now, is_known, yields) {
+            self.call(place, true, registry, now);
         }
     }
 }
@@ -278,8 +279,8 @@ impl Net for Granted {
 ///
 /// # Errors
 /// Where the system refuses.
-fn begin_call(address: SocketAddr, registry: &Registry, token: Token) -> io::Result<TcpStream> {
+fn begin_call(address: SocketAddr, registry: &Registry) -> io::Result<TcpStream> {
     let mut stream = TcpStream::connect(&Granted, address)?;
-    registry.register(&mut stream, token, Interest::WRITABLE)?;
+    registry.register(&mut stream, Token(CALLS), Interest::WRITABLE)?;
     Ok(stream)
 }

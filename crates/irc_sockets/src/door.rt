@@ -1,6 +1,7 @@
 //! A listening socket.
 ghost use Rattle.std.specs.Prelude.{◌≡◌, IfOk};
 
+use irc_moments::Moment;
 use irc_turns::Arrivals;
 use mio::net::{TcpListener, TcpStream};
 use mio::{Interest, Registry, Token};
@@ -48,13 +49,13 @@ impl Door {
         self.listener.local_addr()
     }
 
-    /// The next connection, and where it comes from, if one waits and can be taken.
-    pub fn accept(&mut self) -> Option<(TcpStream, SocketAddr)> {
+    /// The next connection, and where it comes from, if one waits and can be taken at this moment.
+    pub fn accept(&mut self, now: Moment) -> Option<(TcpStream, SocketAddr)> {
         self.arrivals.take();
         match self.listener.accept() {
             Ok(taken) => Some(taken),
             Err(error) => {
-                self.refuse(error.kind());
+                self.refuse(error.kind(), now);
                 None
             }
         }
@@ -62,11 +63,11 @@ impl Door {
 
     /// No connection was taken: because none is there, because that one is gone, or for want of a
     /// descriptor or of memory.
-    fn refuse(&mut self, kind: ErrorKind) {
+    fn refuse(&mut self, kind: ErrorKind, now: Moment) {
         match kind {
             ErrorKind::ConnectionAborted | ErrorKind::Interrupted => {}
             ErrorKind::WouldBlock => self.arrivals.end(),
-            _ => self.arrivals.rest(),
+            _ => self.arrivals.rest(now),
         }
     }
 }

@@ -2,12 +2,14 @@
 #![tactic(auto)]
 
 mod calls;
+mod clock;
 mod door;
 mod host;
 mod keep_alive;
 mod listening;
 mod mio_wire;
 mod sockets;
+mod tokens;
 
 pub use calls::Callee;
 pub use listening::Listening;

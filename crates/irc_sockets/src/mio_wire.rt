@@ -5,11 +5,14 @@ ghost use Rattle.irc_outbox.specs.Calls.{FitsIn, Keeps};
 ghost use Rattle.irc_sockets.specs.Listening.{ListensAt};
 
 use crate::calls::{Callee, Calls};
+use crate::clock::clock_time;
 use crate::door::Door;
 use crate::host::host_of;
 use crate::keep_alive::ask_after;
 use crate::listening::Listening;
 use crate::sockets::Sockets;
+use crate::tokens::{CALLS, CLIENTS, FIRST_SOCKET, LINKS};
+use irc_moments::Moment;
 use irc_names::ServerName;
 use irc_outbox::{Got, IoFault, Ready, Unreached, Wire};
 use irc_turns::{Crowd, Round, wait_for};
@@ -24,23 +27,14 @@ use std::time::Duration;
 /// How many things the system reports at once.
 const EVENTS: usize = 1024;
 
-/// Under which numbers the system reports the doors, and the calls that are under way; behind
-/// these, the sockets.
-const CLIENTS: usize = 0;
-
-const LINKS: usize = 1;
-
-const CALLS: usize = 2;
-
-const FIRST_SOCKET: usize = 3;
-
 /// TCP sockets: one that listens for clients, one that may listen for links, and one for each
 /// connection; and one for each call of a server that is under way, which becomes a connection, and
 /// gets its number, once it is through.
 ///
 /// What is ready is served in rounds. In each a few new connections are taken, and then each socket
 /// that is ready is reported once; only then is the system asked again. So one who sends without
-/// end, or many who connect, keep nobody else waiting for more than a round.
+/// end, or many who connect, keep nobody else waiting for more than a round. The clock is read once
+/// in a round, and all that is decided in it goes by that moment.
 #[derive(Drop)]
 pub struct MioWire {
     poll: Poll,
@@ -79,7 +73,8 @@ impl MioWire {
             Some(address) => Some(Door::open(net, address, poll.registry(), Token(LINKS))?),
             None => None,
         };
-        let calls = Calls::begin(alloc, callees, spread, poll.registry(), Token(CALLS))?;
+        let now = Moment::of(0).behind(clock_time());
+        let calls = Calls::begin(alloc, callees, spread, poll.registry(), now)?;
         Ok(MioWire {
             poll,
             events,
@@ -88,7 +83,7 @@ impl MioWire {
             calls,
             sockets: Sockets::new(alloc),
             crowd: Crowd::new(alloc, listening.connections_per_address),
-            round: Round::new(),
+            round: Round::new(now),
         })
     }
 
@@ -120,17 +115,13 @@ impl MioWire {
         let wait = self.wait();
         self.poll
             .poll(&mut self.events, Some(Duration::from_millis(wait)))?;
-        let is_over = self.events.is_empty();
-        if is_over && wait > 0 {
-            self.wake_doors();
-        }
-        let waited = if is_over { wait } else { 0 };
-        self.sockets.talkers.pass(waited);
-        self.calls.retries.pass(waited);
+        let now = self.round.began.behind(clock_time());
+        self.wake_doors_at(now);
         self.calls.retries.look();
         let has_come = self.take_events();
-        self.sockets.talkers.let_go();
-        self.round.begin(self.sockets.talkers.waiting(), has_come);
+        self.sockets.talkers.let_go(now);
+        self.round
+            .begin(now, self.sockets.talkers.waiting(), has_come);
         Ok(())
     }
 
@@ -138,8 +129,8 @@ impl MioWire {
     fn wait(&self) -> u64 {
         let talkers = &self.sockets.talkers;
         let is_busy = talkers.waiting() > 0 || self.has_arrivals() || self.round.has_more;
-        let is_holding = !talkers.holds_nobody();
-        wait_for(is_busy, self.calls.retries.wait(), is_holding)
+        let is_awaited = !talkers.holds_nobody() || self.calls.retries.are_waiting();
+        wait_for(is_busy, is_awaited)
     }
 
     /// Takes in what the system tells, and whether somebody has come who was not waiting.
@@ -180,6 +171,15 @@ impl MioWire {
             .is_some_and(|links| links.arrivals.may_be_taken())
     }
 
+    /// Who could not be taken at a door is asked for again, where its time has come.
+    fn wake_doors_at(&mut self, now: Moment) {
+        self.clients.arrivals.wake_at(now);
+        if let Some(links) = &mut self.links {
+            links.arrivals.wake_at(now);
+        }
+    }
+
+    /// Who could not be taken at a door is asked for again: a descriptor is free.
     fn wake_doors(&mut self) {
         self.clients.arrivals.wake();
         if let Some(links) = &mut self.links {
@@ -203,7 +203,7 @@ impl MioWire {
     /// The report of a new client. Where there is no memory, or no number, for it, or too many are
     /// connected from its address, it is closed unreported.
     fn client(&mut self) -> Option<Ready> {
-        let (stream, address) = self.clients.accept()?;
+        let (stream, address) = self.clients.accept(self.round.began)?;
         let host = host_of(address.ip())?;
         let number = self.admit_client(stream, address.ip())?;
         Some(Ready::Client(number, host))
@@ -224,7 +224,7 @@ impl MioWire {
 
     /// The report of a server that has connected, likewise.
     fn link(&mut self) -> Option<Ready> {
-        let (stream, _) = self.links.as_mut()?.accept()?;
+        let (stream, _) = self.links.as_mut()?.accept(self.round.began)?;
         self.calls.retries.come();
         let number = self.admit(stream, false)?;
         Some(Ready::Linked(number, None))
@@ -232,10 +232,11 @@ impl MioWire {
 
     /// The report of a server that was called and is reached, likewise.
     fn called(&mut self) -> Option<Ready> {
-        let (stream, place) = self.calls.next()?;
+        let now = self.round.began;
+        let (stream, place) = self.calls.next(now)?;
         let Some(number) = self.admit_called(stream) else {
             self.calls
-                .fail(place, io::Error::from(ErrorKind::OutOfMemory));
+                .fail(place, io::Error::from(ErrorKind::OutOfMemory), now);
             return None;
         };
         let name = self.calls.reach(place, number)?;
@@ -323,7 +324,7 @@ impl Wire for MioWire {
     fn close(&mut self, conn: u64) {
         self.sockets.remove(conn as usize);
         self.crowd.forget(conn);
-        self.calls.close(conn);
+        self.calls.close(conn, self.round.began);
         self.wake_doors();
     }
 
@@ -332,8 +333,9 @@ impl Wire for MioWire {
     }
 
     fn know(&mut self, is_known: bool, yields: bool) {
+        let registry = self.poll.registry();
         self.calls
-            .know(is_known, yields, self.poll.registry(), Token(CALLS));
+            .know(is_known, yields, registry, self.round.began);
     }
 
     fn unreached(&mut self) -> Option<Unreached> {

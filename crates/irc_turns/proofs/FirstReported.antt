@@ -12,17 +12,18 @@ use Rattle.irc_turns.specs.Numbered.{only, filled_by, held_by, IsHeldBy, talker_
 use Rattle.irc_turns.specs.Numbered.{talker_heard, turn_reader, ReportsOf, ReportsFirst}
 
 -- whoever is held back, the queue stays
-same_queue : (by : Option ℕ) (number : ℕ) (old new : NumberedTalkers) → IsHeldBy by number old new
-    → new.queue ≡ old.queue
-same_queue None number old new same = ap (λ (s : NumberedTalkers). s.queue) same
-same_queue (Some by) number old new either =
-    ⊎_elim (λ (e : new ≡ held_by by number old). ap (λ (s : NumberedTalkers). s.queue) e)
+same_queue : (by : Option ℕ) (number now : ℕ) (old new : NumberedTalkers)
+    → IsHeldBy by number now old new → new.queue ≡ old.queue
+same_queue None number now old new same = ap (λ (s : NumberedTalkers). s.queue) same
+same_queue (Some by) number now old new either =
+    ⊎_elim (λ (e : new ≡ held_by by number now old). ap (λ (s : NumberedTalkers). s.queue) e)
     (λ (e : new ≡ old). ap (λ (s : NumberedTalkers). s.queue) e) either
 
 -- what is reported of one that is held back, or not
 pub reported : (old popped held new : NumberedTalkers) (number : ℕ) (behind : List ℕ)
     (round round_after : Round) (result : Option Report) → old.queue ≡ number ∷ behind → popped
-    ≡ record old { queue = popped.queue } → IsHeldBy (filled_by popped number) number popped held
+    ≡ record old { queue = popped.queue }
+    → IsHeldBy (filled_by popped number) number round.began popped held
     → result ≡ talker_report number (talker_at held number) → new ≡ only talker_heard number held
     → round_after ≡ record round {
       reader = turn_reader number
@@ -32,9 +33,11 @@ reported old popped held new number behind round round_after result queued is_po
     left reader =
     subst (λ q. ReportsOf q old new round result round_after) (sym queued) record {
       held = held;
-      is_held = subst (λ (s : NumberedTalkers). IsHeldBy (filled_by s number) number s held)
-          (is_popped ∙ ap (λ q. record old { queue = q }) (sym (same_queue _ number popped held
-          is_held) ∙ sym (ap (λ (s : NumberedTalkers). s.queue) left)))
+      is_held =
+          subst (λ (s : NumberedTalkers). IsHeldBy (filled_by s number) number round.began s held)
+          (is_popped
+                ∙ ap (λ q. record old { queue = q }) (sym (same_queue _ number round.began popped
+          held is_held) ∙ sym (ap (λ (s : NumberedTalkers). s.queue) left)))
           is_held;
       result_is = told;
       left = left;

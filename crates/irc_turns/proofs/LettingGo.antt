@@ -9,7 +9,7 @@ use Rattle.std.specs.List.{slice_get, swap_remove}
 use Rattle.slab.specs.Slab.{Slab, get, with_value}
 use Rattle.slab.proofs.SlabLemmas.{Updates-with_value}
 use Rattle.std.specs.Option.{IsSome}
-use Rattle.irc_turns.specs.HeldBack.{HeldBack, held_still, held_at}
+use Rattle.irc_turns.specs.HeldBack.{held_still, held_at}
 use Rattle.irc_turns.specs.declared.holding.HeldClient.{HeldClient}
 use Rattle.irc_turns.specs.declared.talker.Talker.{Talker}
 use Rattle.irc_turns.specs.Numbered.{NumberedTalkers, talker_at, talker_changed_if}
@@ -30,35 +30,32 @@ before_place xs i k last d before within =
 -- ---- who is due
 
 -- whose time is not over, by a talker that takes bytes
-takes_bytes : (passed : ℕ) (talkers : NumberedTalkers) (held : HeldClient) (by : ℕ) (b : Bool)
+takes_bytes : (talkers : NumberedTalkers) (held : HeldClient) (by : ℕ) (b : Bool)
     → cond b (Some held.by) None ≡ Some by → is_full_one (talker_at talkers by) ≡ false
     → not (b && is_full_one (talker_at talkers held.by)) ≡ true
-takes_bytes passed talkers held by true one free = ap (λ o. not (is_full_of o)) one ∙ ap not free
+takes_bytes talkers held by true one free = ap (λ o. not (is_full_of o)) one ∙ ap not free
   where
     is_full_of : Option ℕ → Bool
     is_full_of None = false
     is_full_of (Some number) = is_full_one (talker_at talkers number)
-takes_bytes passed talkers held by false one free = refl
+takes_bytes talkers held by false one free = refl
 
-pub due_by_room : (talkers : NumberedTalkers) (place by : ℕ) (held : HeldClient)
-    → slice_get talkers.holding.held place ≡ Some held → held_at talkers.holding place ≡ Some by
-    → is_full_one (talker_at talkers by) ≡ false → is_due talkers held ≡ true
-due_by_room talkers place by held there one free =
-    takes_bytes talkers.holding.rounds_passed talkers held by
-    (nat_lt talkers.holding.rounds_passed held.until)
-    (sym (ap (held_still talkers.holding.rounds_passed) there) ∙ one) free
+pub due_by_room : (now : ℕ) (talkers : NumberedTalkers) (place by : ℕ) (held : HeldClient)
+    → slice_get talkers.holding place ≡ Some held → held_at talkers.holding now place ≡ Some by
+    → is_full_one (talker_at talkers by) ≡ false → is_due now talkers held ≡ true
+due_by_room now talkers place by held there one free =
+    takes_bytes talkers held by (nat_lt now held.until) (sym (ap (held_still now) there) ∙ one) free
 
 over : (talkers : NumberedTalkers) (held : HeldClient) (b : Bool)
     → cond b (Some held.by) None ≡ None → not (b && is_full_one (talker_at talkers held.by)) ≡ true
 over talkers held true none = cc none
 over talkers held false none = refl
 
-pub due_by_time : (talkers : NumberedTalkers) (place : ℕ) (held : HeldClient)
-    → slice_get talkers.holding.held place ≡ Some held → held_at talkers.holding place ≡ None
-    → is_due talkers held ≡ true
-due_by_time talkers place held there none =
-    over talkers held (nat_lt talkers.holding.rounds_passed held.until)
-    (sym (ap (held_still talkers.holding.rounds_passed) there) ∙ none)
+pub due_by_time : (now : ℕ) (talkers : NumberedTalkers) (place : ℕ) (held : HeldClient)
+    → slice_get talkers.holding place ≡ Some held → held_at talkers.holding now place ≡ None
+    → is_due now talkers held ≡ true
+due_by_time now talkers place held there none =
+    over talkers held (nat_lt now held.until) (sym (ap (held_still now) there) ∙ none)
 
 in_time : (old : NumberedTalkers) (held : HeldClient) (by : ℕ) (b : Bool)
     → cond b (Some held.by) None ≡ Some by → is_full_one (talker_at old by) ≡ true
@@ -71,18 +68,15 @@ in_time old held by true one full = ap (λ o. not (is_full_of o)) one ∙ ap not
 in_time old held by false one full = cc one
 
 -- whoever is held still was not due before, since no talker has become full
-pub not_due : (old talkers : NumberedTalkers) (place by : ℕ) (d : HeldClient)
-    → place < length talkers.holding.held → held_at talkers.holding place ≡ Some by → is_full_one
+pub not_due : (now : ℕ) (old talkers : NumberedTalkers) (place by : ℕ) (d : HeldClient)
+    → place < length talkers.holding → held_at talkers.holding now place ≡ Some by → is_full_one
     (talker_at talkers by) ≡ true → ((number : ℕ) → is_full_one (talker_at talkers number) ≡ true
     → is_full_one (talker_at old number) ≡ true)
-    → talkers.holding.rounds_passed ≡ old.holding.rounds_passed
-    → is_due old (get_or talkers.holding.held place d) ≡ false
-not_due old talkers place by d within one full fuller passed =
-    let held = get_or talkers.holding.held place d in
-    in_time old held by (nat_lt old.holding.rounds_passed held.until)
-    (ap (λ p. cond (nat_lt p held.until) (Some held.by) None) (sym passed)
-    ∙ sym (ap (held_still talkers.holding.rounds_passed)
-    (slice_get-get_or talkers.holding.held place d within)) ∙ one)
+    → is_due now old (get_or talkers.holding place d) ≡ false
+not_due now old talkers place by d within one full fuller =
+    let held = get_or talkers.holding place d in
+    in_time old held by (nat_lt now held.until)
+    (sym (ap (held_still now) (slice_get-get_or talkers.holding place d within)) ∙ one)
     (fuller by full)
 
 -- ---- no talker becomes full
@@ -122,27 +116,19 @@ fuller between after new by who tried asked n full =
 
 -- ---- one is let go
 
-holding_is : (h : HeldBack) (held : List HeldClient) (passed : ℕ) → h.held ≡ held
-    → h.rounds_passed ≡ passed → h ≡ record { held = held; rounds_passed = passed }
-holding_is h held passed same_held same_passed =
-    ap (λ xs. record { held = xs; rounds_passed = h.rounds_passed }) same_held
-    ∙ ap (λ p. record { held = held; rounds_passed = p }) same_passed
-
-pub gone : (between after new : NumberedTalkers) (holding : HeldBack) (place : ℕ)
-    (held : HeldClient) → slice_get between.holding.held place ≡ Some held
-    → is_due between held ≡ true → holding.held
-    ≡ swap_remove between.holding.held place held
-    → holding.rounds_passed ≡ between.holding.rounds_passed
+pub gone : (now : ℕ) (between after new : NumberedTalkers) (holding : List HeldClient) (place : ℕ)
+    (held : HeldClient) → slice_get between.holding place ≡ Some held
+    → is_due now between held ≡ true → holding ≡ swap_remove between.holding place held
     → after ≡ only tried_again held.by (record between { holding = holding })
-    → new ≡ asked_again held.who after → LetsOneGo between new place held
-gone between after new holding place held there due left passed tried asked = record {
+    → new ≡ asked_again held.who after → LetsOneGo now between new place held
+gone now between after new holding place held there due left tried asked = record {
   there = there;
   due = due;
   left =
       asked
       ∙ ap (λ (s : NumberedTalkers). asked_again held.who s) tried
       ∙ ap (λ h. asked_again held.who (only tried_again held.by (record between { holding = h })))
-      (holding_is holding _ _ left passed);
+      left;
 }
 
 -- ---- place by place

@@ -10,7 +10,7 @@ use Rattle.irc_turns.specs.declared.talker.Talker.{Talker}
 use Rattle.irc_turns.specs.declared.talker.Readiness.{Readiness}
 use Rattle.irc_turns.specs.declared.talkers.Report.{Report}
 use Rattle.irc_turns.specs.declared.talkers.Report.TheVariants as report
-use Rattle.irc_turns.specs.HeldBack.{HeldBack, held_too}
+use Rattle.irc_turns.specs.HeldBack.{held_too}
 use Rattle.irc_turns.specs.declared.holding.HeldClient.{HeldClient}
 use Rattle.irc_turns.specs.Queues.{stands_in, queued_behind, is_first}
 use Rattle.irc_turns.specs.Talking.{new_talker, is_asked, is_stuck, may_take_more, is_put_off}
@@ -21,7 +21,7 @@ use Rattle.irc_turns.specs.Talking.{held_no_more}
 pub record NumberedTalkers : Type 0 where
   pub by_number : Slab Talker
   pub queue : List ℕ
-  pub holding : HeldBack
+  pub holding : List HeldClient
   pub count : ℕ
 
 -- the talker under a number, if there is one
@@ -177,14 +177,14 @@ filled_by_one talkers (Some talker) = filled_by_mark talkers talker talker.fills
 abbrev pub filled_by : NumberedTalkers → ℕ → Option ℕ
 filled_by talkers number = filled_by_one talkers (talker_at talkers number)
 
-abbrev pub held_by : ℕ → ℕ → NumberedTalkers → NumberedTalkers
-held_by by number talkers =
-    record (only held_back number talkers) { holding = held_too talkers.holding number by }
+abbrev pub held_by : ℕ → ℕ → ℕ → NumberedTalkers → NumberedTalkers
+held_by by number now talkers =
+    record (only held_back number talkers) { holding = held_too talkers.holding number by now }
 
--- it is held back by whom it has filled; or not, where memory runs out
-abbrev pub IsHeldBy : Option ℕ → ℕ → NumberedTalkers → NumberedTalkers → Type 0
-IsHeldBy None number old new = new ≡ old
-IsHeldBy (Some by) number old new = (new ≡ held_by by number old) ⊎ (new ≡ old)
+-- it is held back by whom it has filled, from this moment on; or not, where memory runs out
+abbrev pub IsHeldBy : Option ℕ → ℕ → ℕ → NumberedTalkers → NumberedTalkers → Type 0
+IsHeldBy None number now old new = new ≡ old
+IsHeldBy (Some by) number now old new = (new ≡ held_by by number now old) ⊎ (new ≡ old)
 
 -- ---- the report of one
 
@@ -209,7 +209,8 @@ turn_reader number (Some talker) reader = if is_asked talker && talker.is_client
 pub record IsReported (number : ℕ) (old new : NumberedTalkers) (round : Round)
     (result : Option Report) (round_after : Round) : Type 0 where
   pub held : NumberedTalkers
-  pub is_held : IsHeldBy (filled_by old number) number (record old { queue = new.queue }) held
+  pub is_held :
+      IsHeldBy (filled_by old number) number round.began (record old { queue = new.queue }) held
   pub result_is : result ≡ talker_report number (talker_at held number)
   pub left : new ≡ only talker_heard number held
   pub reader_is : round_after
@@ -228,29 +229,26 @@ ReportsFirst old new round result round_after = ReportsOf old.queue old new roun
 
 -- ---- who is let go
 
--- the time is over, or the talker takes bytes again or is gone
-abbrev pub is_due : NumberedTalkers → HeldClient → Bool
-is_due talkers held =
-    not (nat_lt talkers.holding.rounds_passed held.until && is_full_one (talker_at talkers held.by))
+-- the time is over at this moment, or the talker takes bytes again or is gone
+abbrev pub is_due : ℕ → NumberedTalkers → HeldClient → Bool
+is_due now talkers held = not (nat_lt now held.until && is_full_one (talker_at talkers held.by))
 
--- the last takes the place of who is let go
-abbrev pub let_go_at : ℕ → HeldClient → HeldBack → HeldBack
-let_go_at place held holding = record holding { held = swap_remove holding.held place held }
-
--- the talker that was full is tried again, and who was held is reported, if it has something to say
+-- the talker that was full is tried again, and who was held is reported, if it has something to
+-- say; the last of those who are held takes its place
 abbrev pub let_go_one : ℕ → HeldClient → NumberedTalkers → NumberedTalkers
 let_go_one place held talkers =
     record (asked_again held.who (only tried_again held.by talkers))
-    { holding = let_go_at place held talkers.holding }
+    { holding = swap_remove talkers.holding place held }
 
 -- whoever is held at a place, and is due, is let go
-pub record LetsOneGo (old new : NumberedTalkers) (place : ℕ) (held : HeldClient) : Type 0 where
-  pub there : slice_get old.holding.held place ≡ Some held
-  pub due : is_due old held ≡ true
+pub record LetsOneGo (now : ℕ) (old new : NumberedTalkers) (place : ℕ) (held : HeldClient)
+    : Type 0 where
+  pub there : slice_get old.holding place ≡ Some held
+  pub due : is_due now old held ≡ true
   pub left : new ≡ let_go_one place held old
 
--- some are let go, one after another
-pub data LetsGo (old : NumberedTalkers) : NumberedTalkers → Type 0 where
-  nobody : LetsGo old old
-  one_more : (between new : NumberedTalkers) (place : ℕ) (held : HeldClient) → LetsGo old between
-      → LetsOneGo between new place held → LetsGo old new
+-- some are let go at a moment, one after another
+pub data LetsGo (now : ℕ) (old : NumberedTalkers) : NumberedTalkers → Type 0 where
+  nobody : LetsGo now old old
+  one_more : (between new : NumberedTalkers) (place : ℕ) (held : HeldClient)
+      → LetsGo now old between → LetsOneGo now between new place held → LetsGo now old new

@@ -3,6 +3,7 @@ use Rattle.std.specs.Prelude.{ℕ, Bool, true, false, not, ◌&&◌, ◌-◌, �
 use Rattle.std.specs.Prelude.{nat_lt, if◌then◌else◌, Option, Some, None, is_none, is_some, List}
 use Rattle.std.specs.Prelude.{length, ◌+◌, set}
 use Rattle.std.specs.List.{slice_get}
+use Rattle.irc_moments.specs.Moments.{later}
 use Rattle.irc_turns.specs.declared.retries.Retries.{Retries}
 use Rattle.irc_turns.specs.declared.retry.Retry.{Retry}
 
@@ -28,23 +29,19 @@ call_begun row visits = record row { is_calling = true; link = None; visits = vi
 abbrev pub call_reached : Retry → ℕ → Retry
 call_reached row link = record row { is_calling = false; link = Some link }
 
--- a call that has failed, or its link that has ended: it may have crossed another where a server
--- has connected meanwhile
-abbrev pub call_ended : Retry → ℕ → Retry
-call_ended row visits = record row {
+-- a call that has failed at a moment, or its link that has ended: it may have crossed another where
+-- a server has connected meanwhile
+abbrev pub call_ended : Retry → ℕ → ℕ → Retry
+call_ended row visits now = record row {
   has_crossed = not (nat_eq row.visits visits);
   is_calling = false;
   link = None;
-  since = None;
+  since = Some now;
 }
 
 -- no call is under way, and no link of one is open
 abbrev pub is_free : Retry → Bool
 is_free row = not row.is_calling && is_none row.link
-
--- so many milliseconds more, of which no more is told than that they are as many as a number can be
-abbrev pub later_by : ℕ → ℕ → ℕ
-later_by now waited = min (now + waited) 18446744073709551615
 
 -- so long is waited, and twice as long by who yields behind a call that has crossed another, as far
 -- as a number goes
@@ -57,7 +54,7 @@ abbrev pub has_waited : Option ℕ → Option ℕ → Bool → ℕ → ℕ → B
 has_waited None since yields spread now = false
 has_waited (Some after) None yields spread now = false
 has_waited (Some after) (Some since) yields spread now =
-    nat_le (wait_after (later_by after spread) yields) (now - since)
+    nat_le (wait_after (later after spread) yields) (now - since)
 
 -- it is to be called: it is free, not known, and was so for long enough
 abbrev pub is_due : Retry → ℕ → Bool → Bool → ℕ → Bool
@@ -128,19 +125,19 @@ looked_on retries = record retries {
       place_if_called retries.rows.items (place_behind retries.at (length retries.rows.items));
 }
 
-abbrev pub is_due_now : Retries → Bool → Bool → ℕ → Bool
-is_due_now retries is_known yields place =
-    is_due_at (slice_get retries.rows.items place) retries.passed is_known yields retries.spread
-    && is_apart retries.called_at retries.passed
+abbrev pub is_due_now : Retries → ℕ → Bool → Bool → ℕ → Bool
+is_due_now retries now is_known yields place =
+    is_due_at (slice_get retries.rows.items place) now is_known yields retries.spread
+    && is_apart retries.called_at now
 
--- a place, if its server is to be called now
-abbrev pub due_place : Retries → Bool → Bool → Option ℕ → Option ℕ
-due_place retries is_known yields None = None
-due_place retries is_known yields (Some place) = if is_due_now retries is_known yields place
+-- a place, if its server is to be called at a moment
+abbrev pub due_place : Retries → ℕ → Bool → Bool → Option ℕ → Option ℕ
+due_place retries now is_known yields None = None
+due_place retries now is_known yields (Some place) = if is_due_now retries now is_known yields place
     then Some place else None
 
 -- what is known of a place then
-abbrev pub seen_at : Retries → Bool → Option ℕ → List Retry
-seen_at retries is_known None = retries.rows.items
-seen_at retries is_known (Some place) =
-    row_changed (λ row. seen row retries.passed is_known) place retries.rows.items
+abbrev pub seen_at : Retries → ℕ → Bool → Option ℕ → List Retry
+seen_at retries now is_known None = retries.rows.items
+seen_at retries now is_known (Some place) =
+    row_changed (λ row. seen row now is_known) place retries.rows.items

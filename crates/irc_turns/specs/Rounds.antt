@@ -4,8 +4,9 @@ use Rattle.std.specs.Prelude.{if◌then◌else◌, Option, Some, None}
 use Rattle.irc_turns.specs.declared.round.Round.{Round}
 
 -- before the first round, and before turn 65
-abbrev pub no_round : Round
-no_round = record {
+abbrev pub no_round : ℕ → Round
+no_round now = record {
+  began = now;
   left = 0;
   is_quiet = false;
   visits = 0;
@@ -22,10 +23,11 @@ no_round = record {
 abbrev pub count_after : ℕ → ℕ
 count_after count = (count + 1) % 18446744073709551616
 
--- a round begins, with so many sockets: it is quiet where nobody has come
-abbrev pub round_begun : Round → ℕ → Bool → Round
-round_begun round left has_come =
+-- a round begins at a moment, with so many sockets: it is quiet where nobody has come
+abbrev pub round_begun : Round → ℕ → ℕ → Bool → Round
+round_begun round now left has_come =
     record round {
+      began = now;
       left = left;
       is_quiet = not has_come;
       visits = if has_come

@@ -1,15 +1,14 @@
 //! The servers that are called, and which of them is due.
-ghost use Rattle.std.specs.Prelude.{◌≡◌, ◌++◌, ◌∷◌, [], ◌&&◌, None, Some, if◌then◌else◌, length};
+ghost use Rattle.std.specs.Prelude.{◌≡◌, ◌++◌, ◌∷◌, [], ◌&&◌, None, Some, if◌then◌else◌};
 ghost use Rattle.std.specs.Prelude.{OnOk, is_some};
 ghost use Rattle.std.specs.List.{list_any, position, slice_get};
 ghost use Rattle.irc_turns.specs.Retries.{milliseconds};
 ghost use Rattle.irc_turns.specs.Rounds.{count_after};
 ghost use Rattle.irc_turns.specs.Spreads.{spread_on};
-ghost use Rattle.irc_turns.specs.Waits.{wait_behind};
 
 use crate::retry::Retry;
 use crate::spread::spread_on;
-use crate::waits::wait_behind;
+use irc_moments::Moment;
 use std::alloc::{AllocError, Global};
 
 /// How many milliseconds are between two calls that are made again at least: the one is to be
@@ -24,28 +23,23 @@ pub struct Retries {
     pub at: usize,
     /// The place of the one that would be called, if it is not known.
     pub looked_at: Option<usize>,
-    /// How many milliseconds have passed in waits that nothing has ended, so at least so many.
-    pub passed: u64,
     /// When one was called again last.
-    pub called_at: Option<u64>,
+    pub called_at: Option<Moment>,
     /// How many servers have connected.
     pub visits: u64,
     /// How many milliseconds more than each is to be waited for the next call, by this server's own
     /// name: two that have lost a third at the same moment are not to call it at the same moment.
     pub spread: u64,
-    /// How long the next wait may last while some server is waited for.
-    pub wait: u64,
 }
 
 impl Retries {
     ghost use Rattle.irc_turns.specs.Retries.{not_called, row_changed, may_be_called, looked_on};
     ghost use Rattle.irc_turns.specs.Retries.{due_place, seen_at, is_due_at, is_apart, is_of_link};
-    ghost use Rattle.irc_turns.specs.Retries.{later_by, seen, call_begun, call_reached, call_ended};
+    ghost use Rattle.irc_turns.specs.Retries.{seen, call_begun, call_reached, call_ended};
 
     /// None, with the spread of the first call that is made again.
     pub fn new(alloc: Global, spread: u64) -> Self
         ensures rows { result.rows.items ≡ [] }
-        ensures passed { result.passed ≡ 0 }
         ensures called { result.called_at ≡ None }
         ensures spread { result.spread ≡ spread }
     {
@@ -53,11 +47,9 @@ impl Retries {
             rows: Vec::new(alloc),
             at: 0,
             looked_at: None,
-            passed: 0,
             called_at: None,
             visits: 0,
             spread,
-            wait: wait_behind(0),
         }
     }
 
@@ -76,18 +68,6 @@ impl Retries {
         }
     }
 
-    /// So many milliseconds have passed in a wait that nothing has ended; none, where something
-    /// has, or there was no wait.
-    pub fn pass(&mut self, waited: u64)
-        ensures { self.new ≡ record self.old {
-          passed = later_by self.old.passed waited;
-          wait = wait_behind waited;
-        } }
-    {
-        self.passed = self.passed.saturating_add(waited);
-        self.wait = wait_behind(waited);
-    }
-
     /// A server has connected.
     pub fn come(&mut self)
         ensures { self.new ≡ record self.old { visits = count_after self.old.visits } }
@@ -95,16 +75,8 @@ impl Retries {
         self.visits = self.visits.wrapping_add(1);
     }
 
-    /// How long the next wait may last, if some server is waited for.
-    pub fn wait(&self) -> Option<u64>
-        ensures { result ≡ (if list_any (λ row. is_some row.since) self.now.rows.items
-            then Some self.now.wait else None) }
-    {
-        self.are_waiting().then_some(self.wait)
-    }
-
-    /// Whether some server is waited for.
-    fn are_waiting(&self) -> bool
+    /// Whether the moment is waited for at which some server is to be called again.
+    pub fn are_waiting(&self) -> bool
         ensures { result ≡ list_any (λ row. is_some row.since) self.now.rows.items }
     {
         self.rows.iter().any(|row| row.since.is_some())
@@ -131,35 +103,32 @@ impl Retries {
     }
 
     /// Takes in whether the server that was looked at is known, and tells its place where it is to
-    /// be called now; this side may have to yield.
-    pub fn know(&mut self, is_known: bool, yields: bool) -> Option<usize>
-        ensures due { result ≡ due_place self.old is_known yields self.old.looked_at }
-        ensures rows { self.new.rows.items ≡ seen_at self.old is_known self.old.looked_at }
+    /// be called at this moment; this side may have to yield.
+    pub fn know(&mut self, now: Moment, is_known: bool, yields: bool) -> Option<usize>
+        ensures due { result ≡ due_place self.old now is_known yields self.old.looked_at }
+        ensures rows { self.new.rows.items ≡ seen_at self.old now is_known self.old.looked_at }
         ensures looked { self.new.looked_at ≡ None }
         ensures called { self.new.called_at ≡ self.old.called_at }
-        ensures passed { self.new.passed ≡ self.old.passed }
         ensures spread { self.new.spread ≡ self.old.spread }
         ensures visits { self.new.visits ≡ self.old.visits }
     {
         let place = self.looked_at.take()?;
-        self.see(place, is_known, yields).then_some(place)
+        self.see(place, now, is_known, yields).then_some(place)
     }
 
-    /// Takes in whether the server at a place is known. It may be that it is to be called now; this
-    /// side may have to yield.
-    fn see(&mut self, place: usize, is_known: bool, yields: bool) -> bool
-        ensures due { result ≡ (is_due_at (slice_get self.old.rows.items place) self.old.passed
-            is_known yields self.old.spread && is_apart self.old.called_at self.old.passed) }
+    /// Takes in whether the server at a place is known. It may be that it is to be called at this
+    /// moment; this side may have to yield.
+    fn see(&mut self, place: usize, now: Moment, is_known: bool, yields: bool) -> bool
+        ensures due { result ≡ (is_due_at (slice_get self.old.rows.items place) now
+            is_known yields self.old.spread && is_apart self.old.called_at now) }
         ensures rows { self.new.rows.items ≡ row_changed
-            (λ row. seen row self.old.passed is_known) place self.old.rows.items }
+            (λ row. seen row now is_known) place self.old.rows.items }
         ensures called { self.new.called_at ≡ self.old.called_at }
-        ensures passed { self.new.passed ≡ self.old.passed }
         ensures spread { self.new.spread ≡ self.old.spread }
         ensures looked { self.new.looked_at ≡ self.old.looked_at }
         ensures visits { self.new.visits ≡ self.old.visits }
     {
-        let is_apart = self.is_apart();
-        let now = self.passed;
+        let is_apart = self.is_apart(now);
         let spread = self.spread;
         match self.rows.get_mut(place) {
             Some(row) => row.see(now, is_known, yields, spread) && is_apart,
@@ -168,20 +137,20 @@ impl Retries {
     }
 
     /// Whether none was called again within the last second.
-    fn is_apart(&self) -> bool
-        ensures { result ≡ is_apart self.now.called_at self.now.passed }
+    fn is_apart(&self, now: Moment) -> bool
+        ensures { result ≡ is_apart self.now.called_at now }
     {
         match self.called_at {
-            Some(called_at) => self.passed.saturating_sub(called_at) >= APART_MS,
+            Some(called_at) => now.since(called_at) >= APART_MS,
             None => true,
         }
     }
 
-    /// The server at a place is called: the first time, or again.
-    pub fn begin(&mut self, place: usize, is_again: bool)
+    /// The server at a place is called at this moment: the first time, or again.
+    pub fn begin(&mut self, place: usize, is_again: bool, now: Moment)
         ensures rows { self.new.rows.items ≡ row_changed
             (λ row. call_begun row self.old.visits) place self.old.rows.items }
-        ensures called { self.new.called_at ≡ (if is_again then Some self.old.passed
+        ensures called { self.new.called_at ≡ (if is_again then Some now
             else self.old.called_at) }
         ensures spread { self.new.spread ≡ (if is_again then spread_on self.old.spread 1
             else self.old.spread) }
@@ -192,7 +161,7 @@ impl Retries {
         } }
     {
         if is_again {
-            self.called_at = Some(self.passed);
+            self.called_at = Some(now);
             self.spread = spread_on(self.spread, 1);
         }
         let visits = self.visits;
@@ -212,15 +181,15 @@ impl Retries {
         }
     }
 
-    /// The call of the server at a place has failed, or its link has ended.
-    pub fn end(&mut self, place: usize)
+    /// The call of the server at a place has failed at this moment, or its link has ended.
+    pub fn end(&mut self, place: usize, now: Moment)
         ensures rows { self.new.rows.items ≡ row_changed
-            (λ row. call_ended row self.old.visits) place self.old.rows.items }
+            (λ row. call_ended row self.old.visits now) place self.old.rows.items }
         ensures others { self.new ≡ record self.old { rows = self.new.rows } }
     {
         let visits = self.visits;
         if let Some(row) = self.rows.get_mut(place) {
-            row.end(visits);
+            row.end(visits, now);
         }
     }
 

@@ -1,6 +1,8 @@
 //! When a server is called again.
 ghost use Rattle.std.specs.Prelude.{◌≡◌, ◌&&◌};
 
+use irc_moments::Moment;
+
 /// A server that is called, and how its last call stands.
 #[derive(Drop)]
 pub struct Retry {
@@ -16,8 +18,9 @@ pub struct Retry {
     /// Whether one has connected until that call ended: it may be the same server, and where two
     /// calls cross both links end.
     pub has_crossed: bool,
-    /// Since when it is unknown, as far as is seen, with no call under way and no link of one open.
-    pub since: Option<u64>,
+    /// Since when it is unknown, as far as is seen, with no call under way and no link of one open:
+    /// since the last one failed or ended, or since it was seen to be.
+    pub since: Option<Moment>,
 }
 
 impl Retry {
@@ -57,13 +60,13 @@ impl Retry {
     }
 
     /// The call has failed, or its link has ended, where so many servers have connected so far.
-    pub fn end(&mut self, visits: u64)
-        ensures { self.new ≡ call_ended self.old visits }
+    pub fn end(&mut self, visits: u64, now: Moment)
+        ensures { self.new ≡ call_ended self.old visits now }
     {
         self.has_crossed = self.visits != visits;
         self.is_calling = false;
         self.link = None;
-        self.since = None;
+        self.since = Some(now);
     }
 
     /// Whether no call is under way, and no link of one is open.
@@ -76,7 +79,7 @@ impl Retry {
     /// Takes in whether the server is known at a moment. It may be that it is to be called then:
     /// this side yields where both should not call at the same time again, and waits so much
     /// longer, as no other of its network does if that can be had.
-    pub fn see(&mut self, now: u64, is_known: bool, yields: bool, spread: u64) -> bool
+    pub fn see(&mut self, now: Moment, is_known: bool, yields: bool, spread: u64) -> bool
         ensures due { result ≡ is_due self.old now is_known yields spread }
         ensures seen { self.new ≡ seen self.old now is_known }
     {
@@ -88,7 +91,7 @@ impl Retry {
     }
 
     /// Whether it was unknown for long enough.
-    fn has_waited(&self, now: u64, yields: bool, spread: u64) -> bool
+    fn has_waited(&self, now: Moment, yields: bool, spread: u64) -> bool
         ensures { result ≡ has_waited self.now.after self.now.since
             (self.now.has_crossed && yields) spread now }
     {
@@ -100,14 +103,14 @@ impl Retry {
                 } else {
                     apart
                 };
-                now.saturating_sub(since) >= wait
+                now.since(since) >= wait
             }
             _ => false,
         }
     }
 
     /// Since when it is unknown, where it is at this moment, or is not.
-    fn unknown_since(&self, now: u64, is_away: bool) -> Option<u64>
+    fn unknown_since(&self, now: Moment, is_away: bool) -> Option<Moment>
         ensures { result ≡ unknown_since self.now.since now is_away }
     {
         if !is_away {

@@ -1,6 +1,8 @@
 //! A round, and the turn at hand.
 ghost use Rattle.std.specs.Prelude.{◌≡◌};
 
+use irc_moments::Moment;
+
 /// The number of the first turn: at turn 0 somebody was told something last to whom nothing was
 /// said yet. That is long ago, since it is beyond the patience of a write (`PATIENCE_TURNS` of
 /// waiting.rt).
@@ -10,6 +12,8 @@ const FIRST_TURN: u64 = 64;
 /// reported last, and what has come of it.
 #[derive(Drop)]
 pub struct Round {
+    /// When it began.
+    pub began: Moment,
     /// How many sockets are left to be reported.
     pub left: usize,
     /// Whether nobody had come as it began: then those who are served have only more of the same to
@@ -38,11 +42,12 @@ impl Round {
     ghost use Rattle.irc_turns.specs.Rounds.{more_noted, is_round_over, one_reported};
     ghost use Rattle.irc_turns.specs.Rounds.{next_turn_noted};
 
-    /// No round.
-    pub fn new() -> Self
-        ensures { result ≡ no_round }
+    /// No round, at a moment.
+    pub fn new(now: Moment) -> Self
+        ensures { result ≡ no_round now }
     {
         Round {
+            began: now,
             left: 0,
             is_quiet: false,
             visits: 0,
@@ -57,9 +62,10 @@ impl Round {
     }
 
     /// A round begins, with so many sockets to be reported. Somebody has come, or nobody has.
-    pub fn begin(&mut self, left: usize, has_come: bool)
-        ensures { self.new ≡ round_begun self.old left has_come }
+    pub fn begin(&mut self, now: Moment, left: usize, has_come: bool)
+        ensures { self.new ≡ round_begun self.old now left has_come }
     {
+        self.began = now;
         self.left = left;
         self.is_quiet = !has_come;
         if has_come {

@@ -4,7 +4,6 @@ ghost use Rattle.std.specs.Prelude.{nat_eq, OnOk, OnErr};
 ghost use Rattle.std.specs.List.{All};
 ghost use Rattle.std.specs.Option.{option_copied_mut};
 ghost use Rattle.slab.specs.Slab.{Updates, SameValues};
-ghost use Rattle.irc_turns.specs.HeldBack.{nobody_held, round_passed};
 ghost use Rattle.irc_turns.specs.Rounds.{count_after};
 ghost use Rattle.irc_turns.specs.Queues.{queue_without, queued_behind, turned_queue};
 ghost use Rattle.irc_turns.specs.Talking.{written, told_so};
@@ -18,6 +17,7 @@ use crate::holding::Holding;
 use crate::queue::Queue;
 use crate::round::Round;
 use crate::talker::{Readiness, Talker, TalkerMark};
+use irc_moments::Moment;
 use slab::Slab;
 use std::alloc::{AllocError, Global};
 use std::marker::Model;
@@ -65,7 +65,7 @@ impl Talkers {
     pub fn new(alloc: Global) -> Self
         ensures talkers { (number : ℕ) → talker_at result number ≡ None }
         ensures queue { result.queue ≡ [] }
-        ensures held { result.holding ≡ nobody_held }
+        ensures held { result.holding ≡ [] }
         ensures count { result.count ≡ 0 }
     {
         Talkers {
@@ -162,7 +162,7 @@ impl Talkers {
         ensures first { ReportsFirst self.old self.new round.old result round.new }
     {
         let number = self.queue.pop()?;
-        self.hold(number);
+        self.hold(number, round.began);
         let talker = self.by_number.get_mut(number)?;
         if !talker.is_asked() {
             return Some(Report::Writable(number));
@@ -253,11 +253,11 @@ impl Talkers {
 
     /// Holds a client back that has filled somebody's outbox, if that one's socket is full; but one
     /// that was let go has a turn first.
-    fn hold(&mut self, number: usize)
-        ensures { IsHeldBy (filled_by self.old number) number self.old self.new }
+    fn hold(&mut self, number: usize, now: Moment)
+        ensures { IsHeldBy (filled_by self.old number) number now self.old self.new }
     {
         if let Some(by) = self.filled_by(number)
-            && self.holding.hold(number, by).is_ok()
+            && self.holding.hold(number, by, now).is_ok()
             && let Some(talker) = self.by_number.get_mut(number)
         {
             talker.hold();
@@ -284,14 +284,15 @@ impl Talkers {
             .is_some_and(|talker| talker.is_full)
     }
 
-    /// Lets go whoever was held back long enough, or by a socket that takes bytes again or is gone.
-    pub fn let_go(&mut self)
-        ensures one_by_one { LetsGo self.old self.new }
-        ensures all { All (λ held. is_due self.old held ≡ false) self.new.holding.held }
+    /// Lets go whoever was held back long enough at this moment, or by a socket that takes bytes
+    /// again or is gone.
+    pub fn let_go(&mut self, now: Moment)
+        ensures one_by_one { LetsGo now self.old self.new }
+        ensures all { All (λ held. is_due now self.old held ≡ false) self.new.holding }
     {
         let mut place = 0;
         while place < self.holding.len() {
-            match self.holding.at(place) {
+            match self.holding.at(place, now) {
                 Some(by) if self.is_full(by) => place += 1,
                 _ => {
                     let held = self.holding.let_go(place);
@@ -333,16 +334,9 @@ impl Talkers {
         self.queue.push(number);
     }
 
-    /// A round is over, in which so many milliseconds were waited.
-    pub fn pass(&mut self, waited: u64)
-        ensures { self.new ≡ record self.old { holding = round_passed self.old.holding waited } }
-    {
-        self.holding.pass(waited);
-    }
-
     /// Whether nobody is held back.
     pub fn holds_nobody(&self) -> bool
-        ensures { result ≡ nat_eq 0 (length self.now.holding.held) }
+        ensures { result ≡ nat_eq 0 (length self.now.holding) }
     {
         self.holding.is_empty()
     }

@@ -6,14 +6,13 @@ use Rattle.irc_turns.proofs.talkers.Talkers.let_go.Given as goal
 -- those that were looked at and are held still were not due, and no talker has become full
 abbrev pub invariant-loop-place : goal.invariant-loop-place
 invariant-loop-place l = record {
-  one_by_one : LetsGo l.fn.self l.self;
+  one_by_one : LetsGo l.now l.fn.self l.self;
   all : (k : ℕ) → k < l.place → (d : HeldClient)
-      → is_due l.fn.self (get_or l.self.holding.held k d) ≡ false;
+      → is_due l.now l.fn.self (get_or l.self.holding k d) ≡ false;
   full : (number : ℕ) → is_full_one (talker_at l.self number) ≡ true
       → is_full_one (talker_at l.fn.self number) ≡ true;
-  passed : l.self.holding.rounds_passed ≡ l.fn.self.holding.rounds_passed;
 }
 
 -- each client that was looked at is held back still, or let go
 abbrev pub decreases-loop-place : goal.decreases-loop-place
-decreases-loop-place l = length l.self.holding.held - l.place
+decreases-loop-place l = length l.self.holding - l.place

@@ -1,0 +1,3 @@
+pub mod FollowingWaits
+pub mod FindingReaders
+pub mod ComputedWaits

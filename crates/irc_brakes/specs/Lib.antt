@@ -1,0 +1,4 @@
+pub mod Reading
+pub mod Waiting
+pub mod Laws
+pub mod Examples
