@@ -1,6 +1,7 @@
 //! Bursts, line by line, and the other lines of servers (RFC 2813 sections 4 and 5.3.2).
 use crate::stage::{
-    LINKED, Scene, Stage, StageStep, changes, channel, description, nick, server, stage_of,
+    LINKED, Scene, Stage, StageStep, StageTest, changes, channel, description, nick, server,
+    test_holds,
 };
 use irc_burst_lines::{
     MEMBERS_A_LINE, NewMember, burst, kill_text, mode_text, njoin_text, server_text, squit_text,
@@ -59,7 +60,7 @@ struct LineNames {
     modes: &'static [&'static [u8]],
 }
 
-static SHORT: LineNames = LineNames {
+const SHORT: LineNames = LineNames {
     password: b"pw",
     by: b"a.net",
     other: b"b.net",
@@ -85,7 +86,7 @@ const LONG_MASK: &[u8] =
     b"bbbbbbbbbbbbbbbbbbbbbbbbbbbbbbbbbbbbbbbbbbbbbbbbbbbbbbbbbbbbbbbbbbbbbbbbbbbbbbbbbbbbbb!*@*";
 
 /// Everything is as long as it may be.
-static LONG: LineNames = LineNames {
+const LONG: LineNames = LineNames {
     password: b"pppppppppppppppppppp",
     by: LONG_SERVER,
     other: LONG_SERVER,
@@ -116,7 +117,7 @@ enum LineKind {
 type WrittenRow = (LineKind, usize, &'static [u8]);
 
 /// Where b.net is linked: whole lines.
-static WRITTEN: [WrittenRow; 6] = [
+const WRITTEN: &[WrittenRow] = &[
     (LineKind::Pass, 26, b"PASS pw 0210010001 TREE|\r\n"),
     (LineKind::Greeting, 31, b"SERVER a.net 1 1 :Test server\r\n"),
     (LineKind::Server, 28, b":a.net SERVER b.net 2 2 :B\r\n"),
@@ -130,7 +131,7 @@ static WRITTEN: [WrittenRow; 6] = [
 ];
 
 /// The longest line of each kind, where no other server is known: none is cut.
-static LONGEST: [WrittenRow; 7] = [
+const LONGEST: &[WrittenRow] = &[
     (LineKind::Pass, 44, b" 0210010001 TREE|\r\n"),
     (
         LineKind::Server,
@@ -239,32 +240,29 @@ static THIRTY_ONE: Burst = Burst {
 };
 
 /// Whether a neighbour is told just these lines.
-fn is_told(stage: &Stage, told: &Burst) -> bool {
-    match &burst(&stage.room, &stage.routes, told.link) {
-        Ok(lines) => are_from(lines, told.first, told.lines),
-        Err(_) => false,
+impl StageTest for Burst {
+    fn holds(&self, _rt: &impl Abort, _alloc: Global, stage: &mut Stage) -> bool {
+        match &burst(&stage.room, &stage.routes, self.link) {
+            Ok(lines) => are_from(lines, self.first, self.lines),
+            Err(_) => false,
+        }
     }
-}
-
-fn tells(rt: &impl Abort, alloc: Global, told: &Burst) -> bool {
-    let stage = stage_of(rt, alloc, told.scenes);
-    is_told(&stage, told)
 }
 
 #[test]
 fn one_side_is_told_in_six_lines_and_not_what_is_behind_the_link(rt: HostRuntime) {
-    assert!(rt; tells(&rt, rt.alloc(), &ONE_SIDE));
-    assert!(rt; tells(&rt, rt.alloc(), &BEHIND));
+    assert!(rt; test_holds(&rt, rt.alloc(), ONE_SIDE.scenes, &ONE_SIDE));
+    assert!(rt; test_holds(&rt, rt.alloc(), BEHIND.scenes, &BEHIND));
 }
 
 #[test]
 fn another_neighbour_is_told_of_all(rt: HostRuntime) {
-    assert!(rt; tells(&rt, rt.alloc(), &ANOTHER));
+    assert!(rt; test_holds(&rt, rt.alloc(), ANOTHER.scenes, &ANOTHER));
 }
 
 #[test]
 fn thirty_one_members_are_told_in_four_lines(rt: HostRuntime) {
-    assert!(rt; tells(&rt, rt.alloc(), &THIRTY_ONE));
+    assert!(rt; test_holds(&rt, rt.alloc(), THIRTY_ONE.scenes, &THIRTY_ONE));
 }
 
 /// The members of a line.
@@ -320,21 +318,31 @@ fn is_written(
     line.len() == row.1 && line.ends_with(row.2)
 }
 
-/// Whether each line with these names is written as its row says, where there is this.
-fn are_written(
-    rt: &impl Abort,
-    alloc: Global,
-    scenes: &[Scene],
-    names: &LineNames,
-    rows: &[WrittenRow],
-) -> bool {
-    let stage = stage_of(rt, alloc, scenes);
-    let mut all = true;
-    for row in rows {
-        all &= is_written(rt, alloc, &stage.routes, names, row);
-    }
-    all
+/// Lines with some names, each with what its row says of it.
+struct WrittenLines {
+    names: LineNames,
+    rows: &'static [WrittenRow],
 }
+
+impl StageTest for WrittenLines {
+    fn holds(&self, rt: &impl Abort, alloc: Global, stage: &mut Stage) -> bool {
+        let mut all = true;
+        for row in self.rows {
+            all &= is_written(rt, alloc, &stage.routes, &self.names, row);
+        }
+        all
+    }
+}
+
+static SHORT_LINES: WrittenLines = WrittenLines {
+    names: SHORT,
+    rows: WRITTEN,
+};
+
+static LONG_LINES: WrittenLines = WrittenLines {
+    names: LONG,
+    rows: LONGEST,
+};
 
 /// No other server is known.
 static NOBODY: [Scene; 0] = [];
@@ -344,6 +352,6 @@ static THERE: [Scene; 1] = [LINKED];
 
 #[test]
 fn lines_of_servers_are_written_whole(rt: HostRuntime) {
-    assert!(rt; are_written(&rt, rt.alloc(), &THERE, &SHORT, &WRITTEN));
-    assert!(rt; are_written(&rt, rt.alloc(), &NOBODY, &LONG, &LONGEST));
+    assert!(rt; test_holds(&rt, rt.alloc(), &THERE, &SHORT_LINES));
+    assert!(rt; test_holds(&rt, rt.alloc(), &NOBODY, &LONG_LINES));
 }

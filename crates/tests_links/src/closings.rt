@@ -1,6 +1,6 @@
 //! Why a link is closed, each reason in a handshake or behind it; and that no other link is.
 use crate::events::{
-    EventRow, LinkEvent, are_put_from, happens, line_of, rows_hold, server, takes,
+    EventRow, LinkEvent, ServerTest, are_put_from, happens, line_of, rows_hold, takes, test_holds,
 };
 use irc_batch::{Batch, Out};
 use irc_server::{CloseReason, Event, Server, ServerFault};
@@ -293,42 +293,28 @@ fn hears(server: &mut Server, lines: &[&[u8]], out: &mut Batch) -> bool {
     all
 }
 
-/// Whether a server takes what happens in scenes.
-fn stands(alloc: Global, server: &mut Server, scenes: &[&[LinkEvent]], out: &mut Batch) -> bool {
-    let mut all = true;
-    for scene in scenes {
-        all &= happens(alloc, server, scene, out);
+/// A row, and what is put out behind the end of the link.
+#[derive(Drop)]
+struct ClosingTest<'a> {
+    closing: &'a Closing,
+    behind: &'a [Out<'static>],
+}
+
+impl ServerTest for ClosingTest<'_> {
+    fn holds(&self, alloc: Global, server: &mut Server, out: &mut Batch) -> bool {
+        hears(server, self.closing.0, out)
+            && happens(alloc, server, &AFTERWARDS, out)
+            && is_put_for(out, self.closing.1, self.behind)
     }
-    all
 }
 
-/// Whether a link is closed as a row says behind that, and the server goes on.
-fn closes_then(
-    alloc: Global,
-    server: &mut Server,
-    standing: &Standing,
-    closing: &Closing,
-    out: &mut Batch,
-) -> bool {
-    let stands = stands(alloc, server, standing.scenes, out);
-    out.clear();
-    stands
-        && hears(server, closing.0, out)
-        && happens(alloc, server, &AFTERWARDS, out)
-        && is_put_for(out, closing.1, standing.behind)
-}
-
-fn closes(rt: &impl Abort, alloc: Global, standing: &Standing, closing: &Closing) -> bool {
-    let mut server = server(rt, alloc);
-    let mut out = Batch::new(alloc);
-    closes_then(alloc, &mut server, standing, closing, &mut out)
-}
-
-/// Whether a link is closed as each row says.
+/// Whether a link is closed as each row says, and the server goes on.
 fn all_close(rt: &impl Abort, alloc: Global, standing: &Standing, closings: &[Closing]) -> bool {
+    let behind = standing.behind;
     let mut all = true;
     for closing in closings {
-        all &= closes(rt, alloc, standing, closing);
+        let test = ClosingTest { closing, behind };
+        all &= test_holds(rt, alloc, standing.scenes, &test);
     }
     all
 }

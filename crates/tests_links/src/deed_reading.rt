@@ -2,7 +2,7 @@
 //! 2812 section 3.7.1).
 use crate::deed_shown::reason_word;
 use crate::shown::{ShownText, append_word};
-use crate::stage::{FULL, LINKED, Scene, Stage, StageStep, stage_of};
+use crate::stage::{FULL, LINKED, Scene, Stage, StageStep, StageTest, test_holds};
 use irc_burst::{Deed, ModeSetting, NewMember, NewMembers, read_burst_line};
 use irc_line::limits::MAX_LINE;
 use irc_line::{Line, parse};
@@ -16,7 +16,7 @@ use std::process::Abort;
 type DeedRow = (&'static [u8], &'static [u8]);
 
 /// bo is a user of b.net, who is in #o, al one of a.net, who is in #d; both are in #m.
-static ROWS: [DeedRow; 47] = [
+const ROWS: &[DeedRow] = &[
     (b":b.net SERVER c.net 2 2 :C", b" server b.net c.net 2 2 C"),
     (b":b.net SERVER c.net 3 2 :C", b" parameters"),
     (b":b.net SERVER c.net 2 2 C x", b" parameters"),
@@ -76,7 +76,7 @@ static ROWS: [DeedRow; 47] = [
 ];
 
 /// Too few words and too many, wrong numbers, names out of rule; the same users.
-static WORDS: [DeedRow; 42] = [
+const WORDS: &[DeedRow] = &[
     (b":bo QUIT", b" parameters"),
     (b":bo QUIT x y", b" parameters"),
     (b":bo JOIN", b" parameters"),
@@ -125,7 +125,7 @@ static WORDS: [DeedRow; 42] = [
 ];
 
 /// Each command in small letters, and words that are none; the same users.
-static SMALL: [DeedRow; 24] = [
+const SMALL: &[DeedRow] = &[
     (b"nick dd 1 u h 1 + :Dd", b" does"),
     (b":bo nick dd", b" does"),
     (b":bo nick BO", b" does"),
@@ -153,7 +153,7 @@ static SMALL: [DeedRow; 24] = [
 ];
 
 /// Lines of 510 bytes: what they begin with, the rest is `x`.
-static FILLED: [DeedRow; 20] = [
+const FILLED: &[DeedRow] = &[
     (b"FOO ", b" unknown"),
     (b"PASS pw 0210010001 TREE|", b" parameters"),
     (b"SERVER c.net 1 1 :", b" parameters"),
@@ -177,7 +177,7 @@ static FILLED: [DeedRow; 20] = [
 ];
 
 /// What is read where 256 servers are known.
-static CROWDED: [DeedRow; 3] = [
+const CROWDED: &[DeedRow] = &[
     (b":b.net SERVER c.net 2 300 :C", b" full"),
     (b":b.net SERVER b.net 2 300 :B", b" known"),
     (b":b.net SERVER c.net 2 1 :C", b" token"),
@@ -283,12 +283,20 @@ fn row_holds(alloc: Global, stage: &Stage, row: &DeedRow, more: usize) -> bool {
     shown.as_slice() == row.1
 }
 
-fn rows_hold(alloc: Global, stage: &Stage, rows: &[DeedRow], more: usize) -> bool {
-    let mut all = true;
-    for row in rows {
-        all &= row_holds(alloc, stage, row, more);
+/// Rows, and how many `x` are behind the line of each.
+struct DeedTable {
+    rows: &'static [DeedRow],
+    more: usize,
+}
+
+impl StageTest for DeedTable {
+    fn holds(&self, _rt: &impl Abort, alloc: Global, stage: &mut Stage) -> bool {
+        let mut all = true;
+        for row in self.rows {
+            all &= row_holds(alloc, stage, row, self.more);
+        }
+        all
     }
-    all
 }
 
 /// al is in #d, bo of b.net in #o, and both are in #m.
@@ -304,28 +312,43 @@ const PEOPLE: Scene = &[
 /// b.net is linked, and they are there.
 static THERE: [Scene; 2] = [LINKED, PEOPLE];
 
-fn are_read(rt: &impl Abort, alloc: Global) -> bool {
-    let stage = stage_of(rt, alloc, &THERE);
-    rows_hold(alloc, &stage, &ROWS, 0)
-        & rows_hold(alloc, &stage, &WORDS, 0)
-        & rows_hold(alloc, &stage, &SMALL, 0)
-        & rows_hold(alloc, &stage, &FILLED, MAX_LINE)
-}
-
 /// As many servers are known as there is room for.
 static KNOWN: [Scene; 1] = [FULL];
 
-fn are_refused(rt: &impl Abort, alloc: Global) -> bool {
-    let stage = stage_of(rt, alloc, &KNOWN);
-    rows_hold(alloc, &stage, &CROWDED, 0)
-}
+static TABLE: DeedTable = DeedTable {
+    rows: ROWS,
+    more: 0,
+};
+
+static WORDS_TABLE: DeedTable = DeedTable {
+    rows: WORDS,
+    more: 0,
+};
+
+static SMALL_TABLE: DeedTable = DeedTable {
+    rows: SMALL,
+    more: 0,
+};
+
+static FILLED_TABLE: DeedTable = DeedTable {
+    rows: FILLED,
+    more: MAX_LINE,
+};
+
+static CROWDED_TABLE: DeedTable = DeedTable {
+    rows: CROWDED,
+    more: 0,
+};
 
 #[test]
 fn lines_of_servers_are_read(rt: HostRuntime) {
-    assert!(rt; are_read(&rt, rt.alloc()));
+    assert!(rt; test_holds(&rt, rt.alloc(), &THERE, &TABLE));
+    assert!(rt; test_holds(&rt, rt.alloc(), &THERE, &WORDS_TABLE));
+    assert!(rt; test_holds(&rt, rt.alloc(), &THERE, &SMALL_TABLE));
+    assert!(rt; test_holds(&rt, rt.alloc(), &THERE, &FILLED_TABLE));
 }
 
 #[test]
 fn one_server_more_than_there_is_room_for_is_refused(rt: HostRuntime) {
-    assert!(rt; are_refused(&rt, rt.alloc()));
+    assert!(rt; test_holds(&rt, rt.alloc(), &KNOWN, &CROWDED_TABLE));
 }

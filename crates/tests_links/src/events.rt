@@ -65,7 +65,7 @@ fn own(rt: &impl Abort, alloc: Global) -> Own {
 }
 
 /// a.net, which describes itself as A.
-pub fn server(rt: &impl Abort, alloc: Global) -> Server {
+fn server(rt: &impl Abort, alloc: Global) -> Server {
     let config = Config {
         own: own(rt, alloc),
         peers: peers(rt, alloc),
@@ -215,31 +215,67 @@ pub fn are_put_from(out: &Batch, first: usize, said: &[Out<'_>]) -> bool {
     all
 }
 
-/// Whether a server that goes through a scene does what a row says then.
-fn does_so(
-    alloc: Global,
-    server: &mut Server,
-    scene: &[LinkEvent],
-    row: &EventRow,
-    out: &mut Batch,
-) -> bool {
-    let stands = happens(alloc, server, scene, out);
-    out.clear();
-    stands && happens(alloc, server, row.0, out) && are_put_from(out, 0, row.1)
+/// What is tried on a server.
+pub trait ServerTest {
+    /// Whether the server takes what happens, and puts out for it what it is to.
+    fn holds(&self, alloc: Global, server: &mut Server, out: &mut Batch) -> bool;
 }
 
-/// Whether a server does what a row says behind a scene.
-fn row_holds(rt: &impl Abort, alloc: Global, scene: &[LinkEvent], row: &EventRow) -> bool {
+impl ServerTest for EventRow {
+    fn holds(&self, alloc: Global, server: &mut Server, out: &mut Batch) -> bool {
+        happens(alloc, server, self.0, out) && are_put_from(out, 0, self.1)
+    }
+}
+
+/// Whether a server takes what happens in scenes.
+fn stands(alloc: Global, server: &mut Server, scenes: &[&[LinkEvent]], out: &mut Batch) -> bool {
+    let mut all = true;
+    for scene in scenes {
+        all &= happens(alloc, server, scene, out);
+    }
+    all
+}
+
+/// Whether a test holds behind scenes; what is put out for these is not looked at.
+fn holds_behind(
+    alloc: Global,
+    server: &mut Server,
+    scenes: &[&[LinkEvent]],
+    test: &impl ServerTest,
+    out: &mut Batch,
+) -> bool {
+    let stands = stands(alloc, server, scenes, out);
+    out.clear();
+    stands && test.holds(alloc, server, out)
+}
+
+fn holds_of_new(
+    rt: &impl Abort,
+    alloc: Global,
+    scenes: &[&[LinkEvent]],
+    test: &impl ServerTest,
+    out: &mut Batch,
+) -> bool {
     let mut server = server(rt, alloc);
+    holds_behind(alloc, &mut server, scenes, test, out)
+}
+
+/// Whether a test holds of a new server, behind scenes.
+pub fn test_holds(
+    rt: &impl Abort,
+    alloc: Global,
+    scenes: &[&[LinkEvent]],
+    test: &impl ServerTest,
+) -> bool {
     let mut out = Batch::new(alloc);
-    does_so(alloc, &mut server, scene, row, &mut out)
+    holds_of_new(rt, alloc, scenes, test, &mut out)
 }
 
 /// Whether each row holds behind a scene.
 pub fn rows_hold(rt: &impl Abort, alloc: Global, scene: &[LinkEvent], rows: &[EventRow]) -> bool {
     let mut all = true;
     for row in rows {
-        all &= row_holds(rt, alloc, scene, row);
+        all &= test_holds(rt, alloc, &[scene], row);
     }
     all
 }

@@ -2,7 +2,7 @@
 //! section 4.1); and who may link.
 use crate::deed_shown::close_word;
 use crate::shown::{ShownText, append_word};
-use crate::stage::{FULL, LINKED, Scene, Stage, stage_of};
+use crate::stage::{FULL, LINKED, Scene, Stage, StageTest, test_holds};
 use irc_batch::CloseReason;
 use irc_burst::read_handshake_line;
 use irc_line::parse;
@@ -16,7 +16,7 @@ use std::process::Abort;
 type HandshakeRow = (bool, &'static [u8], &'static [u8]);
 
 /// b.net is linked already, by another link.
-static ROWS: [HandshakeRow; 32] = [
+const ROWS: &[HandshakeRow] = &[
     (false, b"PASS pw 0210010001 TREE|", b" gives pw"),
     (false, b"pass pw 0210010001 TREE|", b" gives pw"),
     (
@@ -73,7 +73,7 @@ type PeerRow = (
 );
 
 /// b.net is linked already.
-static PEERS: [PeerRow; 6] = [
+const PEERS: &[PeerRow] = &[
     (Some(b"pw"), b"pw", b"c.net", None),
     (None, b"pw", b"c.net", Some(CloseReason::UnknownPeer)),
     (None, b"pw", b"b.net", Some(CloseReason::UnknownPeer)),
@@ -88,7 +88,7 @@ static PEERS: [PeerRow; 6] = [
 ];
 
 /// The same, where 256 servers are known.
-static CROWDED: [PeerRow; 3] = [
+const CROWDED: &[PeerRow] = &[
     (Some(b"pw"), b"pw", b"c.net", Some(CloseReason::Full)),
     (
         Some(b"pw"),
@@ -165,22 +165,34 @@ static THERE: [Scene; 1] = [LINKED];
 /// As many servers are known as there is room for.
 static KNOWN: [Scene; 1] = [FULL];
 
-fn are_read(rt: &impl Abort, alloc: Global) -> bool {
-    let stage = stage_of(rt, alloc, &THERE);
-    rows_hold(alloc, &stage, &ROWS) & peers_hold(&stage.routes, &PEERS)
+/// Lines by a new link, and neighbours that name themselves.
+struct HandshakeTable {
+    rows: &'static [HandshakeRow],
+    peers: &'static [PeerRow],
 }
 
-fn are_refused(rt: &impl Abort, alloc: Global) -> bool {
-    let stage = stage_of(rt, alloc, &KNOWN);
-    peers_hold(&stage.routes, &CROWDED)
+impl StageTest for HandshakeTable {
+    fn holds(&self, _rt: &impl Abort, alloc: Global, stage: &mut Stage) -> bool {
+        rows_hold(alloc, stage, self.rows) && peers_hold(&stage.routes, self.peers)
+    }
 }
+
+static TABLE: HandshakeTable = HandshakeTable {
+    rows: ROWS,
+    peers: PEERS,
+};
+
+static CROWDED_TABLE: HandshakeTable = HandshakeTable {
+    rows: &[],
+    peers: CROWDED,
+};
 
 #[test]
 fn a_link_begins_with_a_password_and_a_name(rt: HostRuntime) {
-    assert!(rt; are_read(&rt, rt.alloc()));
+    assert!(rt; test_holds(&rt, rt.alloc(), &THERE, &TABLE));
 }
 
 #[test]
 fn a_neighbour_more_than_there_is_room_for_is_refused(rt: HostRuntime) {
-    assert!(rt; are_refused(&rt, rt.alloc()));
+    assert!(rt; test_holds(&rt, rt.alloc(), &KNOWN, &CROWDED_TABLE));
 }

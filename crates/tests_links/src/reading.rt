@@ -1,7 +1,7 @@
 //! Lines of a link, each with the effects that it tells of and what is written of these, or why it
 //! is refused (RFC 2813 section 4).
 use crate::shown::{ShownText, append, show, show_fault};
-use crate::stage::{LINKED, Scene, Stage, StageStep, apply, stage_of};
+use crate::stage::{LINKED, Scene, Stage, StageStep, StageTest, apply, test_holds};
 use irc_line::parse;
 use irc_room::Effect;
 use irc_wire::{read_effect, write_effect};
@@ -223,11 +223,6 @@ const MODE_WORDS: &[LineRow] = &[
     (2, b":bo MODE #c +l 007", b" parameters", b""),
 ];
 
-/// The tables that are read one behind another.
-static EFFECTS: [&[LineRow]; 3] = [USERS, CHANNELS, REFUSED];
-
-static MODES: [&[LineRow]; 1] = [MODE_WORDS];
-
 /// al is there and alone in #d.
 const AL: Scene = &[
     StageStep::Comes(b"al", b"a.net", b"Al"),
@@ -287,22 +282,35 @@ fn rows_hold(alloc: Global, stage: &mut Stage, rows: &[LineRow]) -> bool {
     all
 }
 
-/// Whether the rows of some tables hold, one table behind another.
-fn tables_hold(rt: &impl Abort, alloc: Global, tables: &[&[LineRow]]) -> bool {
-    let mut stage = stage_of(rt, alloc, &THERE);
-    let mut all = true;
-    for rows in tables {
-        all &= rows_hold(alloc, &mut stage, rows);
-    }
-    all
+/// Tables, one behind another.
+struct LineTables {
+    tables: &'static [&'static [LineRow]],
 }
+
+impl StageTest for LineTables {
+    fn holds(&self, _rt: &impl Abort, alloc: Global, stage: &mut Stage) -> bool {
+        let mut all = true;
+        for rows in self.tables {
+            all &= rows_hold(alloc, stage, rows);
+        }
+        all
+    }
+}
+
+static EFFECTS: LineTables = LineTables {
+    tables: &[USERS, CHANNELS, REFUSED],
+};
+
+static MODES: LineTables = LineTables {
+    tables: &[MODE_WORDS],
+};
 
 #[test]
 fn lines_are_read_as_effects_and_written_so(rt: HostRuntime) {
-    assert!(rt; tables_hold(&rt, rt.alloc(), &EFFECTS));
+    assert!(rt; test_holds(&rt, rt.alloc(), &THERE, &EFFECTS));
 }
 
 #[test]
 fn words_of_a_mode_keep_the_rules_of_their_letters(rt: HostRuntime) {
-    assert!(rt; tables_hold(&rt, rt.alloc(), &MODES));
+    assert!(rt; test_holds(&rt, rt.alloc(), &THERE, &MODES));
 }

@@ -98,18 +98,13 @@ pub fn changes(alloc: Global, words: &[&[u8]]) -> ModeChanges {
     }
 }
 
-/// What a.net says of itself.
-fn own(rt: &impl Abort, alloc: Global) -> Own {
-    Own {
-        name: bytes(rt, alloc, b"a.net"),
-        info: bytes(rt, alloc, b"Test server"),
-        created: bytes(rt, alloc, b""),
-    }
-}
-
 /// The servers that a.net knows: none yet.
 fn routes(rt: &impl Abort, alloc: Global) -> Routes {
-    let own = own(rt, alloc);
+    let own = Own {
+        name: bytes(rt, alloc, b"a.net"),
+        info: bytes(rt, alloc, b"Test server"),
+        created: Vec::new(alloc),
+    };
     assert!(rt; is_server(&own.name));
     assert!(rt; Info::read(&own.info).is_some());
     Routes::new(own)
@@ -209,13 +204,23 @@ fn furnish(rt: &impl Abort, alloc: Global, stage: &mut Stage, steps: &[StageStep
     }
 }
 
-/// What there is once all these have come, where nobody was there and no other server known.
-pub fn stage_of(rt: &impl Abort, alloc: Global, scenes: &[Scene]) -> Stage {
+fn furnish_all(rt: &impl Abort, alloc: Global, stage: &mut Stage, scenes: &[Scene]) {
+    for steps in scenes {
+        furnish(rt, alloc, stage, steps);
+    }
+}
+
+/// What is tried on a stage.
+pub trait StageTest {
+    /// Whether it is as it is to be.
+    fn holds(&self, rt: &impl Abort, alloc: Global, stage: &mut Stage) -> bool;
+}
+
+/// Whether a test holds once all these have come, where nobody was there and no other server known.
+pub fn test_holds(rt: &impl Abort, alloc: Global, scenes: &[Scene], test: &impl StageTest) -> bool {
     let room = Room::new(alloc, server(rt, b"a.net"));
     let routes = routes(rt, alloc);
     let mut stage = Stage { room, routes };
-    for steps in scenes {
-        furnish(rt, alloc, &mut stage, steps);
-    }
-    stage
+    furnish_all(rt, alloc, &mut stage, scenes);
+    test.holds(rt, alloc, &mut stage)
 }

@@ -166,6 +166,21 @@ fn show_fault(done: Result<(), ChannelsFault>, shown: &mut ShownText) {
     }
 }
 
+/// Does what a row of a user and a channel says.
+fn change(
+    rt: &impl Abort,
+    channels: &mut Channels,
+    row: ScriptRow<'_>,
+) -> Result<(), ChannelsFault> {
+    let nick = nick(rt, row.first);
+    let name = channel(rt, row.second);
+    match row.verb {
+        "make" => channels.join(&nick, &name, true),
+        "invite" => channels.invite(&nick, &name),
+        _ => channels.uninvite(&nick, &name),
+    }
+}
+
 impl ScriptStage for Channels {
     fn perform(
         &mut self,
@@ -174,17 +189,11 @@ impl ScriptStage for Channels {
         row: ScriptRow<'_>,
         shown: &mut ShownText,
     ) {
-        let done = match row.verb {
-            "make" => self.join(&nick(rt, row.first), &channel(rt, row.second), true),
-            "invite" => self.invite(&nick(rt, row.first), &channel(rt, row.second)),
-            "uninvite" => self.uninvite(&nick(rt, row.first), &channel(rt, row.second)),
-            "respell" => self.respell(&channel(rt, row.first)),
-            _ => {
-                show_state(self.find(row.first.as_bytes()), shown);
-                Ok(())
-            }
-        };
-        show_fault(done, shown);
+        match row.verb {
+            "state" => show_state(self.find(row.first.as_bytes()), shown),
+            "respell" => show_fault(self.respell(&channel(rt, row.first)), shown),
+            _ => show_fault(change(rt, self, row), shown),
+        }
     }
 }
 

@@ -138,6 +138,27 @@ fn change(rt: &impl Abort, routes: &mut Routes, row: ScriptRow<'_>, shown: &mut 
     }
 }
 
+/// Shows what a row asks of one server.
+fn show_one(routes: &Routes, row: ScriptRow<'_>, shown: &mut ShownText) {
+    let name = row.first.as_bytes();
+    match row.verb {
+        "out" => show_number(routes.token_out(name), shown),
+        "away" => show_number(routes.distance(name), shown),
+        _ => show_name(routes.uplink(name), shown),
+    }
+}
+
+/// Shows the servers that a row asks for.
+fn show_several(routes: &Routes, row: ScriptRow<'_>, shown: &mut ShownText) {
+    let link = u64::from(number_of(row.first));
+    match row.verb {
+        "behind" => show_names(&routes.behind(link), shown),
+        "told" => show_rows(&routes.told_on(link), shown),
+        "in" => show_name(routes.token_in(link, number_of(row.second)), shown),
+        _ => show_names(&routes.servers(), shown),
+    }
+}
+
 impl ScriptStage for Routes {
     fn perform(
         &mut self,
@@ -146,30 +167,21 @@ impl ScriptStage for Routes {
         row: ScriptRow<'_>,
         shown: &mut ShownText,
     ) {
-        let link = u64::from(number_of(row.first));
         match row.verb {
-            "out" => show_number(self.token_out(row.first.as_bytes()), shown),
-            "via" => show_name(self.uplink(row.first.as_bytes()), shown),
-            "away" => show_number(self.distance(row.first.as_bytes()), shown),
-            "in" => show_name(self.token_in(link, number_of(row.second)), shown),
-            "behind" => show_names(&self.behind(link), shown),
-            "told" => show_rows(&self.told_on(link), shown),
-            "all" => show_names(&self.servers(), shown),
+            "out" | "away" | "via" => show_one(self, row, shown),
+            "behind" | "told" | "in" | "all" => show_several(self, row, shown),
             _ => change(rt, self, row, shown),
         }
     }
 }
 
-fn own(alloc: Global) -> Result<Own, AllocError> {
-    Ok(Own {
-        name: Vec::from_slice(alloc, b"a.net")?,
+/// Whether the script holds of a.net, which knows no other server.
+fn servers_hold(rt: &impl Abort, alloc: Global) -> bool {
+    let own = Own {
+        name: Vec::from_slice(alloc, b"a.net").expect(rt, "memory"),
         info: Vec::new(alloc),
         created: Vec::new(alloc),
-    })
-}
-
-fn servers_hold(rt: &impl Abort, alloc: Global) -> bool {
-    let own = own(alloc).expect(rt, "memory");
+    };
     assert!(rt; is_server(&own.name));
     let mut routes = Routes::new(own);
     script_holds(rt, alloc, &mut routes, SERVERS)

@@ -107,19 +107,24 @@ fn add_change(item: &ModeItem<'_>, made: &mut Vec<ModeChange, Global>) {
     }
 }
 
+/// The changes that words ask for; none where memory runs out.
+fn asked(alloc: Global, words: &[&[u8]]) -> ModeChanges {
+    let mut made = Vec::new(alloc);
+    if let Ok(items) = &read_modes(alloc, words) {
+        for item in items.as_slice() {
+            add_change(item, &mut made);
+        }
+    }
+    ModeChanges::new(made)
+}
+
 /// The changes that the words of a MODE ask for.
 pub fn changes(alloc: Global, words: &str) -> ModeChanges {
     let mut params: ArrayVec<&[u8], 15> = ArrayVec::new();
     for word in words.split(' ') {
         let _ = params.try_push(word.as_bytes());
     }
-    let mut made = Vec::new(alloc);
-    if let Ok(items) = &read_modes(alloc, &params) {
-        for item in items.as_slice() {
-            add_change(item, &mut made);
-        }
-    }
-    ModeChanges::new(made)
+    asked(alloc, &params)
 }
 
 fn by(rt: &impl Abort, word: &str) -> By {
@@ -138,7 +143,7 @@ fn target(rt: &impl Abort, word: &str) -> Target {
     }
 }
 
-/// The effect of a row that a user brings about on itself.
+/// The effect of a row.
 fn effect_of(rt: &impl Abort, alloc: Global, row: ScriptRow<'_>) -> Effect {
     match row.verb {
         "user" => Effect::AddUser(user(rt, row)),
@@ -150,54 +155,68 @@ fn effect_of(rt: &impl Abort, alloc: Global, row: ScriptRow<'_>) -> Effect {
             nick: nick(rt, row.first),
             text: Words::cut(row.second.as_bytes()),
         },
-        "make" | "join" => Effect::Join {
-            nick: nick(rt, row.first),
-            channel: channel(rt, row.second),
-            op: row.verb == "make",
-        },
-        "part" => Effect::Part {
-            nick: nick(rt, row.first),
-            channel: channel(rt, row.second),
-            text: Words::cut(row.text.as_bytes()),
-        },
         "set" => Effect::ChangeUser {
             nick: nick(rt, row.first),
             change: UserChange::Invisible(row.second == "+i"),
         },
-        _ => effect_on(rt, alloc, row),
-    }
-}
-
-/// The effect of a row on another user or on a channel.
-fn effect_on(rt: &impl Abort, alloc: Global, row: ScriptRow<'_>) -> Effect {
-    match row.verb {
-        "kick" => Effect::Kick {
+        "say" | "note" => Effect::Say {
             by: nick(rt, row.first),
-            channel: channel(rt, row.second),
-            nick: nick(rt, row.text),
-            text: Words::cut(b"out"),
-        },
-        "mode" => Effect::ChangeModes {
-            by: by(rt, row.first),
-            channel: channel(rt, row.second),
-            changes: changes(alloc, row.text),
-        },
-        "topic" => Effect::SetTopic {
-            by: by(rt, row.first),
-            channel: channel(rt, row.second),
-            text: Words::cut(row.text.as_bytes()),
+            notice: row.verb == "note",
+            target: target(rt, row.second),
+            text: cut_copy(row.text.as_bytes()),
         },
         "invite" => Effect::Invite {
             by: nick(rt, row.first),
             nick: nick(rt, row.second),
             channel: channel(rt, row.text),
         },
-        _ => Effect::Say {
-            by: nick(rt, row.first),
-            notice: row.verb == "note",
-            target: target(rt, row.second),
-            text: cut_copy(row.text.as_bytes()),
+        "mode" | "topic" => change_of(rt, alloc, row),
+        _ => stay_of(rt, row),
+    }
+}
+
+/// The effect of a row that sets the modes or the topic of a channel.
+fn change_of(rt: &impl Abort, alloc: Global, row: ScriptRow<'_>) -> Effect {
+    let by = by(rt, row.first);
+    let channel = channel(rt, row.second);
+    if row.verb == "mode" {
+        let changes = changes(alloc, row.text);
+        Effect::ChangeModes {
+            by,
+            channel,
+            changes,
+        }
+    } else {
+        let text = Words::cut(row.text.as_bytes());
+        Effect::SetTopic { by, channel, text }
+    }
+}
+
+/// The effect of a row by which a user comes to a channel or is there no more.
+fn stay_of(rt: &impl Abort, row: ScriptRow<'_>) -> Effect {
+    let nick = nick(rt, row.first);
+    let channel = channel(rt, row.second);
+    match row.verb {
+        "part" => Effect::Part {
+            nick,
+            channel,
+            text: Words::cut(row.text.as_bytes()),
         },
+        "kick" => kick_of(rt, nick, channel, row.text),
+        _ => Effect::Join {
+            nick,
+            channel,
+            op: row.verb == "make",
+        },
+    }
+}
+
+fn kick_of(rt: &impl Abort, by: Nick, channel: ChannelName, word: &str) -> Effect {
+    Effect::Kick {
+        by,
+        channel,
+        nick: nick(rt, word),
+        text: Words::cut(b"out"),
     }
 }
 
@@ -268,8 +287,7 @@ fn append_if(shown: &mut ShownText, flag: bool, letter: &[u8]) {
     }
 }
 
-/// Shows the flags, the key, the limit and the bans.
-pub fn show_modes(modes: &Modes, shown: &mut ShownText) {
+fn show_flags(modes: &Modes, shown: &mut ShownText) {
     append(shown, b" +");
     append_if(shown, modes.invite_only, b"i");
     append_if(shown, modes.moderated, b"m");
@@ -277,6 +295,11 @@ pub fn show_modes(modes: &Modes, shown: &mut ShownText) {
     append_if(shown, modes.topic_locked, b"t");
     append_if(shown, modes.privacy == Privacy::Private, b"p");
     append_if(shown, modes.privacy == Privacy::Secret, b"s");
+}
+
+/// Shows the flags, the key, the limit and the bans.
+pub fn show_modes(modes: &Modes, shown: &mut ShownText) {
+    show_flags(modes, shown);
     if let Some(key) = &modes.key {
         append_word(shown, b"", key.as_bytes());
     }
@@ -288,16 +311,20 @@ pub fn show_modes(modes: &Modes, shown: &mut ShownText) {
     }
 }
 
-fn show_channel(channel: &Channel, shown: &mut ShownText) {
-    append_word(shown, b"", channel.name.as_bytes());
-    show_modes(&channel.modes, shown);
-    append_word(shown, b":", channel.topic.as_bytes());
+fn show_members(channel: &Channel, shown: &mut ShownText) {
     for row in channel.members.as_slice() {
         append(shown, b" ");
         append_if(shown, row.value.op, b"@");
         append_if(shown, row.value.voice, b"+");
         append(shown, &row.name);
     }
+}
+
+fn show_channel(channel: &Channel, shown: &mut ShownText) {
+    append_word(shown, b"", channel.name.as_bytes());
+    show_modes(&channel.modes, shown);
+    append_word(shown, b":", channel.topic.as_bytes());
+    show_members(channel, shown);
     for row in channel.invited.as_slice() {
         append_word(shown, b"?", &row.name);
     }

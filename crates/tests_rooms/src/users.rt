@@ -3,7 +3,6 @@ use crate::script::{
     ScriptRow, ScriptStage, ShownText, append, append_word, nick, script_holds, server, show_flag,
     show_users, user,
 };
-use irc_names::Nick;
 use irc_users::{Users, UsersFault};
 use std::alloc::Global;
 use std::process::Abort;
@@ -65,12 +64,21 @@ fn show_at(held: &UsersAndNumber, shown: &mut ShownText) {
     }
 }
 
-fn rename(users: &mut Users, nick: &Nick, new: &Nick) {
-    let _ = users.rename(nick, new);
+/// The number of the user of a nickname.
+fn number_of(rt: &impl Abort, users: &Users, word: &str) -> Option<usize> {
+    users.number(&nick(rt, word))
 }
 
-fn remove(users: &mut Users, nick: &Nick) {
-    let _ = users.remove(nick);
+fn show_home(rt: &impl Abort, users: &Users, word: &str, shown: &mut ShownText) {
+    show_users(&users.by_home(&server(rt, word)), shown);
+}
+
+fn rename(rt: &impl Abort, users: &mut Users, row: ScriptRow<'_>) {
+    let _ = users.rename(&nick(rt, row.first), &nick(rt, row.second));
+}
+
+fn remove(rt: &impl Abort, users: &mut Users, word: &str) {
+    let _ = users.remove(&nick(rt, word));
 }
 
 impl ScriptStage for UsersAndNumber {
@@ -83,15 +91,12 @@ impl ScriptStage for UsersAndNumber {
     ) {
         match row.verb {
             "user" => show_fault(self.users.add(user(rt, row)), shown),
-            "home" => show_users(&self.users.by_home(&server(rt, row.first)), shown),
+            "home" => show_home(rt, &self.users, row.first, shown),
             "like" => show_users(&self.users.matching(row.first.as_bytes()), shown),
-            "hold" => self.number = self.users.number(&nick(rt, row.first)),
-            "held" => show_flag(
-                self.users.number(&nick(rt, row.first)) == self.number,
-                shown,
-            ),
-            "nick" => rename(&mut self.users, &nick(rt, row.first), &nick(rt, row.second)),
-            "gone" => remove(&mut self.users, &nick(rt, row.first)),
+            "hold" => self.number = number_of(rt, &self.users, row.first),
+            "held" => show_flag(number_of(rt, &self.users, row.first) == self.number, shown),
+            "nick" => rename(rt, &mut self.users, row),
+            "gone" => remove(rt, &mut self.users, row.first),
             _ => show_at(self, shown),
         }
     }
