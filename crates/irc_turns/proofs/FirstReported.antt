@@ -36,7 +36,7 @@ reported old popped held new number behind round round_after result queued is_po
       is_held =
           subst (λ (s : NumberedTalkers). IsHeldBy (filled_by s number) number round.began s held)
           (is_popped
-                ∙ ap (λ q. record old { queue = q }) (sym (same_queue _ number round.began popped
+          ∙ ap (λ q. record old { queue = q }) (sym (same_queue _ number round.began popped
           held is_held) ∙ sym (ap (λ (s : NumberedTalkers). s.queue) left)))
           is_held;
       result_is = told;

@@ -34,7 +34,7 @@ loop-place-preserved-then-is_full c =
       all = one_further (λ k. (d : HeldClient) → is_due c.args.now c.args.self.now
           (get_or c.loop-place.self.holding k d) ≡ false) place c.loop-place.invariant.all
           (λ d. not_due c.args.now c.args.self.now c.loop-place.self place c.in-Some.by d
-                within held
+          within held
           (sym c.is_full.ensures ∙ c.if-is_full.true)
           c.loop-place.invariant.full);
       full = c.loop-place.invariant.full;
@@ -72,7 +72,7 @@ loop-place-preserved c =
       all = λ k below d.
           ap (λ xs. is_due c.args.now c.args.self.now (get_or xs k d)) (left ∙ others)
           ∙ ap (is_due c.args.now c.args.self.now)
-              (before_place between.holding place k held d below
+          (before_place between.holding place k held d below
           (subst (λ (s : NumberedTalkers). place < length s.holding) c.self.view_is
           (subst (λ n. place < n) c.len.ensures c.loop-place-test.true)))
           ∙ c.loop-place.invariant.all k below d;
