@@ -1,61 +1,9 @@
 //! Wires of TCP sockets that call each other.
+use crate::loopback::{LOOPBACK, LinkEnds, TIMES, calls, end, ends, is_idle, reported};
 use irc_names::ServerName;
 use irc_outbox::{Got, Ready, Wire};
-use irc_sockets::{Callee, Listening, MioWire};
-use std::alloc::Global;
+use irc_sockets::MioWire;
 use std::net::{SocketAddr, TcpListener};
-
-/// How often a wire is asked for a report that has to come. It waits at most 100 ms each time.
-pub(crate) const TIMES: u64 = 50;
-
-/// How often one is asked from which no report may come.
-pub(crate) const IDLE_TIMES: u64 = 3;
-
-pub(crate) fn loopback() -> Option<SocketAddr> {
-    "127.0.0.1:0".parse::<SocketAddr>().ok()
-}
-
-/// A wire that listens for clients and for links.
-fn listens(rt: &HostRuntime) -> Option<MioWire> {
-    let free = loopback()?;
-    let listening = Listening {
-        clients: free,
-        links: Some(free),
-        connections_per_address: None,
-    };
-    MioWire::listen(rt, rt.alloc(), listening, Vec::new(rt.alloc()), 0).ok()
-}
-
-/// A wire that calls a server of this name there.
-fn calls(rt: &HostRuntime, name: &[u8], address: SocketAddr) -> Option<MioWire> {
-    let name = ServerName::read(name)?;
-    let mut callees = Vec::new(rt.alloc());
-    callees
-        .push(Callee {
-            name,
-            address,
-            retry: None,
-        })
-        .ok()?;
-    let listening = Listening {
-        clients: loopback()?,
-        links: None,
-        connections_per_address: None,
-    };
-    MioWire::listen(rt, rt.alloc(), listening, callees, 0).ok()
-}
-
-/// The next thing that a wire reports, so many times asked; nothing where it stays idle.
-pub(crate) fn reported(wire: &mut MioWire, times: u64) -> Option<Ready> {
-    for _time in 0..times {
-        match wire.ready() {
-            Ok(Ready::Idle) => (),
-            Ok(ready) => return Some(ready),
-            Err(_fault) => return None,
-        }
-    }
-    None
-}
 
 /// The number of a link that was called by this name, or that has come, where there is none.
 fn linked(wire: &mut MioWire, called: Option<&[u8]>) -> Option<u64> {
@@ -67,75 +15,120 @@ fn linked(wire: &mut MioWire, called: Option<&[u8]>) -> Option<u64> {
     }
 }
 
-/// Whether a wire reports that a link is readable, and these are the bytes.
-fn hears(wire: &mut MioWire, conn: u64, wanted: &[u8]) -> bool {
-    let mut buffer = [0u8; 64];
+/// The numbers of the link at the end that has called, and at the other.
+fn numbers(ends: &mut LinkEnds) -> Option<(u64, u64)> {
+    let near = linked(&mut ends.caller, Some(b"b.net".as_slice()))?;
+    let far = linked(&mut ends.called, None)?;
+    Some((near, far))
+}
+
+/// Whether a wire reports that a link is readable.
+fn is_readable(wire: &mut MioWire, conn: u64) -> bool {
     match reported(wire, TIMES) {
-        Some(Ready::Readable(number)) if number == conn => {
-            match wire.read(conn, &mut buffer) {
-                Ok(Got::Bytes(count)) => &buffer[..count] == wanted,
-                _ => false,
-            }
-        }
+        Some(Ready::Readable(number)) => number == conn,
         _ => false,
     }
 }
 
+/// Whether a read of a link gives these bytes.
+fn reads(wire: &mut MioWire, conn: u64, wanted: &[u8]) -> bool {
+    let mut buffer = [0u8; 64];
+    match wire.read(conn, &mut buffer) {
+        Ok(Got::Bytes(count)) => &buffer[..count] == wanted,
+        _ => false,
+    }
+}
+
+/// Whether bytes are taken at one end of a link, and come at the other.
+fn carries(from: &mut MioWire, near: u64, to: &mut MioWire, far: u64, bytes: &[u8]) -> bool {
+    from.write(near, bytes, 0) == Ok(bytes.len()) && is_readable(to, far) && reads(to, far, bytes)
+}
+
 /// Whether a call is reported as a link at both ends, and bytes go both ways.
-fn is_link_at_both_ends(rt: &HostRuntime) -> Option<bool> {
-    let mut called = listens(rt)?;
-    let address = called.address_for_links().ok()??;
-    let mut caller = calls(rt, b"b.net", address)?;
-    let near = linked(&mut caller, Some(b"b.net".as_slice()))?;
-    let far = linked(&mut called, None)?;
-    Some(
-        caller.write(near, b"PASS\r\n", 0) == Ok(6)
-            && hears(&mut called, far, b"PASS\r\n")
-            && called.write(far, b"SERVER\r\n", 0) == Ok(8)
-            && hears(&mut caller, near, b"SERVER\r\n"),
-    )
+fn talk(ends: &mut LinkEnds) -> bool {
+    match numbers(ends) {
+        Some((near, far)) => {
+            carries(&mut ends.caller, near, &mut ends.called, far, b"PASS\r\n")
+                && carries(&mut ends.called, far, &mut ends.caller, near, b"SERVER\r\n")
+        }
+        None => false,
+    }
+}
+
+fn is_link_at_both_ends(rt: &HostRuntime) -> bool {
+    match ends(rt, None) {
+        Some(mut ends) => {
+            let is_so = talk(&mut ends);
+            ends.end();
+            is_so
+        }
+        None => false,
+    }
 }
 
 #[test]
 fn a_call_is_a_link_at_both_ends(rt: HostRuntime) {
-    assert!(rt; is_link_at_both_ends(&rt) == Some(true));
+    assert!(rt; is_link_at_both_ends(&rt));
 }
 
 /// An address at which nobody listens any more.
 fn left(rt: &HostRuntime) -> Option<SocketAddr> {
-    let listener = TcpListener::bind(rt, loopback()?).ok()?;
+    let free = LOOPBACK.parse::<SocketAddr>().ok()?;
+    let listener = TcpListener::bind(rt, free).ok()?;
     listener.local_addr().ok()
 }
 
-/// Whether nothing is reported of a server that is not there.
-fn is_passed_over(rt: &HostRuntime) -> Option<bool> {
-    let mut caller = calls(rt, b"b.net", left(rt)?)?;
-    Some(reported(&mut caller, IDLE_TIMES).is_none())
+/// A wire that calls a server that is not there.
+fn calls_nobody(rt: &HostRuntime) -> Option<MioWire> {
+    calls(rt, left(rt)?, None)
+}
+
+/// Whether nothing is reported of it.
+fn is_passed_over(rt: &HostRuntime) -> bool {
+    match calls_nobody(rt) {
+        Some(mut caller) => {
+            let is_so = is_idle(&mut caller);
+            end(caller);
+            is_so
+        }
+        None => false,
+    }
 }
 
 #[test]
 fn who_is_not_there_is_passed_over(rt: HostRuntime) {
-    assert!(rt; is_passed_over(&rt) == Some(true));
+    assert!(rt; is_passed_over(&rt));
+}
+
+/// Whether a read of a link finds its end.
+fn reads_end(wire: &mut MioWire, conn: u64) -> bool {
+    let mut buffer = [0u8; 64];
+    wire.read(conn, &mut buffer) == Ok(Got::End)
 }
 
 /// Whether a link goes down at the end that was called, as the other end closes it.
-fn is_end_seen(rt: &HostRuntime) -> Option<bool> {
-    let mut called = listens(rt)?;
-    let address = called.address_for_links().ok()??;
-    let mut caller = calls(rt, b"b.net", address)?;
-    let near = linked(&mut caller, Some(b"b.net".as_slice()))?;
-    let far = linked(&mut called, None)?;
-    caller.close(near);
-    let mut buffer = [0u8; 64];
-    match reported(&mut called, TIMES)? {
-        Ready::Readable(conn) => Some(
-            conn == far && called.read(conn, &mut buffer) == Ok(Got::End),
-        ),
-        _ => None,
+fn goes_down(ends: &mut LinkEnds) -> bool {
+    match numbers(ends) {
+        Some((near, far)) => {
+            ends.caller.close(near);
+            is_readable(&mut ends.called, far) && reads_end(&mut ends.called, far)
+        }
+        None => false,
+    }
+}
+
+fn is_end_seen(rt: &HostRuntime) -> bool {
+    match ends(rt, None) {
+        Some(mut ends) => {
+            let is_so = goes_down(&mut ends);
+            ends.end();
+            is_so
+        }
+        None => false,
     }
 }
 
 #[test]
 fn the_end_of_a_link_is_seen(rt: HostRuntime) {
-    assert!(rt; is_end_seen(&rt) == Some(true));
+    assert!(rt; is_end_seen(&rt));
 }

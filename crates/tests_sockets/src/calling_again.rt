@@ -1,9 +1,8 @@
 //! Calls that are made again: a wire calls who is not known once it was so for long enough, and
 //! nobody who is.
-use irc_names::ServerName;
+use crate::loopback::ends;
 use irc_outbox::{Ready, Wire};
-use irc_sockets::{Callee, Listening, MioWire};
-use std::net::SocketAddr;
+use irc_sockets::MioWire;
 
 /// How often a wire is asked while a second has to pass: it waits ten milliseconds each time, and
 /// one behind whatever has come.
@@ -11,40 +10,6 @@ const TIMES: u64 = 20_000;
 
 /// How often one is asked which may not call. In so many waits of 100 ms two seconds pass.
 const IDLE_TIMES: u64 = 20;
-
-fn loopback() -> Option<SocketAddr> {
-    "127.0.0.1:0".parse::<SocketAddr>().ok()
-}
-
-/// A wire that listens for clients, and for links.
-fn listens(rt: &HostRuntime) -> Option<MioWire> {
-    let free = loopback()?;
-    let listening = Listening {
-        clients: free,
-        links: Some(free),
-        connections_per_address: None,
-    };
-    MioWire::listen(rt, rt.alloc(), listening, Vec::new(rt.alloc()), 0).ok()
-}
-
-/// A wire that calls `b.net` there, and again after so many seconds.
-fn calls(rt: &HostRuntime, address: SocketAddr, retry: Option<u16>) -> Option<MioWire> {
-    let name = ServerName::read(b"b.net")?;
-    let mut callees = Vec::new(rt.alloc());
-    callees
-        .push(Callee {
-            name,
-            address,
-            retry,
-        })
-        .ok()?;
-    let listening = Listening {
-        clients: loopback()?,
-        links: None,
-        connections_per_address: None,
-    };
-    MioWire::listen(rt, rt.alloc(), listening, callees, 0).ok()
-}
 
 /// The number of the next link of a wire that is told each time whether the server that it would
 /// call is known.
@@ -62,13 +27,21 @@ fn linked(wire: &mut MioWire, times: u64, is_known: bool) -> Option<u64> {
 
 /// Whether a wire whose first link was closed has another, where it is told this of the server, so
 /// many times asked.
-fn calls_again(rt: &HostRuntime, retry: Option<u16>, times: u64, is_known: bool) -> Option<bool> {
-    let called = listens(rt)?;
-    let address = called.address_for_links().ok()??;
-    let mut caller = calls(rt, address, retry)?;
-    let first = linked(&mut caller, TIMES, false)?;
+fn has_another(caller: &mut MioWire, times: u64, is_known: bool) -> Option<bool> {
+    let first = linked(caller, TIMES, false)?;
     caller.close(first);
-    Some(linked(&mut caller, times, is_known).is_some())
+    Some(linked(caller, times, is_known).is_some())
+}
+
+fn calls_again(rt: &HostRuntime, retry: Option<u16>, times: u64, is_known: bool) -> Option<bool> {
+    match ends(rt, retry) {
+        Some(mut ends) => {
+            let has = has_another(&mut ends.caller, times, is_known);
+            ends.end();
+            has
+        }
+        None => None,
+    }
 }
 
 #[test]

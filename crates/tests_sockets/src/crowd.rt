@@ -1,80 +1,141 @@
 //! A wire of TCP sockets that lets so many in from one address.
-use crate::calling::{IDLE_TIMES, TIMES, loopback, reported};
+use crate::loopback::{LOOPBACK, TIMES, connected, end, is_idle, is_patient, listens, reported};
 use irc_outbox::{Ready, Wire};
-use irc_sockets::{Listening, MioWire};
-use std::alloc::Global;
+use irc_sockets::MioWire;
+use std::alloc::{AllocError, Global};
 use std::io::Read;
 use std::net::TcpStream;
-use std::time::Duration;
 
-/// A wire that listens for clients alone.
-fn listens(rt: &HostRuntime, connections_per_address: Option<u16>) -> Option<MioWire> {
-    let listening = Listening {
-        clients: loopback()?,
-        links: None,
-        connections_per_address,
-    };
-    MioWire::listen(rt, rt.alloc(), listening, Vec::new(rt.alloc()), 0).ok()
+/// A wire, and sockets that have connected to it, one after another.
+#[derive(Drop)]
+struct Visited {
+    wire: MioWire,
+    sockets: Vec<TcpStream, Global>,
 }
 
-/// So many sockets that have connected there.
-fn connected(rt: &HostRuntime, wire: &MioWire, count: usize) -> Option<Vec<TcpStream, Global>> {
-    let address = wire.address().ok()?;
-    let mut sockets = Vec::with_capacity(rt.alloc(), count).ok()?;
-    for _socket in 0..count {
-        sockets.push(TcpStream::connect(rt, address).ok()?).ok()?;
+/// A wire that lets so many in.
+fn opened(rt: &HostRuntime, connections_per_address: Option<u16>) -> Option<Visited> {
+    match listens(rt, LOOPBACK, connections_per_address) {
+        Some(wire) => Some(Visited {
+            wire,
+            sockets: Vec::new(rt.alloc()),
+        }),
+        None => None,
     }
-    Some(sockets)
 }
 
-/// The number of a client that is reported.
-fn come(wire: &mut MioWire) -> Option<u64> {
-    match reported(wire, TIMES)? {
-        Ready::Client(conn, _) => Some(conn),
-        _ => None,
-    }
+fn add(sockets: &mut Vec<TcpStream, Global>, socket: TcpStream) -> Result<(), AllocError> {
+    sockets.push(socket)?;
+    Ok(())
 }
 
 /// Whether a socket is closed at the other end, which has said nothing.
 fn is_closed(socket: &mut TcpStream) -> bool {
     let mut buffer = [0u8; 1];
-    socket
-        .set_read_timeout(Some(Duration::from_secs(10)))
-        .is_ok()
-        && matches!(socket.read(&mut buffer), Ok(0))
+    is_patient(socket) && matches!(socket.read(&mut buffer), Ok(0))
 }
 
-/// Whether of three clients the last is closed unreported, where two may come; and whether one more
-/// comes once the first is gone.
-fn is_limited(rt: &HostRuntime) -> Option<bool> {
-    let mut wire = listens(rt, Some(2))?;
-    let mut sockets = connected(rt, &wire, 3)?;
-    let first = come(&mut wire)?;
-    let second = come(&mut wire)?;
-    let is_refused = reported(&mut wire, IDLE_TIMES).is_none() && is_closed(sockets.get_mut(2)?);
-    wire.close(first);
-    let _more = connected(rt, &wire, 2)?;
-    let third = come(&mut wire)?;
-    Some(is_refused && second != third && reported(&mut wire, IDLE_TIMES).is_none())
+impl Visited {
+    /// Lets all go.
+    fn end(self) {
+        end(self.wire);
+    }
+
+    /// Whether one more socket has connected.
+    fn connects(&mut self, rt: &HostRuntime) -> bool {
+        match connected(rt, &self.wire) {
+            Some(socket) => add(&mut self.sockets, socket).is_ok(),
+            None => false,
+        }
+    }
+
+    /// The number of a client that is reported.
+    fn come(&mut self) -> Option<u64> {
+        match reported(&mut self.wire, TIMES)? {
+            Ready::Client(conn, _) => Some(conn),
+            _ => None,
+        }
+    }
+
+    /// Whether nobody is reported, and the socket at a place is closed.
+    fn refuses(&mut self, place: usize) -> bool {
+        match self.sockets.get_mut(place) {
+            Some(socket) => is_idle(&mut self.wire) && is_closed(socket),
+            None => false,
+        }
+    }
+}
+
+/// Whether of three clients the last is closed unreported, where two may come. The second's number.
+fn lets_two_in(rt: &HostRuntime, visited: &mut Visited) -> Option<u64> {
+    if !(visited.connects(rt) && visited.connects(rt) && visited.connects(rt)) {
+        return None;
+    }
+    let first = visited.come()?;
+    let second = visited.come()?;
+    let is_refused = visited.refuses(2);
+    visited.wire.close(first);
+    is_refused.then_some(second)
+}
+
+/// Whether of two more one comes once the first is gone, with a number of its own.
+fn lets_one_in(rt: &HostRuntime, visited: &mut Visited, second: u64) -> bool {
+    visited.connects(rt)
+        && visited.connects(rt)
+        && visited.come().is_some_and(|third| second != third)
+        && is_idle(&mut visited.wire)
+}
+
+fn limits(rt: &HostRuntime, visited: &mut Visited) -> bool {
+    match lets_two_in(rt, visited) {
+        Some(second) => lets_one_in(rt, visited, second),
+        None => false,
+    }
+}
+
+fn is_limited(rt: &HostRuntime) -> bool {
+    match opened(rt, Some(2)) {
+        Some(mut visited) => {
+            let is_so = limits(rt, &mut visited);
+            visited.end();
+            is_so
+        }
+        None => false,
+    }
 }
 
 #[test]
 fn two_are_let_in_where_two_may(rt: HostRuntime) {
-    assert!(rt; is_limited(&rt) == Some(true));
+    assert!(rt; is_limited(&rt));
+}
+
+/// Whether four clients come, the last of which has the number 3.
+fn lets_all_in(rt: &HostRuntime, visited: &mut Visited) -> bool {
+    let mut are_here = true;
+    for _client in 0..4 {
+        are_here &= visited.connects(rt);
+    }
+    let mut last = None;
+    for _client in 0..4 {
+        last = visited.come();
+        are_here &= last.is_some();
+    }
+    are_here && last == Some(3)
 }
 
 /// Whether all of four clients come, where there is no limit.
-fn are_all_let_in(rt: &HostRuntime) -> Option<bool> {
-    let mut wire = listens(rt, None)?;
-    let _sockets = connected(rt, &wire, 4)?;
-    let mut last = 0;
-    for _client in 0..4 {
-        last = come(&mut wire)?;
+fn are_all_let_in(rt: &HostRuntime) -> bool {
+    match opened(rt, None) {
+        Some(mut visited) => {
+            let is_so = lets_all_in(rt, &mut visited);
+            visited.end();
+            is_so
+        }
+        None => false,
     }
-    Some(last == 3)
 }
 
 #[test]
 fn all_are_let_in_without_a_limit(rt: HostRuntime) {
-    assert!(rt; are_all_let_in(&rt) == Some(true));
+    assert!(rt; are_all_let_in(&rt));
 }

@@ -1,91 +1,92 @@
 //! The bytes of a conversation end at each place in turn, within a line or behind it: what is
-//! written is what the lines that have come whole call for, and the end of a connection is told
-//! behind that.
-use crate::conversation::{
-    CONVERSATION, OPEN, SaidLine, add_lines, behind_told, is_written, other_than,
-};
-use crate::lent::Closings;
-use crate::memory::runs_noting;
-use crate::steps::{WireEvent, add_each, add_step};
-use irc_names::first_bytes;
-use irc_outbox::{MemoryWire, WireStep};
+//! written is what the lines that have come whole call for, the end of a connection is told behind
+//! that, and the other goes on alone.
+use crate::conversation::{AL, ConnectionLoss, Disturbance, HAPPENINGS, is_held, rows_at};
+use crate::script::row_of;
 use std::alloc::Global;
 
-/// The conversation is held on a wire up to a line of which so many bytes come; then the connection
-/// that says it ends. Tells whether it is added.
-fn add_cut(
-    alloc: Global,
-    steps: &mut Vec<WireStep, Global>,
-    lines: usize,
-    said: &SaidLine,
-    bytes: usize,
-) -> bool {
-    add_each(alloc, steps, &OPEN)
-        && add_lines(alloc, steps, lines)
-        && add_step(
-            alloc,
-            steps,
-            &WireEvent::Bytes(said.conn, first_bytes(said.line, bytes)),
-        )
-        && add_step(alloc, steps, &WireEvent::End(said.conn))
+/// How many bytes of a row stand before its line.
+const VERB_AND_CONNECTION: usize = 8;
+
+/// What comes behind the part of a line that has come: the end of its connection; its CR before
+/// that; or its CR LF.
+struct LineEnds {
+    cut: &'static str,
+    behind_cr: &'static str,
+    behind_lf: &'static str,
 }
 
-fn cut(alloc: Global, lines: usize, said: &SaidLine, bytes: usize) -> Option<MemoryWire> {
-    let mut steps = Vec::new(alloc);
-    if !add_cut(alloc, &mut steps, lines, said, bytes) {
-        return None;
+static ENDS_OF_AL: LineEnds = LineEnds {
+    cut: "\nend 1\n",
+    behind_cr: "^\nend 1\n",
+    behind_lf: ";\nend 1\n",
+};
+
+static ENDS_OF_BO: LineEnds = LineEnds {
+    cut: "\nend 2\n",
+    behind_cr: "^\nend 2\n",
+    behind_lf: ";\nend 2\n",
+};
+
+fn ends_of(conn: u64) -> &'static LineEnds {
+    if conn == AL { &ENDS_OF_AL } else { &ENDS_OF_BO }
+}
+
+/// Whether the conversation may end so behind a part of the line at a place. So many things have
+/// come whole then.
+fn may_end(alloc: Global, place: usize, row: &str, end: &str, whole: usize) -> bool {
+    is_held(
+        alloc,
+        Disturbance {
+            place,
+            row,
+            end,
+            loss: Some(ConnectionLoss {
+                conn: row_of(row).number,
+                written: whole,
+                told: whole,
+            }),
+            room: "65536",
+        },
+    )
+}
+
+/// Whether it may end within the line at a place.
+fn may_be_cut(alloc: Global, place: usize, row: &str, ends: &LineEnds) -> bool {
+    let mut all = true;
+    for bytes in VERB_AND_CONNECTION..row.len() + 1 {
+        all &= match row.get(..bytes) {
+            Some(part) => may_end(alloc, place, part, ends.cut, place),
+            None => false,
+        };
     }
-    MemoryWire::new(alloc, steps).ok()
+    all
 }
 
-/// How many lines have come whole: a CR ends a line, whether its LF comes or not.
-fn whole_lines(lines: usize, said: &SaidLine, bytes: usize) -> usize {
-    if first_bytes(said.line, bytes).contains(&b'\r') {
-        lines.saturating_add(1)
-    } else {
-        lines
-    }
+/// Whether it may end within the line at a place, behind its CR, which ends a line, and behind its
+/// LF.
+fn may_end_within(alloc: Global, place: usize, row: &str, ends: &LineEnds) -> bool {
+    may_be_cut(alloc, place, row, ends)
+        && may_end(alloc, place, row, ends.behind_cr, place.saturating_add(1))
+        && may_end(alloc, place, row, ends.behind_lf, place.saturating_add(1))
 }
 
-/// Whether so many lines were answered, and then the end of a connection told.
-fn is_answered(wire: &MemoryWire, lost: u64, lines: usize) -> bool {
-    is_written(wire.written(lost), lost, lines)
-        && behind_told(wire.written(other_than(lost)), lost, lines) == Some(b"".as_slice())
-}
-
-fn is_told(wire: &MemoryWire, closings: &[u64], lost: u64, lines: usize) -> bool {
-    closings == [lost].as_slice() && is_answered(wire, lost, lines)
-}
-
-/// Whether the conversation may end behind so many bytes of this line.
-fn may_end(alloc: Global, lines: usize, said: &SaidLine, bytes: usize) -> bool {
-    let closings = &mut Closings::new();
-    match cut(alloc, lines, said, bytes) {
-        Some(mut wire) => {
-            runs_noting(alloc, &mut wire, closings, 4096, 20)
-                && is_told(&wire, closings, said.conn, whole_lines(lines, said, bytes))
+/// Whether it may, where the first of these rows is a line's.
+fn may_end_by(alloc: Global, place: usize, rows: &str) -> bool {
+    match rows.split_once(';') {
+        Some((row, _)) if row.starts_with("bytes ") => {
+            may_end_within(alloc, place, row, ends_of(row_of(row).number))
         }
-        None => false,
+        _ => true,
     }
-}
-
-/// Whether it may end at each place of this line.
-fn may_end_within(alloc: Global, lines: usize, said: &SaidLine) -> bool {
-    for bytes in 0..said.line.len() + 1 {
-        if !may_end(alloc, lines, said, bytes) {
-            return false;
-        }
-    }
-    true
 }
 
 fn may_end_anywhere(alloc: Global) -> bool {
-    for (lines, said) in CONVERSATION.iter().enumerate() {
-        if !may_end_within(alloc, lines, said) {
-            return false;
-        }
+    let mut all = true;
+    for place in 0..HAPPENINGS {
+        all &= may_end_by(alloc, place, rows_at(place));
     }
-    true
+    all
 }
 
 #[test]

@@ -16,6 +16,8 @@ pub(crate) type Closings = ArrayVec<u64, 8>;
 pub(crate) struct Lent<'a> {
     pub wire: &'a mut MemoryWire,
     pub closings: &'a mut Closings,
+    /// A call that has failed, and was not told yet.
+    pub call: Option<Unreached>,
 }
 
 /// It keeps no account of what was asked.
@@ -48,6 +50,6 @@ impl<'a> Wire for Lent<'a> {
     }
 
     fn unreached(&mut self) -> Option<Unreached> {
-        self.wire.unreached()
+        self.call.take()
     }
 }

@@ -24,17 +24,21 @@ mod lent;
 #[cfg(test)]
 mod links;
 #[cfg(test)]
+mod loopback;
+#[cfg(test)]
 mod memory;
 #[cfg(test)]
 mod overflows;
+#[cfg(test)]
+mod running;
+#[cfg(test)]
+mod script;
 #[cfg(test)]
 mod server;
 #[cfg(test)]
 mod sockets;
 #[cfg(test)]
 mod spreads;
-#[cfg(test)]
-mod steps;
 #[cfg(test)]
 mod tellings;
 #[cfg(test)]

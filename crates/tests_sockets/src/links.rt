@@ -1,113 +1,74 @@
 //! An engine with links, over a wire in memory.
-use crate::memory::{runs_in, times};
-use crate::steps::{WireEvent, wire};
-use std::alloc::Global;
+use crate::running::holds;
 
-/// The room of a client's outbox.
-const CLIENT_ROOM: usize = 4096;
-
-/// What a.net says first to a server that it calls: 57 bytes.
-const GREETING: &[u8] = b"PASS pw 0210010001 TREE|\r
-SERVER a.net 1 1 :Test server\r
+/// This side calls b.net, whose socket takes 57 bytes. That is just what a.net says first, and all
+/// that the outbox of a link has room for.
+const GREETED: &str = "\
+turns 10
+link-room 57
+call 2
+room 2 57
+hears 2 PASS pw 0210010001 TREE|;SERVER a.net 1 1 :Test server;
 ";
-
-/// This side calls b.net, whose socket takes 57 bytes.
-static CALLED: [WireEvent; 2] = [WireEvent::Called(2), WireEvent::Room(2, 57)];
-
-/// Whether b.net is greeted, where the outbox of a link has room for so many bytes.
-fn is_greeted(alloc: Global, link_room: usize) -> bool {
-    match wire(alloc, &CALLED) {
-        Some(mut wire) => {
-            runs_in(alloc, &mut wire, CLIENT_ROOM, link_room, 10)
-                && wire.written(2) == GREETING
-                && !wire.closed(2)
-        }
-        None => false,
-    }
-}
 
 #[test]
 fn who_is_called_is_greeted(rt: HostRuntime) {
-    assert!(rt; is_greeted(rt.alloc(), 57));
+    assert!(rt; holds(rt.alloc(), GREETED));
 }
 
-/// Whether the link to b.net is lost as its outbox overflows, so that nothing is written.
-fn is_lost_by_overflow(alloc: Global) -> bool {
-    match wire(alloc, &CALLED) {
-        Some(mut wire) => {
-            runs_in(alloc, &mut wire, CLIENT_ROOM, 56, 10)
-                && wire.written(2).is_empty()
-                && wire.closed(2)
-        }
-        None => false,
-    }
-}
+/// The link is lost as its outbox overflows, so that nothing is written.
+const OVERFLOW: &str = "\
+turns 10
+link-room 56
+call 2
+room 2 57
+closed 2
+";
 
 #[test]
 fn a_link_has_the_room_of_a_link(rt: HostRuntime) {
-    assert!(rt; is_lost_by_overflow(rt.alloc()));
+    assert!(rt; holds(rt.alloc(), OVERFLOW));
 }
 
 /// al is in a channel, b.net calls, shakes hands and tells of its user b. Its stream ends within
-/// the line that brings b into the channel. al looks b up before that and after.
-static CUT_SHORT: [WireEvent; 9] = [
-    WireEvent::Client(1),
-    WireEvent::Room(1, 65536),
-    WireEvent::Bytes(1, b"NICK al\r\nUSER u 0 * :Al\r\nJOIN #c\r\n"),
-    WireEvent::Linked(2),
-    WireEvent::Room(2, 65536),
-    WireEvent::Bytes(
-        2,
-        b"PASS pw 0210010001 TREE|\r\nSERVER b.net 1 1 :B\r\nNICK b 1 u h 1 + :B\r\n:b.net NJOIN #c :@b",
-    ),
-    WireEvent::Bytes(1, b"WHOIS b\r\n"),
-    WireEvent::End(2),
-    WireEvent::Bytes(1, b"WHOIS b\r\n"),
-];
-
-/// Whether a user b was there once, has gone by now, and has never come into the channel.
-fn has_gone(heard: &[u8]) -> bool {
-    times(b":a.net 311 al b u h * :B\r", heard) == 1
-        && times(b":a.net 401 al b :No such nick/channel\r", heard) == 1
-        && times(b":b!u@h JOIN #c\r", heard) == 0
-}
-
-fn is_down(alloc: Global) -> bool {
-    match wire(alloc, &CUT_SHORT) {
-        Some(mut wire) => {
-            runs_in(alloc, &mut wire, CLIENT_ROOM, CLIENT_ROOM, 20)
-                && wire.closed(2)
-                && !wire.closed(1)
-                && has_gone(wire.written(1))
-        }
-        None => false,
-    }
-}
+/// the line that brings b into the channel. al looks b up before that and after: b was there once,
+/// has gone by then, and has never come into the channel.
+const CUT_SHORT: &str = "\
+turns 20
+link-room 4096
+client 1
+room 1 65536
+bytes 1 NICK al;USER u 0 * :Al;JOIN #c;
+welcome 1 al
+hears 1 :al!u@h JOIN #c;:a.net 353 al = #c :@al;:a.net 366 al #c :End of NAMES list;
+link 2
+room 2 65536
+bytes 2 PASS pw 0210010001 TREE|;SERVER b.net 1 1 :B;NICK b 1 u h 1 + :B;:b.net NJOIN #c :@b
+hears 2 PASS pw 0210010001 TREE|;SERVER a.net 1 1 :Test server;
+hears 2 NICK al 1 u h 1 + :Al;:a.net NJOIN #c :@al;
+bytes 1 WHOIS b;
+hears 1 :a.net 311 al b u h * :B;:a.net 312 al b b.net :B;:a.net 318 al b :End of WHOIS list;
+end 2
+closed 2
+bytes 1 WHOIS b;
+hears 1 :a.net 401 al b :No such nick/channel;:a.net 318 al b :End of WHOIS list;
+";
 
 #[test]
 fn an_end_within_a_line_is_the_end_of_the_link(rt: HostRuntime) {
-    assert!(rt; is_down(rt.alloc()));
+    assert!(rt; holds(rt.alloc(), CUT_SHORT));
 }
 
 /// A server calls that a.net may not be linked to.
-static STRANGER: [WireEvent; 3] = [
-    WireEvent::Linked(2),
-    WireEvent::Room(2, 65536),
-    WireEvent::Bytes(2, b"PASS pw 0210010001 TREE|\r\nSERVER z.net 1 1 :Z\r\n"),
-];
-
-fn is_turned_away(alloc: Global) -> bool {
-    match wire(alloc, &STRANGER) {
-        Some(mut wire) => {
-            runs_in(alloc, &mut wire, CLIENT_ROOM, CLIENT_ROOM, 10)
-                && wire.closed(2)
-                && wire.written(2) == b"".as_slice()
-        }
-        None => false,
-    }
-}
+const STRANGER: &str = "\
+turns 10
+link 2
+room 2 65536
+bytes 2 PASS pw 0210010001 TREE|;SERVER z.net 1 1 :Z;
+closed 2
+";
 
 #[test]
 fn a_stranger_is_turned_away(rt: HostRuntime) {
-    assert!(rt; is_turned_away(rt.alloc()));
+    assert!(rt; holds(rt.alloc(), STRANGER));
 }

@@ -6,17 +6,14 @@ use irc_batch::{Batch, Out};
 use irc_names::{Host, copied};
 use irc_routes::Own;
 use irc_server::{Config, Event, Peer, Server};
-use std::alloc::{AllocError, Global};
+use std::alloc::Global;
 
 /// A server a.net that nobody is connected to. It may be linked to b.net and c.net; these give the
 /// passwords pw and pq.
 pub(crate) fn server(alloc: Global) -> Option<Server>
     ensures { IfSome result HasNobody }
 {
-    match config(alloc) {
-        Ok(config) => made(alloc, config),
-        Err(_fault) => None,
-    }
+    made(alloc, config(alloc))
 }
 
 fn made(alloc: Global, config: Config) -> Option<Server>
@@ -28,34 +25,52 @@ fn made(alloc: Global, config: Config) -> Option<Server>
     }
 }
 
-fn config(alloc: Global) -> Result<Config, AllocError> {
+/// A text; an empty one, where memory runs out, and no server is made of that.
+fn text(alloc: Global, bytes: &[u8]) -> Vec<u8, Global> {
+    Vec::from_slice(alloc, bytes).unwrap_or(Vec::new(alloc))
+}
+
+fn peer(alloc: Global, name: &[u8], password: &[u8]) -> Peer {
+    Peer {
+        name: text(alloc, name),
+        password: text(alloc, password),
+    }
+}
+
+fn own(alloc: Global) -> Own {
+    Own {
+        name: text(alloc, b"a.net"),
+        info: text(alloc, b"Test server"),
+        created: text(alloc, b"2024-01-01"),
+    }
+}
+
+fn peers(alloc: Global) -> Vec<Peer, Global> {
     let mut peers = Vec::new(alloc);
-    peers.push(peer(alloc, b"b.net", b"pw")?)?;
-    peers.push(peer(alloc, b"c.net", b"pq")?)?;
-    Ok(Config {
-        own: Own {
-            name: Vec::from_slice(alloc, b"a.net")?,
-            info: Vec::from_slice(alloc, b"Test server")?,
-            created: Vec::from_slice(alloc, b"2024-01-01")?,
-        },
-        peers,
-    })
+    let _ = peers.push(peer(alloc, b"b.net", b"pw"));
+    let _ = peers.push(peer(alloc, b"c.net", b"pq"));
+    peers
 }
 
-fn peer(alloc: Global, name: &[u8], password: &[u8]) -> Result<Peer, AllocError> {
-    Ok(Peer {
-        name: Vec::from_slice(alloc, name)?,
-        password: Vec::from_slice(alloc, password)?,
-    })
+fn config(alloc: Global) -> Config {
+    Config {
+        own: own(alloc),
+        peers: peers(alloc),
+    }
 }
 
-/// Client 1 connects, and becomes the user al.
-fn coming(alloc: Global) -> Option<Vec<Event, Global>> {
+/// One event more.
+fn add(events: &mut Vec<Event, Global>, event: Event) {
+    let _ = events.push(event);
+}
+
+/// Client 1 connects from a host, and becomes the user al.
+fn coming(alloc: Global, host: Host) -> Vec<Event, Global> {
     let mut events = Vec::new(alloc);
-    events.push(Event::Connect(1, Host::read(b"h")?)).ok()?;
-    events.push(Event::Line(1, copied(b"NICK al"))).ok()?;
-    events.push(Event::Line(1, copied(b"USER u 0 * :Al"))).ok()?;
-    Some(events)
+    add(&mut events, Event::Connect(1, host));
+    add(&mut events, Event::Line(1, copied(b"NICK al")));
+    add(&mut events, Event::Line(1, copied(b"USER u 0 * :Al")));
+    events
 }
 
 /// Whether something is a line to client 1 that begins so.
@@ -66,13 +81,31 @@ fn begins(out: Option<Out<'_>>, words: &[u8]) -> bool {
     }
 }
 
+/// Whether a server handles that client 1 comes, from a host, and welcomes it.
+fn welcomes(alloc: Global, server: &mut Server, host: Host) -> bool {
+    let mut out = Batch::new(alloc);
+    let is_handled = server.handle_all(coming(alloc, host), &mut out).is_ok();
+    is_handled & begins(out.get(0), b":a.net 001 al ")
+}
+
+/// Whether the server has client 1 then, and no client 2.
+fn has_one(alloc: Global, server: &mut Server) -> bool {
+    match Host::read(b"h") {
+        Some(host) => {
+            welcomes(alloc, server, host) && server.has_client(1) && !server.has_client(2)
+        }
+        None => false,
+    }
+}
+
+fn handles_all(alloc: Global) -> bool {
+    match server(alloc) {
+        Some(mut server) => has_one(alloc, &mut server),
+        None => false,
+    }
+}
+
 #[test]
 fn events_are_handled_in_turn(rt: HostRuntime) {
-    let mut server = server(rt.alloc()).expect(&rt, "a server");
-    let events = coming(rt.alloc()).expect(&rt, "three events");
-    let mut out = Batch::new(rt.alloc());
-    assert!(rt; server.handle_all(events, &mut out).is_ok());
-    assert!(rt; begins(out.get(0), b":a.net 001 al "));
-    assert!(rt; server.has_client(1));
-    assert!(rt; !server.has_client(2));
+    assert!(rt; handles_all(rt.alloc()));
 }

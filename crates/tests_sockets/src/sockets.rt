@@ -1,11 +1,10 @@
 //! An engine over TCP sockets of this process.
-use crate::server::server;
-use irc_engine::Engine;
-use irc_sockets::{Listening, MioWire};
+use crate::loopback::{LOOPBACK, connected, end, is_patient, listens};
+use crate::running::{EngineLimits, engine};
+use irc_sockets::MioWire;
 use std::alloc::Global;
 use std::io::{Read, Write};
-use std::net::{Shutdown, SocketAddr, TcpStream};
-use std::time::Duration;
+use std::net::{Shutdown, TcpStream};
 
 const SAID: &[u8] = b"NICK al\r\nUSER u 0 * :Al\r\nPRIVMSG al :hi\r\n";
 
@@ -19,67 +18,53 @@ const HEARD: &[u8] = b":a.net 001 al :Welcome to the Internet Relay Network al!u
 ";
 
 /// How many turns are taken. The sockets have written before the first.
-const TURNS: u64 = 20;
+const LIMITS: EngineLimits = EngineLimits {
+    turns: 20,
+    client_room: 4096,
+    link_room: 4096,
+};
 
-/// A wire that listens on a free port of an address.
-fn listens(rt: &HostRuntime, address: &str) -> Option<MioWire> {
-    let listening = Listening {
-        clients: address.parse::<SocketAddr>().ok()?,
-        links: None,
-        connections_per_address: None,
-    };
-    MioWire::listen(rt, rt.alloc(), listening, Vec::new(rt.alloc()), 0).ok()
-}
-
-/// A socket that has connected there, and said some lines.
-fn says(rt: &HostRuntime, wire: &MioWire, lines: &[u8]) -> Option<TcpStream> {
-    let address = wire.address().ok()?;
-    let mut socket = TcpStream::connect(rt, address).ok()?;
-    socket.set_read_timeout(Some(Duration::from_secs(10))).ok()?;
-    socket.write_all(lines).ok()?;
-    Some(socket)
+/// Whether a socket has said some lines.
+fn says(socket: &mut TcpStream, lines: &[u8]) -> bool {
+    is_patient(socket) && socket.write_all(lines).is_ok()
 }
 
 /// Whether turns are taken over a wire. The sockets are closed behind them.
 fn runs(rt: &HostRuntime, wire: MioWire) -> bool {
-    let Some(server) = server(rt.alloc()) else {
-        return false;
-    };
-    match Engine::new(rt.alloc(), server, wire, 4096, 4096) {
-        Ok(mut engine) => engine.run(TURNS).is_ok(),
-        Err(_fault) => false,
+    match engine(rt.alloc(), wire, LIMITS) {
+        Some(mut engine) => engine.run(LIMITS.turns).is_ok(),
+        None => false,
     }
 }
 
-/// All that a socket reads, up to its end.
-fn heard(rt: &HostRuntime, socket: &mut TcpStream) -> Option<Vec<u8, Global>> {
+/// Whether this is the last that a socket hears, of so many bytes in all where a number is given.
+fn hears(rt: &HostRuntime, socket: &mut TcpStream, wanted: &[u8], count: Option<usize>) -> bool {
     let mut heard = Vec::new(rt.alloc());
-    socket.read_to_end(&mut heard).ok()?;
-    Some(heard)
+    socket.read_to_end(&mut heard).is_ok()
+        && heard.as_slice().ends_with(wanted)
+        && count.unwrap_or(heard.len()) == heard.len()
 }
 
-/// Whether a socket hears just this.
-fn hears(rt: &HostRuntime, socket: &mut TcpStream, wanted: &[u8]) -> bool {
-    match heard(rt, socket) {
-        Some(text) => text.as_slice() == wanted,
-        None => false,
-    }
+/// Whether a wire serves a socket that says the lines of al.
+fn serves(rt: &HostRuntime, wire: MioWire, socket: &mut TcpStream) -> bool {
+    let is_said = says(socket, SAID);
+    runs(rt, wire) & is_said
 }
 
-/// Whether this is the last that a socket hears.
-fn hears_last(rt: &HostRuntime, socket: &mut TcpStream, wanted: &[u8]) -> bool {
-    match heard(rt, socket) {
-        Some(text) => text.as_slice().ends_with(wanted),
-        None => false,
+/// Whether al is served over a wire, and this is the last that it hears.
+fn is_served(rt: &HostRuntime, wire: MioWire, wanted: &[u8], count: Option<usize>) -> bool {
+    match connected(rt, &wire) {
+        Some(mut al) => serves(rt, wire, &mut al) && hears(rt, &mut al, wanted, count),
+        None => {
+            end(wire);
+            false
+        }
     }
 }
 
 fn is_answered(rt: &HostRuntime) -> bool {
-    let Some(wire) = listens(rt, "127.0.0.1:0") else {
-        return false;
-    };
-    match says(rt, &wire, SAID) {
-        Some(mut socket) => runs(rt, wire) && hears(rt, &mut socket, HEARD),
+    match listens(rt, LOOPBACK, None) {
+        Some(wire) => is_served(rt, wire, HEARD, Some(HEARD.len())),
         None => false,
     }
 }
@@ -92,14 +77,9 @@ fn a_client_on_loopback_is_served(rt: HostRuntime) {
 /// Whether a client is served whose address begins with a colon: its host begins with a zero. A
 /// machine without such addresses shows nothing.
 fn is_served_behind_a_colon(rt: &HostRuntime) -> bool {
-    let Some(wire) = listens(rt, "[::1]:0") else {
-        return true;
-    };
-    match says(rt, &wire, SAID) {
-        Some(mut socket) => {
-            runs(rt, wire) && hears_last(rt, &mut socket, b":al!u@0::1 PRIVMSG al :hi\r\n")
-        }
-        None => false,
+    match listens(rt, "[::1]:0", None) {
+        Some(wire) => is_served(rt, wire, b":al!u@0::1 PRIVMSG al :hi\r\n", None),
+        None => true,
     }
 }
 
@@ -112,25 +92,44 @@ const AL_JOINS: &[u8] = b"NICK al\r\nUSER u 0 * :Al\r\nJOIN #c\r\n";
 
 const BO_JOINS: &[u8] = b"NICK bo\r\nUSER u 0 * :Bo\r\nJOIN #c\r\n";
 
-/// A socket that has said some lines, and says no more.
-fn ends(rt: &HostRuntime, wire: &MioWire, lines: &[u8]) -> Option<TcpStream> {
-    let socket = says(rt, wire, lines)?;
-    socket.shutdown(Shutdown::Write).ok()?;
-    Some(socket)
+/// What al is told of bo's end.
+const BO_QUITS: &[u8] = b":bo!u@127.0.0.1 QUIT :Connection closed\r\n";
+
+/// Whether bo, a second socket, has said its lines, and says no more.
+fn says_and_ends(bo: &mut TcpStream) -> bool {
+    says(bo, BO_JOINS) && bo.shutdown(Shutdown::Write).is_ok()
+}
+
+/// Whether turns are taken over a wire to which bo has connected behind al.
+fn serves_both(rt: &HostRuntime, wire: MioWire, al: &mut TcpStream) -> bool {
+    match connected(rt, &wire) {
+        Some(mut bo) => {
+            let are_said = says(al, AL_JOINS) && says_and_ends(&mut bo);
+            runs(rt, wire) & are_said
+        }
+        None => {
+            end(wire);
+            false
+        }
+    }
 }
 
 /// Whether al is told that bo is gone, who ended right behind its lines.
+fn is_told(rt: &HostRuntime, wire: MioWire) -> bool {
+    match connected(rt, &wire) {
+        Some(mut al) => serves_both(rt, wire, &mut al) && hears(rt, &mut al, BO_QUITS, None),
+        None => {
+            end(wire);
+            false
+        }
+    }
+}
+
 fn is_seen_to_end(rt: &HostRuntime) -> bool {
-    let Some(wire) = listens(rt, "127.0.0.1:0") else {
-        return false;
-    };
-    let Some(mut al) = says(rt, &wire, AL_JOINS) else {
-        return false;
-    };
-    let Some(_bo) = ends(rt, &wire, BO_JOINS) else {
-        return false;
-    };
-    runs(rt, wire) && hears_last(rt, &mut al, b":bo!u@127.0.0.1 QUIT :Connection closed\r\n")
+    match listens(rt, LOOPBACK, None) {
+        Some(wire) => is_told(rt, wire),
+        None => false,
+    }
 }
 
 #[test]

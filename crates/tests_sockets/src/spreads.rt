@@ -26,11 +26,13 @@ fn parts_from_all(one: u64) -> bool {
     (0..SPREADS).all(|other| one == other || part(one, other))
 }
 
+fn all_part() -> bool {
+    parts_from_all(0) && parts_from_all(1) && parts_from_all(398) && parts_from_all(796)
+}
+
 #[test]
 fn any_two_spreads_are_soon_apart(rt: HostRuntime) {
-    assert!(rt;
-        parts_from_all(0) && parts_from_all(1) && parts_from_all(398) && parts_from_all(796)
-    );
+    assert!(rt; all_part());
 }
 
 /// Whether servers of these names call apart from the first time on.
@@ -38,9 +40,13 @@ fn call_apart(one: &[u8], other: &[u8]) -> bool {
     name_spread(one).abs_diff(name_spread(other)) >= APART
 }
 
+fn all_call_apart() -> bool {
+    call_apart(b"a.net", b"b.net")
+        && call_apart(b"b.net", b"c.net")
+        && call_apart(b"c.net", b"a.net")
+}
+
 #[test]
 fn the_servers_of_the_examples_call_apart(rt: HostRuntime) {
-    assert!(rt; call_apart(b"a.net", b"b.net"));
-    assert!(rt; call_apart(b"b.net", b"c.net"));
-    assert!(rt; call_apart(b"c.net", b"a.net"));
+    assert!(rt; all_call_apart());
 }

@@ -1,15 +1,5 @@
 //! What an engine says where nobody hears it, and of a call that has reached nobody.
-ghost use Rattle.std.specs.Prelude.{⊤, IfOk, ◌≤◌, length};
-ghost use Rattle.irc_outbox.specs.Calls.{Call, asks, reads, writes, closes, bytes_got, Adds};
-ghost use Rattle.irc_outbox.specs.Calls.{FitsIn, Keeps};
-
-use crate::lent::{Closings, Lent};
-use crate::server::server;
-use crate::steps::{WireEvent, wire};
-use irc_engine::Engine;
-use irc_names::ServerName;
-use irc_outbox::{Got, IoFault, Ready, Unreached, Wire};
-use std::alloc::Global;
+use crate::running::{all_tell, holds_telling};
 use std::io;
 use std::io::{ErrorKind, Write};
 
@@ -27,86 +17,29 @@ impl Write for Closed {
     }
 }
 
-/// b.net links, and cannot be told of; then it is asked of al, and answers.
-static LINKED: [WireEvent; 3] = [
-    WireEvent::Linked(7),
-    WireEvent::Room(7, 9999),
-    WireEvent::Bytes(7, b"PASS pw 0210010001 TREE|\r\nSERVER b.net 1 1 :B\r\n"),
-];
-
-/// What a.net answers.
-const ANSWER: &[u8] = b"PASS pw 0210010001 TREE|\r\nSERVER a.net 1 1 :Test server\r\n";
-
-/// Whether b.net is answered where standard error is closed.
-fn goes_on(alloc: Global) -> Option<bool> {
-    let mut wire = wire(alloc, &LINKED)?;
-    let closings = &mut Closings::new();
-    let lent = Lent {
-        wire: &mut wire,
-        closings,
-    };
-    let mut engine = Engine::new(alloc, server(alloc)?, lent, 4096, 4096).ok()?;
-    let is_taken = engine.run_telling(20, &mut Closed).is_ok();
-    drop(engine);
-    Some(is_taken && wire.written(7) == ANSWER && !wire.closed(7))
-}
+/// b.net links, and cannot be told of; it is answered all the same.
+const LINKED: &str = "\
+turns 20
+link-room 4096
+link 7
+room 7 9999
+bytes 7 PASS pw 0210010001 TREE|;SERVER b.net 1 1 :B;
+hears 7 PASS pw 0210010001 TREE|;SERVER a.net 1 1 :Test server;
+";
 
 #[test]
 fn a_closed_standard_error_ends_nothing(rt: HostRuntime) {
-    assert!(rt; goes_on(rt.alloc()) == Some(true));
+    assert!(rt; holds_telling(rt.alloc(), LINKED, &mut Closed));
 }
 
-/// A wire without connections, on which one call has failed.
-#[derive(Drop)]
-struct Unanswered {
-    call: Option<Unreached>,
-}
-
-/// It keeps no account of what was asked.
-impl Wire for Unanswered {
-    ghost is_after = { λ wire calls. ⊤ };
-
-    fn ready(&mut self) -> Result<Ready, IoFault> {
-        Ok(Ready::Idle)
-    }
-
-    fn read(&mut self, _conn: u64, _buffer: &mut [u8]) -> Result<Got, IoFault> {
-        Ok(Got::Later)
-    }
-
-    fn write(&mut self, _conn: u64, _bytes: &[u8], _behind: usize) -> Result<usize, IoFault> {
-        Ok(0)
-    }
-
-    fn close(&mut self, _conn: u64) {}
-
-    fn would_call(&self) -> Option<&ServerName> {
-        None
-    }
-
-    fn know(&mut self, _is_known: bool, _yields: bool) {}
-
-    fn unreached(&mut self) -> Option<Unreached> {
-        self.call.take()
-    }
-}
-
-fn said_of_a_call(alloc: Global) -> Option<Vec<u8, Global>> {
-    let call = Unreached {
-        name: ServerName::read(b"b.net")?,
-        error: io::Error::from(ErrorKind::ConnectionRefused),
-    };
-    let wire = Unanswered { call: Some(call) };
-    let mut engine = Engine::new(alloc, server(alloc)?, wire, 4096, 4096).ok()?;
-    let mut errors = Vec::new(alloc);
-    engine.run_telling(3, &mut errors).ok()?;
-    Some(errors)
-}
+/// Nothing happens, but that a call has failed.
+const NOT_REACHED: &str = "\
+unreached
+turns 3
+says ircd: link to b.net: not reached: connection refused
+";
 
 #[test]
 fn a_call_that_fails_is_told_once(rt: HostRuntime) {
-    let said = said_of_a_call(rt.alloc()).expect(&rt, "three turns");
-    assert!(rt;
-        said.as_slice() == b"ircd: link to b.net: not reached: connection refused\n".as_slice()
-    );
+    assert!(rt; all_tell(rt.alloc(), NOT_REACHED));
 }
