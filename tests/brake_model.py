@@ -2,10 +2,9 @@
 """brake_model.py [--long]: servers in a tree that read nothing where too much waits for a link.
 
 A model, of no program: every order of what small trees can do, and orders by chance of larger ones,
-by lines in place of bytes. A server
-passes each line that it reads from a link, or that one of its own people says, on to all its other
-links. What waits for a link is in its outbox, which has room for so many lines, and between two
-servers so many more are on their way. The brake:
+by lines in place of bytes. A server passes each line that it reads from a link, or that one of its
+own people says, on to all its other links. What waits for a link is in its outbox, which has room
+for so many lines, and between two servers so many more are on their way. The brake:
 
 - where more than HARD lines wait for a link, nothing is read but that link itself;
 - whoever is read as a link grows beyond SOFT, and is not that link itself, is not read until no
