@@ -62,6 +62,7 @@ fn an_end_within_a_line_is_the_end_of_the_link(rt: HostRuntime) {
 /// A server calls that a.net may not be linked to.
 const STRANGER: &str = "\
 turns 10
+link-room 4096
 link 2
 room 2 65536
 bytes 2 PASS pw 0210010001 TREE|;SERVER z.net 1 1 :Z;

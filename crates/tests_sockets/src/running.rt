@@ -28,17 +28,19 @@ const WELCOME: &str = "\
 :a.net 422 & :MOTD File is missing;";
 
 /// An engine of a server that nobody is connected to.
-pub(crate) fn engine<W: Wire + Drop>(
-    alloc: Global,
-    wire: W,
-    limits: EngineLimits,
-) -> Option<Engine<W>> {
+fn engine<W: Wire + Drop>(alloc: Global, wire: W, limits: EngineLimits) -> Option<Engine<W>> {
     match server(alloc) {
         Some(server) => {
             Engine::new(alloc, server, wire, limits.client_room, limits.link_room).ok()
         }
         None => None,
     }
+}
+
+/// Lets an engine go. It has many parts, each of which is let go where the engine is: so that is
+/// done here, and nowhere else.
+fn end<W: Wire + Drop>(engine: Engine<W>) {
+    let _ended = engine;
 }
 
 /// Whether an engine takes its turns, and says what there is to say of links behind each.
@@ -49,7 +51,23 @@ fn takes_turns<W: Wire + Drop, E: Write>(
     errors: &mut E,
 ) -> bool {
     match engine(alloc, wire, limits) {
-        Some(mut engine) => engine.run_telling(limits.turns, errors).is_ok(),
+        Some(mut engine) => {
+            let are_taken = engine.run_telling(limits.turns, errors).is_ok();
+            end(engine);
+            are_taken
+        }
+        None => false,
+    }
+}
+
+/// Whether an engine takes its turns over a wire.
+pub(crate) fn serves<W: Wire + Drop>(alloc: Global, wire: W, limits: EngineLimits) -> bool {
+    match engine(alloc, wire, limits) {
+        Some(mut engine) => {
+            let are_taken = engine.run(limits.turns).is_ok();
+            end(engine);
+            are_taken
+        }
         None => false,
     }
 }

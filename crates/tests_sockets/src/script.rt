@@ -112,23 +112,30 @@ fn step_of(alloc: Global, row: ScriptRow<'_>) -> Option<WireStep> {
     }
 }
 
-/// Whether a row says how an engine runs, or what is to come of it.
-fn is_wanted(row: ScriptRow<'_>) -> bool {
-    match row.verb {
-        "turns" | "client-room" | "link-room" | "unreached" | "says" => true,
-        "hears" | "welcome" | "together" | "alone" | "gives" | "closed" => {
-            row.number < CONNECTIONS
+/// The verbs of rows that say how an engine runs, and what it says.
+const OF_AN_ENGINE: &str = "turns client-room link-room unreached says";
+
+/// Those that say what comes of a connection.
+const OF_A_CONNECTION: &str = "hears welcome together alone gives closed";
+
+/// Those of calls.
+const OF_A_CALL: &str = "ready read later ended unread write unwritten close";
+
+/// Whether a verb is one of these.
+fn is_one_of(verb: &str, verbs: &str) -> bool {
+    for known in verbs.split(' ') {
+        if known == verb {
+            return true;
         }
-        _ => is_call(row.verb),
     }
+    false
 }
 
-/// Whether a verb is of a call of a wire.
-fn is_call(verb: &str) -> bool {
-    match verb {
-        "ready" | "read" | "later" | "ended" | "unread" | "write" | "unwritten" | "close" => true,
-        _ => false,
-    }
+/// Whether a row says how an engine runs, or what is to come of what happens.
+fn is_wanted(row: ScriptRow<'_>) -> bool {
+    is_one_of(row.verb, OF_AN_ENGINE)
+        || is_one_of(row.verb, OF_A_CALL)
+        || row.number < CONNECTIONS && is_one_of(row.verb, OF_A_CONNECTION)
 }
 
 fn add(steps: &mut Vec<WireStep, Global>, step: WireStep) -> Result<(), AllocError> {

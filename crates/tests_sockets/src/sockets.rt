@@ -1,6 +1,6 @@
 //! An engine over TCP sockets of this process.
 use crate::loopback::{LOOPBACK, connected, end, is_patient, listens};
-use crate::running::{EngineLimits, engine};
+use crate::running::{EngineLimits, serves};
 use irc_sockets::MioWire;
 use std::alloc::Global;
 use std::io::{Read, Write};
@@ -31,10 +31,7 @@ fn says(socket: &mut TcpStream, lines: &[u8]) -> bool {
 
 /// Whether turns are taken over a wire. The sockets are closed behind them.
 fn runs(rt: &HostRuntime, wire: MioWire) -> bool {
-    match engine(rt.alloc(), wire, LIMITS) {
-        Some(mut engine) => engine.run(LIMITS.turns).is_ok(),
-        None => false,
-    }
+    serves(rt.alloc(), wire, LIMITS)
 }
 
 /// Whether this is the last that a socket hears, of so many bytes in all where a number is given.
@@ -45,8 +42,8 @@ fn hears(rt: &HostRuntime, socket: &mut TcpStream, wanted: &[u8], count: Option<
         && count.unwrap_or(heard.len()) == heard.len()
 }
 
-/// Whether a wire serves a socket that says the lines of al.
-fn serves(rt: &HostRuntime, wire: MioWire, socket: &mut TcpStream) -> bool {
+/// Whether turns are taken over a wire to which al, a socket, has said its lines.
+fn serves_al(rt: &HostRuntime, wire: MioWire, socket: &mut TcpStream) -> bool {
     let is_said = says(socket, SAID);
     runs(rt, wire) & is_said
 }
@@ -54,7 +51,7 @@ fn serves(rt: &HostRuntime, wire: MioWire, socket: &mut TcpStream) -> bool {
 /// Whether al is served over a wire, and this is the last that it hears.
 fn is_served(rt: &HostRuntime, wire: MioWire, wanted: &[u8], count: Option<usize>) -> bool {
     match connected(rt, &wire) {
-        Some(mut al) => serves(rt, wire, &mut al) && hears(rt, &mut al, wanted, count),
+        Some(mut al) => serves_al(rt, wire, &mut al) && hears(rt, &mut al, wanted, count),
         None => {
             end(wire);
             false
