@@ -104,7 +104,10 @@ BAD = [
     ("peer 1: retry", with_peer(connect='"127.0.0.1:1"', retry="0")), ("peer 1: retry", with_peer(connect='"127.0.0.1:1"', retry="3601")),
     ("peer 1: retry", with_peer(connect='"127.0.0.1:1"', retry='"1"')), ("peer 1: retry", with_peer(retry="1")),
     ("peer 1: listen_links", with_peer(listen_links='"127.0.0.1:0"')), ("peer 1: port", with_peer(port="1")),
-    ("it is no TOML", written(OWN) + "client_room\n"), ("it is no TOML", written(OWN) + 'name = "a.net"\n'),
+    ("it is no TOML", written(OWN) + "client_room\n"), ("name", written(OWN) + 'name = "a.net"\n'),
+    ("client_room", written(OWN) + "# another one\n  client_room\t= 4096 # again\n"), ("listen", written(OWN) + '"listen" = """\n127.0.0.1:0"""\n'),
+    ("peer", written(OWN | {"peer": "[]"}) + 'peer = [{\n name = "b.net",\n password = "pw" }]\n'),
+    ("peer 1: password", with_peer() + 'password = "pw"\n'), ("peer 2: name", written(OWN, PEER, PEER | {"name": '"c.net"'}) + 'name = "d.net"\n'),
 ]
 
 
