@@ -22,21 +22,24 @@ import time
 TOP = os.path.dirname(os.path.dirname(os.path.abspath(__file__)))
 NAME = "treeircd"
 
-# where each file of the repository stands in the archive; the program comes besides
-PLAIN = {
-    "ircd-check": "ircd-check", "README.md": "README.md", "docs/ircd.8": "docs/ircd.8",
-    "docs/OPERATING.md": "docs/OPERATING.md", "docs/PROFILE.md": "docs/PROFILE.md",
-    "examples": "examples",
-}
+# Files of the repository and where each stands in the archive, beside the program: at the top
+# those that README.md installs, and all where the pages say that they are.
+PLAIN = (
+    ("ircd-check", "ircd-check"), ("docs/ircd.8", "ircd.8"),
+    ("examples/server.toml", "server.toml"), ("examples/ircd.service", "ircd.service"),
+    ("README.md", "README.md"), ("docs/ircd.8", "docs/ircd.8"),
+    ("docs/OPERATING.md", "docs/OPERATING.md"), ("docs/PROFILE.md", "docs/PROFILE.md"),
+    ("examples", "examples"),
+)
 PAGES = f"usr/share/doc/{NAME}"
-# where each stands in the .deb
-INSTALLED = {
-    "ircd-check": "usr/bin/ircd-check", "README.md": f"{PAGES}/README.md",
-    "docs/ircd.8": "usr/share/man/man8/ircd.8", "docs/OPERATING.md": f"{PAGES}/docs/OPERATING.md",
-    "docs/PROFILE.md": f"{PAGES}/docs/PROFILE.md", "examples": f"{PAGES}/examples",
-    "examples/ircd.service": "lib/systemd/system/ircd.service",
-    "examples/ircd@.service": "lib/systemd/system/ircd@.service",
-}
+# .. and in the .deb
+INSTALLED = (
+    ("ircd-check", "usr/bin/ircd-check"), ("docs/ircd.8", "usr/share/man/man8/ircd.8"),
+    ("examples/ircd.service", "lib/systemd/system/ircd.service"),
+    ("examples/ircd@.service", "lib/systemd/system/ircd@.service"),
+    ("README.md", f"{PAGES}/README.md"), ("docs/OPERATING.md", f"{PAGES}/docs/OPERATING.md"),
+    ("docs/PROFILE.md", f"{PAGES}/docs/PROFILE.md"), ("examples", f"{PAGES}/examples"),
+)
 # what says where the files are when they are put there by hand, and where the .deb has them
 MOVED = ("/usr/local/bin/", "/usr/bin/"), ("/usr/local/share/man/", "/usr/share/man/")
 SPEAK_OF_PLACES = ("docs/ircd.8", "examples/ircd.service", "examples/ircd@.service")
@@ -98,7 +101,7 @@ def put(source, to, moved=()):
 def lay_out(folder, program, version, places, program_place):
     """Puts all files into a folder, those in which places are named with these."""
     is_moved = places is INSTALLED
-    for source, place in places.items():
+    for source, place in places:
         moved = MOVED if is_moved and source in SPEAK_OF_PLACES else ()
         put(f"{TOP}/{source}", f"{folder}/{place}", moved)
     put(program, f"{folder}/{program_place}")
