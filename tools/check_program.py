@@ -30,7 +30,8 @@ SILENCE = 10
 EXCERPT = re.compile(r"Of `(?:examples/)?([a-z]+\.script)`(?:.|\n(?!\n))*\n\n((?:    .*\n)+)")
 # `printf` of a script, and what comes of it: in the manual page, and in a page behind its text.
 MANUAL = re.compile(r"^\$ (printf .*) \| ircd sim\n((?:\d .*\n)+)", re.MULTILINE)
-PRINTED = re.compile(r"that prints ((?:`[^`]+`(?: and )?)+):\n\n    (printf .*?) \| \./ircd sim", re.DOTALL)
+PRINTED = re.compile(
+    r"that prints ((?:`[^`]+`(?: and )?)+):\n\n    (printf .*?) \| \./ircd sim", re.DOTALL)
 
 
 def text_of(path):
@@ -130,11 +131,12 @@ def try_scripts(tried, program):
     for path in sorted(glob.glob(f"{TOP}/examples/*.script")):
         with open(path, "rb") as file:
             script = file.read()
+        both = model.answer(script), told(program, script)
         wanted, found = [(status, compare_sim.by_client(output), errors)
-                         for status, output, errors in (model.answer(script), told(program, script))]
+                         for status, output, errors in both]
         tried.take(os.path.relpath(path, TOP), wanted, found)
-    wanted = text_of("crates/ircd/stdout").encode()
-    tried.take("crates/ircd/stdin", (0, wanted, b""), told(program, text_of("crates/ircd/stdin").encode()))
+    script, wanted = [text_of(f"crates/ircd/{name}").encode() for name in ("stdin", "stdout")]
+    tried.take("crates/ircd/stdin", (0, wanted, b""), told(program, script))
 
 
 def free_port():
@@ -155,7 +157,8 @@ def try_configurations(tried, program):
         page = os.path.relpath(path, TOP)
         checked = compare_sim.ran([f"{TOP}/ircd-check", path], b"")
         tried.take(f"ircd-check {page}", (0, f"{path}: good\n".encode(), b""), checked)
-        served = compare_sim.ran([program, "serve", "/dev/stdin", "0"], own_addresses(text_of(page)).encode())
+        configuration = own_addresses(text_of(page)).encode()
+        served = compare_sim.ran([program, "serve", "/dev/stdin", "0"], configuration)
         tried.take(f"serve {page} 0", (0, b"ready\n", b""), served)
 
 

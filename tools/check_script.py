@@ -90,7 +90,9 @@ def fault_of_server(row, names, are_first):
         return "the lines server come first, before all other commands"
     if row in names:
         return f"a server of this name is in line {names.index(row) + 1}"
-    return f"there are {SERVERS} servers already, and no more can be" if len(names) == SERVERS else None
+    if len(names) == SERVERS:
+        return f"there are {SERVERS} servers already, and no more can be"
+    return None
 
 
 def fault_of(script):
