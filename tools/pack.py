@@ -35,8 +35,8 @@ PAGES = f"usr/share/doc/{NAME}"
 # .. and in the .deb
 INSTALLED = (
     ("ircd-check", "usr/bin/ircd-check"), ("docs/ircd.8", "usr/share/man/man8/ircd.8"),
-    ("examples/ircd.service", "lib/systemd/system/ircd.service"),
-    ("examples/ircd@.service", "lib/systemd/system/ircd@.service"),
+    ("examples/ircd.service", "usr/lib/systemd/system/ircd.service"),
+    ("examples/ircd@.service", "usr/lib/systemd/system/ircd@.service"),
     ("README.md", f"{PAGES}/README.md"), ("docs/OPERATING.md", f"{PAGES}/docs/OPERATING.md"),
     ("docs/PROFILE.md", f"{PAGES}/docs/PROFILE.md"), ("examples", f"{PAGES}/examples"),
 )
