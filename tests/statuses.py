@@ -5,15 +5,20 @@
 
 Not part of the gate. The rows are those of README.md: 0 where the work was done, 2 wrong words, 3 bad script or bad configuration, 4 where the program
 failed. Then it gives configurations, good ones and such as break one rule of docs/ircd.8 each, to the program and to `ircd-check`: both have to take the
-same ones, and `ircd-check` has to name the key. It prints each row that differs, and how many there are; the status is 1 where one differs.
+same ones, and `ircd-check` has to name the key. And it gives scripts to the program and to `ircd check-script`: both have to take the same ones, and to name
+the same line. It prints each row that differs, and how many there are; the status is 1 where one differs.
 """
 
 import argparse
 import pathlib
+import re
 import socket
 import subprocess
 import sys
 import tempfile
+
+import generate
+import model
 
 REPOSITORY = pathlib.Path(__file__).resolve().parent.parent
 SECONDS = 60
@@ -104,8 +109,26 @@ BAD = [
     ("peer 1: retry", with_peer(connect='"127.0.0.1:1"', retry="0")), ("peer 1: retry", with_peer(connect='"127.0.0.1:1"', retry="3601")),
     ("peer 1: retry", with_peer(connect='"127.0.0.1:1"', retry='"1"')), ("peer 1: retry", with_peer(retry="1")),
     ("peer 1: listen_links", with_peer(listen_links='"127.0.0.1:0"')), ("peer 1: port", with_peer(port="1")),
-    ("it is no TOML", written(OWN) + "client_room\n"), ("it is no TOML", written(OWN) + 'name = "a.net"\n'),
+    ("it is no TOML", written(OWN) + "client_room\n"), ("name", written(OWN) + 'name = "a.net"\n'),
+    ("client_room", written(OWN) + "# another one\n  client_room\t= 4096 # again\n"), ("listen", written(OWN) + '"listen" = """\n127.0.0.1:0"""\n'),
+    ("peer", written(OWN | {"peer": "[]"}) + 'peer = [{\n name = "b.net",\n password = "pw" }]\n'),
+    ("peer 1: password", with_peer() + 'password = "pw"\n'), ("peer 2: name", written(OWN, PEER, PEER | {"name": '"c.net"'}) + 'name = "d.net"\n'),
 ]
+
+# the line that is bad, or None, and a script; then drawn ones, one byte or line of which was changed
+SCRIPTS = [
+    (None, b""), (None, b"settle"), (None, b"server a.net\n"), (None, b"server a.net\nsay 1 \n"), (None, b"say 0 x\n"), (None, b"say 1 x\r\n"),
+    (None, b"bytes a.net b.net 18446744073709551615\n"), (None, b"connect a.net " + 63 * b"h" + b"\n"), (None, b"gone 1\nlink a.a a.a\ncut a.a b.b\n"),
+    (None, b"".join(b"server s%d.net\n" % number for number in range(256))),
+    (1, b"\n"), (2, b"server a.net\n\nsettle\n"), (1, b"# words\n"), (1, b" settle\n"), (1, b"settle \n"), (1, b"settle\r\n"), (1, b"Settle\n"), (1, b"sttle\n"),
+    (1, b"server a.net\r\n"), (1, b"server  a.net\n"), (1, b"server A.net\n"), (1, b"server anet\n"), (1, b"server a." + 62 * b"b" + b"\n"), (1, b"server\n"),
+    (2, b"server a.net\nserver a.net\n"), (2, b"settle\nserver a.net\n"), (257, b"".join(b"server s%d.net\n" % number for number in range(257))),
+    (1, b"connect a.net\n"), (1, b"connect a.net \n"), (1, b"connect a.net :h\n"), (1, b"connect a.net h i\n"), (1, b"connect a.net " + 64 * b"h" + b"\n"),
+    (1, b"say 1\n"), (1, b"say 01 x\n"), (1, b"say -1 x\n"), (1, b"say 18446744073709551616 x\n"), (1, b"say \xb2 x\n"), (1, b"gone\n"), (1, b"gone 1 2\n"),
+    (1, b"link a.net\n"), (1, b"link a.net b.net c.net\n"), (1, b"cut a.net b\n"), (1, b"deliver a.net b.net 1\n"), (1, b"bytes a.net b.net\n"),
+    (1, b"bytes a.net b.net 00\n"), (1, b"bytes a.net b.net 1 \n"), (2, b"settle\n\xff\xfe\n"), (1, b"\0"),
+]
+DRAWN = 300
 
 
 def rows(free, taken, links_free, links_taken):
@@ -173,6 +196,28 @@ def is_misjudged(program, checker, path, key, text):
     return True
 
 
+def is_misread(program, checker, path, script, line):
+    """Whether the program or the checker names another line of a script as bad than this one, or takes it. The difference is printed."""
+    path.write_bytes(script)
+    ran = subprocess.run([program, "sim"], input=script, capture_output=True, timeout=SECONDS, check=False)
+    checked = subprocess.run([sys.executable, str(checker), str(path)], capture_output=True, timeout=SECONDS, check=False, text=True)
+    named = checked.stderr.startswith(f"{path}: line {line}: ") if line else checked.stderr == ""
+    said = b"ircd: line %d: bad script\n" % line if line else b""
+    status = 3 if line else 0
+    if (ran.returncode, ran.stderr, checked.returncode, named) == (status, said, status, True):
+        return False
+    print(f"the program says {ran.stderr} and the checker {checked.stderr!r}, wanted {line}:\n{script}")
+    return True
+
+
+def drawn_scripts():
+    """Scripts one byte or line of which was changed, and the line that the model of the program finds bad."""
+    for seed in range(DRAWN):
+        script = generate.damaged(generate.script(seed, False, 1 + seed % 3), seed)
+        line = re.fullmatch(rb"ircd: line (\d+): bad script\n", model.answer(script)[2])
+        yield int(line[1]) if line else None, script
+
+
 def main():
     parser = argparse.ArgumentParser(description="Looks at statuses and texts of the built program.")
     parser.add_argument("--program", default=str(REPOSITORY / "crates/ircd/out/ircd"))
@@ -196,7 +241,9 @@ def main():
         path = pathlib.Path(folder, "judged.toml")
         judgements = [(None, text) for text in GOOD] + BAD
         differences += sum(is_misjudged(program, REPOSITORY / "ircd-check", path, key, text) for key, text in judgements)
-    print(f"{len(runs) + 1} runs, {len(judgements)} configurations, {differences} differences")
+        scripts = [*SCRIPTS, *drawn_scripts()]
+        differences += sum(is_misread(program, REPOSITORY / "tools/check_script.py", path, script, line) for line, script in scripts)
+    print(f"{len(runs) + 1} runs, {len(judgements)} configurations, {len(scripts)} scripts, {differences} differences")
     return 1 if differences else 0
 
 
