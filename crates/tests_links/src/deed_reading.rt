@@ -2,7 +2,7 @@
 //! 2812 section 3.7.1).
 use crate::deed_shown::reason_word;
 use crate::shown::{ShownText, append_word, sides};
-use crate::stage::{FULL, LINKED, Scene, Stage, StageStep, StageTest, test_holds};
+use crate::stage::{Stage, StageTest, test_holds};
 use irc_burst::{Deed, ModeSetting, NewMember, NewMembers, read_burst_line};
 use irc_line::limits::MAX_LINE;
 use irc_line::{Line, parse};
@@ -281,21 +281,20 @@ impl StageTest for DeedTable {
     }
 }
 
-/// al is in #d, bo of b.net in #o, and both are in #m.
-const PEOPLE: Scene = &[
-    StageStep::Comes(b"al", b"a.net", b"Al"),
-    StageStep::Comes(b"bo", b"b.net", b"Bo"),
-    StageStep::Joins(b"al", true, b"#d"),
-    StageStep::Joins(b"bo", true, b"#o"),
-    StageStep::Joins(b"al", true, b"#m"),
-    StageStep::Joins(b"bo", true, b"#m"),
-];
-
-/// b.net is linked, and they are there.
-static THERE: [Scene; 2] = [LINKED, PEOPLE];
+/// b.net is linked; al is in #d, bo of b.net in #o, and both are in #m.
+const THERE: &str = "\
+links
+comes al a.net Al
+comes bo b.net Bo
+makes al #d
+makes bo #o
+makes al #m
+makes bo #m";
 
 /// As many servers are known as there is room for.
-static KNOWN: [Scene; 1] = [FULL];
+const KNOWN: &str = "\
+links
+fills";
 
 static TABLE: DeedTable = DeedTable {
     rows: ROWS,
@@ -324,13 +323,13 @@ static CROWDED_TABLE: DeedTable = DeedTable {
 
 #[test]
 fn lines_of_servers_are_read(rt: HostRuntime) {
-    assert!(rt; test_holds(&rt, rt.alloc(), &THERE, &TABLE));
-    assert!(rt; test_holds(&rt, rt.alloc(), &THERE, &WORDS_TABLE));
-    assert!(rt; test_holds(&rt, rt.alloc(), &THERE, &SMALL_TABLE));
-    assert!(rt; test_holds(&rt, rt.alloc(), &THERE, &FILLED_TABLE));
+    assert!(rt; test_holds(&rt, rt.alloc(), THERE, &TABLE));
+    assert!(rt; test_holds(&rt, rt.alloc(), THERE, &WORDS_TABLE));
+    assert!(rt; test_holds(&rt, rt.alloc(), THERE, &SMALL_TABLE));
+    assert!(rt; test_holds(&rt, rt.alloc(), THERE, &FILLED_TABLE));
 }
 
 #[test]
 fn one_server_more_than_there_is_room_for_is_refused(rt: HostRuntime) {
-    assert!(rt; test_holds(&rt, rt.alloc(), &KNOWN, &CROWDED_TABLE));
+    assert!(rt; test_holds(&rt, rt.alloc(), KNOWN, &CROWDED_TABLE));
 }

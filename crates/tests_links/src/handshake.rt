@@ -2,7 +2,7 @@
 //! section 4.1); and who may link.
 use crate::deed_shown::close_word;
 use crate::shown::{ShownText, append_word, first_word, sides};
-use crate::stage::{FULL, LINKED, Scene, Stage, StageTest, test_holds};
+use crate::stage::{Stage, StageTest, test_holds};
 use irc_batch::CloseReason;
 use irc_burst::read_handshake_line;
 use irc_line::parse;
@@ -147,11 +147,10 @@ fn peers_hold(routes: &Routes, rows: &[PeerRow]) -> bool {
     all
 }
 
-/// b.net is linked.
-static THERE: [Scene; 1] = [LINKED];
-
 /// As many servers are known as there is room for.
-static KNOWN: [Scene; 1] = [FULL];
+const KNOWN: &str = "\
+links
+fills";
 
 /// Lines by a new link, and neighbours that name themselves.
 struct HandshakeTable {
@@ -177,10 +176,10 @@ static CROWDED_TABLE: HandshakeTable = HandshakeTable {
 
 #[test]
 fn a_link_begins_with_a_password_and_a_name(rt: HostRuntime) {
-    assert!(rt; test_holds(&rt, rt.alloc(), &THERE, &TABLE));
+    assert!(rt; test_holds(&rt, rt.alloc(), "links", &TABLE));
 }
 
 #[test]
 fn a_neighbour_more_than_there_is_room_for_is_refused(rt: HostRuntime) {
-    assert!(rt; test_holds(&rt, rt.alloc(), &KNOWN, &CROWDED_TABLE));
+    assert!(rt; test_holds(&rt, rt.alloc(), KNOWN, &CROWDED_TABLE));
 }

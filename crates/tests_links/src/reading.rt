@@ -1,7 +1,7 @@
 //! Lines of a link, each with the effects that it tells of and what is written of these, or why it
 //! is refused (RFC 2813 section 4).
 use crate::shown::{ShownText, append, append_word, first_word, show, show_fault, sides};
-use crate::stage::{LINKED, Scene, Stage, StageStep, StageTest, apply, test_holds};
+use crate::stage::{Stage, StageTest, apply, test_holds};
 use irc_line::parse;
 use irc_room::Effect;
 use irc_wire::{read_effect, write_effect};
@@ -101,14 +101,11 @@ xxxxxxxxxxxx => parameters
 2 :bo MODE #c +o 9d => wrong direction
 2 :bo MODE #c +l 007 => parameters";
 
-/// al is there and alone in #d.
-const AL: Scene = &[
-    StageStep::Comes(b"al", b"a.net", b"Al"),
-    StageStep::Joins(b"al", true, b"#d"),
-];
-
-/// b.net is linked, and al is there.
-static THERE: [Scene; 2] = [LINKED, AL];
+/// b.net is linked, and al is there and alone in #d.
+const THERE: &str = "\
+links
+comes al a.net Al
+makes al #d";
 
 /// Shows a line that is written, if one is.
 fn show_written(line: &[u8], written: &mut ShownText) {
@@ -197,10 +194,10 @@ static MODES: LineTables = LineTables {
 
 #[test]
 fn lines_are_read_as_effects_and_written_so(rt: HostRuntime) {
-    assert!(rt; test_holds(&rt, rt.alloc(), &THERE, &EFFECTS));
+    assert!(rt; test_holds(&rt, rt.alloc(), THERE, &EFFECTS));
 }
 
 #[test]
 fn words_of_a_mode_keep_the_rules_of_their_letters(rt: HostRuntime) {
-    assert!(rt; test_holds(&rt, rt.alloc(), &THERE, &MODES));
+    assert!(rt; test_holds(&rt, rt.alloc(), THERE, &MODES));
 }
