@@ -1,8 +1,5 @@
 //! Bursts, line by line, and the other lines of servers (RFC 2813 sections 4 and 5.3.2).
-use crate::stage::{
-    LINKED, Scene, Stage, StageStep, StageTest, changes, channel, description, nick, server,
-    test_holds,
-};
+use crate::stage::{Stage, StageTest, changes, channel, description, nick, server, test_holds};
 use irc_burst_lines::{
     MEMBERS_A_LINE, NewMember, burst, kill_text, mode_text, njoin_text, server_text, squit_text,
     topic_text,
@@ -15,34 +12,31 @@ use std::alloc::Global;
 use std::process::Abort;
 
 /// What a.net tells of al, who is alone in #m.
-const ALONE: &[&[u8]] = &[
-    b"NICK al 1 u h 1 + :Al\r\n",
-    b":a.net NJOIN #m :@al\r\n",
-    b":a.net MODE #m +ntl 5\r\n",
-    b":a.net MODE #m +bbb a!*@* b!*@* c!*@*\r\n",
-    b":a.net MODE #m +b d!*@*\r\n",
-    b":a.net TOPIC #m :hello\r\n",
-];
+const ALONE: &str = "\
+NICK al 1 u h 1 + :Al
+:a.net NJOIN #m :@al
+:a.net MODE #m +ntl 5
+:a.net MODE #m +bbb a!*@* b!*@* c!*@*
+:a.net MODE #m +b d!*@*
+:a.net TOPIC #m :hello";
 
 /// What it tells c.net besides, once b.net is linked and bo of b.net is in #m.
-const BOTH: &[&[u8]] = &[
-    b":a.net SERVER b.net 2 2 :B\r\n",
-    b"NICK al 1 u h 1 + :Al\r\n",
-    b"NICK bo 2 u h 2 + :Bo\r\n",
-    b":a.net NJOIN #m :@al,bo\r\n",
-    b":a.net MODE #m +ntl 5\r\n",
-    b":a.net MODE #m +bbb a!*@* b!*@* c!*@*\r\n",
-    b":a.net MODE #m +b d!*@*\r\n",
-    b":a.net TOPIC #m :hello\r\n",
-];
+const BOTH: &str = "\
+:a.net SERVER b.net 2 2 :B
+NICK al 1 u h 1 + :Al
+NICK bo 2 u h 2 + :Bo
+:a.net NJOIN #m :@al,bo
+:a.net MODE #m +ntl 5
+:a.net MODE #m +bbb a!*@* b!*@* c!*@*
+:a.net MODE #m +b d!*@*
+:a.net TOPIC #m :hello";
 
 /// The last four lines of a burst, where 31 users of a.net are in #c.
-const LAST_FOUR: &[&[u8]] = &[
-    b":a.net NJOIN #c :@n01,n02,n03,n04,n05,n06,n07,n08,n09,n10\r\n",
-    b":a.net NJOIN #c :n11,n12,n13,n14,n15,n16,n17,n18,n19,n20\r\n",
-    b":a.net NJOIN #c :n21,n22,n23,n24,n25,n26,n27,n28,n29,n30\r\n",
-    b":a.net NJOIN #c :n31\r\n",
-];
+const LAST_FOUR: &str = "\
+:a.net NJOIN #c :@n01,n02,n03,n04,n05,n06,n07,n08,n09,n10
+:a.net NJOIN #c :n11,n12,n13,n14,n15,n16,n17,n18,n19,n20
+:a.net NJOIN #c :n21,n22,n23,n24,n25,n26,n27,n28,n29,n30
+:a.net NJOIN #c :n31";
 
 /// A user of a channel, and whether it is an operator there and may speak.
 type MemberRow = (&'static [u8], bool, bool);
@@ -57,7 +51,7 @@ struct LineNames {
     text: &'static [u8],
     info: &'static [u8],
     members: &'static [MemberRow],
-    modes: &'static [&'static [u8]],
+    modes: &'static str,
 }
 
 const SHORT: LineNames = LineNames {
@@ -74,16 +68,18 @@ const SHORT: LineNames = LineNames {
         (b"cy", true, true),
         (b"dee", false, false),
     ],
-    modes: &[],
+    modes: "",
 };
 
-/// A nickname, a server's name and a mask of a ban, each as long as one may be.
+/// A nickname and a server's name, each as long as one may be.
 const LONG_NICK: &[u8] = b"nnnnnnnnnnnnnnnnnnnnnnnnnnnnnn";
 
 const LONG_SERVER: &[u8] = b"sssssssssssssssssssssssssssssssssssssssssssssssssssssssssss.net";
 
-const LONG_MASK: &[u8] =
-    b"bbbbbbbbbbbbbbbbbbbbbbbbbbbbbbbbbbbbbbbbbbbbbbbbbbbbbbbbbbbbbbbbbbbbbbbbbbbbbbbbbbbbbb!*@*";
+/// A text that is as long as one may be.
+const LONG_TEXT: &[u8] =
+    b"wwwwwwwwwwwwwwwwwwwwwwwwwwwwwwwwwwwwwwwwwwwwwwwwwwwwwwwwwwwwwwwwwwwwwwwwwwwwwwwwwwwwwwwwwwww\
+      wwwwwwwwwwwwwwwwwwwwwwwwwwwwwwwwwwwwwwwwwwwwwwwwwwwwwwwwwwwwwwwwwwww";
 
 /// Everything is as long as it may be.
 const LONG: LineNames = LineNames {
@@ -92,11 +88,13 @@ const LONG: LineNames = LineNames {
     other: LONG_SERVER,
     nick: LONG_NICK,
     channel: b"#ccccccccccccccccccccccccccccccccccccccccccccccccc",
-    text: b"wwwwwwwwwwwwwwwwwwwwwwwwwwwwwwwwwwwwwwwwwwwwwwwwwwwwwwwwwwwwwwwwwwwwwwwwwwwwwwwwwwwwwwwwwwww\
-      wwwwwwwwwwwwwwwwwwwwwwwwwwwwwwwwwwwwwwwwwwwwwwwwwwwwwwwwwwwwwwwwwwww",
+    text: LONG_TEXT,
     info: b"iiiiiiiiiiiiiiiiiiiiiiiiiiiiiiiiiiiiiiiiiiiiiiiiiiiiiiiiiiiiiii",
     members: &[(LONG_NICK, true, true); MEMBERS_A_LINE],
-    modes: &[b"+bbb", LONG_MASK, LONG_MASK, LONG_MASK],
+    modes: "+bbb \
+        bbbbbbbbbbbbbbbbbbbbbbbbbbbbbbbbbbbbbbbbbbbbbbbbbbbbbbbbbbbbbbbbbbbbbbbbbbbbbbbbbbbbbb!*@* \
+        bbbbbbbbbbbbbbbbbbbbbbbbbbbbbbbbbbbbbbbbbbbbbbbbbbbbbbbbbbbbbbbbbbbbbbbbbbbbbbbbbbbbbb!*@* \
+        bbbbbbbbbbbbbbbbbbbbbbbbbbbbbbbbbbbbbbbbbbbbbbbbbbbbbbbbbbbbbbbbbbbbbbbbbbbbbbbbbbbbbb!*@*",
 };
 
 /// A line of servers. `Greeting` is the one by which a server names itself, `Server` that by which
@@ -116,7 +114,7 @@ enum LineKind {
 /// A line, how long it is with its CR LF, and how it ends.
 type WrittenRow = (LineKind, usize, &'static [u8]);
 
-/// Where b.net is linked: whole lines.
+/// Whole lines, where b.net is linked.
 const WRITTEN: &[WrittenRow] = &[
     (LineKind::Pass, 26, b"PASS pw 0210010001 TREE|\r\n"),
     (LineKind::Greeting, 31, b"SERVER a.net 1 1 :Test server\r\n"),
@@ -170,70 +168,143 @@ const LONGEST: &[WrittenRow] = &[
     ),
 ];
 
-/// Whether lines are these, from one of them on.
-fn are_from(lines: &[Text], first: usize, rows: &[&[u8]]) -> bool {
-    let mut all = lines.len() == first.saturating_add(rows.len());
-    for (place, row) in rows.iter().enumerate() {
-        all &= match lines.get(first.saturating_add(place)) {
-            Some(line) => line.as_slice() == *row,
-            None => false,
-        };
+fn is_line(line: Option<&Text>, wanted: &str) -> bool {
+    match line {
+        Some(line) => line.strip_suffix(b"\r\n").unwrap_or(b"no line") == wanted.as_bytes(),
+        None => false,
     }
-    all
 }
 
-/// What there is, the link of a neighbour, and the lines that it is told, but for so many that
-/// stand before them.
+/// Whether lines are these, from one of them on.
+fn are_from(lines: &[Text], first: usize, wanted: &str) -> bool {
+    let mut place = first;
+    let mut all = true;
+    for line in wanted.lines() {
+        all &= is_line(lines.get(place), line);
+        place = place.saturating_add(1);
+    }
+    all && place == lines.len()
+}
+
+/// The link of a neighbour, and the lines that it is told, but for so many that stand before them.
 struct Burst {
-    scenes: &'static [Scene],
     link: u64,
     first: usize,
-    lines: &'static [&'static [u8]],
+    lines: &'static str,
 }
 
-const AL: Scene = &[
-    StageStep::Comes(b"al", b"a.net", b"Al"),
-    StageStep::Joins(b"al", true, b"#m"),
-    StageStep::Sets(b"#m", &[b"+ntl", b"5"]),
-    StageStep::Sets(b"#m", &[b"+bbb", b"c!*@*", b"b!*@*", b"d!*@*"]),
-    StageStep::Sets(b"#m", &[b"+b", b"a!*@*"]),
-    StageStep::SetsTopic(b"#m", b"hello"),
-];
+/// al is alone in #m.
+const AL: &str = "\
+comes al a.net Al
+makes al #m
+sets #m +ntl 5
+sets #m +bbb c!*@* b!*@* d!*@*
+sets #m +b a!*@*
+topic #m hello";
 
-/// bo of b.net is there too.
-const BO: Scene = &[
-    StageStep::Comes(b"bo", b"b.net", b"Bo"),
-    StageStep::Joins(b"bo", false, b"#m"),
-];
+/// b.net is linked, and bo of b.net is there too.
+const AL_AND_BO: &str = "\
+links
+comes al a.net Al
+makes al #m
+sets #m +ntl 5
+sets #m +bbb c!*@* b!*@* d!*@*
+sets #m +b a!*@*
+topic #m hello
+comes bo b.net Bo
+joins bo #m";
 
 /// bo is in a channel of its own besides.
-const OWN: Scene = &[StageStep::Joins(b"bo", true, b"#own")];
+const BO_BEHIND: &str = "\
+links
+comes al a.net Al
+makes al #m
+sets #m +ntl 5
+sets #m +bbb c!*@* b!*@* d!*@*
+sets #m +b a!*@*
+topic #m hello
+comes bo b.net Bo
+joins bo #m
+makes bo #own";
 
-const CROWD: Scene = &[StageStep::Crowds];
+/// 31 users of a.net.
+const CROWD: &str = "\
+comes n01 a.net N
+makes n01 #c
+comes n02 a.net N
+joins n02 #c
+comes n03 a.net N
+joins n03 #c
+comes n04 a.net N
+joins n04 #c
+comes n05 a.net N
+joins n05 #c
+comes n06 a.net N
+joins n06 #c
+comes n07 a.net N
+joins n07 #c
+comes n08 a.net N
+joins n08 #c
+comes n09 a.net N
+joins n09 #c
+comes n10 a.net N
+joins n10 #c
+comes n11 a.net N
+joins n11 #c
+comes n12 a.net N
+joins n12 #c
+comes n13 a.net N
+joins n13 #c
+comes n14 a.net N
+joins n14 #c
+comes n15 a.net N
+joins n15 #c
+comes n16 a.net N
+joins n16 #c
+comes n17 a.net N
+joins n17 #c
+comes n18 a.net N
+joins n18 #c
+comes n19 a.net N
+joins n19 #c
+comes n20 a.net N
+joins n20 #c
+comes n21 a.net N
+joins n21 #c
+comes n22 a.net N
+joins n22 #c
+comes n23 a.net N
+joins n23 #c
+comes n24 a.net N
+joins n24 #c
+comes n25 a.net N
+joins n25 #c
+comes n26 a.net N
+joins n26 #c
+comes n27 a.net N
+joins n27 #c
+comes n28 a.net N
+joins n28 #c
+comes n29 a.net N
+joins n29 #c
+comes n30 a.net N
+joins n30 #c
+comes n31 a.net N
+joins n31 #c";
 
-static ONE_SIDE: Burst = Burst {
-    scenes: &[AL],
+static ALONE_TOLD: Burst = Burst {
     link: 1,
     first: 0,
     lines: ALONE,
 };
 
-static BEHIND: Burst = Burst {
-    scenes: &[LINKED, AL, BO, OWN],
-    link: 1,
-    first: 0,
-    lines: ALONE,
-};
-
-static ANOTHER: Burst = Burst {
-    scenes: &[LINKED, AL, BO],
+static BOTH_TOLD: Burst = Burst {
     link: 2,
     first: 0,
     lines: BOTH,
 };
 
-static THIRTY_ONE: Burst = Burst {
-    scenes: &[CROWD],
+static CROWD_TOLD: Burst = Burst {
     link: 1,
     first: 31,
     lines: LAST_FOUR,
@@ -251,18 +322,18 @@ impl StageTest for Burst {
 
 #[test]
 fn one_side_is_told_in_six_lines_and_not_what_is_behind_the_link(rt: HostRuntime) {
-    assert!(rt; test_holds(&rt, rt.alloc(), ONE_SIDE.scenes, &ONE_SIDE));
-    assert!(rt; test_holds(&rt, rt.alloc(), BEHIND.scenes, &BEHIND));
+    assert!(rt; test_holds(&rt, rt.alloc(), AL, &ALONE_TOLD));
+    assert!(rt; test_holds(&rt, rt.alloc(), BO_BEHIND, &ALONE_TOLD));
 }
 
 #[test]
 fn another_neighbour_is_told_of_all(rt: HostRuntime) {
-    assert!(rt; test_holds(&rt, rt.alloc(), ANOTHER.scenes, &ANOTHER));
+    assert!(rt; test_holds(&rt, rt.alloc(), AL_AND_BO, &BOTH_TOLD));
 }
 
 #[test]
 fn thirty_one_members_are_told_in_four_lines(rt: HostRuntime) {
-    assert!(rt; test_holds(&rt, rt.alloc(), THIRTY_ONE.scenes, &THIRTY_ONE));
+    assert!(rt; test_holds(&rt, rt.alloc(), CROWD, &CROWD_TOLD));
 }
 
 /// The members of a line.
@@ -344,14 +415,8 @@ static LONG_LINES: WrittenLines = WrittenLines {
     rows: LONGEST,
 };
 
-/// No other server is known.
-static NOBODY: [Scene; 0] = [];
-
-/// b.net is linked.
-static THERE: [Scene; 1] = [LINKED];
-
 #[test]
 fn lines_of_servers_are_written_whole(rt: HostRuntime) {
-    assert!(rt; test_holds(&rt, rt.alloc(), &THERE, &SHORT_LINES));
-    assert!(rt; test_holds(&rt, rt.alloc(), &NOBODY, &LONG_LINES));
+    assert!(rt; test_holds(&rt, rt.alloc(), "links", &SHORT_LINES));
+    assert!(rt; test_holds(&rt, rt.alloc(), "", &LONG_LINES));
 }

@@ -1,8 +1,8 @@
 //! Lines of servers, each with what it tells, or why it closes the link (RFC 2813 section 4, RFC
 //! 2812 section 3.7.1).
 use crate::deed_shown::reason_word;
-use crate::shown::{ShownText, append_word};
-use crate::stage::{FULL, LINKED, Scene, Stage, StageStep, StageTest, test_holds};
+use crate::shown::{ShownText, append_word, sides};
+use crate::stage::{Stage, StageTest, test_holds};
 use irc_burst::{Deed, ModeSetting, NewMember, NewMembers, read_burst_line};
 use irc_line::limits::MAX_LINE;
 use irc_line::{Line, parse};
@@ -12,176 +12,157 @@ use itoa::Buffer;
 use std::alloc::Global;
 use std::process::Abort;
 
-/// A line by the link to b.net, and what a.net reads of it.
-type DeedRow = (&'static [u8], &'static [u8]);
-
+/// Each row: a line by the link to b.net, and what a.net reads of it behind ` =>`.
 /// bo is a user of b.net, who is in #o, al one of a.net, who is in #d; both are in #m.
-const ROWS: &[DeedRow] = &[
-    (b":b.net SERVER c.net 2 2 :C", b" server b.net c.net 2 2 C"),
-    (b":b.net SERVER c.net 3 2 :C", b" parameters"),
-    (b":b.net SERVER c.net 2 2 C x", b" parameters"),
-    (b":b.net SERVER c.net 2 02 :C", b" parameters"),
-    (b":b.net SERVER c.net 2 2", b" parameters"),
-    (b":b.net SERVER c.net 2 1 :C", b" token"),
-    (b":z.net SERVER c.net 2 2 :C", b" direction"),
-    (b":b.net SERVER c 2 2 :C", b" name"),
-    (b":b SERVER c.net 2 2 :C", b" name"),
-    (b":b.net SERVER a.net 2 2 :A", b" known"),
-    (b":b.net SERVER b.net 2 2 :B", b" known"),
-    (b"SERVER c.net 1 1 :C", b" order"),
-    (b"PASS pw 0210010001 TREE|", b" order"),
-    (b"PASS pw 0210010001 TREE", b" parameters"),
-    (
-        b":b.net SQUIT b.net :a.net b.net",
-        b" lost b.net b.net a.net b.net",
-    ),
-    (b":b.net SQUIT b.net", b" parameters"),
-    (b":b.net SQUIT b.net x y", b" parameters"),
-    (b":b.net SQUIT a.net :x", b" direction"),
-    (b":b.net SQUIT c.net :x", b" name"),
-    (b":b.net KILL AL :Nick collision", b" kill b.net al"),
-    (b":b.net KILL zz :Nick collision", b""),
-    (b":b.net KILL al :other", b" parameters"),
-    (b":b.net KILL al", b" parameters"),
-    (b":b.net KILL 9d :Nick collision", b" name"),
-    (b":al KILL bo :Nick collision", b" direction"),
-    (b":b.net NJOIN #c :@BO,+al,zz", b" members b.net #c @ bo"),
-    (b":b.net NJOIN #c :+bo", b" members b.net #c + bo"),
-    (b":b.net NJOIN #c :@+bo,bo", b" members b.net #c @+ bo"),
-    (
-        b":b.net NJOIN #c :bo,bo,bo,bo,bo,bo,bo,bo,bo,bo",
-        b" members b.net #c . bo",
-    ),
-    (
-        b":b.net NJOIN #c :bo,bo,bo,bo,bo,bo,bo,bo,bo,bo,bo",
-        b" parameters",
-    ),
-    (b":b.net NJOIN #o :@bo", b""),
-    (b":b.net NJOIN #c", b" parameters"),
-    (b":b.net NJOIN #c bo bo", b" parameters"),
-    (b":b.net NJOIN c :bo", b" name"),
-    (b"NJOIN #c :bo", b" parameters"),
-    (b":b.net NJOIN #c :bo,", b" name"),
-    (b"NICK al 1 u h 1 + :Al", b" kill a.net al"),
-    (b":bo NICK al", b" kill a.net al kill a.net bo"),
-    (b":b.net TOPIC #d :x", b""),
-    (b":b.net TOPIC #o :hello", b" topic b.net #o hello"),
-    (b":b.net TOPIC #M :hello", b" topic b.net #M hello"),
-    (b":b.net TOPIC #none :x", b""),
-    (b":b.net MODE #d +ntl 5", b""),
-    (b":b.net MODE #o +ntl 5", b" modes b.net #o n t l 5"),
-    (b":b.net MODE #M +ntl 5", b" modes b.net #M n t l 5"),
-    (b":b.net MODE #none +n", b""),
-    (b":b.net FOO #d", b" unknown"),
-];
+const ROWS: &str = "\
+:b.net SERVER c.net 2 2 :C => server b.net c.net 2 2 C
+:b.net SERVER c.net 3 2 :C => parameters
+:b.net SERVER c.net 2 2 C x => parameters
+:b.net SERVER c.net 2 02 :C => parameters
+:b.net SERVER c.net 2 2 => parameters
+:b.net SERVER c.net 2 1 :C => token
+:z.net SERVER c.net 2 2 :C => direction
+:b.net SERVER c 2 2 :C => name
+:b SERVER c.net 2 2 :C => name
+:b.net SERVER a.net 2 2 :A => known
+:b.net SERVER b.net 2 2 :B => known
+SERVER c.net 1 1 :C => order
+PASS pw 0210010001 TREE| => order
+PASS pw 0210010001 TREE => parameters
+:b.net SQUIT b.net :a.net b.net => lost b.net b.net a.net b.net
+:b.net SQUIT b.net => parameters
+:b.net SQUIT b.net x y => parameters
+:b.net SQUIT a.net :x => direction
+:b.net SQUIT c.net :x => name
+:b.net KILL AL :Nick collision => kill b.net al
+:b.net KILL zz :Nick collision =>
+:b.net KILL al :other => parameters
+:b.net KILL al => parameters
+:b.net KILL 9d :Nick collision => name
+:al KILL bo :Nick collision => direction
+:b.net NJOIN #c :@BO,+al,zz => members b.net #c @ bo
+:b.net NJOIN #c :+bo => members b.net #c + bo
+:b.net NJOIN #c :@+bo,bo => members b.net #c @+ bo
+:b.net NJOIN #c :bo,bo,bo,bo,bo,bo,bo,bo,bo,bo => members b.net #c . bo
+:b.net NJOIN #c :bo,bo,bo,bo,bo,bo,bo,bo,bo,bo,bo => parameters
+:b.net NJOIN #o :@bo =>
+:b.net NJOIN #c => parameters
+:b.net NJOIN #c bo bo => parameters
+:b.net NJOIN c :bo => name
+NJOIN #c :bo => parameters
+:b.net NJOIN #c :bo, => name
+NICK al 1 u h 1 + :Al => kill a.net al
+:bo NICK al => kill a.net al kill a.net bo
+:b.net TOPIC #d :x =>
+:b.net TOPIC #o :hello => topic b.net #o hello
+:b.net TOPIC #M :hello => topic b.net #M hello
+:b.net TOPIC #none :x =>
+:b.net MODE #d +ntl 5 =>
+:b.net MODE #o +ntl 5 => modes b.net #o n t l 5
+:b.net MODE #M +ntl 5 => modes b.net #M n t l 5
+:b.net MODE #none +n =>
+:b.net FOO #d => unknown";
 
 /// Too few words and too many, wrong numbers, names out of rule; the same users.
-const WORDS: &[DeedRow] = &[
-    (b":bo QUIT", b" parameters"),
-    (b":bo QUIT x y", b" parameters"),
-    (b":bo JOIN", b" parameters"),
-    (b":bo PART #o", b" parameters"),
-    (b":bo PART #o x y", b" parameters"),
-    (b":bo PART o :x", b" name"),
-    (b":bo KICK #o bo", b" parameters"),
-    (b":bo KICK #o bo x y", b" parameters"),
-    (b":bo KICK o bo :x", b" name"),
-    (b":bo KICK #o 9d :x", b" name"),
-    (b":bo MODE", b" parameters"),
-    (b":bo MODE bo", b" parameters"),
-    (b":bo MODE bo +i x", b" parameters"),
-    (b":bo MODE 9d +i", b" name"),
-    (b":bo TOPIC #o", b" parameters"),
-    (b":bo TOPIC #o x y", b" parameters"),
-    (b":bo TOPIC o :x", b" name"),
-    (b":bo PRIVMSG al", b" parameters"),
-    (b":bo PRIVMSG al x y", b" parameters"),
-    (b":bo PRIVMSG 9d :x", b" name"),
-    (b":bo NOTICE al", b" parameters"),
-    (b":bo NOTICE #a:b :x", b" name"),
-    (b":bo INVITE al", b" parameters"),
-    (b":bo INVITE al #o x", b" parameters"),
-    (b":bo INVITE 9d #o", b" name"),
-    (b":bo INVITE al o", b" name"),
-    (b"NICK dd 1 u h 1 +", b" parameters"),
-    (b"NICK dd 1 u h 1 + D x", b" parameters"),
-    (b":bo NICK", b" parameters"),
-    (b":bo NICK a b", b" parameters"),
-    (b"NICK dd 0 u h 1 + :D", b" parameters"),
-    (b"NICK dd 1 u h 0 + :D", b" parameters"),
-    (b"NICK dd 1 u h 4294967296 + :D", b" parameters"),
-    (b"NICK dd 1 u :h 1 + D", b" parameters"),
-    (b"NICK dd 1 u _ 1 + :D", b" name"),
-    (b":b.net SERVER c.net 0 2 :C", b" parameters"),
-    (b":b.net SERVER c.net x 2 :C", b" parameters"),
-    (b":b.net SERVER c.net 2 0 :C", b" parameters"),
-    (b":b.net SERVER c.net 2 4294967296 :C", b" parameters"),
-    (
-        b":b.net SERVER c.net 2 4294967295 :C",
-        b" server b.net c.net 2 4294967295 C",
-    ),
-    (b":z.net SERVER c.net 4294967295 2 :C", b" parameters"),
-    (b":z.net SERVER c.net 4294967294 2 :C", b" direction"),
-];
+const WORDS: &str = "\
+:bo QUIT => parameters
+:bo QUIT x y => parameters
+:bo JOIN => parameters
+:bo PART #o => parameters
+:bo PART #o x y => parameters
+:bo PART o :x => name
+:bo KICK #o bo => parameters
+:bo KICK #o bo x y => parameters
+:bo KICK o bo :x => name
+:bo KICK #o 9d :x => name
+:bo MODE => parameters
+:bo MODE bo => parameters
+:bo MODE bo +i x => parameters
+:bo MODE 9d +i => name
+:bo TOPIC #o => parameters
+:bo TOPIC #o x y => parameters
+:bo TOPIC o :x => name
+:bo PRIVMSG al => parameters
+:bo PRIVMSG al x y => parameters
+:bo PRIVMSG 9d :x => name
+:bo NOTICE al => parameters
+:bo NOTICE #a:b :x => name
+:bo INVITE al => parameters
+:bo INVITE al #o x => parameters
+:bo INVITE 9d #o => name
+:bo INVITE al o => name
+NICK dd 1 u h 1 + => parameters
+NICK dd 1 u h 1 + D x => parameters
+:bo NICK => parameters
+:bo NICK a b => parameters
+NICK dd 0 u h 1 + :D => parameters
+NICK dd 1 u h 0 + :D => parameters
+NICK dd 1 u h 4294967296 + :D => parameters
+NICK dd 1 u :h 1 + D => parameters
+NICK dd 1 u _ 1 + :D => name
+:b.net SERVER c.net 0 2 :C => parameters
+:b.net SERVER c.net x 2 :C => parameters
+:b.net SERVER c.net 2 0 :C => parameters
+:b.net SERVER c.net 2 4294967296 :C => parameters
+:b.net SERVER c.net 2 4294967295 :C => server b.net c.net 2 4294967295 C
+:z.net SERVER c.net 4294967295 2 :C => parameters
+:z.net SERVER c.net 4294967294 2 :C => direction";
 
 /// Each command in small letters, and words that are none; the same users.
-const SMALL: &[DeedRow] = &[
-    (b"nick dd 1 u h 1 + :Dd", b" does"),
-    (b":bo nick dd", b" does"),
-    (b":bo nick BO", b" does"),
-    (b":bo quit :x", b" does"),
-    (b":bo join #n", b" does"),
-    (b":bo part #o :x", b" does"),
-    (b":bo kick #m al :x", b" does"),
-    (b":bo mode #o +t", b" does"),
-    (b":bo topic #o :x", b" does"),
-    (b":bo privmsg al :x", b" does"),
-    (b":bo notice al :x", b" does"),
-    (b":bo invite al #o", b" does"),
-    (b":b.net mode #o +n", b" modes b.net #o n"),
-    (b":b.net topic #o :x", b" topic b.net #o x"),
-    (b":b.net server c.net 2 2 :C", b" server b.net c.net 2 2 C"),
-    (b":b.net squit b.net :x", b" lost b.net b.net x"),
-    (b":b.net kill al :Nick collision", b" kill b.net al"),
-    (b":b.net njoin #c :bo", b" members b.net #c . bo"),
-    (b"pass pw 0210010001 TREE|", b" order"),
-    (b":zz quit :x", b""),
-    (b":al quit :x", b" direction"),
-    (b"quit :x", b" parameters"),
-    (b":bo qui :x", b" unknown"),
-    (b":bo quits :x", b" unknown"),
-];
+const SMALL: &str = "\
+nick dd 1 u h 1 + :Dd => does
+:bo nick dd => does
+:bo nick BO => does
+:bo quit :x => does
+:bo join #n => does
+:bo part #o :x => does
+:bo kick #m al :x => does
+:bo mode #o +t => does
+:bo topic #o :x => does
+:bo privmsg al :x => does
+:bo notice al :x => does
+:bo invite al #o => does
+:b.net mode #o +n => modes b.net #o n
+:b.net topic #o :x => topic b.net #o x
+:b.net server c.net 2 2 :C => server b.net c.net 2 2 C
+:b.net squit b.net :x => lost b.net b.net x
+:b.net kill al :Nick collision => kill b.net al
+:b.net njoin #c :bo => members b.net #c . bo
+pass pw 0210010001 TREE| => order
+:zz quit :x =>
+:al quit :x => direction
+quit :x => parameters
+:bo qui :x => unknown
+:bo quits :x => unknown";
 
 /// Lines of 510 bytes: what they begin with, the rest is `x`.
-const FILLED: &[DeedRow] = &[
-    (b"FOO ", b" unknown"),
-    (b"PASS pw 0210010001 TREE|", b" parameters"),
-    (b"SERVER c.net 1 1 :", b" parameters"),
-    (b":b.net SERVER c.net 2 2 :", b" parameters"),
-    (b":b.net SERVER ", b" parameters"),
-    (b":b.net SQUIT b.net :", b" parameters"),
-    (b":b.net KILL al :Nick collision", b" parameters"),
-    (b":b.net NJOIN #c :", b" name"),
-    (b":b.net MODE #o +b ", b" parameters"),
-    (b":b.net TOPIC #o :", b" parameters"),
-    (b"NICK dd 1 u h 1 + :", b" parameters"),
-    (b":bo NICK ", b" name"),
-    (b":bo QUIT :", b" parameters"),
-    (b":bo JOIN #", b" name"),
-    (b":bo PART #o :", b" parameters"),
-    (b":bo KICK #o bo :", b" parameters"),
-    (b":bo MODE bo +i", b" parameters"),
-    (b":bo PRIVMSG #o :", b" does"),
-    (b":bo NOTICE al :", b" does"),
-    (b":bo INVITE al #", b" name"),
-];
+const FILLED: &str = "\
+FOO  => unknown
+PASS pw 0210010001 TREE| => parameters
+SERVER c.net 1 1 : => parameters
+:b.net SERVER c.net 2 2 : => parameters
+:b.net SERVER  => parameters
+:b.net SQUIT b.net : => parameters
+:b.net KILL al :Nick collision => parameters
+:b.net NJOIN #c : => name
+:b.net MODE #o +b  => parameters
+:b.net TOPIC #o : => parameters
+NICK dd 1 u h 1 + : => parameters
+:bo NICK  => name
+:bo QUIT : => parameters
+:bo JOIN # => name
+:bo PART #o : => parameters
+:bo KICK #o bo : => parameters
+:bo MODE bo +i => parameters
+:bo PRIVMSG #o : => does
+:bo NOTICE al : => does
+:bo INVITE al # => name";
 
 /// What is read where 256 servers are known.
-const CROWDED: &[DeedRow] = &[
-    (b":b.net SERVER c.net 2 300 :C", b" full"),
-    (b":b.net SERVER b.net 2 300 :B", b" known"),
-    (b":b.net SERVER c.net 2 1 :C", b" token"),
-];
+const CROWDED: &str = "\
+:b.net SERVER c.net 2 300 :C => full
+:b.net SERVER b.net 2 300 :B => known
+:b.net SERVER c.net 2 1 :C => token";
 
 fn show_member(member: &NewMember, shown: &mut ShownText) {
     let mark: &[u8] = match (member.flags.op, member.flags.voice) {
@@ -277,43 +258,43 @@ fn filled(front: &[u8], more: usize) -> Line {
 }
 
 /// Whether what is read of a row's line, with so many `x` behind it, is what the row says.
-fn row_holds(alloc: Global, stage: &Stage, row: &DeedRow, more: usize) -> bool {
+fn row_holds(alloc: Global, stage: &Stage, row: &str, more: usize) -> bool {
+    let (line, said) = sides(row);
     let mut shown = ShownText::new();
-    show_read(alloc, stage, &filled(row.0, more), &mut shown);
-    shown.as_slice() == row.1
+    show_read(alloc, stage, &filled(line.as_bytes(), more), &mut shown);
+    shown.as_slice() == said.as_bytes()
 }
 
 /// Rows, and how many `x` are behind the line of each.
 struct DeedTable {
-    rows: &'static [DeedRow],
+    rows: &'static str,
     more: usize,
 }
 
 impl StageTest for DeedTable {
     fn holds(&self, _rt: &impl Abort, alloc: Global, stage: &mut Stage) -> bool {
         let mut all = true;
-        for row in self.rows {
+        for row in self.rows.lines() {
             all &= row_holds(alloc, stage, row, self.more);
         }
         all
     }
 }
 
-/// al is in #d, bo of b.net in #o, and both are in #m.
-const PEOPLE: Scene = &[
-    StageStep::Comes(b"al", b"a.net", b"Al"),
-    StageStep::Comes(b"bo", b"b.net", b"Bo"),
-    StageStep::Joins(b"al", true, b"#d"),
-    StageStep::Joins(b"bo", true, b"#o"),
-    StageStep::Joins(b"al", true, b"#m"),
-    StageStep::Joins(b"bo", true, b"#m"),
-];
-
-/// b.net is linked, and they are there.
-static THERE: [Scene; 2] = [LINKED, PEOPLE];
+/// b.net is linked; al is in #d, bo of b.net in #o, and both are in #m.
+const THERE: &str = "\
+links
+comes al a.net Al
+comes bo b.net Bo
+makes al #d
+makes bo #o
+makes al #m
+makes bo #m";
 
 /// As many servers are known as there is room for.
-static KNOWN: [Scene; 1] = [FULL];
+const KNOWN: &str = "\
+links
+fills";
 
 static TABLE: DeedTable = DeedTable {
     rows: ROWS,
@@ -342,13 +323,13 @@ static CROWDED_TABLE: DeedTable = DeedTable {
 
 #[test]
 fn lines_of_servers_are_read(rt: HostRuntime) {
-    assert!(rt; test_holds(&rt, rt.alloc(), &THERE, &TABLE));
-    assert!(rt; test_holds(&rt, rt.alloc(), &THERE, &WORDS_TABLE));
-    assert!(rt; test_holds(&rt, rt.alloc(), &THERE, &SMALL_TABLE));
-    assert!(rt; test_holds(&rt, rt.alloc(), &THERE, &FILLED_TABLE));
+    assert!(rt; test_holds(&rt, rt.alloc(), THERE, &TABLE));
+    assert!(rt; test_holds(&rt, rt.alloc(), THERE, &WORDS_TABLE));
+    assert!(rt; test_holds(&rt, rt.alloc(), THERE, &SMALL_TABLE));
+    assert!(rt; test_holds(&rt, rt.alloc(), THERE, &FILLED_TABLE));
 }
 
 #[test]
 fn one_server_more_than_there_is_room_for_is_refused(rt: HostRuntime) {
-    assert!(rt; test_holds(&rt, rt.alloc(), &KNOWN, &CROWDED_TABLE));
+    assert!(rt; test_holds(&rt, rt.alloc(), KNOWN, &CROWDED_TABLE));
 }

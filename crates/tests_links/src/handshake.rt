@@ -1,8 +1,8 @@
 //! The lines with which a link begins, each with what it says, or why it closes the link (RFC 2813
 //! section 4.1); and who may link.
 use crate::deed_shown::close_word;
-use crate::shown::{ShownText, append_word};
-use crate::stage::{FULL, LINKED, Scene, Stage, StageTest, test_holds};
+use crate::shown::{ShownText, append_word, first_word, sides};
+use crate::stage::{Stage, StageTest, test_holds};
 use irc_batch::CloseReason;
 use irc_burst::read_handshake_line;
 use irc_line::parse;
@@ -12,56 +12,42 @@ use irc_routes::Routes;
 use std::alloc::Global;
 use std::process::Abort;
 
-/// Whether a password has come, a line by a new link, and what a.net makes of it.
-type HandshakeRow = (bool, &'static [u8], &'static [u8]);
-
-/// b.net is linked already, by another link.
-const ROWS: &[HandshakeRow] = &[
-    (false, b"PASS pw 0210010001 TREE|", b" gives pw"),
-    (false, b"pass pw 0210010001 TREE|", b" gives pw"),
-    (
-        false,
-        b"PASS aaaaaaaaaaaaaaaaaaaa 0210010001 TREE|",
-        b" gives aaaaaaaaaaaaaaaaaaaa",
-    ),
-    (true, b"PASS pw 0210010001 TREE|", b" order"),
-    (false, b"PASS", b" parameters"),
-    (false, b"PASS pw 0210010001", b" parameters"),
-    (false, b"PASS pw 0210010001 TREE| x", b" parameters"),
-    (false, b"PASS pw 0210010000 TREE|", b" parameters"),
-    (false, b"PASS pw 0210010001 TREE|Z", b" parameters"),
-    (
-        false,
-        b"PASS aaaaaaaaaaaaaaaaaaaaa 0210010001 TREE|",
-        b" parameters",
-    ),
-    (true, b"PASS pw 0210010000 TREE|", b" parameters"),
-    (false, b":c.net PASS pw 0210010001 TREE|", b" parameters"),
-    (true, b"SERVER c.net 1 1 :C", b" names c.net C"),
-    (true, b"server c.net 1 1 :", b" names c.net "),
-    (true, b"SERVER b.net 1 1 :B", b" names b.net B"),
-    (false, b"SERVER c.net 1 1 :C", b" order"),
-    (true, b"SERVER c.net 1 1", b" parameters"),
-    (true, b"SERVER c.net 1 1 C x", b" parameters"),
-    (true, b"SERVER c.net 2 1 :C", b" parameters"),
-    (true, b"SERVER c.net 1 2 :C", b" parameters"),
-    (true, b"SERVER c.net 01 1 :C", b" parameters"),
-    (
-        true,
-        b"SERVER c.net 1 1 :xxxxxxxxxxxxxxxxxxxxxxxxxxxxxxxxxxxxxxxxxxxxxxxxxxxxxxxxxxxxxxxx",
-        b" parameters",
-    ),
-    (false, b"SERVER c.net 2 1 :C", b" parameters"),
-    (true, b"SERVER c 1 1 :C", b" peer"),
-    (false, b"SERVER c 1 1 :C", b" order"),
-    (true, b":c.net SERVER d.net 2 2 :D", b" order"),
-    (true, b"FOO", b" unknown"),
-    (false, b":bo QUIT", b" parameters"),
-    (false, b":bo QUIT :x", b" order"),
-    (true, b"NICK al 1 u h 9 + :Al", b" order"),
-    (true, b":bo MODE #c ++m", b" parameters"),
-    (true, b":bo MODE #c +m", b" order"),
-];
+/// Each row: a line by a new link, behind `first`, or `late` where a password has come, and what
+/// a.net makes of it behind ` =>`. b.net is linked already, by another link.
+const ROWS: &str = "\
+first PASS pw 0210010001 TREE| => gives pw
+first pass pw 0210010001 TREE| => gives pw
+first PASS aaaaaaaaaaaaaaaaaaaa 0210010001 TREE| => gives aaaaaaaaaaaaaaaaaaaa
+late PASS pw 0210010001 TREE| => order
+first PASS => parameters
+first PASS pw 0210010001 => parameters
+first PASS pw 0210010001 TREE| x => parameters
+first PASS pw 0210010000 TREE| => parameters
+first PASS pw 0210010001 TREE|Z => parameters
+first PASS aaaaaaaaaaaaaaaaaaaaa 0210010001 TREE| => parameters
+late PASS pw 0210010000 TREE| => parameters
+first :c.net PASS pw 0210010001 TREE| => parameters
+late SERVER c.net 1 1 :C => names c.net C
+late server c.net 1 1 : => names c.net 
+late SERVER b.net 1 1 :B => names b.net B
+first SERVER c.net 1 1 :C => order
+late SERVER c.net 1 1 => parameters
+late SERVER c.net 1 1 C x => parameters
+late SERVER c.net 2 1 :C => parameters
+late SERVER c.net 1 2 :C => parameters
+late SERVER c.net 01 1 :C => parameters
+late SERVER c.net 1 1 :xxxxxxxxxxxxxxxxxxxxxxxxxxxxxxxxxxxxxxxxxxxxxxxxxxxxxxxxxxxxxxxx => param\
+eters
+first SERVER c.net 2 1 :C => parameters
+late SERVER c 1 1 :C => peer
+first SERVER c 1 1 :C => order
+late :c.net SERVER d.net 2 2 :D => order
+late FOO => unknown
+first :bo QUIT => parameters
+first :bo QUIT :x => order
+late NICK al 1 u h 9 + :Al => order
+late :bo MODE #c ++m => parameters
+late :bo MODE #c +m => order";
 
 /// The password that is kept for a peer of a name, the password that was given, the name, and why
 /// it is refused.
@@ -131,20 +117,22 @@ fn show_read(
 }
 
 /// Whether what is read of a row's line is what the row says.
-fn row_holds(alloc: Global, stage: &Stage, row: &HandshakeRow) -> bool {
+fn row_holds(alloc: Global, stage: &Stage, row: &str) -> bool {
     let at = Arrival {
         room: &stage.room,
         routes: &stage.routes,
         link: 2,
     };
+    let (words, said) = sides(row);
+    let (when, line) = first_word(words);
     let mut shown = ShownText::new();
-    show_read(alloc, at, row.0, row.1, &mut shown);
-    shown.as_slice() == row.2
+    show_read(alloc, at, when == "late", line.as_bytes(), &mut shown);
+    shown.as_slice() == said.as_bytes()
 }
 
-fn rows_hold(alloc: Global, stage: &Stage, rows: &[HandshakeRow]) -> bool {
+fn rows_hold(alloc: Global, stage: &Stage, rows: &str) -> bool {
     let mut all = true;
-    for row in rows {
+    for row in rows.lines() {
         all &= row_holds(alloc, stage, row);
     }
     all
@@ -159,15 +147,14 @@ fn peers_hold(routes: &Routes, rows: &[PeerRow]) -> bool {
     all
 }
 
-/// b.net is linked.
-static THERE: [Scene; 1] = [LINKED];
-
 /// As many servers are known as there is room for.
-static KNOWN: [Scene; 1] = [FULL];
+const KNOWN: &str = "\
+links
+fills";
 
 /// Lines by a new link, and neighbours that name themselves.
 struct HandshakeTable {
-    rows: &'static [HandshakeRow],
+    rows: &'static str,
     peers: &'static [PeerRow],
 }
 
@@ -183,16 +170,16 @@ static TABLE: HandshakeTable = HandshakeTable {
 };
 
 static CROWDED_TABLE: HandshakeTable = HandshakeTable {
-    rows: &[],
+    rows: "",
     peers: CROWDED,
 };
 
 #[test]
 fn a_link_begins_with_a_password_and_a_name(rt: HostRuntime) {
-    assert!(rt; test_holds(&rt, rt.alloc(), &THERE, &TABLE));
+    assert!(rt; test_holds(&rt, rt.alloc(), "links", &TABLE));
 }
 
 #[test]
 fn a_neighbour_more_than_there_is_room_for_is_refused(rt: HostRuntime) {
-    assert!(rt; test_holds(&rt, rt.alloc(), &KNOWN, &CROWDED_TABLE));
+    assert!(rt; test_holds(&rt, rt.alloc(), KNOWN, &CROWDED_TABLE));
 }

@@ -9,6 +9,16 @@ use irc_wire::WireFault;
 /// What is read of a line, or written.
 pub type ShownText = ArrayVec<u8, 600>;
 
+/// The first word of a text, and what is behind it.
+pub fn first_word(text: &str) -> (&str, &str) {
+    text.split_once(' ').unwrap_or((text, ""))
+}
+
+/// What stands before ` =>`, and what behind it.
+pub fn sides(row: &str) -> (&str, &str) {
+    row.split_once(" =>").unwrap_or((row, ""))
+}
+
 /// Appends bytes.
 pub fn append(shown: &mut ShownText, bytes: &[u8]) {
     let _ = shown.try_extend_from_slice(bytes);

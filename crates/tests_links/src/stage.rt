@@ -1,7 +1,15 @@
-//! A server a.net, its room, and the servers that it knows.
+//! A server a.net, its room, and the servers that it knows, as texts say it line by line.
+//!
+//! - `links`: b.net is behind link 1, one link away, with the number 1 there. `fills`: all servers
+//!   that there is room for are behind it, each with a number of its own.
+//! - `comes NICK SERVER NAME` is a user of a server, with its real name. `makes NICK CHANNEL` and
+//!   `joins NICK CHANNEL` are one that joins a channel, as its operator or not.
+//! - `sets CHANNEL WORDS` are modes, as the words of a MODE have them; `topic CHANNEL TEXT` is a
+//!   topic.
 ghost use Rattle.std.specs.Prelude.{◌≡◌};
 ghost use Rattle.irc_room.specs.Effects.{brings_free};
 
+use crate::shown::first_word;
 use arrayvec::ArrayVec;
 use irc_channels::Words;
 use irc_link_words::read_changes;
@@ -38,34 +46,6 @@ pub struct Stage {
     pub routes: Routes,
 }
 
-/// What comes to be there.
-#[derive(Drop)]
-pub enum StageStep<'a> {
-    /// b.net: behind link 1, one link away, with the number 1 there.
-    Links,
-    /// All servers that there is room for, behind b.net, each with a number of its own.
-    Fills,
-    /// 31 users of a.net who join #c, each with a number behind `n`.
-    Crowds,
-    /// A user of a server, with its real name.
-    Comes(&'a [u8], &'static [u8], &'static [u8]),
-    /// A user joins a channel, as its operator or not.
-    Joins(&'a [u8], bool, &'static [u8]),
-    /// Modes of a channel are set, as the words of a MODE have them.
-    Sets(&'static [u8], &'static [&'static [u8]]),
-    /// The topic of a channel is set.
-    SetsTopic(&'static [u8], &'static [u8]),
-}
-
-/// Steps, one behind another.
-pub type Scene = &'static [StageStep<'static>];
-
-/// b.net is linked.
-pub const LINKED: Scene = &[StageStep::Links];
-
-/// It is linked, and as many servers are known as there is room for.
-pub const FULL: Scene = &[StageStep::Links, StageStep::Fills];
-
 pub fn bytes(rt: &impl Abort, alloc: Global, text: &[u8]) -> Vec<u8, Global> {
     Vec::from_slice(alloc, text).expect(rt, "memory")
 }
@@ -91,8 +71,12 @@ fn host(rt: &impl Abort, name: &[u8]) -> Host {
 }
 
 /// The changes that the words of a MODE ask for; none where they are no such words.
-pub fn changes(alloc: Global, words: &[&[u8]]) -> ModeChanges {
-    match read_changes(alloc, words) {
+pub fn changes(alloc: Global, words: &str) -> ModeChanges {
+    let mut params: ArrayVec<&[u8], 15> = ArrayVec::new();
+    for word in words.split(' ') {
+        let _ = params.try_push(word.as_bytes());
+    }
+    match read_changes(alloc, &params) {
         Ok(Some(changes)) => changes,
         _ => ModeChanges::new(Vec::new(alloc)),
     }
@@ -129,84 +113,59 @@ fn fill(rt: &impl Abort, routes: &mut Routes) {
     }
 }
 
-fn user(rt: &impl Abort, name: &[u8], home: &[u8], real: &[u8]) -> User {
+fn user(rt: &impl Abort, name: &str, words: &str) -> User {
+    let (home, real) = first_word(words);
     User {
-        nick: nick(rt, name),
+        nick: nick(rt, name.as_bytes()),
         user: UserName::clean(b"u"),
         host: host(rt, b"h"),
-        real: RealName::cut(real),
-        home: server(rt, home),
+        real: RealName::cut(real.as_bytes()),
+        home: server(rt, home.as_bytes()),
         invisible: false,
     }
 }
 
-/// The effect of a step, where it is one.
-fn effect_of(rt: &impl Abort, alloc: Global, step: &StageStep<'_>) -> Option<Effect> {
-    match step {
-        StageStep::Comes(name, home, real) => Some(Effect::AddUser(user(rt, name, home, real))),
-        StageStep::Joins(name, op, to) => Some(Effect::Join {
-            nick: nick(rt, name),
-            channel: channel(rt, to),
-            op: *op,
-        }),
-        StageStep::Sets(to, words) => Some(Effect::ChangeModes {
+/// The effect of a step.
+fn effect_of(rt: &impl Abort, alloc: Global, verb: &str, words: &str) -> Effect {
+    let (first, text) = first_word(words);
+    match verb {
+        "comes" => Effect::AddUser(user(rt, first, text)),
+        "sets" => Effect::ChangeModes {
             by: By::Home,
-            channel: channel(rt, to),
-            changes: changes(alloc, words),
-        }),
-        StageStep::SetsTopic(to, topic) => Some(Effect::SetTopic {
+            channel: channel(rt, first.as_bytes()),
+            changes: changes(alloc, text),
+        },
+        "topic" => Effect::SetTopic {
             by: By::Home,
-            channel: channel(rt, to),
-            text: Words::cut(topic),
-        }),
-        _ => None,
+            channel: channel(rt, first.as_bytes()),
+            text: Words::cut(text.as_bytes()),
+        },
+        _ => Effect::Join {
+            nick: nick(rt, first.as_bytes()),
+            channel: channel(rt, text.as_bytes()),
+            op: verb == "makes",
+        },
     }
 }
 
 /// Does the effect of a step.
-fn bring(rt: &impl Abort, alloc: Global, room: &mut Room, step: &StageStep<'_>) {
-    if let Some(effect) = &effect_of(rt, alloc, step) {
-        apply(alloc, room, effect);
+fn bring(rt: &impl Abort, alloc: Global, room: &mut Room, verb: &str, words: &str) {
+    let effect = effect_of(rt, alloc, verb, words);
+    apply(alloc, room, &effect);
+}
+
+fn take_step(rt: &impl Abort, alloc: Global, stage: &mut Stage, step: &str) {
+    let (verb, words) = first_word(step);
+    match verb {
+        "links" => add(rt, &mut stage.routes, b"a.net", b"b.net", (1, 1, b"B")),
+        "fills" => fill(rt, &mut stage.routes),
+        _ => bring(rt, alloc, &mut stage.room, verb, words),
     }
 }
 
-fn crowd(rt: &impl Abort, alloc: Global, room: &mut Room) {
-    for number in 1..32_u32 {
-        let mut name: ArrayVec<u8, 3> = ArrayVec::new();
-        let _ = name.try_extend_from_slice(if number < 10 {
-            b"n0".as_slice()
-        } else {
-            b"n".as_slice()
-        });
-        let _ = name.try_extend_from_slice(Buffer::new().format(number).as_bytes());
-        bring(rt, alloc, room, &StageStep::Comes(&name, b"a.net", b"N"));
-        bring(
-            rt,
-            alloc,
-            room,
-            &StageStep::Joins(&name, number == 1, b"#c"),
-        );
-    }
-}
-
-fn take_step(rt: &impl Abort, alloc: Global, stage: &mut Stage, step: &StageStep<'_>) {
-    match step {
-        StageStep::Links => add(rt, &mut stage.routes, b"a.net", b"b.net", (1, 1, b"B")),
-        StageStep::Fills => fill(rt, &mut stage.routes),
-        StageStep::Crowds => crowd(rt, alloc, &mut stage.room),
-        _ => bring(rt, alloc, &mut stage.room, step),
-    }
-}
-
-fn furnish(rt: &impl Abort, alloc: Global, stage: &mut Stage, steps: &[StageStep<'_>]) {
-    for step in steps {
+fn furnish(rt: &impl Abort, alloc: Global, stage: &mut Stage, scene: &str) {
+    for step in scene.lines() {
         take_step(rt, alloc, stage, step);
-    }
-}
-
-fn furnish_all(rt: &impl Abort, alloc: Global, stage: &mut Stage, scenes: &[Scene]) {
-    for steps in scenes {
-        furnish(rt, alloc, stage, steps);
     }
 }
 
@@ -216,11 +175,11 @@ pub trait StageTest {
     fn holds(&self, rt: &impl Abort, alloc: Global, stage: &mut Stage) -> bool;
 }
 
-/// Whether a test holds once all these have come, where nobody was there and no other server known.
-pub fn test_holds(rt: &impl Abort, alloc: Global, scenes: &[Scene], test: &impl StageTest) -> bool {
+/// Whether a test holds behind a scene, where nobody was there and no other server known.
+pub fn test_holds(rt: &impl Abort, alloc: Global, scene: &str, test: &impl StageTest) -> bool {
     let room = Room::new(alloc, server(rt, b"a.net"));
     let routes = routes(rt, alloc);
     let mut stage = Stage { room, routes };
-    furnish_all(rt, alloc, &mut stage, scenes);
+    furnish(rt, alloc, &mut stage, scene);
     test.holds(rt, alloc, &mut stage)
 }

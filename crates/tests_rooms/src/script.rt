@@ -147,31 +147,52 @@ fn target(rt: &impl Abort, word: &str) -> Target {
 fn effect_of(rt: &impl Abort, alloc: Global, row: ScriptRow<'_>) -> Effect {
     match row.verb {
         "user" => Effect::AddUser(user(rt, row)),
-        "nick" => Effect::Rename {
-            nick: nick(rt, row.first),
-            new: nick(rt, row.second),
-        },
+        "say" | "note" | "invite" => word_of(rt, row),
+        "mode" | "topic" => change_of(rt, alloc, row),
+        "nick" | "quit" | "set" => own_of(rt, row),
+        _ => stay_of(rt, row),
+    }
+}
+
+/// The effect of a row that a user brings about on itself alone.
+fn own_of(rt: &impl Abort, row: ScriptRow<'_>) -> Effect {
+    let nick = nick(rt, row.first);
+    match row.verb {
+        "nick" => rename_of(rt, nick, row.second),
         "quit" => Effect::Quit {
-            nick: nick(rt, row.first),
+            nick,
             text: Words::cut(row.second.as_bytes()),
         },
-        "set" => Effect::ChangeUser {
-            nick: nick(rt, row.first),
+        _ => Effect::ChangeUser {
+            nick,
             change: UserChange::Invisible(row.second == "+i"),
         },
-        "say" | "note" => Effect::Say {
-            by: nick(rt, row.first),
+    }
+}
+
+fn rename_of(rt: &impl Abort, old: Nick, word: &str) -> Effect {
+    Effect::Rename {
+        nick: old,
+        new: nick(rt, word),
+    }
+}
+
+/// The effect of a row that tells somebody something.
+fn word_of(rt: &impl Abort, row: ScriptRow<'_>) -> Effect {
+    let by = nick(rt, row.first);
+    if row.verb == "invite" {
+        Effect::Invite {
+            by,
+            nick: nick(rt, row.second),
+            channel: channel(rt, row.text),
+        }
+    } else {
+        Effect::Say {
+            by,
             notice: row.verb == "note",
             target: target(rt, row.second),
             text: cut_copy(row.text.as_bytes()),
-        },
-        "invite" => Effect::Invite {
-            by: nick(rt, row.first),
-            nick: nick(rt, row.second),
-            channel: channel(rt, row.text),
-        },
-        "mode" | "topic" => change_of(rt, alloc, row),
-        _ => stay_of(rt, row),
+        }
     }
 }
 
@@ -353,8 +374,8 @@ pub fn show_users(found: &Result<Vec<&User, Global>, AllocError>, shown: &mut Sh
 }
 
 /// Shows the channels of a user.
-fn show_channels_of(room: &Room, nick: &str, shown: &mut ShownText) {
-    if let Ok(rows) = &room.channels_of(nick.as_bytes()) {
+fn show_channels_of(room: &Room, nick: &[u8], shown: &mut ShownText) {
+    if let Ok(rows) = &room.channels_of(nick) {
         for row in rows.as_slice() {
             append_word(shown, b"", row.value.channel().name.as_bytes());
         }
@@ -387,6 +408,23 @@ pub trait ScriptStage {
     );
 }
 
+/// Does the effect of a row.
+fn do_effect(
+    rt: &impl Abort,
+    alloc: Global,
+    room: &mut Room,
+    row: ScriptRow<'_>,
+    shown: &mut ShownText,
+) {
+    let effect = effect_of(rt, alloc, row);
+    apply(alloc, room, &effect, shown);
+}
+
+/// Shows the users of a server.
+fn show_home(rt: &impl Abort, room: &Room, word: &str, shown: &mut ShownText) {
+    show_users(&room.users_at(&server(rt, word)), shown);
+}
+
 impl ScriptStage for Room {
     fn perform(
         &mut self,
@@ -395,17 +433,15 @@ impl ScriptStage for Room {
         row: ScriptRow<'_>,
         shown: &mut ShownText,
     ) {
+        let (first, second) = (row.first.as_bytes(), row.second.as_bytes());
         match row.verb {
-            "state" => show_state(self.channel(row.first.as_bytes()), shown),
+            "state" => show_state(self.channel(first), shown),
             "users" => show_users(&self.users(), shown),
-            "home" => show_users(&self.users_at(&server(rt, row.first)), shown),
-            "invited" => show_flag(
-                self.invited(row.first.as_bytes(), row.second.as_bytes()),
-                shown,
-            ),
-            "channels" => show_channels_of(self, row.first, shown),
+            "home" => show_home(rt, self, row.first, shown),
+            "invited" => show_flag(self.invited(first, second), shown),
+            "channels" => show_channels_of(self, first, shown),
             "respell" => show_respelled(self.respell(&channel(rt, row.first)), shown),
-            _ => apply(alloc, self, &effect_of(rt, alloc, row), shown),
+            _ => do_effect(rt, alloc, self, row, shown),
         }
     }
 }

@@ -81,6 +81,21 @@ fn remove(rt: &impl Abort, users: &mut Users, word: &str) {
     let _ = users.remove(&nick(rt, word));
 }
 
+fn add(rt: &impl Abort, users: &mut Users, row: ScriptRow<'_>, shown: &mut ShownText) {
+    show_fault(users.add(user(rt, row)), shown);
+}
+
+/// Does what a row of users alone says.
+fn perform_on(rt: &impl Abort, users: &mut Users, row: ScriptRow<'_>, shown: &mut ShownText) {
+    match row.verb {
+        "user" => add(rt, users, row, shown),
+        "home" => show_home(rt, users, row.first, shown),
+        "like" => show_users(&users.matching(row.first.as_bytes()), shown),
+        "nick" => rename(rt, users, row),
+        _ => remove(rt, users, row.first),
+    }
+}
+
 impl ScriptStage for UsersAndNumber {
     fn perform(
         &mut self,
@@ -90,14 +105,10 @@ impl ScriptStage for UsersAndNumber {
         shown: &mut ShownText,
     ) {
         match row.verb {
-            "user" => show_fault(self.users.add(user(rt, row)), shown),
-            "home" => show_home(rt, &self.users, row.first, shown),
-            "like" => show_users(&self.users.matching(row.first.as_bytes()), shown),
             "hold" => self.number = number_of(rt, &self.users, row.first),
             "held" => show_flag(number_of(rt, &self.users, row.first) == self.number, shown),
-            "nick" => rename(rt, &mut self.users, row),
-            "gone" => remove(rt, &mut self.users, row.first),
-            _ => show_at(self, shown),
+            "at" => show_at(self, shown),
+            _ => perform_on(rt, &mut self.users, row, shown),
         }
     }
 }
