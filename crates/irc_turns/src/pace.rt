@@ -1,7 +1,7 @@
 //! How many lines of a client one turn takes.
 //!
-//! What a line costs the server does not show at the wire, and there is no clock to be had. What
-//! shows is whether somebody has come meanwhile.
+//! What a line costs the server does not show at the wire, neither by its bytes nor by the clock,
+//! which tells what the machine did meanwhile as well. What shows is whether somebody has come.
 //! So a client gets few lines a turn, and more of them only while nobody comes: who comes then
 //! waits for a small part of the time in which nobody did.
 ghost use Rattle.std.specs.Prelude.{◌≡◌};
