@@ -8,33 +8,34 @@ use Rattle.irc_turns.specs.declared.round.Round.{Round}
 use Rattle.irc_turns.specs.declared.talker.Talker.{Talker}
 use Rattle.irc_turns.specs.Talking.{is_asked}
 use Rattle.irc_turns.specs.Numbered.{NumberedTalkers, SameButQueue, talker_at, talker_changed_if}
-use Rattle.irc_turns.specs.Numbered.{only, filled_by, held_by, IsHeldBy, talker_report}
-use Rattle.irc_turns.specs.Numbered.{talker_heard, turn_reader, ReportsOf, ReportsFirst}
+use Rattle.irc_turns.specs.Numbered.{only, reason_for, held_for, IsHeldFor, talker_report}
+use Rattle.irc_turns.specs.Numbered.{talker_heard, turn_read, ReportsOf, ReportsFirst}
+use Rattle.irc_turns.specs.Rounds.{read_by}
+use Rattle.irc_turns.specs.declared.holding.Reason.{Reason}
 
 -- whoever is held back, the queue stays
-same_queue : (by : Option ℕ) (number now : ℕ) (old new : NumberedTalkers)
-    → IsHeldBy by number now old new → new.queue ≡ old.queue
+same_queue : (why : Option Reason) (number now : ℕ) (old new : NumberedTalkers)
+    → IsHeldFor why number now old new → new.queue ≡ old.queue
 same_queue None number now old new same = ap (λ (s : NumberedTalkers). s.queue) same
-same_queue (Some by) number now old new either =
-    ⊎_elim (λ (e : new ≡ held_by by number now old). ap (λ (s : NumberedTalkers). s.queue) e)
+same_queue (Some why) number now old new either =
+    ⊎_elim (λ (e : new ≡ held_for why number now old). ap (λ (s : NumberedTalkers). s.queue) e)
     (λ (e : new ≡ old). ap (λ (s : NumberedTalkers). s.queue) e) either
 
 -- what is reported of one that is held back, or not
 pub reported : (old popped held new : NumberedTalkers) (number : ℕ) (behind : List ℕ)
     (round round_after : Round) (result : Option Report) → old.queue ≡ number ∷ behind → popped
     ≡ record old { queue = popped.queue }
-    → IsHeldBy (filled_by popped number) number round.began popped held
+    → IsHeldFor (reason_for popped round.began number) number round.began popped held
     → result ≡ talker_report number (talker_at held number) → new ≡ only talker_heard number held
-    → round_after ≡ record round {
-      reader = turn_reader number
-          (talker_at held number) round.reader;
-    } → ReportsFirst old new round result round_after
+    → round_after ≡ turn_read number (talker_at held number) round
+    → ReportsFirst old new round result round_after
 reported old popped held new number behind round round_after result queued is_popped is_held told
     left reader =
     subst (λ q. ReportsOf q old new round result round_after) (sym queued) record {
       held = held;
       is_held =
-          subst (λ (s : NumberedTalkers). IsHeldBy (filled_by s number) number round.began s held)
+          subst (λ (s : NumberedTalkers). IsHeldFor (reason_for s round.began number) number
+          round.began s held)
           (is_popped
           ∙ ap (λ q. record old { queue = q }) (sym (same_queue _ number round.began popped
           held is_held) ∙ sym (ap (λ (s : NumberedTalkers). s.queue) left)))
@@ -51,9 +52,8 @@ none_there held number none = sym (ap (λ o.
     record held { by_number = talker_changed_if talker_heard number held.by_number o }) none)
 
 pub none_read : (held : NumberedTalkers) (number : ℕ) (round : Round) → talker_at held number ≡ None
-    → round ≡ record round { reader = turn_reader number (talker_at held number) round.reader }
-none_read held number round none =
-    sym (ap (λ o. record round { reader = turn_reader number o round.reader }) none)
+    → round ≡ turn_read number (talker_at held number) round
+none_read held number round none = sym (ap (λ o. turn_read number o round) none)
 
 pub none_told : (held : NumberedTalkers) (number : ℕ) → talker_at held number ≡ None
     → None ≡ talker_report number (talker_at held number)
@@ -82,12 +82,12 @@ as_told held number talker b there asked =
     ∙ ap (λ v. Some (cond v (report.Readable number) (report.Writable number))) asked)
 
 pub as_read : (held : NumberedTalkers) (number : ℕ) (talker : Talker) (b : Bool) (round : Round)
-    → talker_at held number ≡ Some talker → (is_asked talker && talker.is_client) ≡ b
-    → record round { reader = cond b (Some number) round.reader }
-    ≡ record round { reader = turn_reader number (talker_at held number) round.reader }
-as_read held number talker b round there read =
-    sym (ap (λ o. record round { reader = turn_reader number o round.reader }) there
-    ∙ ap (λ v. record round { reader = cond v (Some number) round.reader }) read)
+    → talker_at held number ≡ Some talker → is_asked talker ≡ b
+    → cond b (read_by round number talker.is_client) round
+    ≡ turn_read number (talker_at held number) round
+as_read held number talker b round there asked =
+    sym (ap (λ o. turn_read number o round) there
+    ∙ ap (λ v. cond v (read_by round number talker.is_client) round) asked)
 
 -- where nothing leaves the queue, nothing stood in it
 none_first : (queue : List ℕ) → queue ≡ drop 1 queue → queue ≡ []

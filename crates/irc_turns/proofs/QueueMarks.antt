@@ -1,12 +1,13 @@
 -- A queue of numbers, and the marks of those that stand in it.
 use Rattle.std.proofs.Common.{◌≡◌, ◌≢◌, ℕ, zero, suc, ◌+◌, ◌<◌, ◌≤◌, ◌==◌, Bool, true, false, not}
-use Rattle.std.proofs.Common.{◌||◌, cond, List, [], ◌∷◌, ◌++◌, length, get_or, set, take, drop}
+use Rattle.std.proofs.Common.{nat_eq, ◌||◌, cond, List, [], ◌∷◌, ◌++◌, length, get_or, set, take, drop}
 use Rattle.std.proofs.Common.{replicate, count_by, length-append, zero-add, inl, inr, refl, sym}
 use Rattle.std.proofs.Common.{◌∙◌, ap, arith}
 use Rattle.std.proofs.lemmas.Bool.{cases_eq, eqb-true, eq-eqb}
 use Rattle.std.proofs.lemmas.List.{get_or-set_same, get_or-set_other, get_or_past, get_or-replicate}
 use Rattle.std.proofs.lemmas.List.{length-replicate, length-set, take_all, take-append-drop}
 use Rattle.std.proofs.lemmas.List.Sums.{sum_by-cons, sum_by-append, sum_by-set, count_by-le-length}
+use Rattle.irc_brakes.specs.Reading.{is_read_beside}
 use Rattle.irc_turns.specs.Queues.{stands_in, queue_without, turned_queue, times, is_marked}
 
 -- a number that is marked stands in it once, and no other does
@@ -224,3 +225,36 @@ has_room n queue marks capacity once within none room =
       length-append queue (n ∷ []),
       room,
     )
+
+-- ---- who stands in it beside another
+
+two_there : (b c rest : Bool) → (b ≡ true → c ≡ true → ⊥) → not (not b || (not c || rest)) ≡ false
+two_there false c rest apart = refl
+two_there true false rest apart = refl
+two_there true true rest apart = absurd (apart refl refl)
+
+at_most_once : (b : Bool) → cond b 1 0 ≤ 1
+at_most_once true = omega arith
+at_most_once false = omega arith
+
+both_one : (n x y : ℕ) (queue : List ℕ) (marks : List Bool) → StandsOnce (x ∷ y ∷ queue) marks
+    → (n == x) ≡ true → (n == y) ≡ true → ⊥
+both_one n x y queue marks once first second =
+    omega (
+      arith,
+      sym (once n) ∙ one_more n x (y ∷ queue) ∙ ap (λ k. k + times n (y ∷ queue))
+      (counted x first),
+      one_more n y queue ∙ ap (λ k. k + times n queue) (counted y second),
+      at_most_once (is_marked marks n),
+    )
+  where
+    counted : (k : ℕ) → (n == k) ≡ true → ◌≡◌ {A = ℕ} (cond (k == n) 1 0) 1
+    counted k same = ap (λ b. cond b 1 0) (eq-eqb k n (sym (eqb-true n k same)))
+
+-- where two stand in it, one of them is another
+pub many_beside : (n : ℕ) (queue : List ℕ) (marks : List Bool) → StandsOnce queue marks
+    → (length queue ≡ 0 → ⊥) → (length queue ≡ 1 → ⊥) → is_read_beside nat_eq queue n ≡ false
+many_beside n [] marks once some more = absurd (some refl)
+many_beside n (x ∷ []) marks once some more = absurd (more refl)
+many_beside n (x ∷ y ∷ queue) marks once some more =
+    two_there (n == x) (n == y) _ (both_one n x y queue marks once)

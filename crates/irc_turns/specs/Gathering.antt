@@ -13,10 +13,6 @@ gathered bytes grown_at since = record { bytes = bytes; grown_at = grown_at; sin
 abbrev pub nothing_waits : Gathered
 nothing_waits = gathered 0 0 0
 
--- how many bytes may wait for a client, and for a link, before whoever adds to them is held back
-abbrev pub much_for : Bool → ℕ
-much_for is_client = if is_client then 8192 else 262144
-
 -- one of few bytes, where there were more within the last 16 turns, and which does not wait for 64
 -- turns yet
 abbrev pub is_put_off : Gathered → ℕ → ℕ → Bool

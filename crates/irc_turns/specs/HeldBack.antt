@@ -1,19 +1,24 @@
--- Who is held back, and for how long.
-use Rattle.std.specs.Prelude.{ℕ, nat_lt, if◌then◌else◌, List, [], ◌∷◌, ◌++◌, Option, Some, None}
-use Rattle.std.specs.List.{slice_get}
+-- Who is held back, and why.
+use Rattle.std.specs.Prelude.{ℕ, Bool, true, false, not, nat_eq, nat_lt, List, [], ◌∷◌, ◌++◌, filter}
 use Rattle.irc_moments.specs.Moments.{later}
-use Rattle.irc_turns.specs.declared.holding.HeldClient.{HeldClient}
+use Rattle.irc_turns.specs.declared.holding.Held.{Held}
+use Rattle.irc_turns.specs.declared.holding.Reason.{Reason}
+use Rattle.irc_turns.specs.declared.holding.Reason.TheVariants as reason
 
--- a client behind the others who are held back, by a socket that is full, for 250 milliseconds
-abbrev pub held_too : List HeldClient → ℕ → ℕ → ℕ → List HeldClient
-held_too holding who by now =
-    holding ++ record { who = who; by = by; until = later now 250 } ∷ []
+-- whether it waits for a client
+abbrev pub is_for_client : Reason → Bool
+is_for_client (reason.Filled mark) = true
+is_for_client other = false
 
--- by whom somebody is held whose time is not over
-abbrev pub held_still : ℕ → Option HeldClient → Option ℕ
-held_still now None = None
-held_still now (Some held) = if nat_lt now held.until then Some held.by else None
+-- one behind the others who are held back
+abbrev pub held_too : List Held → ℕ → Reason → ℕ → List Held
+held_too holding who why now =
+    holding ++ record { who = who; reason = why; since = now } ∷ []
 
--- by whom the client at a place is held at a moment, if its time is not over
-abbrev pub held_at : List HeldClient → ℕ → ℕ → Option ℕ
-held_at holding now place = held_still now (slice_get holding place)
+-- one may wait for a client at a moment: for 250 milliseconds
+abbrev pub may_wait_at : ℕ → Held → Bool
+may_wait_at now held = nat_lt now (later held.since 250)
+
+-- one is gone
+abbrev pub held_without : ℕ → List Held → List Held
+held_without who holding = filter (λ (held : Held). not (nat_eq held.who who)) holding

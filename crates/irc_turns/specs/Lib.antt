@@ -3,6 +3,8 @@ pub mod Crowds
 pub mod Fronts
 pub mod Gathering
 pub mod HeldBack
+pub mod Marks
+pub mod Naming
 pub mod Numbered
 pub mod Pacing
 pub mod Queues

@@ -1,5 +1,5 @@
 -- Numbers in a queue, each once.
-use Rattle.std.specs.Prelude.{◌≡◌, ◌≤◌, ℕ, Bool, false, not, nat_eq, if◌then◌else◌, List, [], ◌∷◌}
+use Rattle.std.specs.Prelude.{◌≡◌, ◌≤◌, ℕ, Bool, true, false, not, nat_eq, if◌then◌else◌, List, [], ◌∷◌}
 use Rattle.std.specs.Prelude.{◌++◌, length, take, drop, filter, slice_index_or, count_by}
 use Rattle.std.specs.List.{list_any}
 use Rattle.std.specs.VecDeque.{deque_capacity}
@@ -19,6 +19,11 @@ queued_behind number queue = if stands_in number queue then queue else queue ++ 
 
 abbrev pub queue_without : ℕ → List ℕ → List ℕ
 queue_without number queue = filter (λ other. not (nat_eq other number)) queue
+
+-- a number stands in it from now on, or does not
+abbrev pub queued_as : Bool → ℕ → List ℕ → List ℕ
+queued_as true number queue = queued_behind number queue
+queued_as false number queue = queue_without number queue
 
 -- those who are first in a queue stand behind the others
 abbrev pub turned_queue : ℕ → List ℕ → List ℕ

@@ -2,6 +2,8 @@
 use Rattle.std.specs.Prelude.{ℕ, Bool, false, not, ◌&&◌, ◌||◌, ◌+◌, ◌-◌, ◌%◌, min, nat_eq, nat_lt}
 use Rattle.std.specs.Prelude.{if◌then◌else◌, Option, Some, None}
 use Rattle.irc_turns.specs.declared.round.Round.{Round}
+use Rattle.irc_turns.specs.declared.round.TooMuch.{TooMuch}
+use Rattle.irc_turns.specs.declared.round.TooMuch.TheVariants as too_much
 
 -- before the first round, and before turn 65
 abbrev pub no_round : ℕ → Round
@@ -12,10 +14,12 @@ no_round now = record {
   visits = 0;
   turn = 64;
   reader = None;
+  reads_link = false;
   may_wait = false;
   answered = 0;
   shown = 0;
   filled = None;
+  grown = None;
   has_more = false;
 }
 
@@ -44,27 +48,39 @@ turn_begun round =
     record round {
       turn = at_most_word (round.turn + 1);
       reader = None;
+      reads_link = false;
       answered = 0;
       shown = 0;
       filled = None;
+      grown = None;
       has_more = false;
     }
 
--- whether it is the client that is read
+-- somebody is read in it, a client or a link
+abbrev pub read_by : Round → ℕ → Bool → Round
+read_by round number is_client =
+    record round { reader = Some number; reads_link = not is_client }
+
+-- whether it is the one that is read
 abbrev pub is_one : ℕ → Option ℕ → Bool
 is_one number None = false
 is_one number (Some other) = nat_eq other number
 
+-- too much waits for a client, or for a link, or it does not
+abbrev pub too_much_noted : Round → ℕ → TooMuch → Round
+too_much_noted round number too_much.No = round
+too_much_noted round number too_much.OfClient = record round { filled = Some number }
+too_much_noted round number too_much.OfLink = record round { grown = Some number }
+
 -- so many bytes more wait for a socket: its reader's own, which are its answer, or another's, to
--- whom they are shown; that one is filled if it is stuck, and there are any
-abbrev pub wait_more : Round → ℕ → ℕ → Bool → Round
-wait_more round number more is_stuck =
+-- whom they are shown; for that one too much may wait, if there are any
+abbrev pub wait_more : Round → ℕ → ℕ → TooMuch → Round
+wait_more round number more too_much =
     if is_one number round.reader
     then record round { answered = at_most_word (round.answered + more) }
-    else record round {
-      shown = at_most_word (round.shown + more);
-      filled = if is_stuck && nat_lt 0 more then Some number else round.filled;
-    }
+    else if nat_lt 0 more then too_much_noted
+    (record round { shown = at_most_word (round.shown + more) }) number too_much
+    else record round { shown = at_most_word (round.shown + more) }
 
 -- bytes may wait though nothing is in their way
 abbrev pub more_noted : Round → Bool → Round

@@ -1,24 +1,31 @@
 -- One that talks to the server, a client or a link: what is asked of it, what is told of it, and
 -- what a turn leaves of it.
 use Rattle.std.specs.Prelude.{◌≡◌, ◌≤◌, ◌⊎◌, ⊤, ℕ, Bool, true, false, not, ◌&&◌, ◌||◌, ◌-◌, nat_eq}
-use Rattle.std.specs.Prelude.{nat_lt, if◌then◌else◌, Option, Some, None, List, [], ◌++◌, length}
+use Rattle.std.specs.Prelude.{nat_lt, nat_le, if◌then◌else◌, Option, Some, None, List, [], ◌++◌, length}
 use Rattle.std.specs.Prelude.{take, drop}
 use Rattle.irc_turns.specs.Fronts.{GivesLines, IsFront}
-use Rattle.irc_turns.specs.Gathering.{nothing_waits, much_for, waits_behind}
+use Rattle.irc_moments.specs.Moments.{later}
+use Rattle.irc_turns.specs.Gathering.{nothing_waits, waits_behind}
 use Rattle.irc_turns.specs.Gathering.{is_put_off as waits_for_more}
 use Rattle.irc_turns.specs.Pacing.{at_first, at_rest, at_turn, behind_turn, paced_lines}
+use Rattle.irc_turns.specs.declared.marks.Marks.{Marks}
+use Rattle.irc_turns.specs.declared.round.TooMuch.{TooMuch}
+use Rattle.irc_turns.specs.declared.round.TooMuch.TheVariants as too_much
+use Rattle.irc_turns.specs.declared.talker.AddedTo.{AddedTo}
 use Rattle.irc_turns.specs.declared.talker.TalkerMark.{TalkerMark}
 use Rattle.irc_turns.specs.declared.talker.Reading.{Reading}
 use Rattle.irc_turns.specs.declared.talker.Reading.TheVariants as reading
 use Rattle.irc_turns.specs.declared.talker.Talker.{Talker}
 use Rattle.irc_turns.specs.declared.talker.Readiness.{Readiness}
 
--- one of which the system has told nothing yet
-abbrev pub new_talker : Bool → ℕ → Talker
-new_talker is_client serial = record {
+-- one that has come at a moment, and of which the system has told nothing yet
+abbrev pub new_talker : Bool → ℕ → ℕ → Talker
+new_talker is_client serial now = record {
   is_client = is_client;
   serial = serial;
   is_readable = false;
+  is_named = false;
+  is_given_up = false;
   is_full = false;
   is_behind = false;
   is_ending = false;
@@ -28,23 +35,77 @@ new_talker is_client serial = record {
   rest = [];
   pace = at_first;
   waiting = nothing_waits;
+  spared = 0;
+  silent_since = now;
+  free_until = 0;
   fills = None;
+  grows = None;
 }
 
 -- ---- what is asked of it
 
--- it has something to say, and is no client that is held back or has not taken its answers
+-- it has something to say, is not held back, and is no client that has not taken its answers; or it
+-- is given up, which its next read shows
 abbrev pub is_asked : Talker → Bool
 is_asked talker =
-    talker.is_readable && not (talker.is_client && (talker.is_held || talker.is_behind))
+    talker.is_given_up || (talker.is_readable
+    && not (talker.is_held || (talker.is_client && talker.is_behind)))
+
+-- it would be asked, and may be kept waiting: a client, or a link that was met
+abbrev pub may_be_held : Talker → Bool
+may_be_held talker =
+    (is_asked talker && not talker.is_given_up) && (talker.is_client || talker.is_named)
+
+-- it may be kept waiting at a moment for a client: not one that was let go and not asked since, nor
+-- a link that was within the last second
+abbrev pub may_be_eased : Talker → ℕ → Bool
+may_be_eased talker now =
+    not talker.was_held && (talker.is_client || not (nat_lt now talker.free_until))
+
+-- ---- how much waits for it
+
+-- for a link that was met all that waits, but for what is left of what waited as it was: a burst
+-- keeps nobody waiting. One that was not met is told no more than how a link begins
+abbrev pub load : Talker → ℕ
+load talker =
+    if talker.is_client || not talker.is_named then 0 else talker.waiting.bytes - talker.spared
+
+abbrev pub is_over_soft : Marks → Talker → Bool
+is_over_soft marks talker = nat_lt marks.soft (load talker)
+
+abbrev pub is_over_hard : Marks → Talker → Bool
+is_over_hard marks talker = nat_lt marks.hard (load talker)
+
+-- it is given up; or it is a link for which something waits, which for 30 seconds took none of it,
+-- and of which all was read that came, and nothing came
+abbrev pub is_over : ℕ → Talker → Bool
+is_over now talker =
+    talker.is_given_up || (not talker.is_client && ((nat_lt 0 talker.waiting.bytes
+    && nat_le 30000 (now - talker.silent_since)) && not talker.is_readable))
 
 -- it takes bytes, and some wait
 abbrev pub may_take_more : Talker → Bool
 may_take_more talker = not talker.is_full && nat_lt 0 talker.waiting.bytes
 
--- it takes no bytes, and more wait for it than may for a client or for a link
-abbrev pub is_stuck : Talker → Bool
-is_stuck talker = talker.is_full && nat_lt (much_for talker.is_client) talker.waiting.bytes
+-- it is a client that takes no bytes, and more wait for it than may before a client that adds to
+-- it, or a link that does, is kept waiting
+abbrev pub is_stuck : Marks → Bool → Talker → Bool
+is_stuck marks by_link talker =
+    (talker.is_client && talker.is_full)
+    && nat_lt (if by_link then marks.client else 8192) talker.waiting.bytes
+
+-- whether too much waits for it, where a client, or a link, adds to it
+abbrev pub too_much_for : Marks → Bool → Talker → TooMuch
+too_much_for marks by_link talker =
+    if is_stuck marks by_link talker then too_much.OfClient
+    else if is_over_soft marks talker then too_much.OfLink
+    else too_much.No
+
+-- a link that is not read, and to which nothing is written, so that its other end might take this
+-- one for gone
+abbrev pub wants_signal : Talker → Bool
+wants_signal talker =
+    (talker.is_held && not talker.is_client) && not (nat_lt 0 talker.waiting.bytes)
 
 -- ---- what the system tells of it
 
@@ -56,8 +117,9 @@ takes_again talker told = talker.is_full && told.has_room
 abbrev pub may_have_more : Talker → Readiness → Bool
 may_have_more talker told = talker.may_have_more || (told.is_readable || told.is_over)
 
-abbrev pub told_so : Talker → Readiness → Talker
-told_so talker told = record talker {
+abbrev pub told_so : Talker → Readiness → ℕ → Talker
+told_so talker told now = record talker {
+  silent_since = if told.is_readable || told.is_over then now else talker.silent_since;
   is_ending = talker.is_ending || told.is_over;
   may_have_more = may_have_more talker told;
   is_readable = talker.is_readable || may_have_more talker told;
@@ -66,17 +128,23 @@ told_so talker told = record talker {
 
 -- ---- its turns
 
--- its pace goes by the turn where something of it is left; whom it has filled is known until its
+-- its pace goes by the turn where something of it is left; to whom it has added is known until its
 -- next turn
-abbrev pub turn_over : Talker → ℕ → ℕ → Option TalkerMark → Talker
-turn_over talker answered shown filled = record talker {
+abbrev pub turn_over : Talker → ℕ → ℕ → AddedTo → Talker
+turn_over talker answered shown added = record talker {
   pace =
       if nat_eq 0 (length talker.rest) then talker.pace else behind_turn talker.pace answered shown;
-  fills = filled;
+  fills = added.client;
+  grows = added.link;
 }
 
-abbrev pub held_back : Talker → Talker
-held_back talker = record talker { is_held = true; pace = at_rest talker.pace }
+-- for a client it is held back once in a second
+abbrev pub held_back : Bool → ℕ → Talker → Talker
+held_back for_client now talker = record talker {
+  is_held = true;
+  pace = at_rest talker.pace;
+  free_until = if for_client then later now 1000 else talker.free_until;
+}
 
 abbrev pub held_no_more : Talker → Talker
 held_no_more talker = record talker { was_held = talker.is_held; is_held = false }
@@ -177,8 +245,27 @@ took_none is_blocked talker = record talker {
 }
 
 -- a write is over, of so many bytes in all, and has taken so many; where it failed no more is known
-abbrev pub written : ℕ → ℕ → Option ℕ → Talker → Talker
-written turn all None talker = talker
-written turn all (Some taken) talker = record talker {
+abbrev pub written : ℕ → ℕ → ℕ → Option ℕ → Talker → Talker
+written turn now all None talker = talker
+written turn now all (Some taken) talker = record talker {
   waiting = waits_behind talker.waiting turn all (all - taken);
+  spared = talker.spared - taken;
+  silent_since =
+      if nat_lt 0 taken || not (nat_lt 0 talker.waiting.bytes) then now else talker.silent_since;
+}
+
+-- ---- what becomes of it
+
+-- the link is met: what waits for it then keeps nobody waiting
+abbrev pub named : Talker → Talker
+named talker = record talker { is_named = true; spared = talker.waiting.bytes }
+
+abbrev pub given_up : Talker → Talker
+given_up talker = record talker { is_given_up = true }
+
+-- a signal was given, of which it took so many bytes of so many: a part of one could not be told
+-- from what comes behind it
+abbrev pub signalled : ℕ → ℕ → Talker → Talker
+signalled taken given talker = record talker {
+  is_given_up = talker.is_given_up || (nat_lt 0 taken && nat_lt taken given);
 }

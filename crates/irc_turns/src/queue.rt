@@ -1,8 +1,9 @@
 //! Numbers in a queue, each once.
-ghost use Rattle.std.specs.Prelude.{◌≡◌, ◌≤◌, ◌<◌, ◌++◌, [], length, drop, OnOk};
+ghost use Rattle.std.specs.Prelude.{◌≡◌, ◌≤◌, ◌<◌, ◌++◌, [], length, drop, nat_eq, OnOk};
 ghost use Rattle.std.specs.Option.{option_to_list};
 ghost use Rattle.irc_turns.specs.Queues.{stands_in, is_marked, queued_behind, queue_without};
-ghost use Rattle.irc_turns.specs.Queues.{turned_queue, is_first};
+ghost use Rattle.irc_turns.specs.Queues.{turned_queue, is_first, queued_as};
+ghost use Rattle.irc_brakes.specs.Reading.{is_read_beside};
 
 use std::alloc::{AllocError, Global};
 use std::collections::VecDeque;
@@ -64,6 +65,27 @@ impl Queue {
         match self.order.front() {
             Some(first) => *first == number,
             None => false,
+        }
+    }
+
+    /// Whether no other stands in it.
+    pub fn is_beside(&self, number: usize) -> bool
+        ensures { result ≡ is_read_beside nat_eq self.now.numbers number }
+    {
+        // each stands in it once
+        self.order.is_empty() || (self.len() == 1 && self.is_first(number))
+    }
+
+    /// A number stands in it from now on, or does not.
+    pub fn set(&mut self, number: usize, is_in: bool)
+        requires { number < self.old.room }
+        ensures numbers { self.new.numbers ≡ queued_as is_in number self.old.numbers }
+        ensures room { self.new.room ≡ self.old.room }
+    {
+        if is_in {
+            self.push(number);
+        } else {
+            self.remove(number);
         }
     }
 

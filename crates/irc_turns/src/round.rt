@@ -8,6 +8,17 @@ use irc_moments::Moment;
 /// waiting.rt).
 const FIRST_TURN: u64 = 64;
 
+/// Whether more waits for a socket than may before whoever adds to it is held back.
+#[derive(Clone, Copy, Drop)]
+pub enum TooMuch {
+    /// It does not.
+    No,
+    /// It does, for a client whose socket takes nothing.
+    OfClient,
+    /// It does, for a link.
+    OfLink,
+}
+
 /// A round: each socket that was ready as it began is reported once. And the turn at hand: what was
 /// reported last, and what has come of it.
 #[derive(Drop)]
@@ -23,22 +34,27 @@ pub struct Round {
     pub visits: u64,
     /// Which turn this is.
     pub turn: u64,
-    /// The client that is read in it.
+    /// Who is read in it.
     pub reader: Option<usize>,
+    /// Whether that is a link.
+    pub reads_link: bool,
     /// Whether another turn follows soon, so that writes may wait for it.
     pub may_wait: bool,
     /// How many bytes its reader was answered.
     pub answered: usize,
     /// How many it has put out to others.
     pub shown: usize,
-    /// Somebody else, for whom much waits by this turn, and whose socket is full.
+    /// A client other than its reader, for which much waits by this turn, and whose socket is full.
     pub filled: Option<usize>,
+    /// A link other than its reader, for which more waits by this turn, and more than may.
+    pub grown: Option<usize>,
     /// Whether bytes may wait though nothing is in their way: then no wait is due.
     pub has_more: bool,
 }
 
 impl Round {
     ghost use Rattle.irc_turns.specs.Rounds.{no_round, round_begun, turn_begun, wait_more};
+    ghost use Rattle.irc_turns.specs.Rounds.{read_by, too_much_noted};
     ghost use Rattle.irc_turns.specs.Rounds.{more_noted, is_round_over, one_reported};
     ghost use Rattle.irc_turns.specs.Rounds.{next_turn_noted};
 
@@ -53,10 +69,12 @@ impl Round {
             visits: 0,
             turn: FIRST_TURN,
             reader: None,
+            reads_link: false,
             may_wait: false,
             answered: 0,
             shown: 0,
             filled: None,
+            grown: None,
             has_more: false,
         }
     }
@@ -79,24 +97,43 @@ impl Round {
     {
         self.turn = self.turn.saturating_add(1);
         self.reader = None;
+        self.reads_link = false;
         self.answered = 0;
         self.shown = 0;
         self.filled = None;
+        self.grown = None;
         self.has_more = false;
     }
 
-    /// So many bytes more wait for a socket than before this turn. It is stuck where much waits,
-    /// and it takes nothing.
-    pub fn note_write(&mut self, number: usize, more: usize, is_stuck: bool)
-        ensures { self.new ≡ wait_more self.old number more is_stuck }
+    /// Somebody is read in this turn: a client, or a link.
+    pub fn note_reader(&mut self, number: usize, is_client: bool)
+        ensures { self.new ≡ read_by self.old number is_client }
+    {
+        self.reader = Some(number);
+        self.reads_link = !is_client;
+    }
+
+    /// So many bytes more wait for a socket than before this turn, which may be too much.
+    pub fn note_write(&mut self, number: usize, more: usize, too_much: TooMuch)
+        ensures { self.new ≡ wait_more self.old number more too_much }
     {
         if self.reader == Some(number) {
             self.answered = self.answered.saturating_add(more);
             return;
         }
         self.shown = self.shown.saturating_add(more);
-        if is_stuck && more > 0 {
-            self.filled = Some(number);
+        if more > 0 {
+            self.note_too_much(number, too_much);
+        }
+    }
+
+    fn note_too_much(&mut self, number: usize, too_much: TooMuch)
+        ensures { self.new ≡ too_much_noted self.old number too_much }
+    {
+        match too_much {
+            TooMuch::No => {}
+            TooMuch::OfClient => self.filled = Some(number),
+            TooMuch::OfLink => self.grown = Some(number),
         }
     }
 

@@ -2,16 +2,34 @@
 //! but what the system tells of it.
 ghost use Rattle.std.specs.Prelude.{◌≡◌, ◌≤◌, length};
 
+use crate::marks::Marks;
 use crate::pace::Pace;
 use crate::rest::{Rest, front_of};
+use crate::round::TooMuch;
 use crate::waiting::WaitingWrite;
+use irc_moments::Moment;
 use std::alloc::Global;
+
+/// For how many milliseconds a link may neither take anything of what waits nor say anything.
+const LONGEST_SILENCE_MS: u64 = 30_000;
+
+/// A link that was held back for a client is not again before so many milliseconds are over.
+const HELD_ONCE_IN_MS: u64 = 1_000;
 
 /// What tells a talker from each other: numbers are used again.
 #[derive(Clone, Copy, Drop)]
-pub(crate) struct TalkerMark {
+pub struct TalkerMark {
     pub number: usize,
     pub serial: u64,
+}
+
+/// To whose outboxes somebody has added in a turn, so that it is to wait for them.
+#[derive(Clone, Copy, Drop)]
+pub(crate) struct AddedTo {
+    /// A client's, whose socket is full.
+    pub client: Option<TalkerMark>,
+    /// A link's, for which more than may wait does.
+    pub link: Option<TalkerMark>,
 }
 
 /// What the system tells of a socket.
@@ -43,6 +61,11 @@ pub struct Talker {
     pub serial: u64,
     /// Whether there may be bytes to read, or the end of them.
     pub is_readable: bool,
+    /// Whether a link was met: the server at its other end is known. What waited then holds nobody
+    /// back.
+    pub is_named: bool,
+    /// Whether its next read and its next write are to fail.
+    pub is_given_up: bool,
     /// Whether its socket takes no bytes for now. The system tells when it does again.
     pub is_full: bool,
     /// Whether the last write took less than it was given.
@@ -51,7 +74,7 @@ pub struct Talker {
     /// tells that once.
     is_ending: bool,
     /// Whether it is held back.
-    is_held: bool,
+    pub is_held: bool,
     /// Whether it was, and was not asked since.
     pub was_held: bool,
     /// Whether the system may have more of it than was read.
@@ -60,8 +83,16 @@ pub struct Talker {
     rest: Rest,
     pace: Pace,
     pub(crate) waiting: WaitingWrite,
-    /// Somebody whose outbox it has filled in its last turn.
+    /// How much of what waits for a link was put out as it was met.
+    spared: usize,
+    /// Since when it has said nothing, and taken nothing of what waits.
+    silent_since: Moment,
+    /// Until when a link is not held back for a client again.
+    free_until: Moment,
+    /// A client whose outbox it has filled in its last turn.
     pub(crate) fills: Option<TalkerMark>,
+    /// A link for which more than may wait did behind its last turn, in which it grew.
+    pub(crate) grows: Option<TalkerMark>,
 }
 
 impl Talker {
@@ -69,16 +100,20 @@ impl Talker {
     ghost use Rattle.irc_turns.specs.Talking.{may_take_more, is_stuck, turn_over, held_back};
     ghost use Rattle.irc_turns.specs.Talking.{held_no_more, BeginsRead, IsWithin, IsTurnFront};
     ghost use Rattle.irc_turns.specs.Talking.{Keeps, none_read, read_over, is_put_off, has_taken};
-    ghost use Rattle.irc_turns.specs.Talking.{took_none, written};
+    ghost use Rattle.irc_turns.specs.Talking.{took_none, written, named, given_up, load};
+    ghost use Rattle.irc_turns.specs.Talking.{is_over_soft, is_over_hard, may_be_held, may_be_eased};
+    ghost use Rattle.irc_turns.specs.Talking.{is_over, wants_signal, signalled, too_much_for};
 
-    /// One of which the system has told nothing yet.
-    pub fn new(alloc: Global, is_client: bool, serial: u64) -> Self
-        ensures { result ≡ new_talker is_client serial }
+    /// One that has come at this moment, and of which the system has told nothing yet.
+    pub fn new(alloc: Global, is_client: bool, serial: u64, now: Moment) -> Self
+        ensures { result ≡ new_talker is_client serial now }
     {
         Talker {
             is_client,
             serial,
             is_readable: false,
+            is_named: false,
+            is_given_up: false,
             is_full: false,
             is_behind: false,
             is_ending: false,
@@ -88,15 +123,22 @@ impl Talker {
             rest: Rest::new(alloc),
             pace: Pace::new(),
             waiting: WaitingWrite::new(),
+            spared: 0,
+            silent_since: now,
+            free_until: Moment::of(0),
             fills: None,
+            grows: None,
         }
     }
 
-    /// Takes in what the system tells, and whether its socket takes bytes again.
-    pub fn note(&mut self, told: Readiness) -> bool
+    /// Takes in what the system tells at this moment, and whether its socket takes bytes again.
+    pub fn note(&mut self, told: Readiness, now: Moment) -> bool
         ensures again { result ≡ takes_again self.old told }
-        ensures told { self.new ≡ told_so self.old told }
+        ensures told { self.new ≡ told_so self.old told now }
     {
+        if told.is_readable || told.is_over {
+            self.silent_since = now;
+        }
         let has_room = self.is_full && told.has_room;
         self.is_ending |= told.is_over;
         // kept until the next read, also where the next turn is given what is left of the last
@@ -106,13 +148,99 @@ impl Talker {
         has_room
     }
 
-    /// Whether it has something to say and is to be asked for it. A client is not that is held
-    /// back, or that has not taken its answers yet.
-    /// Links are never kept waiting: two that wait for one another would do so for good.
+    /// Whether it has something to say and is to be asked for it. Who is held back is not, nor a
+    /// client that has not taken its answers yet; whose read is to fail is in any case.
+    /// A link is asked though much waits for it: two that wait for one another would do so for
+    /// good.
     pub fn is_asked(&self) -> bool
         ensures { result ≡ is_asked self.now }
     {
-        self.is_readable && !(self.is_client && (self.is_held || self.is_behind))
+        let is_kept = self.is_held || (self.is_client && self.is_behind);
+        self.is_given_up || (self.is_readable && !is_kept)
+    }
+
+    /// Whether it would be asked, and may be held back: a client, or a link that was met.
+    pub fn may_be_held(&self) -> bool
+        ensures { result ≡ may_be_held self.now }
+    {
+        self.is_asked() && !self.is_given_up && (self.is_client || self.is_named)
+    }
+
+    /// Whether it may be held back for a client at this moment: who was let go is asked first, and
+    /// a link is held back once in a while alone.
+    pub fn may_be_eased(&self, now: Moment) -> bool
+        ensures { result ≡ may_be_eased self.now now }
+    {
+        !self.was_held && (self.is_client || !now.is_before(self.free_until))
+    }
+
+    /// How much waits for a link that was met, but for what is left of what waited then.
+    fn load(&self) -> usize
+        ensures { result ≡ load self.now }
+    {
+        if self.is_client || !self.is_named {
+            0
+        } else {
+            self.waiting.bytes.saturating_sub(self.spared)
+        }
+    }
+
+    /// Whether more waits for a link than may before who adds to it is held back.
+    pub fn is_over_soft(&self, marks: Marks) -> bool
+        ensures { result ≡ is_over_soft marks self.now }
+    {
+        self.load() > marks.soft
+    }
+
+    /// Whether more waits for a link than may before nobody else is read.
+    pub fn is_over_hard(&self, marks: Marks) -> bool
+        ensures { result ≡ is_over_hard marks self.now }
+    {
+        self.load() > marks.hard
+    }
+
+    /// The link is met: the server at its other end is known. A burst that waits holds nobody back.
+    pub fn name(&mut self)
+        ensures { self.new ≡ named self.old }
+    {
+        self.is_named = true;
+        self.spared = self.waiting.bytes;
+    }
+
+    /// Its next read and its next write fail.
+    pub fn give_up(&mut self)
+        ensures { self.new ≡ given_up self.old }
+    {
+        self.is_given_up = true;
+    }
+
+    /// Whether its writes fail at this moment: it is given up; or it is a link for which something
+    /// waits, of which it took none for so long, while it said nothing, and nothing that it said is
+    /// yet to be read.
+    pub fn is_over(&self, now: Moment) -> bool
+        ensures { result ≡ is_over now self.now }
+    {
+        let is_silent = now.since(self.silent_since) >= LONGEST_SILENCE_MS;
+        let takes_none = self.waiting.is_some() && is_silent && !self.is_readable;
+        self.is_given_up || (!self.is_client && takes_none)
+    }
+
+    /// Whether the other end might take it for gone: a link that is not read, and for which nothing
+    /// waits.
+    pub fn wants_signal(&self) -> bool
+        ensures { result ≡ wants_signal self.now }
+    {
+        self.is_held && !self.is_client && !self.waiting.is_some()
+    }
+
+    /// A signal of so many bytes was given, of which it took so many. What is left of it could not
+    /// be told from what comes behind it.
+    pub fn end_signal(&mut self, taken: usize, given: usize)
+        ensures { self.new ≡ signalled taken given self.old }
+    {
+        if 0 < taken && taken < given {
+            self.is_given_up = true;
+        }
     }
 
     /// Whether bytes may wait though nothing keeps its socket from taking them. The system has
@@ -123,11 +251,30 @@ impl Talker {
         !self.is_full && self.waiting.is_some()
     }
 
-    /// Whether its socket takes nothing, and much waits for it.
-    pub fn is_stuck(&self) -> bool
-        ensures { result ≡ is_stuck self.now }
+    /// Whether it is a client whose socket takes nothing, and for which so much waits that whoever
+    /// adds to it is held back: a client, or a link.
+    pub fn is_stuck(&self, marks: Marks, by_link: bool) -> bool
+        ensures { result ≡ is_stuck marks by_link self.now }
     {
-        self.is_full && self.waiting.is_much(self.is_client)
+        let is_much = if by_link {
+            self.waiting.bytes > marks.client
+        } else {
+            self.waiting.is_much()
+        };
+        self.is_client && self.is_full && is_much
+    }
+
+    /// Whether too much waits for it, where a client, or a link, adds to it.
+    pub fn too_much(&self, marks: Marks, by_link: bool) -> TooMuch
+        ensures { result ≡ too_much_for marks by_link self.now }
+    {
+        if self.is_stuck(marks, by_link) {
+            TooMuch::OfClient
+        } else if self.is_over_soft(marks) {
+            TooMuch::OfLink
+        } else {
+            TooMuch::No
+        }
     }
 
     /// A read begins, where somebody has come so often so far: what was left of the last one is
@@ -191,22 +338,27 @@ impl Talker {
     }
 
     /// A turn is over in which it was read, was answered so many bytes, and had so many put out to
-    /// others; and has added to a full outbox, or has not.
-    pub(crate) fn end_turn(&mut self, answered: usize, shown: usize, filled: Option<TalkerMark>)
-        ensures { self.new ≡ turn_over self.old answered shown filled }
+    /// others; and has added to these outboxes of a client and of a link, or to none.
+    pub(crate) fn end_turn(&mut self, answered: usize, shown: usize, added: AddedTo)
+        ensures { self.new ≡ turn_over self.old answered shown added }
     {
         if !self.rest.is_empty() {
             self.pace.note(answered, shown);
         }
-        self.fills = filled;
+        self.fills = added.client;
+        self.grows = added.link;
     }
 
-    /// It is held back, and begins anew then.
-    pub fn hold(&mut self)
-        ensures { self.new ≡ held_back self.old }
+    /// It is held back from this moment on, for a client or for another reason, and begins anew
+    /// then.
+    pub fn hold(&mut self, for_client: bool, now: Moment)
+        ensures { self.new ≡ held_back for_client now self.old }
     {
         self.is_held = true;
         self.pace.rest();
+        if for_client {
+            self.free_until = now.later(HELD_ONCE_IN_MS);
+        }
     }
 
     /// It is held back no more.
@@ -242,11 +394,16 @@ impl Talker {
         self.is_full |= is_blocked;
     }
 
-    /// A write of so many bytes in all is over. It took so many of them, or failed.
-    pub fn end_write(&mut self, turn: u64, all: usize, taken: Option<usize>)
-        ensures { self.new ≡ written turn all taken self.old }
+    /// A write of so many bytes in all is over, in this turn of a round that began at this moment.
+    /// It took so many of them, or failed.
+    pub fn end_write(&mut self, turn: u64, now: Moment, all: usize, taken: Option<usize>)
+        ensures { self.new ≡ written turn now all taken self.old }
     {
         if let Some(taken) = taken {
+            if taken > 0 || !self.waiting.is_some() {
+                self.silent_since = now;
+            }
+            self.spared = self.spared.saturating_sub(taken);
             self.waiting.note(turn, all, all.saturating_sub(taken));
         }
     }

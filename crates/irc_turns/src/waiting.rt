@@ -1,19 +1,15 @@
 //! What waits for a socket that was put off.
 ghost use Rattle.std.specs.Prelude.{◌≡◌, ◌-◌, nat_lt};
-ghost use Rattle.irc_turns.specs.Gathering.{nothing_waits, is_put_off, much_for, waits_behind};
+ghost use Rattle.irc_turns.specs.Gathering.{nothing_waits, is_put_off, waits_behind};
 
 use std::marker::Model;
 
 /// So many bytes are written at once, so that nobody's outbox fills by the wait.
 const MANY_BYTES: usize = 4096;
 
-/// So much waits for a client where whoever adds to it is held back: a quarter of the smallest
+/// So much waits for a client where a client who adds to it is held back: a quarter of the smallest
 /// outbox that is any use.
 const MUCH_BYTES: usize = 8192;
-
-/// So much waits for a link where whoever adds to it is held back. A link takes what all who are
-/// behind it are told, and the bursts of others.
-const MUCH_OF_LINK_BYTES: usize = 262_144;
 
 /// How many turns without anything new a write waits at most: as many as cost no more than it does.
 const PATIENCE_TURNS: u64 = 16;
@@ -25,7 +21,7 @@ const LONGEST_TURNS: u64 = 64;
 #[derive(Drop)]
 pub(crate) struct WaitingWrite {
     /// How many bytes did behind the last turn.
-    bytes: usize,
+    pub bytes: usize,
     /// The last turn in which there were more.
     grown_at: u64,
     /// The turn since which they wait.
@@ -66,15 +62,11 @@ impl WaitingWrite {
         self.bytes > 0
     }
 
-    /// Whether so much waits, for a client or for a link, that whoever adds to it is held back.
-    pub fn is_much(&self, is_client: bool) -> bool
-        ensures { result ≡ nat_lt (much_for is_client) self.now.bytes }
+    /// Whether so much waits for a client that a client who adds to it is held back.
+    pub fn is_much(&self) -> bool
+        ensures { result ≡ nat_lt 8192 self.now.bytes }
     {
-        if is_client {
-            self.bytes > MUCH_BYTES
-        } else {
-            self.bytes > MUCH_OF_LINK_BYTES
-        }
+        self.bytes > MUCH_BYTES
     }
 
     /// Whether a write of so many bytes waits in this turn. The first behind a pause does not.

@@ -1,11 +1,10 @@
-use Rattle.std.proofs.Common.{◌≡◌, ◌&&◌, drop, false, true, sym, ◌∙◌, ap}
+use Rattle.std.proofs.Common.{drop, false, true, sym, ◌∙◌, ap}
 use Rattle.std.specs.Option.{option_copied_mut}
 use Rattle.slab.specs.Slab.{with_value}
-use Rattle.irc_turns.specs.Numbered.{NumberedTalkers, talker_at, turn_reader}
+use Rattle.irc_turns.specs.Numbered.{NumberedTalkers, talker_at}
 use Rattle.irc_turns.proofs.FirstReported.{none_reported, reported, none_there, none_read}
 use Rattle.irc_turns.proofs.FirstReported.{none_told, as_heard, as_told, as_read}
 use Rattle.irc_turns.proofs.talkers.Talkers.report.Goals as goal
-use Rattle.irc_turns.proofs.talkers.Talkers.report.Goals.{then-talker, else-talker}
 
 pub returns-in_err-number-clause-first : goal.returns-in_err-number-clause-first
 returns-in_err-number-clause-first c = none_reported c.args.self.now _ c.args.round.now _
@@ -46,8 +45,7 @@ returns-then-not-is_asked-clause-first c =
     (ap (λ (s : NumberedTalkers). record s { by_number = with_value s.by_number number talker })
     c.self-2.view_is
     ∙ as_heard held number talker false there asked)
-    (as_read held number talker false c.args.round.now there
-    (ap (λ b. b && talker.is_client) asked))
+    (as_read held number talker false c.args.round.now there asked)
 
 pub returns-clause-first : goal.returns-clause-first
 returns-clause-first c =
@@ -58,18 +56,6 @@ returns-clause-first c =
     ap (λ (s : NumberedTalkers). talker_at s number) (sym c.self-2.view_is)
     ∙ sym c.get_mut.ensures.value ∙ ap option_copied_mut c.in_ok-talker.was in
     let asked = sym c.is_asked.ensures ∙ c.if-not-is_asked.false in
-    let read : c.if-talker.round ≡ record c.args.round.now {
-      reader = turn_reader number
-          (talker_at held number) c.args.round.now.reader;
-    } =
-    elim c.if-talker.branch [
-      | then-talker w ↦
-          w.round-is ∙ as_read held number talker true c.args.round.now there
-          (ap (λ b. b && talker.is_client) asked ∙ w.if-talker.true)
-      | else-talker w ↦
-          w.round-is ∙ as_read held number talker false c.args.round.now there
-          (ap (λ b. b && talker.is_client) asked ∙ w.if-talker.false)
-    ] in
     reported c.args.self.now _ held _ number c.pop.new.self.numbers c.args.round.now _ _
     (ap (λ (s : NumberedTalkers). s.queue) (sym c.self.view_is) ∙ c.in_ok-number.ensures.numbers)
     (ap (λ (s : NumberedTalkers). record s { queue = c.pop.new.self.numbers }) c.self.view_is)
@@ -80,4 +66,4 @@ returns-clause-first c =
           with_value s.by_number number (record talker { is_readable = false; was_held = false });
     }) c.self-2.view_is
     ∙ as_heard held number talker true there asked)
-    read
+    (c.note_reader.ensures ∙ as_read held number talker true c.args.round.now there asked)
