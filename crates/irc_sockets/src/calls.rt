@@ -14,7 +14,7 @@ use mio::{Interest, Registry, Token};
 use std::alloc::{AllocError, Global};
 use std::collections::VecDeque;
 use std::io::ErrorKind;
-use std::net::{Net, SocketAddr};
+use std::net::{IpAddr, Net, SocketAddr};
 use std::{io, net};
 
 /// A server that is to be called.
@@ -162,6 +162,11 @@ impl Calls {
         let stream = begin_call(callee.address, registry)?;
         self.under_way.push(Calling { stream, place })?;
         Ok(())
+    }
+
+    /// Where the one at a place is called.
+    pub fn address(&self, place: usize) -> Option<IpAddr> {
+        Some(self.asked.get(place)?.address.ip())
     }
 
     /// Whether some may be through, or have failed.

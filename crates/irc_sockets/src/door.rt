@@ -2,7 +2,7 @@
 ghost use Rattle.std.specs.Prelude.{◌≡◌, IfOk};
 
 use irc_moments::Moment;
-use irc_turns::Arrivals;
+use irc_turns::{Arrivals, Shortage};
 use mio::net::{TcpListener, TcpStream};
 use mio::{Interest, Registry, Token};
 use std::io;
@@ -17,6 +17,8 @@ pub(crate) struct Door {
     pub asked: SocketAddr,
     /// Who waits there.
     pub arrivals: Arrivals,
+    /// Whether descriptors or memory are wanting for who does.
+    pub shortage: Shortage,
 }
 
 impl Door {
@@ -38,6 +40,7 @@ impl Door {
             listener,
             asked: address,
             arrivals: Arrivals::new(),
+            shortage: Shortage::new(),
         })
     }
 
@@ -53,7 +56,10 @@ impl Door {
     pub fn accept(&mut self, now: Moment) -> Option<(TcpStream, SocketAddr)> {
         self.arrivals.take();
         match self.listener.accept() {
-            Ok(taken) => Some(taken),
+            Ok(taken) => {
+                self.shortage.note(false);
+                Some(taken)
+            }
             Err(error) => {
                 self.refuse(error.kind(), now);
                 None
@@ -66,8 +72,14 @@ impl Door {
     fn refuse(&mut self, kind: ErrorKind, now: Moment) {
         match kind {
             ErrorKind::ConnectionAborted | ErrorKind::Interrupted => {}
-            ErrorKind::WouldBlock => self.arrivals.end(),
-            _ => self.arrivals.rest(now),
+            ErrorKind::WouldBlock => {
+                self.shortage.note(false);
+                self.arrivals.end();
+            }
+            _ => {
+                self.shortage.note(true);
+                self.arrivals.rest(now);
+            }
         }
     }
 }

@@ -18,6 +18,9 @@ const TIMES: i32 = 4;
 /// may last in all.
 const UNTAKEN: i32 = (SILENCE + TIMES * AGAIN) * 1000;
 
+/// How many bytes for a link the system holds: what waits is to wait here, where it is seen.
+const HELD_FOR_LINK: i32 = 131_072;
+
 /// How many bytes of an option's value are its number.
 const NUMBER: u32 = 4;
 
@@ -28,6 +31,11 @@ pub(crate) fn ask_after(stream: &TcpStream) {
     set_number(stream, c::IPPROTO_TCP, c::TCP_KEEPCNT, TIMES);
     set_number(stream, c::IPPROTO_TCP, c::TCP_USER_TIMEOUT, UNTAKEN);
     set_number(stream, c::SOL_SOCKET, c::SO_KEEPALIVE, 1);
+}
+
+/// Has the system hold few bytes for a link.
+pub(crate) fn narrow(stream: &TcpStream) {
+    set_number(stream, c::SOL_SOCKET, c::SO_SNDBUF, HELD_FOR_LINK);
 }
 
 /// Sets an option of a socket. One that is refused is passed over: the connection serves without it

@@ -8,14 +8,14 @@ use crate::calls::{Callee, Calls};
 use crate::clock::clock_time;
 use crate::door::Door;
 use crate::host::host_of;
-use crate::keep_alive::ask_after;
+use crate::keep_alive::{ask_after, narrow};
 use crate::listening::Listening;
 use crate::sockets::Sockets;
 use crate::tokens::{CALLS, CLIENTS, FIRST_SOCKET, LINKS};
 use irc_moments::Moment;
-use irc_names::ServerName;
-use irc_outbox::{Got, IoFault, Ready, Unreached, Wire};
-use irc_turns::{Crowd, Round, wait_for};
+use irc_names::{Host, ServerName};
+use irc_outbox::{Got, IoFault, Notice, Ready, Wire};
+use irc_turns::{Crowd, Marks, Round, Signals, Strangers, wait_for};
 use mio::net::TcpStream;
 use mio::{Events, Interest, Poll, Token};
 use std::alloc::Global;
@@ -43,7 +43,13 @@ pub struct MioWire {
     links: Option<Door>,
     calls: Calls,
     sockets: Sockets,
+    /// How many clients are connected from which addresses.
     crowd: Crowd,
+    /// How many connections at the door for links have not named themselves, likewise.
+    unnamed: Crowd,
+    /// Links that are to name themselves in time, also such as were called.
+    strangers: Strangers,
+    signals: Signals,
     round: Round,
 }
 
@@ -81,8 +87,11 @@ impl MioWire {
             clients,
             links,
             calls,
-            sockets: Sockets::new(alloc),
+            sockets: Sockets::new(alloc, Marks::of(listening.client_room, listening.link_room)),
             crowd: Crowd::new(alloc, listening.connections_per_address),
+            unnamed: Crowd::new(alloc, listening.links_per_address),
+            strangers: Strangers::new(alloc, listening.name_within),
+            signals: Signals::new(now),
             round: Round::new(now),
         })
     }
@@ -118,8 +127,12 @@ impl MioWire {
         let now = self.round.began.behind(clock_time());
         self.wake_doors_at(now);
         self.calls.retries.look();
-        let has_come = self.take_events();
+        let has_come = self.take_events(now);
+        self.end_times(now);
         self.sockets.talkers.let_go(now);
+        if self.signals.are_due(now) {
+            self.sockets.give_signs();
+        }
         self.round
             .begin(now, self.sockets.talkers.waiting(), has_come);
         Ok(())
@@ -133,8 +146,18 @@ impl MioWire {
         wait_for(is_busy, is_awaited)
     }
 
+    /// Who has not named itself in time is reported, so that its read fails.
+    fn end_times(&mut self, now: Moment) {
+        for _one in 0..self.strangers.len() {
+            let Some(mark) = self.strangers.next_over(now) else {
+                return;
+            };
+            self.sockets.talkers.end_time(mark);
+        }
+    }
+
     /// Takes in what the system tells, and whether somebody has come who was not waiting.
-    fn take_events(&mut self) -> bool {
+    fn take_events(&mut self, now: Moment) -> bool {
         let before = self.sockets.talkers.waiting();
         let mut has_come = false;
         for event in &self.events {
@@ -144,7 +167,7 @@ impl MioWire {
                 Token(CALLS) => self.calls.knock(),
                 Token(number) => self
                     .sockets
-                    .note(number.saturating_sub(FIRST_SOCKET), event),
+                    .note(number.saturating_sub(FIRST_SOCKET), event, now),
             };
         }
         self.sockets.talkers.put_behind(before);
@@ -187,6 +210,19 @@ impl MioWire {
         }
     }
 
+    /// That connections cannot be taken any more, or again, at one of the doors.
+    fn shortage(&mut self) -> Option<Notice> {
+        let told = match self.clients.shortage.tell() {
+            Some(told) => Some(told),
+            None => self.links.as_mut()?.shortage.tell(),
+        };
+        if told? {
+            Some(Notice::DescriptorsGone)
+        } else {
+            Some(Notice::DescriptorsBack)
+        }
+    }
+
     /// The report of the next arrival of this round.
     fn arrival(&mut self) -> Option<Ready> {
         if self.calls.may_have() {
@@ -214,7 +250,7 @@ impl MioWire {
         if !self.crowd.lets_in(address) {
             return None;
         }
-        let number = self.admit(stream, true)?;
+        let number = self.admit(stream, address, true)?;
         if self.crowd.note(number, address).is_err() {
             self.sockets.remove(number as usize);
             return None;
@@ -224,17 +260,42 @@ impl MioWire {
 
     /// The report of a server that has connected, likewise.
     fn link(&mut self) -> Option<Ready> {
-        let (stream, _) = self.links.as_mut()?.accept(self.round.began)?;
+        let (stream, address) = self.links.as_mut()?.accept(self.round.began)?;
         self.calls.retries.come();
-        let number = self.admit(stream, false)?;
+        let number = self.admit_stranger(stream, address.ip())?;
         Some(Ready::Linked(number, None))
+    }
+
+    /// Takes a connection of a server in, if its address may have one more that has not named
+    /// itself.
+    fn admit_stranger(&mut self, stream: TcpStream, address: IpAddr) -> Option<u64> {
+        if !self.unnamed.lets_in(address) {
+            return None;
+        }
+        let number = self.admit(stream, address, false)?;
+        if self.unnamed.note(number, address).is_err() {
+            self.sockets.remove(number as usize);
+            return None;
+        }
+        self.note_stranger(number)
+    }
+
+    /// A link is to name itself in time. Where there is no memory to know when, it is closed.
+    fn note_stranger(&mut self, number: u64) -> Option<u64> {
+        let mark = self.sockets.talkers.mark(number as usize)?;
+        if self.strangers.add(mark, self.round.began).is_err() {
+            self.sockets.remove(number as usize);
+            self.unnamed.forget(number);
+            return None;
+        }
+        Some(number)
     }
 
     /// The report of a server that was called and is reached, likewise.
     fn called(&mut self) -> Option<Ready> {
         let now = self.round.began;
         let (stream, place) = self.calls.next(now)?;
-        let Some(number) = self.admit_called(stream) else {
+        let Some(number) = self.admit_called(stream, place) else {
             self.calls
                 .fail(place, io::Error::from(ErrorKind::OutOfMemory), now);
             return None;
@@ -245,18 +306,25 @@ impl MioWire {
 
     /// Takes in the connection of a call. From now on the system is to report it as that, under its
     /// number.
-    fn admit_called(&mut self, mut stream: TcpStream) -> Option<u64> {
+    fn admit_called(&mut self, mut stream: TcpStream, place: usize) -> Option<u64> {
         self.poll.registry().deregister(&mut stream).ok()?;
-        self.admit(stream, false)
+        let address = self.calls.address(place)?;
+        let number = self.admit(stream, address, false)?;
+        self.note_stranger(number)
     }
 
     /// Takes a connection of a client or a link in, and gives it a number.
-    fn admit(&mut self, stream: TcpStream, is_client: bool) -> Option<u64> {
+    fn admit(&mut self, stream: TcpStream, address: IpAddr, is_client: bool) -> Option<u64> {
         // lines are short, and each is to go out at once; a socket that cannot be told so serves
         // too
         let _set = stream.set_nodelay(true);
         ask_after(&stream);
-        let number = self.sockets.add(stream, is_client)?;
+        if !is_client {
+            narrow(&stream);
+        }
+        let number = self
+            .sockets
+            .add(stream, address, is_client, self.round.began)?;
         if self.register(number).is_none() {
             self.sockets.remove(number);
             return None;
@@ -301,6 +369,7 @@ impl Wire for MioWire {
 
     fn ready(&mut self) -> Result<Ready, IoFault> {
         self.sockets.talkers.end_turn(&self.round);
+        self.sockets.begin_turn();
         let is_over = self.round.is_over(self.has_arrivals());
         if is_over && self.begin_round().is_err() {
             return Err(IoFault::Failed);
@@ -324,6 +393,7 @@ impl Wire for MioWire {
     fn close(&mut self, conn: u64) {
         self.sockets.remove(conn as usize);
         self.crowd.forget(conn);
+        self.unnamed.forget(conn);
         self.calls.close(conn, self.round.began);
         self.wake_doors();
     }
@@ -338,7 +408,21 @@ impl Wire for MioWire {
             .know(is_known, yields, registry, self.round.began);
     }
 
-    fn unreached(&mut self) -> Option<Unreached> {
-        self.calls.unreached()
+    fn named(&mut self, conn: u64) {
+        self.sockets.talkers.name(conn as usize);
+        self.unnamed.forget(conn);
+    }
+
+    fn whence(&self, conn: u64) -> Option<Host> {
+        host_of(self.sockets.address(conn as usize)?)
+    }
+
+    fn moment(&self) -> Moment {
+        self.round.began
+    }
+
+    fn notice(&mut self) -> Option<Notice> {
+        self.shortage()
+            .or(self.calls.unreached().map(Notice::Unreached))
     }
 }

@@ -3,35 +3,66 @@ ghost use Rattle.std.specs.Prelude.{◌≡◌, ◌≤◌, ℕ, length, IfOk};
 ghost use Rattle.irc_outbox.specs.Calls.{FitsIn};
 ghost use Rattle.irc_sockets.specs.Answers.{unread_as, unwritten_as};
 
+use irc_moments::Moment;
 use irc_outbox::{Got, IoFault, Ready};
-use irc_turns::{Readiness, Reading, Report, Round, Talker, Talkers};
+use irc_turns::{Marks, Readiness, Reading, Report, Round, Talker, Talkers};
 use mio::event::Event;
 use mio::net::TcpStream;
 use std::alloc::Global;
 use std::io::{ErrorKind, Read, Write};
-use std::net::Shutdown;
+use std::net::{IpAddr, Shutdown};
+
+/// What is said to a link that is not read, so that its other end does not take this one for gone:
+/// an empty line, of which no server takes notice (RFC 2813 section 3.3).
+const SIGN: &[u8] = b"\r\n";
+
+/// The socket of a connection.
+#[derive(Drop)]
+struct Socket {
+    stream: TcpStream,
+    /// From where the connection is.
+    address: IpAddr,
+}
+
+/// A connection that was closed, and from where it was.
+#[derive(Drop)]
+struct Gone {
+    number: usize,
+    address: IpAddr,
+}
 
 /// The sockets of connections. Whose turn it is with them is known of their talkers.
 #[derive(Drop)]
 pub(crate) struct Sockets {
-    by_number: Vec<Option<TcpStream>, Global>,
+    by_number: Vec<Option<Socket>, Global>,
+    /// Those that were closed in this turn. Where there is no memory for one, it is not known.
+    gone: Vec<Gone, Global>,
     pub talkers: Talkers,
 }
 
 impl Sockets {
-    /// No sockets.
-    pub fn new(alloc: Global) -> Self {
+    /// No sockets. By these marks much waits for one.
+    pub fn new(alloc: Global, marks: Marks) -> Self
+        ensures { result.talkers.marks ≡ marks }
+    {
         Sockets {
             by_number: Vec::new(alloc),
-            talkers: Talkers::new(alloc),
+            gone: Vec::new(alloc),
+            talkers: Talkers::new(alloc, marks),
         }
     }
 
-    /// Takes the socket of a client or of a link in, and gives it a number. Where memory runs out
-    /// it is closed.
-    pub fn add(&mut self, stream: TcpStream, is_client: bool) -> Option<usize> {
-        let number = self.talkers.add(is_client).ok()?;
-        if self.put(number, stream).is_none() {
+    /// Takes the socket of a client or of a link in that has come at this moment from an address,
+    /// and gives it a number. Where memory runs out it is closed.
+    pub fn add(
+        &mut self,
+        stream: TcpStream,
+        address: IpAddr,
+        is_client: bool,
+        now: Moment,
+    ) -> Option<usize> {
+        let number = self.talkers.add(is_client, now).ok()?;
+        if self.put(number, Socket { stream, address }).is_none() {
             self.talkers.remove(number);
             return None;
         }
@@ -39,39 +70,60 @@ impl Sockets {
     }
 
     /// Puts a socket under the number of its talker, which is the lowest that is free.
-    fn put(&mut self, number: usize, stream: TcpStream) -> Option<()> {
+    fn put(&mut self, number: usize, socket: Socket) -> Option<()> {
         if number == self.by_number.len() {
-            return self.by_number.push(Some(stream)).ok();
+            return self.by_number.push(Some(socket)).ok();
         }
-        *self.by_number.get_mut(number)? = Some(stream);
+        *self.by_number.get_mut(number)? = Some(socket);
         Some(())
     }
 
     /// The stream under a number.
     pub fn stream(&mut self, number: usize) -> Option<&mut TcpStream> {
-        self.by_number.get_mut(number)?.as_mut()
+        let socket = self.by_number.get_mut(number)?.as_mut()?;
+        Some(&mut socket.stream)
+    }
+
+    /// From where a connection is, or was that was closed in this turn.
+    pub fn address(&self, number: usize) -> Option<IpAddr> {
+        match self.by_number.get(number) {
+            Some(Some(socket)) => Some(socket.address),
+            _ => self.address_before(number),
+        }
+    }
+
+    fn address_before(&self, number: usize) -> Option<IpAddr> {
+        let gone = self.gone.iter().find(|gone| gone.number == number)?;
+        Some(gone.address)
+    }
+
+    /// A turn begins: where they were from that were closed before is not asked any more.
+    pub fn begin_turn(&mut self) {
+        self.gone.clear();
     }
 
     /// Closes a socket. Its number is free again.
     pub fn remove(&mut self, number: usize) {
         if let Some(slot) = self.by_number.get_mut(number)
-            && let Some(stream) = slot.take()
+            && let Some(socket) = slot.take()
         {
             // where the other end has closed it already there is nothing to be done
-            let _closed = stream.shutdown(Shutdown::Both);
+            let _closed = socket.stream.shutdown(Shutdown::Both);
+            let address = socket.address;
+            let _noted = self.gone.push(Gone { number, address });
         }
         self.talkers.remove(number);
     }
 
-    /// Takes in what the system tells of a socket, and whether somebody has come by it who was not
-    /// waiting.
-    pub fn note(&mut self, number: usize, event: &Event) -> bool {
+    /// Takes in what the system tells of a socket at this moment, and whether somebody has come by
+    /// it who was not waiting.
+    pub fn note(&mut self, number: usize, event: &Event, now: Moment) -> bool {
         let told = Readiness {
             is_readable: event.is_readable(),
             is_over: event.is_read_closed() || event.is_error(),
             has_room: event.is_writable() || event.is_error(),
         };
-        self.talkers.note(number, told)
+        self.talkers.note(number, told, now)
     }
 
     /// The report of the one that is first in the queue.
@@ -82,20 +134,43 @@ impl Sockets {
         }
     }
 
+    /// Gives a sign of life to each link that is not read, and for which nothing waits.
+    pub fn give_signs(&mut self) {
+        for number in 0..self.by_number.len() {
+            if self.talkers.wants_signal(number) {
+                self.give_sign(number);
+            }
+        }
+    }
+
+    fn give_sign(&mut self, number: usize) {
+        let Some(Some(socket)) = self.by_number.get_mut(number) else {
+            return;
+        };
+        // where it fails, the next read tells so
+        let taken = socket.stream.write(SIGN).unwrap_or(0);
+        if let Some(talker) = self.talkers.at(number) {
+            talker.end_signal(taken, SIGN.len());
+        }
+    }
+
     /// Gives what is left of the last read of a socket, or reads from it.
     ///
     /// # Errors
-    /// Where the socket failed, or is none.
+    /// Where the socket failed, is given up, or is none.
     pub fn read(&mut self, number: usize, buffer: &mut [u8], visits: u64) -> Result<Got, IoFault>
         ensures { FitsIn result (length buffer.old) }
     {
         let Some(talker) = self.talkers.at(number) else {
             return Err(IoFault::Failed);
         };
+        if talker.is_given_up {
+            return Err(IoFault::Failed);
+        }
         let got = match talker.begin_read(buffer, visits) {
             Reading::Given(count) => Ok(Got::Bytes(count)),
             Reading::Anew(lines) => match self.by_number.get_mut(number) {
-                Some(Some(stream)) => read_anew(stream, talker, buffer, lines),
+                Some(Some(socket)) => read_anew(&mut socket.stream, talker, buffer, lines),
                 _ => Err(IoFault::Failed),
             },
         };
@@ -107,7 +182,7 @@ impl Sockets {
     /// Writes to a socket, or puts that off. So many bytes more wait behind these.
     ///
     /// # Errors
-    /// Where the socket failed, or is none.
+    /// Where the socket failed, is given up, or is none.
     pub fn write(
         &mut self,
         number: usize,
@@ -135,7 +210,7 @@ impl Sockets {
         ensures { IfOk result (λ count. count ≤ length bytes.now) }
     {
         match (self.by_number.get_mut(number), self.talkers.at(number)) {
-            (Some(Some(stream)), Some(talker)) => write_anew(stream, talker, bytes),
+            (Some(Some(socket)), Some(talker)) => write_anew(&mut socket.stream, talker, bytes),
             _ => Err(IoFault::Failed),
         }
     }

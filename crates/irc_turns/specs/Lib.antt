@@ -10,6 +10,8 @@ pub mod Pacing
 pub mod Queues
 pub mod Retries
 pub mod Rounds
+pub mod Shortages
+pub mod Signs
 pub mod Spreads
 pub mod Talking
 pub mod Waits

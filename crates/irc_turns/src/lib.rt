@@ -1,6 +1,6 @@
 //! Whose turn is next, how much one takes, and which call is due: rounds, gathered writes, paces,
-//! what was read, who talks, who is held back, who is let in, and who is called again. Nothing here
-//! knows a socket.
+//! what was read, who talks, who is held back, who is let in, who has to name itself, who is given
+//! up, and who is called again. Nothing here knows a socket.
 #![tactic(auto)]
 
 mod arrivals;
@@ -13,6 +13,8 @@ mod rest;
 mod retries;
 mod retry;
 mod round;
+mod shortage;
+mod signals;
 mod spread;
 mod strangers;
 mod talker;
@@ -25,6 +27,8 @@ pub use crowd::Crowd;
 pub use marks::Marks;
 pub use retries::Retries;
 pub use round::{Round, TooMuch};
+pub use shortage::Shortage;
+pub use signals::Signals;
 pub use spread::{name_spread, spread_on};
 pub use strangers::Strangers;
 pub use talker::{Readiness, Reading, Talker, TalkerMark};

@@ -1,5 +1,5 @@
 //! Those who have come and have yet to name themselves, and until when.
-ghost use Rattle.std.specs.Prelude.{◌≡◌, OnOk, OnErr};
+ghost use Rattle.std.specs.Prelude.{◌≡◌, length, OnOk, OnErr};
 ghost use Rattle.irc_turns.specs.Naming.{strangers_of, stranger_too, first_over, others_of};
 
 use crate::talker::TalkerMark;
@@ -50,6 +50,13 @@ impl Strangers {
             within,
             comers: VecDeque::new(alloc),
         }
+    }
+
+    /// How many are known here.
+    pub fn len(&self) -> usize
+        ensures { result ≡ length self.now.comers }
+    {
+        self.comers.len()
     }
 
     /// One has come at this moment.
