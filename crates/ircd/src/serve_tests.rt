@@ -283,6 +283,23 @@ static ROWS: [ServeRow; 30] = [
         output: b"",
         errors: BAD,
     },
+    // no limit of those who do not name themselves, and more than the most
+    ServeRow {
+        room: ROOM,
+        more: "name_within = 0\nlinks_per_address = 0\n",
+        words: &["serve", FILE, "0"],
+        status: 0,
+        output: READY,
+        errors: b"",
+    },
+    ServeRow {
+        room: ROOM,
+        more: "name_within = 3601\n",
+        words: &["serve", FILE, "0"],
+        status: 3,
+        output: b"",
+        errors: BAD,
+    },
     // the largest room
     ServeRow {
         room: "client_room = 1048576\n",
