@@ -1058,10 +1058,10 @@ def probed(program):
 
 
 SAID_BY_CALLED = ["ircd: link from b.net: up",
-                  "ircd: link from an unknown server: refused: a wrong password",
+                  "ircd: link from x.net at 127.0.0.1: refused: a wrong password",
                   "ircd: link from x.net: up",
                   "ircd: link from x.net: closed: a line with an unknown command",
-                  "ircd: link from an unknown server: lost before it was up",
+                  "ircd: link from an unknown server at 127.0.0.1: lost before it was up (2 more)",
                   "ircd: link from b.net: lost"]
 
 
@@ -1074,8 +1074,11 @@ def all_said(program):
         called.start()
         network.see_all("a.net", 2)
         network.peer("a.net", "x.net", password="none").ends()
+        for _ in range(2):
+            network.peer("a.net", "x.net", greets=False).socket.close()
         network.peer("a.net", "x.net").linked().says("FOO")
         called.said(4)
+        time.sleep(1.1)
         network.peer("a.net", "x.net", greets=False).socket.close()
         called.said(5)
         caller.kill()
@@ -1085,13 +1088,14 @@ def all_said(program):
 
 
 def goes_on(program, how, text):
-    """Whether a server answers behind so many links that were refused that no pipe holds what is to be said of them."""
+    """Whether a server answers behind so many links that were refused, each from an address of its own, that no pipe holds what is to be said of them."""
     with Network(program, ["a.net"], []) as network:
         network["a.net"].begin(**how)
         network["a.net"].is_ready()
         al = network.person("a.net", "al")
-        for _ in range(1500):
-            with socket.create_connection(("127.0.0.1", network["a.net"].links), timeout=SECONDS) as stream:
+        for count in range(1500):
+            own = (f"127.0.{1 + count // 250}.{1 + count % 250}", 0)
+            with socket.create_connection(("127.0.0.1", network["a.net"].links), timeout=SECONDS, source_address=own) as stream:
                 stream.sendall(b"FOO\r\n")
                 while stream.recv(4096):
                     pass

@@ -10,3 +10,4 @@ pub mod RunLaws
 pub mod KnowingLaws
 pub mod TurnLaws
 pub mod TellingLaws
+pub mod ToldSoFar

@@ -10,6 +10,12 @@ pub enters_one : (link : ℕ) (sign : Sign) (old new : Journal) → Enters link 
     → EntersAll ((link, sign) ∷ []) old new
 enters_one link sign old new enters = record { between = new; enters = enters; rest_is = refl }
 
+-- two of one link
+pub enters_two : (link : ℕ) (one other : Sign) (old mid new : Journal) → Enters link one old mid
+    → Enters link other mid new → EntersAll ((link, one) ∷ (link, other) ∷ []) old new
+enters_two link one other old mid new enters then =
+    record { between = mid; enters = enters; rest_is = enters_one link other mid new then }
+
 pub enters_both : (a b : List (ℕ × Sign)) (old mid new : Journal) → EntersAll a old mid
     → EntersAll b mid new → EntersAll (a ++ b) old new
 enters_both [] b old mid new one other = subst (λ (j : Journal). EntersAll b j new) one other

@@ -8,7 +8,8 @@ use Rattle.irc_routes.specs.Limits.{own_token}
 use Rattle.irc_server.specs.declared.event.Event.{Event}
 use Rattle.irc_server.specs.declared.event.Event.TheVariants.{LinkUp, LinkLine, LinkDown}
 use Rattle.irc_stage.specs.View.{View}
-use Rattle.irc_journal.specs.Signs.{Sign, opens, meets, is_gone, sign_of}
+use Rattle.irc_journal.specs.Claims.{claimed_in}
+use Rattle.irc_journal.specs.Signs.{Sign, opens, claims, meets, is_gone, sign_of}
 
 -- the server that is known at the other end of a link: each has the same number for itself there
 -- (RFC 2813 section 4.1.2)
@@ -19,7 +20,8 @@ far_of (Some view) link = token_in view.routes link own_token
 -- by an event, behind which the server is this one
 abbrev pub event_signs : Event → Option View → List (ℕ × Sign)
 event_signs (LinkUp link called) server = (link, opens called) ∷ []
-event_signs (LinkLine link line) server = (link, meets (far_of server link)) ∷ []
+event_signs (LinkLine link line) server =
+    (link, claims (claimed_in line.items)) ∷ (link, meets (far_of server link)) ∷ []
 event_signs (LinkDown link) server = (link, is_gone) ∷ []
 event_signs other server = []
 

@@ -1,35 +1,51 @@
 -- What an engine says of its links behind a turn, and behind each of several.
-use Rattle.std.specs.Prelude.{◌≡◌, ℕ, ◌+◌, ◌<◌, true, Option, Some, None, Result, Ok, Err, List}
+use Rattle.std.specs.Prelude.{◌≡◌, ℕ, ◌+◌, ◌<◌, true, false, Option, Some, None, Result, Ok, Err}
+use Rattle.std.specs.Prelude.{List}
+use Rattle.irc_outbox.specs.declared.wire.Notice.{Notice}
+use Rattle.irc_outbox.specs.declared.wire.Notice.TheVariants as notices
 use Rattle.irc_outbox.specs.declared.wire.Unreached.{Unreached as FailedCall}
 use Rattle.irc_outbox.specs.Calls.{Call, Keeps}
 use Rattle.irc_journal.specs.declared.journal.Journal.{Journal}
 use Rattle.irc_journal.specs.declared.tidings.Tidings.{Tidings}
 use Rattle.irc_journal.specs.declared.tidings.Outcome.TheVariants.{Unreached}
 use Rattle.irc_journal.specs.Signs.{IsEmptied}
-use Rattle.irc_journal.specs.Saying.{AreSaid, IsSaid}
+use Rattle.irc_journal.specs.Lines.{connections_line}
+use Rattle.irc_journal.specs.Saying.{AreTold, IsFrontSaid, IsSaid}
 use Rattle.irc_engine.specs.declared.engine.EngineFault.{EngineFault}
 use Rattle.irc_engine.specs.Turning.{Turned}
 use Rattle.irc_engine.specs.EngineView.{EngineView}
 
 -- what is told of a call that has failed
 abbrev pub call_told : FailedCall → Tidings
-call_told call = record { name = Some call.name; is_called = true; outcome = Unreached call.error }
+call_told call =
+    record {
+      link = None;
+      name = Some call.name;
+      is_called = true;
+      outcome = Unreached call.error;
+    }
 
--- it is said, if there is one
-abbrev pub IsCallSaid : Option FailedCall → Option (List ℕ) → Option (List ℕ) → Type 0
-IsCallSaid None held after = after ≡ held
-IsCallSaid (Some call) held after = IsSaid (call_told call) held after
+-- what a wire has to tell is said, if there is something
+abbrev pub IsNoticeSaid : Option Notice → Option (List ℕ) → Option (List ℕ) → Type 0
+IsNoticeSaid None held after = after ≡ held
+IsNoticeSaid (Some (notices.Unreached call)) held after = IsSaid (call_told call) None 0 held after
+IsNoticeSaid (Some notices.DescriptorsGone) held after =
+    IsFrontSaid (connections_line false) held after
+IsNoticeSaid (Some notices.DescriptorsBack) held after =
+    IsFrontSaid (connections_line true) held after
 
--- All that there was to tell of links is said, and then a call that the wire says has failed, if
--- there is one; nothing else has changed.
+-- All that there was to tell of links is told, at some moment and of each from some address, as the
+-- wire answers; and then what the wire itself has to tell is said. Nothing else has changed.
 pub record Tells {W : Type 0} (is_after : W → List Call → Type 0) (old new : EngineView W)
     (held after : Option (List ℕ)) : Type 0 where
-  pub between : Option (List ℕ)
-  pub are_said : AreSaid old.now.journal.tidings.items held between
-  pub call : Option FailedCall
-  pub call_said : IsCallSaid call between after
+  pub emptied : Journal
+  pub is_emptied : IsEmptied old.now.journal emptied
+  pub moment : ℕ
   pub journal : Journal
-  pub is_emptied : IsEmptied old.now.journal journal
+  pub between : Option (List ℕ)
+  pub are_told : AreTold moment old.now.journal.tidings.items emptied journal held between
+  pub notice : Option Notice
+  pub notice_said : IsNoticeSaid notice between after
   pub wire : W
   pub keeps : Keeps is_after old.now.wire wire
   pub new_is : new ≡ record old { now = record old.now { journal = journal; wire = wire } }

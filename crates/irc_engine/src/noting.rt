@@ -18,7 +18,10 @@ pub(crate) fn note(journal: &mut Journal, event: &Event, server: &Server) -> Res
 {
     match event {
         Event::LinkUp(link, called) => journal.open(*link, called.as_ref()),
-        Event::LinkLine(link, _) => journal.meet(*link, far_of(server, *link)),
+        Event::LinkLine(link, line) => {
+            journal.hear(*link, line.as_slice());
+            journal.meet(*link, far_of(server, *link))
+        }
         Event::LinkDown(link) => journal.lose(*link),
         Event::Connect(_, _) | Event::Line(_, _) | Event::Gone(_) => Ok(()),
     }

@@ -1,11 +1,16 @@
 //! What an engine says of its links, behind each of its turns.
 ghost use Rattle.std.specs.Prelude.{◌≡◌};
+ghost use Rattle.irc_outbox.specs.Calls.{Keeps};
+ghost use Rattle.irc_journal.specs.Saying.{AreTold, TellsOne};
 ghost use Rattle.irc_engine.specs.EngineView.{engine_view};
-ghost use Rattle.irc_engine.specs.Telling.{call_told, IsCallSaid, RunsTelling, Tells, TellsTurned};
+ghost use Rattle.irc_engine.specs.Telling.{call_told, IsNoticeSaid, RunsTelling, Tells};
+ghost use Rattle.irc_engine.specs.Telling.{TellsTurned};
 
 use crate::engine::{Engine, EngineFault};
-use irc_journal::{Outcome, Tidings, say, say_one};
-use irc_outbox::{Unreached, Wire};
+use irc_journal::{Journal, Outcome, Tidings, say_call, say_connections};
+use irc_moments::Moment;
+use irc_names::Host;
+use irc_outbox::{Notice, Unreached, Wire};
 use std::io::Write;
 
 impl<W: Wire> Engine<W> {
@@ -34,25 +39,88 @@ impl<W: Wire> Engine<W> {
         turned
     }
 
-    /// Says what there is to tell of links, and of a call that has failed. Nothing that this cannot
-    /// do ends anything.
+    /// Says what there is to tell of links, and what the wire has to tell; the wire is told which
+    /// links are up. Nothing that this cannot do ends anything.
     pub fn tell<E: Write>(&mut self, errors: &mut E)
         ensures { Tells W.is_after (engine_view self.old) (engine_view self.new)
             (E.contents errors.old) (E.contents errors.new) }
     {
-        say(self.core.journal.tidings(), errors);
-        self.core.journal.clear();
-        let call = self.core.connections.wire.unreached();
-        say_call(call, errors);
+        let core = &mut self.core;
+        let told = core.journal.take(core.alloc);
+        let wire = &mut core.connections.wire;
+        tell_links(&told, wire.moment(), &mut core.journal, wire, errors);
+        say_notice(wire.notice(), errors);
     }
 }
 
-/// Says of a call that it has failed, if there is one.
-fn say_call<E: Write>(call: Option<Unreached>, errors: &mut E)
-    ensures { IsCallSaid call (E.contents errors.old) (E.contents errors.new) }
+/// Tells all this of links at a moment.
+fn tell_links<W: Wire, E: Write>(
+    all: &[Tidings],
+    moment: Moment,
+    journal: &mut Journal,
+    wire: &mut W,
+    errors: &mut E,
+)
+    ensures told { AreTold moment all.now journal.old journal.new
+        (E.contents errors.old) (E.contents errors.new) }
+    ensures keeps { Keeps W.is_after wire.old wire.new }
 {
-    if let Some(call) = call {
-        say_one(&told_of(call), errors);
+    let mut rest = all;
+    while let Some((tidings, more)) = rest.split_first() {
+        tell_link(tidings, moment, journal, wire, errors);
+        rest = more;
+    }
+}
+
+/// Tells this of a link at a moment, and the wire that it is up, if it is.
+fn tell_link<W: Wire, E: Write>(
+    tidings: &Tidings,
+    moment: Moment,
+    journal: &mut Journal,
+    wire: &mut W,
+    errors: &mut E,
+)
+    ensures told { TellsOne moment tidings.now journal.old journal.new
+        (E.contents errors.old) (E.contents errors.new) }
+    ensures keeps { Keeps W.is_after wire.old wire.new }
+{
+    let host = whence(wire, tidings.link);
+    journal.tell(tidings, host.as_ref(), moment, errors);
+    tell_wire(wire, tidings);
+}
+
+/// From which host a link comes, if that is known.
+fn whence<W: Wire>(wire: &W, link: Option<u64>) -> Option<Host> {
+    wire.whence(link?)
+}
+
+/// A wire is told of a link that is up.
+fn tell_wire<W: Wire>(wire: &mut W, tidings: &Tidings)
+    ensures { Keeps W.is_after wire.old wire.new }
+{
+    if let Outcome::Up = tidings.outcome {
+        name(wire, tidings.link);
+    }
+}
+
+/// A wire is told that a link has named itself.
+fn name<W: Wire>(wire: &mut W, link: Option<u64>)
+    ensures { Keeps W.is_after wire.old wire.new }
+{
+    if let Some(link) = link {
+        wire.named(link);
+    }
+}
+
+/// Says what a wire has to tell, if there is something.
+fn say_notice<E: Write>(notice: Option<Notice>, errors: &mut E)
+    ensures { IsNoticeSaid notice (E.contents errors.old) (E.contents errors.new) }
+{
+    match notice {
+        Some(Notice::Unreached(call)) => say_call(&told_of(call), errors),
+        Some(Notice::DescriptorsGone) => say_connections(false, errors),
+        Some(Notice::DescriptorsBack) => say_connections(true, errors),
+        None => {}
     }
 }
 
@@ -61,6 +129,7 @@ fn told_of(call: Unreached) -> Tidings
     ensures { result ≡ call_told call }
 {
     Tidings {
+        link: None,
         name: Some(call.name),
         is_called: true,
         outcome: Outcome::Unreached(call.error),

@@ -7,7 +7,10 @@ ghost use Rattle.irc_outbox.specs.Calls.{FitsIn, Keeps};
 use arrayvec::ArrayVec;
 use irc_moments::Moment;
 use irc_names::{Host, ServerName};
-use irc_outbox::{Got, IoFault, MemoryWire, Notice, Ready, Unreached, Wire};
+use irc_outbox::{Got, IoFault, MemoryWire, Notice, Ready, Wire};
+
+/// How many milliseconds a turn takes.
+const TURN: u64 = 100;
 
 /// Whom an engine has closed, one after another, as far as there is room.
 pub(crate) type Closings = ArrayVec<u64, 8>;
@@ -17,8 +20,21 @@ pub(crate) type Closings = ArrayVec<u64, 8>;
 pub(crate) struct Lent<'a> {
     pub wire: &'a mut MemoryWire,
     pub closings: &'a mut Closings,
-    /// A call that has failed, and was not told yet.
-    pub call: Option<Unreached>,
+    /// What it has to tell, and what behind that.
+    pub notice: Option<Notice>,
+    pub later_notice: Option<Notice>,
+    /// Whether it knows from where connections come.
+    pub knows_addresses: bool,
+    /// How many milliseconds have gone by.
+    pub now: u64,
+}
+
+/// From where a connection comes.
+fn address(conn: u64) -> &'static [u8] {
+    match conn {
+        9 => b"10.0.0.9",
+        _ => b"10.0.0.5",
+    }
 }
 
 /// It keeps no account of what was asked.
@@ -26,6 +42,7 @@ impl<'a> Wire for Lent<'a> {
     ghost is_after = { λ wire calls. ⊤ };
 
     fn ready(&mut self) -> Result<Ready, IoFault> {
+        self.now = self.now.saturating_add(TURN);
         self.wire.ready()
     }
 
@@ -55,14 +72,21 @@ impl<'a> Wire for Lent<'a> {
     }
 
     fn whence(&self, conn: u64) -> Option<Host> {
-        self.wire.whence(conn)
+        if self.knows_addresses {
+            Host::read(address(conn))
+        } else {
+            self.wire.whence(conn)
+        }
     }
 
     fn moment(&self) -> Moment {
-        self.wire.moment()
+        Moment::of(self.now)
     }
 
     fn notice(&mut self) -> Option<Notice> {
-        self.call.take().map(Notice::Unreached)
+        match self.notice.take() {
+            Some(notice) => Some(notice),
+            None => self.later_notice.take(),
+        }
     }
 }

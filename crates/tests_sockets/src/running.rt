@@ -4,7 +4,7 @@ use crate::script::{CONNECTIONS, ScriptRow, add_parts, behind, is_text, row_of, 
 use crate::server::server;
 use irc_engine::Engine;
 use irc_names::ServerName;
-use irc_outbox::{MemoryWire, Unreached, Wire};
+use irc_outbox::{MemoryWire, Notice, Unreached, Wire};
 use std::alloc::Global;
 use std::io;
 use std::io::{ErrorKind, Write};
@@ -94,16 +94,32 @@ fn limit(limits: &mut EngineLimits, row: ScriptRow<'_>) {
     }
 }
 
-/// The call that has failed before, if a script says so.
-fn unreached(script: &str) -> Option<Unreached> {
-    if !script.starts_with("unreached") {
-        return None;
-    }
+/// A call of b.net that has failed.
+fn unreached() -> Option<Notice> {
     let name = ServerName::read(b"b.net")?;
-    Some(Unreached {
+    Some(Notice::Unreached(Unreached {
         name,
         error: io::Error::from(ErrorKind::ConnectionRefused),
-    })
+    }))
+}
+
+/// What a wire has to tell first, if a script says so.
+fn notice(script: &str) -> Option<Notice> {
+    if script.starts_with("unreached") {
+        return unreached();
+    }
+    if script.starts_with("descriptors") {
+        return Some(Notice::DescriptorsGone);
+    }
+    None
+}
+
+/// What it has to tell behind that.
+fn later_notice(script: &str) -> Option<Notice> {
+    if script.starts_with("descriptors") {
+        return Some(Notice::DescriptorsBack);
+    }
+    None
 }
 
 /// Whether an engine runs over a wire as a script says; it is noted whom it closes.
@@ -117,7 +133,10 @@ fn runs<E: Write>(
     let lent = Lent {
         wire,
         closings,
-        call: unreached(script),
+        notice: notice(script),
+        later_notice: later_notice(script),
+        knows_addresses: script.starts_with("addresses"),
+        now: 0,
     };
     takes_turns(alloc, lent, limits_of(script), errors)
 }

@@ -11,7 +11,10 @@
 //!
 //! How an engine runs over that wire: `turns 20`, `client-room 512` and `link-room 57`. Where
 //! nothing else is said it takes 40 turns, and an outbox has room for 4096 bytes of a client, and
-//! for 65536 of a link. Where `unreached` is the first line a call of b.net has failed before.
+//! for 65536 of a link. A turn takes 100 ms. By its first line:
+//! - `unreached`: a call of b.net has failed before.
+//! - `descriptors`: no connection could be taken before, and behind the first turn they can.
+//! - `addresses`: connection 9 comes from 10.0.0.9, and the others from 10.0.0.5.
 //!
 //! What is to come of it:
 //! - `hears 1 TEXT` and `welcome 1 NICK`: what is written to a connection. Those of one connection
@@ -113,7 +116,7 @@ fn step_of(alloc: Global, row: ScriptRow<'_>) -> Option<WireStep> {
 }
 
 /// The verbs of rows that say how an engine runs, and what it says.
-const OF_AN_ENGINE: &str = "turns client-room link-room unreached says";
+const OF_AN_ENGINE: &str = "turns client-room link-room unreached descriptors addresses says";
 
 /// Those that say what comes of a connection.
 const OF_A_CONNECTION: &str = "hears welcome together alone gives closed";

@@ -90,7 +90,7 @@ says ircd: link to b.net: refused: a line with wrong parameters
 
 link 7
 bytes 7 SERVER b.net 1 1 :B;
-says ircd: link from an unknown server: refused: a line out of its time
+says ircd: link from b.net: refused: a line out of its time
 
 call 7
 bytes 7 SERVER b.net 1 1 :B;
@@ -98,7 +98,7 @@ says ircd: link to b.net: refused: a line out of its time
 
 link 7
 bytes 7 PASS pw 0210010001 TREE|;SERVER x.net 1 1 :X;
-says ircd: link from an unknown server: refused: an unknown peer
+says ircd: link from x.net: refused: an unknown peer
 
 call 7
 bytes 7 PASS pw 0210010001 TREE|;SERVER x.net 1 1 :X;
@@ -106,7 +106,7 @@ says ircd: link to b.net: refused: an unknown peer
 
 link 7
 bytes 7 PASS xx 0210010001 TREE|;SERVER b.net 1 1 :B;
-says ircd: link from an unknown server: refused: a wrong password
+says ircd: link from b.net: refused: a wrong password
 
 call 7
 bytes 7 PASS xx 0210010001 TREE|;SERVER b.net 1 1 :B;
@@ -114,11 +114,19 @@ says ircd: link to b.net: refused: a wrong password
 
 link 7
 bytes 7 PASS pw 0210010001 TREE|;SERVER a.net 1 1 :A;
-says ircd: link from an unknown server: refused: an unknown peer
+says ircd: link from a.net: refused: an unknown peer
 
 call 7
 bytes 7 PASS pw 0210010001 TREE|;SERVER a.net 1 1 :A;
 says ircd: link to b.net: refused: an unknown peer
+
+link 7
+bytes 7 PASS pw 0210010001 TREE|;SERVER b 1 1 :B;
+says ircd: link from an unknown server: refused: an unknown peer
+
+link 7
+bytes 7 server b.net 1 1 :B;
+says ircd: link from b.net: refused: a line out of its time
 ";
 
 #[test]
@@ -172,4 +180,36 @@ says ircd: link from b.net: closed: a line out of its time
 #[test]
 fn why_a_link_is_closed_is_told(rt: HostRuntime) {
     assert!(rt; all_tell(rt.alloc(), CLOSED));
+}
+
+/// Each with its address, and of one address one line in a second: at 200 and 1200 ms of
+/// 10.0.0.5, and at 1600 of 10.0.0.9.
+const ADDRESSES: &str = "\
+addresses
+link 1
+bytes 1 FOO;
+says ircd: link from an unknown server at 10.0.0.5: refused: a line with an unknown command
+link 2
+bytes 2 FOO;
+link 3
+end 3
+link 4
+bytes 4 PASS pw 0210010001 TREE|;SERVER b.net 1 1 :B;
+says ircd: link from b.net: up
+end 4
+says ircd: link from b.net: lost
+call 5
+room 5 9
+end 5
+says ircd: link to b.net at 10.0.0.5: lost before it was up (2 more)
+link 6
+end 6
+link 9
+bytes 9 PASS xx 0210010001 TREE|;SERVER b.net 1 1 :B;
+says ircd: link from b.net at 10.0.0.9: refused: a wrong password
+";
+
+#[test]
+fn of_an_address_one_line_is_said_in_a_second(rt: HostRuntime) {
+    assert!(rt; all_tell(rt.alloc(), ADDRESSES));
 }

@@ -1,4 +1,4 @@
-//! What an engine says where nobody hears it, and of a call that has reached nobody.
+//! What an engine says where nobody hears it, and what a wire has to tell.
 use crate::running::{all_tell, holds_telling};
 use std::io;
 use std::io::{ErrorKind, Write};
@@ -42,4 +42,17 @@ says ircd: link to b.net: not reached: connection refused
 #[test]
 fn a_call_that_fails_is_told_once(rt: HostRuntime) {
     assert!(rt; all_tell(rt.alloc(), NOT_REACHED));
+}
+
+/// No connection can be taken, and then they can again.
+const NO_DESCRIPTORS: &str = "\
+descriptors
+turns 3
+says ircd: no descriptor or memory for another connection
+says ircd: connections are taken again
+";
+
+#[test]
+fn that_no_connection_is_taken_is_told_once(rt: HostRuntime) {
+    assert!(rt; all_tell(rt.alloc(), NO_DESCRIPTORS));
 }

@@ -1,31 +1,39 @@
 -- What follows of turns behind which something is said: they leave an engine in order, and all that
 -- is said is of links.
-use Rattle.std.proofs.Common.{◌≡◌, ℕ, false, Option, Some, None, Result, Ok, List, [], ◌∷◌, refl}
+use Rattle.std.proofs.Common.{◌≡◌, ℕ, true, false, Option, Some, None, Result, Ok, List, [], refl}
 use Rattle.std.proofs.Common.{sym, subst}
-use Rattle.irc_outbox.specs.declared.wire.Unreached.{Unreached}
+use Rattle.irc_outbox.specs.declared.wire.Notice.{Notice}
+use Rattle.irc_outbox.specs.declared.wire.Notice.TheVariants as notices
 use Rattle.irc_outbox.specs.Calls.{Call}
 use Rattle.irc_journal.specs.Saying.{AreSomeSaid}
-use Rattle.irc_journal.specs.Laws.Sayings.{some_said_both}
+use Rattle.irc_journal.specs.Saying.{of_connections}
+use Rattle.irc_journal.specs.Laws.Sayings.{line_said, link_said, some_said_both, told_said}
 use Rattle.irc_engine.specs.declared.engine.EngineFault.{EngineFault}
 use Rattle.irc_engine.specs.Running.{IsInOrder}
 use Rattle.irc_engine.specs.Turning.{Turned, takes_turn}
 use Rattle.irc_engine.specs.EngineView.{EngineView}
-use Rattle.irc_engine.specs.Telling.{call_told, IsCallSaid, Tells, ToldTurns, no_told}
+use Rattle.irc_engine.specs.Telling.{call_told, IsNoticeSaid, Tells, ToldTurns, no_told}
 use Rattle.irc_engine.specs.Telling.{told_more, RunsTelling, all_told, told_stopped}
 use Rattle.irc_engine.specs.Laws.Turns.{in_order_after}
 
-call_said : (call : Option Unreached) (held after : Option (List ℕ)) → IsCallSaid call held after
-    → AreSomeSaid held after
-call_said None held after said = ([], said)
-call_said (Some call) held after said =
-    (call_told call ∷ [], record { between = after; says = said; rest_is = refl })
+notice_said : (notice : Option Notice) (held after : Option (List ℕ))
+    → IsNoticeSaid notice held after → AreSomeSaid held after
+notice_said None held after said = ([], said)
+notice_said (Some (notices.Unreached call)) held after said =
+    link_said (call_told call) None 0 held after said
+notice_said (Some notices.DescriptorsGone) held after said =
+    line_said _ held after (of_connections false refl) said
+notice_said (Some notices.DescriptorsBack) held after said =
+    line_said _ held after (of_connections true refl) said
 
 module _ {W : Type 0} (is_after : W → List Call → Type 0) where
   tells_some : (old new : EngineView W) (held after : Option (List ℕ))
       → Tells is_after old new held after → AreSomeSaid held after
   tells_some old new held after tells =
-      some_said_both held tells.between after (old.now.journal.tidings.items, tells.are_said)
-      (call_said tells.call tells.between after tells.call_said)
+      some_said_both held tells.between after
+      (told_said tells.moment old.now.journal.tidings.items tells.emptied tells.journal held
+      tells.between tells.are_told)
+      (notice_said tells.notice tells.between after tells.notice_said)
 
   pub turns_tell_some : (old : EngineView W) (held : Option (List ℕ)) (turns : ℕ)
       (new : EngineView W) (after : Option (List ℕ)) → ToldTurns is_after old held turns new after
