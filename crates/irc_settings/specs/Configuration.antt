@@ -1,8 +1,9 @@
 -- Which texts are configurations, and what is read of one.
-use Rattle.std.specs.Prelude.{◌≡◌, ℕ, ℤ, pos, Bool, true, false, Option, Some, Result, Ok, Err}
+use Rattle.std.specs.Prelude.{◌≡◌, ℕ, zero, ℤ, pos, Bool, true, false, Option, Some, None}
+use Rattle.std.specs.Prelude.{Result, Ok, Err}
 use Rattle.std.specs.Prelude.{option_map, option_and_then, List, [], map, codes, string_bytes}
 use Rattle.std.specs.List.{filter_map}
-use Rattle.std.specs.Option.{option_map_or}
+use Rattle.std.specs.Option.{option_map_or, unwrap_or}
 use Rattle.toml.specs.Data.{Data, Members, get_member, as_str, as_integer, as_array, as_table}
 use Rattle.toml.specs.Parse.{parse_document}
 use Rattle.irc_settings.specs.declared.settings.Settings.{Settings}
@@ -17,6 +18,15 @@ text_at key table = option_and_then as_str (get_member key table)
 
 abbrev pub integer_at : List ℕ → Members → Option ℤ
 integer_at key table = option_and_then as_integer (get_member key table)
+
+-- the limit that a number sets: 0 is no limit
+abbrev pub limit_set : ℤ → Option ℤ
+limit_set (pos zero) = None
+limit_set number = Some number
+
+-- the limit that a table sets at a key; where it has nothing there, the one that this number sets
+abbrev pub limit_at : List ℕ → ℕ → Members → Option ℤ
+limit_at key left_out table = limit_set (unwrap_or (integer_at key table) (pos left_out))
 
 -- the tables in an array, and those in the array at a key; none where there is none
 abbrev pub tables_in : Data → List Members
@@ -61,6 +71,10 @@ pub record Tells (document : Members) (settings : Settings) : Type 0 where
   pub connections_per_address :
       integer_at (codes "connections_per_address") document
       ≡ option_map pos settings.connections_per_address
+  pub name_within : limit_at (codes "name_within") 10 document
+      ≡ option_map pos settings.name_within
+  pub links_per_address : limit_at (codes "links_per_address") 16 document
+      ≡ option_map pos settings.links_per_address
   pub peers : map peer_at (tables_at (codes "peer") document) ≡ map peer_told settings.peers.items
 
 -- whether a text is a configuration: a TOML document with the keys that it has to have, and no

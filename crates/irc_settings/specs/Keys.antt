@@ -96,4 +96,6 @@ server_keys =
     (integer 512 16777216)
     ∷ optional (codes "listen_links") text ∷ optional (codes "connections_per_address")
     (integer 1 65535)
+    ∷ optional (codes "name_within") (integer 0 3600) ∷ optional (codes "links_per_address")
+    (integer 0 65535)
     ∷ optional (codes "peer") (tables is_peer) ∷ []

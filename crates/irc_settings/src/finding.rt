@@ -1,13 +1,15 @@
 //! What a table has at its keys.
-ghost use Rattle.std.specs.Prelude.{◌≡◌, option_map};
+ghost use Rattle.std.specs.Prelude.{◌≡◌, option_map, pos};
 ghost use Rattle.std.specs.List.{list_all, list_any};
 ghost use Rattle.std.specs.Str.{bytes_eq};
 ghost use Rattle.std.specs.BTreeMap.{keys};
 ghost use Rattle.toml.specs.Data.{get_member};
 ghost use Rattle.toml.specs.View.{view, table_view};
-ghost use Rattle.irc_settings.specs.Loops.Finding.{FindsOptionalNumber, FindsOptionalText};
-ghost use Rattle.irc_settings.specs.Loops.Finding.{FindsRoom, FindsText, ReadsAsNumber};
-ghost use Rattle.irc_settings.specs.Loops.Finding.{ReadsAsRoom, ReadsAsText, is_allowed, view_now};
+ghost use Rattle.irc_settings.specs.Configuration.{limit_set};
+ghost use Rattle.irc_settings.specs.Loops.Finding.{FindsLimit, FindsOptionalNumber};
+ghost use Rattle.irc_settings.specs.Loops.Finding.{FindsOptionalText, FindsRoom, FindsText};
+ghost use Rattle.irc_settings.specs.Loops.Finding.{ReadsAsNumber, ReadsAsRoom, ReadsAsText};
+ghost use Rattle.irc_settings.specs.Loops.Finding.{is_allowed, view_now};
 
 use crate::{LEAST_ROOM, SettingsFault};
 use std::alloc::Global;
@@ -112,20 +114,45 @@ pub(crate) fn optional_number(
     ensures { FindsOptionalNumber key.now most (table_view table.now) result }
 {
     match value_at(table, key) {
-        Some(value) => number_in(value, most).map(Some),
+        Some(value) => number_in(value, 1, most).map(Some),
         None => Ok(None),
     }
 }
 
-/// The number that a value is.
-fn number_in(value: &Value, most: u16) -> Result<u16, SettingsFault>
-    ensures { ReadsAsNumber most (view value.now) result }
+/// The limit at a key, of `most` at most: none for 0, and that of `left_out` where it is left out.
+///
+/// # Errors
+/// Where something else than such a number is there.
+pub(crate) fn limit(
+    table: &Table,
+    key: &str,
+    most: u16,
+    left_out: u16,
+) -> Result<Option<u16>, SettingsFault>
+    ensures { FindsLimit key.now most left_out (table_view table.now) result }
+{
+    match value_at(table, key) {
+        Some(value) => number_in(value, 0, most).map(limit_of),
+        None => Ok(limit_of(left_out)),
+    }
+}
+
+/// The limit that a number sets: none for 0.
+fn limit_of(number: u16) -> Option<u16>
+    ensures { option_map pos result ≡ limit_set (pos number) }
+{
+    if number == 0 { None } else { Some(number) }
+}
+
+/// The number that a value is, from `least` to `most`.
+fn number_in(value: &Value, least: u16, most: u16) -> Result<u16, SettingsFault>
+    ensures { ReadsAsNumber least most (view value.now) result }
 {
     let Some(number) = value.as_integer() else {
         return Err(SettingsFault::BadConfiguration);
     };
     match u16::try_from(number) {
-        Ok(number) if 1 <= number && number <= most => Ok(number),
+        Ok(number) if least <= number && number <= most => Ok(number),
         _ => Err(SettingsFault::BadConfiguration),
     }
 }

@@ -23,3 +23,13 @@ pub const MOST_RETRY: u16 = 3_600;
 
 /// The most connections that one address may be allowed: one for each of its ports.
 pub const MOST_CONNECTIONS: u16 = 65_535;
+
+/// The most seconds that who connects for links may have to name itself: an hour (our own choice).
+pub const MOST_NAME_WITHIN: u16 = 3_600;
+
+/// How many seconds these are where the configuration does not say (our own choice).
+pub const NAME_WITHIN: u16 = 10;
+
+/// How many connections that have not named themselves one address may have at the door for links,
+/// where the configuration does not say (our own choice).
+pub const LINKS_PER_ADDRESS: u16 = 16;

@@ -3,14 +3,17 @@ ghost use Rattle.toml.specs.View.{table_view};
 ghost use Rattle.irc_settings.specs.Configuration.{AreSettingsOf};
 ghost use Rattle.irc_settings.specs.Loops.Finding.{IsParsedAs, ReadsSettings};
 
-use crate::finding::{has_only, optional_number, optional_text, room, text};
+use crate::finding::{has_only, limit, optional_number, optional_text, room, text};
 use crate::peers::peers;
-use crate::{MOST_CLIENT_ROOM, MOST_CONNECTIONS, MOST_LINK_ROOM, SettingsFault};
+use crate::{
+    LINKS_PER_ADDRESS, MOST_CLIENT_ROOM, MOST_CONNECTIONS, MOST_LINK_ROOM, MOST_NAME_WITHIN,
+    NAME_WITHIN, SettingsFault,
+};
 use std::alloc::Global;
 use toml::Table;
 
 /// The keys of the document.
-const SERVER_KEYS: [&str; 9] = [
+const SERVER_KEYS: [&str; 11] = [
     "name",
     "info",
     "created",
@@ -19,6 +22,8 @@ const SERVER_KEYS: [&str; 9] = [
     "link_room",
     "listen_links",
     "connections_per_address",
+    "name_within",
+    "links_per_address",
     "peer",
 ];
 
@@ -42,6 +47,12 @@ pub struct Settings {
     /// How many clients may be connected from one address, if there is a limit: 1 to
     /// [`MOST_CONNECTIONS`].
     pub connections_per_address: Option<u16>,
+    /// For how many seconds who connects for links may stay without naming itself, if there is a
+    /// limit: 1 to [`MOST_NAME_WITHIN`].
+    pub name_within: Option<u16>,
+    /// How many connections for links that have not named themselves may be there from one address,
+    /// if there is a limit: 1 to [`MOST_CONNECTIONS`].
+    pub links_per_address: Option<u16>,
     /// The servers that may be linked to: the tables `peer`, in order.
     pub peers: Vec<PeerSettings, Global>,
 }
@@ -62,9 +73,10 @@ pub struct PeerSettings {
 
 /// Reads a configuration file: a TOML document with the keys that [`Settings`] and [`PeerSettings`]
 /// have as fields, and no others.
-/// Only `listen_links`, `connections_per_address`, `peer` and a peer's `connect` and `retry` may be
-/// left out. A peer with `retry` has `connect` too. Names, passwords and addresses are any texts
-/// here.
+/// Only `listen_links`, `connections_per_address`, `name_within`, `links_per_address`, `peer` and a
+/// peer's `connect` and `retry` may be left out. `name_within` is [`NAME_WITHIN`] then, and
+/// `links_per_address` [`LINKS_PER_ADDRESS`]; 0 at either is no limit. A peer with `retry` has
+/// `connect` too. Names, passwords and addresses are any texts here.
 ///
 /// # Errors
 /// Where the text is no such document; where memory runs out, which may come first.
@@ -105,6 +117,13 @@ fn settings_in(alloc: Global, document: &Table) -> Result<Settings, SettingsFaul
             document,
             "connections_per_address",
             MOST_CONNECTIONS,
+        )?,
+        name_within: limit(document, "name_within", MOST_NAME_WITHIN, NAME_WITHIN)?,
+        links_per_address: limit(
+            document,
+            "links_per_address",
+            MOST_CONNECTIONS,
+            LINKS_PER_ADDRESS,
         )?,
         peers: peers(alloc, document)?,
     })

@@ -10,4 +10,14 @@ pub struct Listening {
     pub links: Option<SocketAddr>,
     /// How many clients may be connected from one address, if there is a limit.
     pub connections_per_address: Option<u16>,
+    /// How many bytes may wait for a client.
+    pub client_room: usize,
+    /// How many bytes may wait for a link.
+    pub link_room: usize,
+    /// For how many seconds who connects for links may stay without naming itself, if there is a
+    /// limit.
+    pub name_within: Option<u16>,
+    /// How many connections for links that have not named themselves may be there from one address,
+    /// if there is a limit.
+    pub links_per_address: Option<u16>,
 }

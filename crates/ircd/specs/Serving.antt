@@ -85,8 +85,8 @@ pub record Configures (settings : Settings) (config : Config) : Type 0 where
   pub peers : map known_peer config.peers.items ≡ map peer_set settings.peers.items
 
 -- The server is made of the settings, without clients, and of their name; where it listens, whom it
--- calls, and again when, by its own name too, how many connections an address may have and how much
--- may wait is theirs.
+-- calls, and again when, by its own name too, how many connections an address may have, how many of
+-- these for links without a name and for how long, and how much may wait is theirs.
 pub record IsSetUp (settings : Settings) (setup : Setup) : Type 0 where
   pub config : Config
   pub configures : Configures settings config
@@ -98,6 +98,8 @@ pub record IsSetUp (settings : Settings) (setup : Setup) : Type 0 where
   pub called : AreCalled settings.peers.items setup.callees.items
   pub spread : setup.spread ≡ name_spread (string_bytes settings.name)
   pub connections_per_address : setup.connections_per_address ≡ settings.connections_per_address
+  pub name_within : setup.name_within ≡ settings.name_within
+  pub links_per_address : setup.links_per_address ≡ settings.links_per_address
   pub client_room : setup.client_room ≡ settings.client_room
   pub link_room : setup.link_room ≡ settings.link_room
 
@@ -139,13 +141,18 @@ IsReadSetup text (Err Failed) = ⊤
 IsReadSetup text (Err Usage) = ⊥
 IsReadSetup text (Err (BadScript line)) = ⊥
 
--- where a server that was set up is to listen, and how many connections an address may have there
+-- where a server that was set up is to listen, what the connections of an address may be there, and
+-- how much may wait for one
 abbrev pub listening_of : Setup → Listening
 listening_of setup =
     record {
       clients = setup.clients;
       links = setup.links;
       connections_per_address = setup.connections_per_address;
+      client_room = setup.client_room;
+      link_room = setup.link_room;
+      name_within = setup.name_within;
+      links_per_address = setup.links_per_address;
     }
 
 -- An engine is open: it has served nobody, its server is the one that was set up, an outbox has

@@ -75,6 +75,10 @@ fn open<T: Net>(net: &T, alloc: Global, setup: Setup) -> Result<Engine<LateWire<
         clients: setup.clients,
         links: setup.links,
         connections_per_address: setup.connections_per_address,
+        client_room: setup.client_room,
+        link_room: setup.link_room,
+        name_within: setup.name_within,
+        links_per_address: setup.links_per_address,
     };
     let Ok(wire) = MioWire::listen(net, alloc, listening, setup.callees, setup.spread) else {
         return Err(Stop::Failed);

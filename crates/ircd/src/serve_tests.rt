@@ -39,7 +39,7 @@ const READY: &[u8] = b"ready\n";
 /// The file that each configuration is written to.
 const FILE: &str = "serve_tests.toml";
 
-static ROWS: [ServeRow; 30] = [
+static ROWS: [ServeRow; 32] = [
     ServeRow {
         room: ROOM,
         more: "",
@@ -278,6 +278,23 @@ static ROWS: [ServeRow; 30] = [
     ServeRow {
         room: ROOM,
         more: "connections_per_address = 0\n",
+        words: &["serve", FILE, "0"],
+        status: 3,
+        output: b"",
+        errors: BAD,
+    },
+    // no limit of those who do not name themselves, and more than the most
+    ServeRow {
+        room: ROOM,
+        more: "name_within = 0\nlinks_per_address = 0\n",
+        words: &["serve", FILE, "0"],
+        status: 0,
+        output: READY,
+        errors: b"",
+    },
+    ServeRow {
+        room: ROOM,
+        more: "name_within = 3601\n",
         words: &["serve", FILE, "0"],
         status: 3,
         output: b"",

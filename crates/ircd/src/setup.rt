@@ -35,6 +35,12 @@ pub struct Setup {
     pub spread: u64,
     /// How many clients may be connected from one address, if there is a limit.
     pub connections_per_address: Option<u16>,
+    /// For how many seconds who connects for links may stay without naming itself, if there is a
+    /// limit.
+    pub name_within: Option<u16>,
+    /// How many connections for links that have not named themselves may be there from one address,
+    /// if there is a limit.
+    pub links_per_address: Option<u16>,
     /// How many bytes may wait for a client.
     pub client_room: usize,
     /// How many bytes may wait for a link.
@@ -65,6 +71,8 @@ fn set_up(alloc: Global, settings: &Settings) -> Result<Setup, Stop>
         own: server_name(settings.name.as_str())?,
         spread: own_spread(settings),
         connections_per_address: settings.connections_per_address,
+        name_within: settings.name_within,
+        links_per_address: settings.links_per_address,
         client_room: settings.client_room,
         link_room: settings.link_room,
     })

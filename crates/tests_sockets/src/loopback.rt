@@ -9,6 +9,9 @@ use std::time::Duration;
 /// A free port of the loopback address.
 pub(crate) const LOOPBACK: &str = "127.0.0.1:0";
 
+/// How many bytes may wait for a client or a link.
+const ROOM: usize = 65536;
+
 /// How often a wire is asked for a report that has to come. It waits at most 100 ms each time.
 pub(crate) const TIMES: u64 = 50;
 
@@ -19,29 +22,38 @@ fn opens(rt: &HostRuntime, listening: Listening, callees: Vec<Callee, Global>) -
     MioWire::listen(rt, rt.alloc(), listening, callees, 0).ok()
 }
 
+/// Where a wire listens, and how many it lets in from one address. Nobody here meets another limit.
+fn listening(
+    clients: SocketAddr,
+    links: Option<SocketAddr>,
+    connections_per_address: Option<u16>,
+) -> Listening {
+    Listening {
+        clients,
+        links,
+        connections_per_address,
+        client_room: ROOM,
+        link_room: ROOM,
+        name_within: None,
+        links_per_address: None,
+    }
+}
+
 /// A wire that listens for clients at an address, and lets so many in from one.
 pub(crate) fn listens(
     rt: &HostRuntime,
     address: &str,
     connections_per_address: Option<u16>,
 ) -> Option<MioWire> {
-    let listening = Listening {
-        clients: address.parse::<SocketAddr>().ok()?,
-        links: None,
-        connections_per_address,
-    };
+    let clients = address.parse::<SocketAddr>().ok()?;
+    let listening = listening(clients, None, connections_per_address);
     opens(rt, listening, Vec::new(rt.alloc()))
 }
 
 /// A wire that listens for links, too.
 fn is_called(rt: &HostRuntime) -> Option<MioWire> {
     let free = LOOPBACK.parse::<SocketAddr>().ok()?;
-    let listening = Listening {
-        clients: free,
-        links: Some(free),
-        connections_per_address: None,
-    };
-    opens(rt, listening, Vec::new(rt.alloc()))
+    opens(rt, listening(free, Some(free), None), Vec::new(rt.alloc()))
 }
 
 /// b.net, which is called at an address, and again after so many seconds.
@@ -58,12 +70,9 @@ fn callees(alloc: Global, address: SocketAddr, retry: Option<u16>) -> Option<Vec
 
 /// A wire that calls b.net there.
 pub(crate) fn calls(rt: &HostRuntime, address: SocketAddr, retry: Option<u16>) -> Option<MioWire> {
-    let listening = Listening {
-        clients: LOOPBACK.parse::<SocketAddr>().ok()?,
-        links: None,
-        connections_per_address: None,
-    };
-    opens(rt, listening, callees(rt.alloc(), address, retry)?)
+    let free = LOOPBACK.parse::<SocketAddr>().ok()?;
+    let callees = callees(rt.alloc(), address, retry)?;
+    opens(rt, listening(free, None, None), callees)
 }
 
 /// Two wires of which one has called the other by the name b.net.

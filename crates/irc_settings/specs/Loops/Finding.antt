@@ -9,8 +9,8 @@ use Rattle.toml.specs.View.{table_view, view}
 use Rattle.toml.specs.declared.value.Value.{Value}
 use Rattle.std.specs.BTreeMap.{BTreeMap}
 use Rattle.std.specs.declared.alloc.Global.{Global}
-use Rattle.irc_settings.specs.Configuration.{Tells, integer_at, peer_at, peer_told, tables_at}
-use Rattle.irc_settings.specs.Configuration.{tables_in, text_at}
+use Rattle.irc_settings.specs.Configuration.{Tells, integer_at, limit_at, peer_at, peer_told}
+use Rattle.irc_settings.specs.Configuration.{tables_at, tables_in, text_at}
 use Rattle.irc_settings.specs.Keys.{integer, is_in_form, is_kept, is_of_kind, is_peer, is_table}
 use Rattle.irc_settings.specs.Keys.{needed, optional, server_keys, tables, text}
 use Rattle.irc_settings.specs.declared.settings.PeerSettings.{PeerSettings}
@@ -51,10 +51,10 @@ abbrev pub ReadsAsRoom : ℕ → Data → Result ℕ SettingsFault → Type 0
 ReadsAsRoom most value =
     FindsValue (is_of_kind (integer 512 most) value) (λ found. as_integer value ≡ Some (pos found))
 
--- a number from 1 to so many
-abbrev pub ReadsAsNumber : ℕ → Data → Result ℕ SettingsFault → Type 0
-ReadsAsNumber most value =
-    FindsValue (is_of_kind (integer 1 most) value) (λ found. as_integer value ≡ Some (pos found))
+-- a number from the first of these to the second
+abbrev pub ReadsAsNumber : ℕ → ℕ → Data → Result ℕ SettingsFault → Type 0
+ReadsAsNumber least most value =
+    FindsValue (is_of_kind (integer least most) value) (λ found. as_integer value ≡ Some (pos found))
 
 -- ---- what stands at a key
 
@@ -78,6 +78,11 @@ FindsRoom key most table = FindsValue (is_kept table (needed key (integer 512 mo
 abbrev pub FindsOptionalNumber : List ℕ → ℕ → Members → Result (Option ℕ) SettingsFault → Type 0
 FindsOptionalNumber key most table = FindsValue (is_kept table (optional key (integer 1 most)))
     (λ found. integer_at key table ≡ option_map pos found)
+
+-- a limit, of so many at most; where it is left out, the one that the other number sets
+abbrev pub FindsLimit : List ℕ → ℕ → ℕ → Members → Result (Option ℕ) SettingsFault → Type 0
+FindsLimit key most left_out table = FindsValue (is_kept table (optional key (integer 0 most)))
+    (λ found. limit_at key left_out table ≡ option_map pos found)
 
 -- ---- peers
 

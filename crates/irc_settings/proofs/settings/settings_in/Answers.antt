@@ -20,6 +20,8 @@ returns c =
       c.in_ok-room-2.ensures.0,
       c.in_ok-optional_text.ensures.0,
       c.in_ok-optional_number.ensures.0,
+      c.in_ok-limit.ensures.0,
+      c.in_ok-limit-2.ensures.0,
       c.in_ok-peers.ensures.0,
     ) in (
       all_kept server_keys c.args.document.now.entries (sym c.has_only.ensures ∙ search rules) kept,
@@ -32,6 +34,8 @@ returns c =
         link_room = c.in_ok-room-2.ensures.1;
         listen_links = c.in_ok-optional_text.ensures.1;
         connections_per_address = c.in_ok-optional_number.ensures.1;
+        name_within = c.in_ok-limit.ensures.1;
+        links_per_address = c.in_ok-limit-2.ensures.1;
         peers = c.in_ok-peers.ensures.1;
       },
     )

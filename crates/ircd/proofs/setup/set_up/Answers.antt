@@ -53,6 +53,8 @@ returns c = record {
       c.in_ok-callees.ensures;
   spread = c.own_spread.ensures;
   connections_per_address = refl;
+  name_within = refl;
+  links_per_address = refl;
   client_room = refl;
   link_room = refl;
 }
