@@ -1,4 +1,6 @@
 pub mod Signs
+pub mod Claims
+pub mod Pace
 pub mod Lines
 pub mod Saying
 pub mod Laws

@@ -1,15 +1,22 @@
 //! A journal of links: how each stands, and what is to be told.
 ghost use Rattle.std.specs.Prelude.{◌≡◌, ◌++◌, ◌∷◌, [], OnOk};
 ghost use Rattle.std.specs.Option.{option_copied};
-ghost use Rattle.irc_journal.specs.Signs.{closes, is_gone, meets, opens, page_at, Enters, IsBlank};
-ghost use Rattle.irc_journal.specs.Signs.{IsEmptied};
+ghost use Rattle.irc_journal.specs.Claims.{claimed_in};
+ghost use Rattle.irc_journal.specs.Saying.{IsTold};
+ghost use Rattle.irc_journal.specs.Signs.{claims, closes, is_gone, meets, opens, page_at, Enters};
+ghost use Rattle.irc_journal.specs.Signs.{IsBlank, IsEmptied};
 
+use crate::lately::Lately;
 use crate::page::Page;
+use crate::saying::say;
 use crate::tidings::Tidings;
 use irc_batch::CloseReason;
-use irc_names::ServerName;
+use irc_moments::Moment;
+use irc_names::{Host, ServerName};
 use std::alloc::{AllocError, Global};
 use std::collections::BTreeMap;
+use std::io::Write;
+use std::mem::replace;
 
 /// A journal of links.
 #[derive(Drop)]
@@ -18,6 +25,8 @@ pub struct Journal {
     pages: BTreeMap<u64, Page, Global>,
     /// What is to be told, in order.
     tidings: Vec<Tidings, Global>,
+    /// Of which addresses was told.
+    lately: Lately,
 }
 
 impl Journal {
@@ -28,6 +37,7 @@ impl Journal {
         Journal {
             pages: BTreeMap::new(alloc),
             tidings: Vec::new(alloc),
+            lately: Lately::new(),
         }
     }
 
@@ -41,6 +51,15 @@ impl Journal {
         match self.pages.insert(link, Page::fresh(called)) {
             Ok(_) => Ok(()),
             Err(_) => Err(AllocError),
+        }
+    }
+
+    /// This line of a link was heard. Where nobody is known at its other end, it may claim who is.
+    pub fn hear(&mut self, link: u64, line: &[u8])
+        ensures { Enters link (claims (claimed_in line.now)) self.old self.new }
+    {
+        if let Some(page) = self.pages.get_mut(&link) {
+            page.hear(line);
         }
     }
 
@@ -61,7 +80,7 @@ impl Journal {
     {
         match self.pages.get_mut(&link) {
             Some(page) if !page.is_up => {
-                let tidings = page.rise(name);
+                let tidings = page.rise(link, name);
                 note(&mut self.tidings, tidings)
             }
             _ => Ok(()),
@@ -76,7 +95,7 @@ impl Journal {
             Some(page) => page,
             None => Page::unknown(),
         };
-        note(&mut self.tidings, page.closed(reason))
+        note(&mut self.tidings, page.closed(link, reason))
     }
 
     /// A link is lost.
@@ -84,23 +103,35 @@ impl Journal {
         ensures { OnOk result (Enters link is_gone self.old self.new) }
     {
         match self.pages.remove(&link) {
-            Some(page) => note(&mut self.tidings, page.lost()),
+            Some(page) => note(&mut self.tidings, page.lost(link)),
             None => Ok(()),
         }
     }
 
-    /// What is to be told, in order.
-    pub fn tidings(&self) -> &[Tidings]
-        ensures { result.now ≡ self.now.tidings.items }
+    /// Takes out what is to be told, in order.
+    pub fn take(&mut self, alloc: Global) -> Vec<Tidings, Global>
+        ensures tidings { result.items ≡ self.old.tidings.items }
+        ensures emptied { IsEmptied self.old self.new }
     {
-        &self.tidings
+        replace(&mut self.tidings, Vec::new(alloc))
     }
 
-    /// All that was to be told was told.
-    pub fn clear(&mut self)
-        ensures { IsEmptied self.old self.new }
+    /// Tells this at a moment, of a link whose other end is at that address, if it is known: says
+    /// it, unless a line of that address was said within a second before.
+    pub fn tell<E: Write>(
+        &mut self,
+        tidings: &Tidings,
+        host: Option<&Host>,
+        moment: Moment,
+        errors: &mut E,
+    )
+        ensures { IsTold moment (option_copied host.entry) tidings.now self.old self.new
+            (E.contents errors.old) (E.contents errors.new) }
     {
-        self.tidings.clear();
+        let shown = tidings.outcome.shown(host);
+        if let Some(more) = self.lately.count(shown, moment) {
+            say(tidings, shown, more, errors);
+        }
     }
 }
 

@@ -1,12 +1,15 @@
 //! What whoever runs a server is told of its links.
 #![tactic(auto)]
 
+mod claims;
 mod journal;
+mod lately;
 mod page;
 mod saying;
 mod tidings;
 
 pub use journal::Journal;
+pub use lately::{LastSaid, Lately};
 pub use page::Page;
-pub use saying::{say, say_one};
+pub use saying::{say_call, say_connections};
 pub use tidings::{JournalLine, Outcome, ReasonWords, Tidings};

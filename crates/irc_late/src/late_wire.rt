@@ -8,8 +8,9 @@ ghost use Rattle.irc_late.specs.Around.{WritesBackAt};
 ghost use Rattle.irc_late.specs.AroundCalls.{Begins, Closes, IsReady, ReadsFrom, WritesTo};
 
 use crate::late_link::LateLink;
-use irc_names::ServerName;
-use irc_outbox::{Got, IoFault, Ready, Unreached, Wire};
+use irc_moments::Moment;
+use irc_names::{Host, ServerName};
+use irc_outbox::{Got, IoFault, Notice, Ready, Wire};
 use std::alloc::Global;
 use std::collections::BTreeMap;
 
@@ -327,7 +328,19 @@ impl<W: Wire> Wire for LateWire<W> {
         self.wire.know(is_known, yields);
     }
 
-    fn unreached(&mut self) -> Option<Unreached> {
-        self.wire.unreached()
+    fn named(&mut self, conn: u64) {
+        self.wire.named(conn);
+    }
+
+    fn whence(&self, conn: u64) -> Option<Host> {
+        self.wire.whence(conn)
+    }
+
+    fn moment(&self) -> Moment {
+        self.wire.moment()
+    }
+
+    fn notice(&mut self) -> Option<Notice> {
+        self.wire.notice()
     }
 }

@@ -7,4 +7,4 @@ mod wire;
 
 pub use memory::{MemoryWire, WireStep};
 pub use outbox::{Outbox, Overflow};
-pub use wire::{Got, IoFault, Ready, Unreached, Wire};
+pub use wire::{Got, IoFault, Notice, Ready, Unreached, Wire};

@@ -10,8 +10,9 @@ ghost use Rattle.irc_outbox.specs.Steps.{step_bytes, step_conn, failed_once, fai
 ghost use Rattle.irc_outbox.specs.Steps.{giver_of, is_reported, is_reported_at, meets, step_report};
 
 use crate::outbox::append;
-use crate::wire::{Got, IoFault, Ready, Unreached, Wire};
+use crate::wire::{Got, IoFault, Notice, Ready, Wire};
 use circular_buffer::HeapCircularBuffer;
+use irc_moments::Moment;
 use irc_names::{Host, ServerName, first_bytes};
 use std::alloc::{AllocError, Global};
 use std::collections::BTreeMap;
@@ -558,7 +559,17 @@ impl Wire for MemoryWire {
 
     fn know(&mut self, _is_known: bool, _yields: bool) {}
 
-    fn unreached(&mut self) -> Option<Unreached> {
+    fn named(&mut self, _conn: u64) {}
+
+    fn whence(&self, _conn: u64) -> Option<Host> {
+        None
+    }
+
+    fn moment(&self) -> Moment {
+        Moment::of(0)
+    }
+
+    fn notice(&mut self) -> Option<Notice> {
         None
     }
 }

@@ -3,6 +3,7 @@ ghost use Rattle.std.specs.Prelude.{List, ◌≤◌, length, IfOk};
 ghost use Rattle.irc_outbox.specs.Calls.{Call, asks, read_into, writes, closes, Adds, FitsIn};
 ghost use Rattle.irc_outbox.specs.Calls.{Keeps};
 
+use irc_moments::Moment;
 use irc_names::{Host, ServerName};
 use std::io;
 use thiserror::Error;
@@ -49,6 +50,17 @@ pub struct Unreached {
     pub name: ServerName,
     /// Why the system says it has not.
     pub error: io::Error,
+}
+
+/// What a device has to tell beside what is ready.
+#[derive(Drop)]
+pub enum Notice {
+    /// A call has reached nobody.
+    Unreached(Unreached),
+    /// No connection could be taken for want of a descriptor or of memory.
+    DescriptorsGone,
+    /// Connections can be taken again.
+    DescriptorsBack,
 }
 
 /// A device with connections, each under a number. Each call is one step in the account of what was
@@ -98,7 +110,20 @@ pub trait Wire {
     fn know(&mut self, is_known: bool, yields: bool)
         ensures { Keeps is_after self.old self.new };
 
-    /// A call that has failed and was not told yet, if there is one. It is no part of the account.
-    fn unreached(&mut self) -> Option<Unreached>
+    /// A connection has named itself: a link is met. It is no part of the account.
+    fn named(&mut self, conn: u64)
+        ensures { Keeps is_after self.old self.new };
+
+    /// From which host a connection comes, also one that was closed since `ready` was asked last;
+    /// none where that is not known. It is no part of the account.
+    fn whence(&self, conn: u64) -> Option<Host>;
+
+    /// The moment at which the turn at hand began, by the device's clock. It is no part of the
+    /// account.
+    fn moment(&self) -> Moment;
+
+    /// What the device has to tell and has not told yet, if there is something. It is no part of
+    /// the account.
+    fn notice(&mut self) -> Option<Notice>
         ensures { Keeps is_after self.old self.new };
 }

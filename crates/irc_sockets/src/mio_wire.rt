@@ -13,8 +13,8 @@ use crate::listening::Listening;
 use crate::sockets::Sockets;
 use crate::tokens::{CALLS, CLIENTS, FIRST_SOCKET, LINKS};
 use irc_moments::Moment;
-use irc_names::ServerName;
-use irc_outbox::{Got, IoFault, Ready, Unreached, Wire};
+use irc_names::{Host, ServerName};
+use irc_outbox::{Got, IoFault, Notice, Ready, Wire};
 use irc_turns::{Crowd, Round, wait_for};
 use mio::net::TcpStream;
 use mio::{Events, Interest, Poll, Token};
@@ -338,7 +338,17 @@ impl Wire for MioWire {
             .know(is_known, yields, registry, self.round.began);
     }
 
-    fn unreached(&mut self) -> Option<Unreached> {
-        self.calls.unreached()
+    fn named(&mut self, _conn: u64) {}
+
+    fn whence(&self, _conn: u64) -> Option<Host> {
+        None
+    }
+
+    fn moment(&self) -> Moment {
+        self.round.began
+    }
+
+    fn notice(&mut self) -> Option<Notice> {
+        self.calls.unreached().map(Notice::Unreached)
     }
 }

@@ -5,8 +5,9 @@ ghost use Rattle.irc_outbox.specs.Calls.{Call, asks, reads, writes, closes, byte
 ghost use Rattle.irc_outbox.specs.Calls.{FitsIn, Keeps};
 
 use arrayvec::ArrayVec;
-use irc_names::ServerName;
-use irc_outbox::{Got, IoFault, MemoryWire, Ready, Unreached, Wire};
+use irc_moments::Moment;
+use irc_names::{Host, ServerName};
+use irc_outbox::{Got, IoFault, MemoryWire, Notice, Ready, Unreached, Wire};
 
 /// Whom an engine has closed, one after another, as far as there is room.
 pub(crate) type Closings = ArrayVec<u64, 8>;
@@ -49,7 +50,19 @@ impl<'a> Wire for Lent<'a> {
         self.wire.know(is_known, yields)
     }
 
-    fn unreached(&mut self) -> Option<Unreached> {
-        self.call.take()
+    fn named(&mut self, conn: u64) {
+        self.wire.named(conn)
+    }
+
+    fn whence(&self, conn: u64) -> Option<Host> {
+        self.wire.whence(conn)
+    }
+
+    fn moment(&self) -> Moment {
+        self.wire.moment()
+    }
+
+    fn notice(&mut self) -> Option<Notice> {
+        self.call.take().map(Notice::Unreached)
     }
 }
