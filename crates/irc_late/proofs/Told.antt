@@ -1,13 +1,12 @@
 -- What a wire around a wire tells and takes.
-use Rattle.std.proofs.Common.{◌≡◌, ℕ, true, false, is_some, IsErrAnd, Option, Some, None, Result}
+use Rattle.std.proofs.Common.{◌≡◌, ℕ, IsErrAnd, Some, None, Result}
 use Rattle.std.proofs.Common.{Ok, Err, List, refl, sym, subst}
 use Rattle.irc_outbox.specs.Calls.{Call, asks, Adds}
 use Rattle.irc_outbox.specs.declared.wire.IoFault.{IoFault}
 use Rattle.irc_outbox.specs.declared.wire.Ready.{Ready}
 use Rattle.irc_outbox.specs.declared.wire.Ready.TheVariants.{Readable}
 use Rattle.irc_late.specs.declared.late_wire.LateWire.{LateWire}
-use Rattle.irc_late.specs.Around.{Links, first_held, WritesAt}
-use Rattle.irc_late.specs.AroundCalls.{Begins, IsReady, IsTold, MeetsAnswer, WritesUnheld}
+use Rattle.irc_late.specs.AroundCalls.{Begins, IsReady, IsTold, MeetsAnswer}
 
 module _ {W : Type 0} (is_after : W → List Call → Type 0) (old begun : LateWire W)
     (begins : Begins old begun) where
@@ -43,28 +42,3 @@ pub err_so : {X : Type 0} (result : Result X IoFault) (fault : IoFault)
     → IsErrAnd result (λ e. e ≡ fault) → result ≡ Err fault
 err_so (Ok x) fault failed = absurd failed
 err_so (Err e) fault failed = λ i. Err (failed i)
-
-not_some : true ≡ false → ⊥
-not_some is = cc
-
-module _ {W : Type 0} (is_after : W → List Call → Type 0) (conn : ℕ) (bytes : List ℕ)
-    (links : Links) (wire : W) where
-  unheld : (held : Option ℕ) → is_some held ≡ true
-      → WritesUnheld is_after conn bytes held links wire (Ok 0) links wire
-  unheld (Some first) some = (refl, refl, refl)
-  unheld None some = absurd (not_some (sym some))
-
-  pub put_off : is_some (first_held links) ≡ true
-      → WritesUnheld is_after conn bytes (first_held links) links wire (Ok 0) links wire
-  put_off = unheld (first_held links)
-
-  on : (held : Option ℕ) (result : Result ℕ IoFault) (new : Links) (wire_after : W)
-      → is_some held ≡ false → WritesAt is_after conn bytes links wire result new wire_after
-      → WritesUnheld is_after conn bytes held links wire result new wire_after
-  on (Some first) result new wire_after none writes = absurd (not_some none)
-  on None result new wire_after none writes = writes
-
-  pub written_on : (result : Result ℕ IoFault) (new : Links) (wire_after : W) → is_some
-      (first_held links) ≡ false → WritesAt is_after conn bytes links wire result new wire_after
-      → WritesUnheld is_after conn bytes (first_held links) links wire result new wire_after
-  written_on = on (first_held links)

@@ -1,11 +1,10 @@
 -- A wire around a wire: the links that it has, and what becomes of them.
-use Rattle.std.specs.Prelude.{◌≡◌, ℕ, Bool, true, false, nat_eq, Option, Some, None, Result, Ok}
-use Rattle.std.specs.Prelude.{Err, List, [], if◌then◌else◌}
+use Rattle.std.specs.Prelude.{◌≡◌, ℕ, Bool, true, false, ◌||◌, nat_eq, Option, Some, None, Result}
+use Rattle.std.specs.Prelude.{Ok, Err, List, [], is_some, if◌then◌else◌}
 use Rattle.std.specs.Global.{Box}
-use Rattle.std.specs.List.{find}
 use Rattle.std.specs.Option.{option_map, option_map_or}
 use Rattle.std.specs.Ordering.{nat_cmp}
-use Rattle.std.specs.BTreeMap.{BTreeMap, get, keys}
+use Rattle.std.specs.BTreeMap.{BTreeMap, get}
 use Rattle.irc_outbox.specs.Calls.{Call, closes, read_into, writes, Adds}
 use Rattle.irc_outbox.specs.declared.wire.Ready.{Ready}
 use Rattle.irc_outbox.specs.declared.wire.Ready.TheVariants.{Idle, Linked, Writable}
@@ -38,13 +37,23 @@ abbrev pub IsAdded : ℕ → Links → Bool → Links → Type 0
 IsAdded conn old true new = Sets conn (Some begun) old new
 IsAdded conn old false new = new.entries ≡ old.entries
 
--- whether something is held back of a link, and the first of which something is
+-- whether something is held back of a link
 abbrev pub is_held : Links → ℕ → Bool
 is_held links conn =
     option_map_or (λ (link : LateLink). holds_back link.incoming) (link_at links conn) false
 
-abbrev pub first_held : Links → Option ℕ
-first_held links = find (is_held links) (keys links)
+-- this link, if there is one and something is held back of it
+abbrev pub held_at : Links → Option ℕ → Option ℕ
+held_at links None = None
+held_at links (Some conn) = if is_held links conn then Some conn else None
+
+-- Whether something is held back of the link that was read in this turn, or of the one of which was
+-- told that more is to be read. Of another nothing is, where a turn reads one connection
+-- (`StaysSo`): a link gets something to hold back as it is read, and the next turn tells of that;
+-- what was told of and not read the turn behind that drops.
+abbrev pub holds_some : Links → (reading asked : Option ℕ) → Bool
+holds_some links reading asked =
+    is_some (held_at links reading) || is_some (held_at links asked)
 
 -- the same of a link, if there is a number of one
 abbrev pub ChangesIf : Option ℕ → (LateLink → LateLink) → Links → Links → Type 0

@@ -1,13 +1,13 @@
 -- What is asked of a wire around a wire, and what that asks of the wire below.
-use Rattle.std.specs.Prelude.{◌≡◌, ℕ, Option, Some, None, Result, Ok, Err, List}
+use Rattle.std.specs.Prelude.{◌≡◌, ℕ, Bool, true, false, Option, Some, None, Result, Ok, Err, List}
 use Rattle.irc_outbox.specs.Calls.{Call, asks, closes, Adds}
 use Rattle.irc_outbox.specs.declared.wire.Got.{Got}
 use Rattle.irc_outbox.specs.declared.wire.IoFault.{IoFault}
 use Rattle.irc_outbox.specs.declared.wire.Ready.{Ready}
 use Rattle.irc_outbox.specs.declared.wire.Ready.TheVariants.{Readable}
 use Rattle.irc_late.specs.declared.late_wire.LateWire.{LateWire}
-use Rattle.irc_late.specs.Around.{Links, first_held, told_behind, unless, Changes, ChangesIf, Meets}
-use Rattle.irc_late.specs.Around.{ReadsAt, Sets, WritesAt, WritesBackAt}
+use Rattle.irc_late.specs.Around.{Links, held_at, holds_some, told_behind, unless, Changes}
+use Rattle.irc_late.specs.Around.{ChangesIf, Meets, ReadsAt, Sets, WritesAt, WritesBackAt}
 use Rattle.irc_late.specs.LinkEnds.{with_offered, with_turn_over, without_held}
 
 -- ---- what is ready
@@ -36,13 +36,14 @@ IsTold is_after (Some conn) old wire result new wire_after =
 IsTold is_after None old wire result new wire_after =
     AsksOn is_after old wire result new wire_after
 
--- The turn in which a link was read is over. What is held back of one of which that was told, and
--- which was not read since, is not given on: the server has closed it.
+-- The turn in which a link was read is over, and what is held back of it is to be told. What is held
+-- back of one of which that was told, and which was not read since, is not given on: the server has
+-- closed it.
 pub record Begins {W : Type 0} (old new : LateWire W) : Type 0 where
   pub between : Links
   pub unread : ChangesIf old.asked without_held old.links between
   pub over : ChangesIf old.reading with_turn_over between new.links
-  pub asked : new.asked ≡ first_held new.links
+  pub asked : new.asked ≡ held_at new.links old.reading
   pub reading : new.reading ≡ None
   pub wire : new.wire ≡ old.wire
   pub own : new.own ≡ old.own
@@ -84,19 +85,20 @@ pub record ReadsFrom {W : Type 0} (is_after : W → List Call → Type 0) (conn 
 
 -- ---- what is written
 
-abbrev pub WritesUnheld : {W : Type 0} → (W → List Call → Type 0) → ℕ → List ℕ → Option ℕ
-    → Links → W → Result ℕ IoFault → Links → W → Type 0
-WritesUnheld is_after conn bytes (Some held) old wire result new wire_after =
+-- nothing is, while something is held back
+abbrev pub WritesUnheld : {W : Type 0} → (W → List Call → Type 0) → ℕ → List ℕ → Bool → Links → W
+    → Result ℕ IoFault → Links → W → Type 0
+WritesUnheld is_after conn bytes true old wire result new wire_after =
     (result ≡ Ok 0) × (new ≡ old) × (wire_after ≡ wire)
-WritesUnheld is_after conn bytes None old wire result new wire_after =
+WritesUnheld is_after conn bytes false old wire result new wire_after =
     WritesAt is_after conn bytes old wire result new wire_after
 
 pub record WritesTo {W : Type 0} (is_after : W → List Call → Type 0) (conn : ℕ) (bytes : List ℕ)
     (old : LateWire W) (result : Result ℕ IoFault) (new : LateWire W) : Type 0 where
   pub links : Links
   pub offered : Changes conn (with_offered bytes) old.links links
-  pub written :
-      WritesUnheld is_after conn bytes (first_held links) links old.wire result new.links new.wire
+  pub written : WritesUnheld is_after conn bytes (holds_some links old.reading old.asked) links
+      old.wire result new.links new.wire
   pub asked : new.asked ≡ old.asked
   pub own : new.own ≡ old.own
   pub reading : new.reading ≡ old.reading

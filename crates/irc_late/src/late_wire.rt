@@ -2,9 +2,9 @@
 ghost use Rattle.std.specs.Prelude.{◌≡◌, ◌≤◌, ⊤, None, length, IfOk};
 ghost use Rattle.irc_outbox.specs.Calls.{FitsIn};
 ghost use Rattle.irc_late.specs.LinkEnds.{with_offered, with_turn_over, without_held};
-ghost use Rattle.irc_late.specs.Around.{first_held, is_held, unless, Changes, ChangesIf, IsAdded};
-ghost use Rattle.irc_late.specs.Around.{IsAround, Meets, MeetsLink, ReadsAt, Sets, WritesAt};
-ghost use Rattle.irc_late.specs.Around.{WritesBackAt};
+ghost use Rattle.irc_late.specs.Around.{held_at, holds_some, is_held, unless, Changes, ChangesIf};
+ghost use Rattle.irc_late.specs.Around.{IsAdded, IsAround, Meets, MeetsLink, ReadsAt, Sets};
+ghost use Rattle.irc_late.specs.Around.{WritesAt, WritesBackAt};
 ghost use Rattle.irc_late.specs.AroundCalls.{Begins, Closes, IsReady, ReadsFrom, WritesTo};
 
 use crate::late_link::LateLink;
@@ -60,8 +60,8 @@ impl<W: Wire> LateWire<W> {
     {
         drop_unread(&mut self.links, self.asked);
         end_turn(&mut self.links, self.reading);
+        self.asked = held_at(&self.links, self.reading);
         self.reading = None;
-        self.asked = first_held(&self.links);
         self.asked
     }
 
@@ -95,7 +95,7 @@ impl<W: Wire> LateWire<W> {
         Ok(got)
     }
 
-    /// Writes to a connection, once nothing is held back of any link.
+    /// Writes to a connection, once nothing is held back of a link.
     ///
     /// # Errors
     /// Where the device failed.
@@ -104,7 +104,7 @@ impl<W: Wire> LateWire<W> {
         ensures within { IfOk result (λ n. n ≤ length bytes.now) }
     {
         offer(&mut self.links, conn, bytes);
-        if first_held(&self.links).is_some() {
+        if holds_some(&self.links, self.reading, self.asked) {
             return Ok(0);
         }
         write_at(&mut self.links, &mut self.wire, conn, bytes, behind)
@@ -214,16 +214,22 @@ fn end_turn(links: &mut Links, reading: Option<u64>)
     }
 }
 
-/// The first link of which something is held back.
-fn first_held(links: &Links) -> Option<u64>
-    ensures { result ≡ first_held links.now }
+/// Whether something is held back of the link that was read in this turn, or of the one of which
+/// was told that more is to be read: of another nothing is, and there may be thousands.
+fn holds_some(links: &Links, reading: Option<u64>, asked: Option<u64>) -> bool
+    ensures { result ≡ holds_some links.now reading asked }
 {
-    for conn in links.keys() {
-        if is_held(links, *conn) {
-            return Some(*conn);
-        }
+    held_at(links, reading).is_some() || held_at(links, asked).is_some()
+}
+
+/// This link, if there is one and something is held back of it.
+fn held_at(links: &Links, conn: Option<u64>) -> Option<u64>
+    ensures { result ≡ held_at links.now conn }
+{
+    match conn {
+        Some(conn) if is_held(links, conn) => Some(conn),
+        _ => None,
     }
-    None
 }
 
 /// Whether something is held back of a link.
