@@ -2,6 +2,7 @@ mod Examples
 mod Fitting
 mod Giving
 mod HeldBack
+mod HeldOnlyThere
 mod LinkSets
 mod Marked
 mod Naming

@@ -48,9 +48,9 @@ held_at links None = None
 held_at links (Some conn) = if is_held links conn then Some conn else None
 
 -- Whether something is held back of the link that was read in this turn, or of the one of which was
--- told that more is to be read. Nothing is of another, where a turn reads one connection: a link
--- gets something to hold back as it is read, and the next turn tells of that; what was told of and
--- not read the turn behind that drops.
+-- told that more is to be read. Of another nothing is, where a turn reads one connection
+-- (`StaysSo`): a link gets something to hold back as it is read, and the next turn tells of that;
+-- what was told of and not read the turn behind that drops.
 abbrev pub holds_some : Links → (reading asked : Option ℕ) → Bool
 holds_some links reading asked =
     is_some (held_at links reading) || is_some (held_at links asked)

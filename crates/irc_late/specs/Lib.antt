@@ -1,6 +1,7 @@
 pub mod Around
 pub mod AroundCalls
 pub mod Coming
+pub mod Holding
 pub mod Late
 pub mod Laws
 pub mod LinkEnds

@@ -1,11 +1,14 @@
 //! What holds of late lines, whatever is remembered and whatever comes. Each law is a function
 //! that does nothing, and its contract is the law: the check proves it, and a crate above may
 //! cite it.
+ghost use Rattle.irc_late.specs.Holding.{BeginsSo, StaysSo};
 ghost use Rattle.irc_late.specs.Laws.{ChangedFits, CrossedKillIsLeftOut, CrossedNickIsKilled};
 ghost use Rattle.irc_late.specs.Laws.{CrossedRenameIsLeftOut, GivenUpNickIsKilled, KeyStays};
 ghost use Rattle.irc_late.specs.Laws.{KickIsPutRight, KilledIsLeftOut, ModeIsPutRight};
 ghost use Rattle.irc_late.specs.Laws.{NextNickIsKilled, NobodyIsUnchanged, NothingIsNoted};
 ghost use Rattle.irc_late.specs.Laws.{NothingIsUnchanged, OwnNickIsSpared, ServersAreUnchanged};
+
+use irc_outbox::Wire;
 
 /// With nothing remembered each line is given on as it came, and nothing is remembered behind it.
 pub fn nothing_remembered()
@@ -51,4 +54,11 @@ pub fn own_nicks()
     ensures own { OwnNickIsSpared }
     ensures next { NextNickIsKilled }
     ensures given_up { GivenUpNickIsKilled }
+{}
+
+/// Where a turn reads one connection, something is held back only of the link that was read in this
+/// turn, or of the one of which was told that more is to be read.
+pub fn held_where_read<W: Wire>()
+    ensures begins { BeginsSo W.is_after }
+    ensures stays { StaysSo W.is_after }
 {}

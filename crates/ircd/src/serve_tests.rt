@@ -39,7 +39,7 @@ const READY: &[u8] = b"ready\n";
 /// The file that each configuration is written to.
 const FILE: &str = "serve_tests.toml";
 
-static ROWS: [ServeRow; 30] = [
+static ROWS: [ServeRow; 32] = [
     ServeRow {
         room: ROOM,
         more: "",
