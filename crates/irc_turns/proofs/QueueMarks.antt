@@ -243,7 +243,7 @@ both_one n x y queue marks once first second =
     omega (
       arith,
       sym (once n) ∙ one_more n x (y ∷ queue) ∙ ap (λ k. k + times n (y ∷ queue))
-      (counted x first),
+          (counted x first),
       one_more n y queue ∙ ap (λ k. k + times n queue) (counted y second),
       at_most_once (is_marked marks n),
     )
