@@ -112,7 +112,8 @@ is_not false e = cc e
 not_it : (b : Bool) → b ≡ true → not b ≡ false
 not_it b e = ap not e
 
-both_kept : (may b c : Bool) → (b ≡ true → c ≡ true) → not (may && b) ≡ false → not (may && c) ≡ false
+both_kept : (may b c : Bool) → (b ≡ true → c ≡ true) → not (may && b) ≡ false
+    → not (may && c) ≡ false
 both_kept true b c keeps e = not_it c (keeps (is_not b e))
 both_kept false b c keeps e = cc e
 

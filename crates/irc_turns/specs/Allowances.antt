@@ -1,8 +1,9 @@
 -- How many lines a client may say by time.
-use Rattle.std.specs.Prelude.{ℕ, Bool, false, not, ◌&&◌, ◌+◌, ◌-◌, ◌*◌, ◌/◌, min, max, List}
-use Rattle.std.specs.Prelude.{if◌then◌else◌, Option, Some, None}
+use Rattle.std.specs.Prelude.{◌≡◌, ◌≤◌, ℕ, Bool, false, not, ◌&&◌, ◌+◌, ◌-◌, ◌*◌, ◌/◌, min, max}
+use Rattle.std.specs.Prelude.{if◌then◌else◌, Option, Some, None, List, [], ◌∷◌, ◌++◌, length}
 use Rattle.std.specs.List.{fold}
 use Rattle.irc_line.specs.Bytes.{is_line_end}
+use Rattle.irc_line.specs.Lines.{lines}
 use Rattle.irc_turns.specs.Rounds.{at_most_word}
 use Rattle.irc_turns.specs.declared.allowance.Allowance.{Allowance}
 use Rattle.irc_turns.specs.declared.allowance.LinesPace.{LinesPace}
@@ -60,3 +61,48 @@ said bytes allowance = fold said_byte allowance bytes
 -- these bytes are said at a moment
 abbrev pub spent : LinesPace → ℕ → List ℕ → Allowance → Allowance
 spent pace now bytes allowance = said bytes (counted pace now allowance)
+
+-- ---- what that counts
+
+-- how many lines begin in bytes, where one has begun before, or none has
+abbrev pub begun_in : Bool → List ℕ → ℕ
+begun_in is_begun [] = 0
+begun_in is_begun (byte ∷ bytes) =
+    (if not (is_line_end byte) && not is_begun then 1 else 0)
+    + begun_in (not (is_line_end byte)) bytes
+
+-- each line that begins in bytes takes one line
+abbrev pub LinesAreCounted : Type 0
+LinesAreCounted = (bytes : List ℕ) (allowance : Allowance) → (said bytes allowance).thousandths
+    ≡ allowance.thousandths - begun_in allowance.is_begun bytes * 1000
+
+-- the same comes of bytes in two pieces, wherever they are cut
+abbrev pub SaidInPieces : Type 0
+SaidInPieces = (first second : List ℕ) (allowance : Allowance) → said (first ++ second) allowance
+    ≡ said second (said first allowance)
+
+-- of any stream no more lines come, as the protocol has them, than begin in it
+abbrev pub NoneEndsUnbegun : Type 0
+NoneEndsUnbegun = (stream : List ℕ) → length (lines stream) ≤ begun_in false stream
+
+-- bytes are said at a moment, in which no more lines begin than may by then
+pub record SaysWithin (pace : LinesPace) (begun all now : ℕ) (bytes : List ℕ)
+    (before last : Allowance) : Type 0 where
+  pub later : before.counted_at ≤ now
+  pub within : begun_in before.is_begun bytes ≤ lines_at pace now before
+  pub left : last ≡ spent pace now bytes before
+  pub all_are : all ≡ begun + begun_in before.is_begun bytes
+
+-- what was said by and by, with how many lines have begun in it by now
+pub data HasSaid (pace : LinesPace) (first : Allowance) : ℕ → Allowance → Type 0 where
+  come : HasSaid pace first 0 first
+  once_more : (begun all now : ℕ) (bytes : List ℕ) (before last : Allowance)
+      → HasSaid pace first begun before → SaysWithin pace begun all now bytes before last
+      → HasSaid pace first all last
+
+-- who has begun no more lines each time than it might has begun no more in all than the burst, and
+-- what the milliseconds since it came have given
+abbrev pub PaceIsKept : Type 0
+PaceIsKept = (pace : LinesPace) (came begun : ℕ) (last : Allowance)
+    → HasSaid pace (allowance_of (Some pace) came) begun last
+    → begun * 1000 ≤ most_of pace + (last.counted_at - came) * max pace.per_second 1

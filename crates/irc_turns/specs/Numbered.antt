@@ -1,5 +1,5 @@
--- Those who talk to the server, by their numbers, the queue of those that are to be reported, and who
--- is held back.
+-- Those who talk to the server, by their numbers, the queue of those that are to be reported, and
+-- who is held back.
 use Rattle.std.specs.Prelude.{◌≡◌, ◌≤◌, ◌⊎◌, ℕ, Bool, true, false, not, ◌&&◌, ◌||◌, ◌-◌, nat_eq}
 use Rattle.std.specs.Prelude.{if◌then◌else◌, Option, Some, None, is_none, List, [], ◌∷◌}
 use Rattle.std.specs.Prelude.{length}
@@ -363,9 +363,9 @@ is_due_for now talkers held (reason.Filled mark) =
     not (may_wait_at now held && is_filled talkers mark)
 is_due_for now talkers held reason.Paced = not (is_paced talkers now held.who)
 
--- at this moment the reason is gone: far too much waits for no other; no more than may waits for the
--- link; the client takes bytes again, or its time is over; it may say a line. So it is where that
--- one is gone
+-- at this moment the reason is gone: far too much waits for no other; no more than may waits for
+-- the link; the client takes bytes again, or its time is over; it may say a line. So it is where
+-- that one is gone
 abbrev pub is_due : ℕ → NumberedTalkers → Held → Bool
 is_due now talkers held = is_due_for now talkers held held.reason
 

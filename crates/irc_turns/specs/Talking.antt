@@ -1,7 +1,8 @@
 -- One that talks to the server, a client or a link: what is asked of it, what is told of it, and
 -- what a turn leaves of it.
 use Rattle.std.specs.Prelude.{◌≡◌, ◌≤◌, ◌⊎◌, ⊤, ℕ, Bool, true, false, not, ◌&&◌, ◌||◌, ◌-◌, nat_eq}
-use Rattle.std.specs.Prelude.{nat_lt, nat_le, if◌then◌else◌, Option, Some, None, List, [], ◌++◌, length}
+use Rattle.std.specs.Prelude.{nat_lt, nat_le, if◌then◌else◌, Option, Some, None, List, [], ◌++◌}
+use Rattle.std.specs.Prelude.{length}
 use Rattle.std.specs.Prelude.{take, drop, min}
 use Rattle.irc_turns.specs.Allowances.{allowance_of, lines_at, spent}
 use Rattle.irc_turns.specs.Fronts.{GivesLines, IsFront}

@@ -5,6 +5,8 @@
 ghost use Rattle.std.specs.Prelude.{◌≡◌};
 ghost use Rattle.irc_turns.specs.Allowances.{most_of, gained, first_of, allowance_of};
 ghost use Rattle.irc_turns.specs.Allowances.{thousandths_at, lines_at, said_byte, said, spent};
+ghost use Rattle.irc_turns.specs.Allowances.{LinesAreCounted, NoneEndsUnbegun, SaidInPieces};
+ghost use Rattle.irc_turns.specs.Allowances.{PaceIsKept};
 
 use irc_moments::Moment;
 
@@ -114,3 +116,15 @@ fn first_of(pace: Option<LinesPace>) -> u64
         None => 0,
     }
 }
+
+/// Each line that a stream has was counted, in whatever pieces it has come.
+pub fn lines_are_counted()
+    ensures counted { LinesAreCounted }
+    ensures pieces { SaidInPieces }
+    ensures begun { NoneEndsUnbegun }
+{}
+
+/// Who has begun no more lines each time than it might has kept to the pace.
+pub fn pace_is_kept()
+    ensures { PaceIsKept }
+{}

@@ -104,7 +104,8 @@ impl Talker {
     ghost use Rattle.irc_turns.specs.Talking.{held_no_more, BeginsRead, IsWithin, IsTurnFront};
     ghost use Rattle.irc_turns.specs.Talking.{Keeps, none_read, read_over, is_put_off, has_taken};
     ghost use Rattle.irc_turns.specs.Talking.{took_none, written, named, given_up, load};
-    ghost use Rattle.irc_turns.specs.Talking.{is_over_soft, is_over_hard, may_be_held, may_be_eased};
+    ghost use Rattle.irc_turns.specs.Talking.{is_over_soft, is_over_hard, may_be_held};
+    ghost use Rattle.irc_turns.specs.Talking.{may_be_eased};
     ghost use Rattle.irc_turns.specs.Talking.{is_over, wants_signal, signalled, too_much_for};
     ghost use Rattle.irc_turns.specs.Talking.{lines_allowed, has_said};
 

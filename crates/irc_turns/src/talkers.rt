@@ -224,8 +224,8 @@ impl Talkers {
         Some(talker.is_put_off(round.turn, all, may_wait))
     }
 
-    /// How many lines of one may begin at this moment: any number, where clients keep to no pace, or
-    /// it is a link.
+    /// How many lines of one may begin at this moment: any number, where clients keep to no pace,
+    /// or it is a link.
     pub fn allowed(&self, number: usize, now: Moment) -> usize
         ensures { result ≡ lines_allowed_at number now self.now }
     {
@@ -270,7 +270,8 @@ impl Talkers {
         self.set_full(number, is_full);
     }
 
-    /// Far too much waits for one that is there, or does not. There is room: it was made as it came.
+    /// Far too much waits for one that is there, or does not. There is room: it was made as it
+    /// came.
     fn set_full(&mut self, number: usize, is_full: bool)
         requires { IsSome (talker_at self.old number) }
         ensures { self.new ≡ record self.old { full = queued_as is_full number self.old.full } }
