@@ -9,7 +9,7 @@ use Rattle.irc_sockets.specs.declared.mio_wire.MioWire.{MioWire}
 
 -- it was asked to listen where this says, for clients, and for links or for none; nobody has come
 -- yet, and so many may from one address, and so long without naming itself; by these rooms much
--- waits for somebody
+-- waits for somebody; and clients keep to this pace, or to none
 pub record ListensAt (listening : Listening) (wire : MioWire) : Type 0 where
   pub clients_at : wire.clients.asked ≡ listening.clients
   pub links_at : option_map (λ (door : Door). door.asked) wire.links ≡ listening.links
@@ -18,3 +18,4 @@ pub record ListensAt (listening : Listening) (wire : MioWire) : Type 0 where
   pub strangers_are : wire.strangers ≡ strangers_of listening.name_within
   pub marks_are :
       wire.sockets.talkers.marks ≡ marks_of listening.client_room listening.link_room
+  pub pace_is : wire.sockets.talkers.pace ≡ listening.pace

@@ -1,4 +1,5 @@
 //! Where a wire of sockets is to listen.
+use irc_turns::LinesPace;
 use std::net::SocketAddr;
 
 /// Where a wire of sockets is to listen, and how many it takes there.
@@ -20,4 +21,6 @@ pub struct Listening {
     /// How many connections for links that have not named themselves may be there from one address,
     /// if there is a limit.
     pub links_per_address: Option<u16>,
+    /// The pace of lines to which each client keeps, if there is one. What it sends beyond waits.
+    pub pace: Option<LinesPace>,
 }

@@ -87,7 +87,11 @@ impl MioWire {
             clients,
             links,
             calls,
-            sockets: Sockets::new(alloc, Marks::of(listening.client_room, listening.link_room)),
+            sockets: Sockets::new(
+                alloc,
+                Marks::of(listening.client_room, listening.link_room),
+                listening.pace,
+            ),
             crowd: Crowd::new(alloc, listening.connections_per_address),
             unnamed: Crowd::new(alloc, listening.links_per_address),
             strangers: Strangers::new(alloc, listening.name_within),
@@ -379,7 +383,7 @@ impl Wire for MioWire {
     }
 
     fn read(&mut self, conn: u64, buffer: &mut [u8]) -> Result<Got, IoFault> {
-        self.sockets.read(conn as usize, buffer, self.round.visits)
+        self.sockets.read(conn as usize, buffer, &self.round)
     }
 
     fn write(&mut self, conn: u64, bytes: &[u8], behind: usize) -> Result<usize, IoFault> {

@@ -5,7 +5,7 @@ ghost use Rattle.irc_sockets.specs.Answers.{unread_as, unwritten_as};
 
 use irc_moments::Moment;
 use irc_outbox::{Got, IoFault, Ready};
-use irc_turns::{Marks, Readiness, Reading, Report, Round, Talker, Talkers};
+use irc_turns::{LinesPace, Marks, Readiness, Reading, Report, Round, Talker, Talkers};
 use mio::event::Event;
 use mio::net::TcpStream;
 use std::alloc::Global;
@@ -41,14 +41,15 @@ pub(crate) struct Sockets {
 }
 
 impl Sockets {
-    /// No sockets. By these marks much waits for one.
-    pub fn new(alloc: Global, marks: Marks) -> Self
-        ensures { result.talkers.marks ≡ marks }
+    /// No sockets. By these marks much waits for one; clients keep to this pace, if there is one.
+    pub fn new(alloc: Global, marks: Marks, pace: Option<LinesPace>) -> Self
+        ensures marks { result.talkers.marks ≡ marks }
+        ensures pace { result.talkers.pace ≡ pace }
     {
         Sockets {
             by_number: Vec::new(alloc),
             gone: Vec::new(alloc),
-            talkers: Talkers::new(alloc, marks),
+            talkers: Talkers::new(alloc, marks, pace),
         }
     }
 
@@ -154,20 +155,22 @@ impl Sockets {
         }
     }
 
-    /// Gives what is left of the last read of a socket, or reads from it.
+    /// Gives what is left of the last read of a socket, or reads from it: no more lines than its
+    /// pace has for now. What is given counts by that.
     ///
     /// # Errors
     /// Where the socket failed, is given up, or is none.
-    pub fn read(&mut self, number: usize, buffer: &mut [u8], visits: u64) -> Result<Got, IoFault>
+    pub fn read(&mut self, number: usize, buffer: &mut [u8], round: &Round) -> Result<Got, IoFault>
         ensures { FitsIn result (length buffer.old) }
     {
+        let most = self.talkers.allowed(number, round.began);
         let Some(talker) = self.talkers.at(number) else {
             return Err(IoFault::Failed);
         };
         if talker.is_given_up {
             return Err(IoFault::Failed);
         }
-        let got = match talker.begin_read(buffer, visits) {
+        let got = match talker.begin_read(buffer, round.visits, most) {
             Reading::Given(count) => Ok(Got::Bytes(count)),
             Reading::Anew(lines) => match self.by_number.get_mut(number) {
                 Some(Some(socket)) => read_anew(&mut socket.stream, talker, buffer, lines),
@@ -175,6 +178,9 @@ impl Sockets {
             },
         };
         talker.end_read();
+        if let Ok(Got::Bytes(count)) = got {
+            self.talkers.spend(number, &buffer[..count], round.began);
+        }
         self.talkers.queue_again(number);
         got
     }

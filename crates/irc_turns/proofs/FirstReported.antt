@@ -1,5 +1,5 @@
 -- The first of the queue is reported.
-use Rattle.std.proofs.Common.{◌≡◌, ⊎_elim, ℕ, Bool, false, ◌&&◌, cond, Option, Some, None, List, []}
+use Rattle.std.proofs.Common.{◌≡◌, ⊎_elim, ℕ, Bool, false, cond, Option, Some, None, List, []}
 use Rattle.std.proofs.Common.{◌∷◌, length, drop, refl, sym, ◌∙◌, ap, subst, arith}
 use Rattle.slab.specs.Slab.{with_value}
 use Rattle.irc_turns.specs.declared.talkers.Report.{Report}

@@ -11,14 +11,14 @@ use Rattle.slab.proofs.SlabLemmas.{Updates-with_value}
 use Rattle.std.specs.Option.{IsSome}
 use Rattle.irc_brakes.specs.Reading.{is_read_beside}
 use Rattle.irc_turns.specs.HeldBack.{may_wait_at}
+use Rattle.irc_turns.specs.declared.allowance.LinesPace.{LinesPace}
 use Rattle.irc_turns.specs.declared.holding.Held.{Held}
 use Rattle.irc_turns.specs.declared.holding.Reason.{Reason}
-use Rattle.irc_turns.specs.declared.holding.Reason.TheVariants.{OthersFull, Grown, Filled}
+use Rattle.irc_turns.specs.declared.holding.Reason.TheVariants.{OthersFull, Grown, Filled, Paced}
 use Rattle.irc_turns.specs.declared.talker.Talker.{Talker}
-use Rattle.irc_turns.specs.declared.talker.TalkerMark.{TalkerMark}
 use Rattle.irc_turns.specs.Numbered.{NumberedTalkers, talker_at, talker_changed_if}
 use Rattle.irc_turns.specs.Numbered.{talker_changed_at, tried_again, tried_for, let_go_one, is_due}
-use Rattle.irc_turns.specs.Numbered.{is_due_for, is_grown_one, is_filled_one}
+use Rattle.irc_turns.specs.Numbered.{is_due_for, is_grown_one, is_filled_one, is_paced_one}
 use Rattle.irc_turns.specs.Talking.{held_no_more}
 
 -- ---- those before the place from which one was taken stay
@@ -71,17 +71,26 @@ tried is OthersFull talkers n keeps now = now
 tried is (Grown mark) talkers n keeps now = now
 tried is (Filled mark) talkers n keeps now =
     changed is tried_again mark.number n talkers.by_number keeps now
+tried is Paced talkers n keeps now = now
 
 same_full : (why : Reason) (talkers : NumberedTalkers) → (tried_for why talkers).full ≡ talkers.full
 same_full OthersFull talkers = refl
 same_full (Grown mark) talkers = refl
 same_full (Filled mark) talkers = refl
+same_full Paced talkers = refl
 
 same_marks : (why : Reason) (talkers : NumberedTalkers)
     → (tried_for why talkers).marks ≡ talkers.marks
 same_marks OthersFull talkers = refl
 same_marks (Grown mark) talkers = refl
 same_marks (Filled mark) talkers = refl
+same_marks Paced talkers = refl
+
+same_pace : (why : Reason) (talkers : NumberedTalkers) → (tried_for why talkers).pace ≡ talkers.pace
+same_pace OthersFull talkers = refl
+same_pace (Grown mark) talkers = refl
+same_pace (Filled mark) talkers = refl
+same_pace Paced talkers = refl
 
 -- what is true of a talker behind that was before
 before : (is : Option Talker → Bool) (place : ℕ) (gone : Held) (talkers : NumberedTalkers) (n : ℕ)
@@ -103,9 +112,21 @@ is_not false e = cc e
 not_it : (b : Bool) → b ≡ true → not b ≡ false
 not_it b e = ap not e
 
-both_kept : (may b c : Bool) → (b ≡ true → c ≡ true) → not (may && b) ≡ false → not (may && c) ≡ false
+both_kept : (may b c : Bool) → (b ≡ true → c ≡ true) → not (may && b) ≡ false
+    → not (may && c) ≡ false
 both_kept true b c keeps e = not_it c (keeps (is_not b e))
 both_kept false b c keeps e = cc e
+
+-- nothing that lets others go changes how much one may say
+let_go_says : (pace : Option LinesPace) (now : ℕ) (s : Talker)
+    → is_paced_one pace now (Some (held_no_more s)) ≡ is_paced_one pace now (Some s)
+let_go_says None now s = refl
+let_go_says (Some pace) now s = refl
+
+tried_says : (pace : Option LinesPace) (now : ℕ) (s : Talker)
+    → is_paced_one pace now (Some (tried_again s)) ≡ is_paced_one pace now (Some s)
+tried_says None now s = refl
+tried_says (Some pace) now s = refl
 
 waits : (now place : ℕ) (gone held : Held) (why : Reason) (talkers : NumberedTalkers)
     → is_due_for now (let_go_one place gone talkers) held why ≡ false
@@ -121,6 +142,12 @@ waits now place gone held (Filled mark) talkers not_due =
     both_kept (may_wait_at now held) _ _
     (before (is_filled_one mark) place gone talkers mark.number (λ s e. e)
     (λ s e. absurd (not_both _ e))) not_due
+waits now place gone held Paced talkers not_due =
+    not_it _ (before (is_paced_one talkers.pace now) place gone talkers held.who
+    (λ s e. sym (let_go_says talkers.pace now s) ∙ e)
+    (λ s e. sym (tried_says talkers.pace now s) ∙ e)
+    (ap (λ pace. is_paced_one pace now (talker_at (let_go_one place gone talkers) held.who))
+    (sym (same_pace gone.reason talkers)) ∙ is_not _ not_due))
 
 -- whoever is not due then was not due before
 pub still_waits : (now place : ℕ) (gone held : Held) (old new : NumberedTalkers)

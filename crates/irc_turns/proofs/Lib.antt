@@ -1,4 +1,6 @@
 pub mod FirstReported
 pub mod FrontSteps
 pub mod LettingGo
+pub mod LinesCounted
+pub mod PaceKept
 pub mod QueueMarks

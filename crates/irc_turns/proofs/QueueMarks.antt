@@ -1,6 +1,7 @@
 -- A queue of numbers, and the marks of those that stand in it.
 use Rattle.std.proofs.Common.{◌≡◌, ◌≢◌, ℕ, zero, suc, ◌+◌, ◌<◌, ◌≤◌, ◌==◌, Bool, true, false, not}
-use Rattle.std.proofs.Common.{nat_eq, ◌||◌, cond, List, [], ◌∷◌, ◌++◌, length, get_or, set, take, drop}
+use Rattle.std.proofs.Common.{nat_eq, ◌||◌, cond, List, [], ◌∷◌, ◌++◌, length, get_or, set, take}
+use Rattle.std.proofs.Common.{drop}
 use Rattle.std.proofs.Common.{replicate, count_by, length-append, zero-add, inl, inr, refl, sym}
 use Rattle.std.proofs.Common.{◌∙◌, ap, arith}
 use Rattle.std.proofs.lemmas.Bool.{cases_eq, eqb-true, eq-eqb}
@@ -243,7 +244,7 @@ both_one n x y queue marks once first second =
     omega (
       arith,
       sym (once n) ∙ one_more n x (y ∷ queue) ∙ ap (λ k. k + times n (y ∷ queue))
-      (counted x first),
+          (counted x first),
       one_more n y queue ∙ ap (λ k. k + times n queue) (counted y second),
       at_most_once (is_marked marks n),
     )

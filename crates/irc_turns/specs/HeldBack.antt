@@ -1,5 +1,6 @@
 -- Who is held back, and why.
-use Rattle.std.specs.Prelude.{ℕ, Bool, true, false, not, nat_eq, nat_lt, List, [], ◌∷◌, ◌++◌, filter}
+use Rattle.std.specs.Prelude.{ℕ, Bool, true, false, not, nat_eq, nat_lt, List, [], ◌∷◌, ◌++◌}
+use Rattle.std.specs.Prelude.{filter}
 use Rattle.irc_moments.specs.Moments.{later}
 use Rattle.irc_turns.specs.declared.holding.Held.{Held}
 use Rattle.irc_turns.specs.declared.holding.Reason.{Reason}

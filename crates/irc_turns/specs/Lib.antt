@@ -1,3 +1,4 @@
+pub mod Allowances
 pub mod Arriving
 pub mod Crowds
 pub mod Fronts

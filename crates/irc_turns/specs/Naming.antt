@@ -1,5 +1,6 @@
 -- Those who have come by a door and have yet to name themselves, and until when.
-use Rattle.std.specs.Prelude.{ℕ, ◌*◌, nat_lt, if◌then◌else◌, Option, Some, None, List, [], ◌∷◌, ◌++◌}
+use Rattle.std.specs.Prelude.{ℕ, ◌*◌, nat_lt, if◌then◌else◌, Option, Some, None, List, [], ◌∷◌}
+use Rattle.std.specs.Prelude.{◌++◌}
 use Rattle.irc_moments.specs.Moments.{later}
 use Rattle.irc_turns.specs.declared.strangers.Stranger.{Stranger}
 use Rattle.irc_turns.specs.declared.talker.TalkerMark.{TalkerMark}

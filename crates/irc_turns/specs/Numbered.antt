@@ -1,12 +1,13 @@
--- Those who talk to the server, by their numbers, the queue of those that are to be reported, and who
--- is held back.
+-- Those who talk to the server, by their numbers, the queue of those that are to be reported, and
+-- who is held back.
 use Rattle.std.specs.Prelude.{◌≡◌, ◌≤◌, ◌⊎◌, ℕ, Bool, true, false, not, ◌&&◌, ◌||◌, ◌-◌, nat_eq}
-use Rattle.std.specs.Prelude.{nat_lt, if◌then◌else◌, Option, Some, None, is_none, List, [], ◌∷◌}
+use Rattle.std.specs.Prelude.{if◌then◌else◌, Option, Some, None, is_none, List, [], ◌∷◌}
 use Rattle.std.specs.Prelude.{length}
 use Rattle.std.specs.List.{slice_get, swap_remove}
 use Rattle.std.specs.Option.{option_or}
 use Rattle.slab.specs.Slab.{Slab, get, with_value, Updates}
 use Rattle.irc_brakes.specs.Reading.{is_read_beside}
+use Rattle.irc_turns.specs.declared.allowance.LinesPace.{LinesPace}
 use Rattle.irc_turns.specs.declared.marks.Marks.{Marks}
 use Rattle.irc_turns.specs.declared.round.Round.{Round}
 use Rattle.irc_turns.specs.Rounds.{wait_more, more_noted, read_by}
@@ -25,10 +26,11 @@ use Rattle.irc_turns.specs.Queues.{is_first}
 use Rattle.irc_turns.specs.Talking.{new_talker, is_asked, too_much_for, may_take_more, is_put_off}
 use Rattle.irc_turns.specs.Talking.{written, takes_again, told_so, turn_over, held_back, named}
 use Rattle.irc_turns.specs.Talking.{held_no_more, is_over, is_over_soft, is_over_hard, may_be_held}
-use Rattle.irc_turns.specs.Talking.{may_be_eased, given_up, wants_signal}
+use Rattle.irc_turns.specs.Talking.{may_be_eased, given_up, wants_signal, lines_allowed}
 
 -- the talkers, the numbers of those that are to be reported, who is held back, the links for which
--- far too much waits, how much is too much, and how many came
+-- far too much waits, how much is too much, how many came, and the pace of clients, if they keep to
+-- one
 pub record NumberedTalkers : Type 0 where
   pub by_number : Slab Talker
   pub queue : List ℕ
@@ -36,6 +38,7 @@ pub record NumberedTalkers : Type 0 where
   pub full : List ℕ
   pub marks : Marks
   pub count : ℕ
+  pub pace : Option LinesPace
 
 -- there is room for each talker in the queue, and among those for whom far too much waits
 pub record HasRoom (by_number : Slab Talker) (queue full : Queued) : Type 0 where
@@ -65,6 +68,7 @@ pub record SameLists (old new : NumberedTalkers) : Type 0 where
   pub holding : new.holding ≡ old.holding
   pub full : new.full ≡ old.full
   pub marks : new.marks ≡ old.marks
+  pub pace : new.pace ≡ old.pace
 
 -- ---- one talker comes, or changes
 
@@ -72,7 +76,7 @@ pub record SameLists (old new : NumberedTalkers) : Type 0 where
 -- others stay
 abbrev pub IsTalkerAdded : Bool → ℕ → NumberedTalkers → NumberedTalkers → ℕ → Type 0
 IsTalkerAdded is_client now old new number =
-    Updates old.by_number new.by_number number (Some (new_talker is_client new.count now))
+    Updates old.by_number new.by_number number (Some (new_talker is_client new.count now old.pace))
 
 abbrev pub talker_changed_if : (Talker → Talker) → ℕ → Slab Talker → Option Talker → Slab Talker
 talker_changed_if change number slab None = slab
@@ -127,6 +131,24 @@ is_asked_one (Some talker) = is_asked talker
 abbrev pub queue_asked : ℕ → NumberedTalkers → List ℕ
 queue_asked number talkers =
     queued_if (is_asked_one (talker_at talkers number)) number talkers.queue
+
+-- ---- how much one may say by time
+
+abbrev pub lines_allowed_one : Option LinesPace → ℕ → Option Talker → ℕ
+lines_allowed_one pace now None = 18446744073709551615
+lines_allowed_one pace now (Some talker) = lines_allowed pace now talker
+
+-- how many lines of one may begin at a moment; of one that is gone, too, as many as can be
+abbrev pub lines_allowed_at : ℕ → ℕ → NumberedTalkers → ℕ
+lines_allowed_at number now talkers =
+    lines_allowed_one talkers.pace now (talker_at talkers number)
+
+abbrev pub is_paced_one : Option LinesPace → ℕ → Option Talker → Bool
+is_paced_one pace now slot = nat_eq 0 (lines_allowed_one pace now slot)
+
+-- none may: it is a client that has said all that it may for now
+abbrev pub is_paced : NumberedTalkers → ℕ → ℕ → Bool
+is_paced talkers now number = is_paced_one talkers.pace now (talker_at talkers number)
 
 -- ---- writes
 
@@ -264,15 +286,20 @@ filled_reason talkers may_wait None = None
 filled_reason talkers may_wait (Some mark) =
     if may_wait && is_filled talkers mark then Some (reason.Filled mark) else None
 
+abbrev pub paced_reason : NumberedTalkers → ℕ → ℕ → Option Reason
+paced_reason talkers now number =
+    if is_paced talkers now number then Some reason.Paced else None
+
 abbrev pub reason_for_one : NumberedTalkers → ℕ → ℕ → Option Talker → Option Reason
 reason_for_one talkers now number None = None
 reason_for_one talkers now number (Some talker) =
-    if not (may_be_held talker) then None else option_or
+    if not (may_be_held talker) then None else option_or (option_or
     (option_or (grown_reason talkers talker.grows) (full_reason talkers number))
-    (filled_reason talkers (may_be_eased talker now) talker.fills)
+    (filled_reason talkers (may_be_eased talker now) talker.fills))
+    (paced_reason talkers now number)
 
 -- why one that would be asked is to wait: for a link that it has added to; or for others for which
--- far too much waits; or for a client that it has added to
+-- far too much waits; or for a client that it has added to; or for its pace
 abbrev pub reason_for : NumberedTalkers → ℕ → ℕ → Option Reason
 reason_for talkers now number = reason_for_one talkers now number (talker_at talkers number)
 
@@ -334,9 +361,11 @@ is_due_for now talkers held reason.OthersFull = is_read_beside nat_eq talkers.fu
 is_due_for now talkers held (reason.Grown mark) = not (is_grown talkers mark)
 is_due_for now talkers held (reason.Filled mark) =
     not (may_wait_at now held && is_filled talkers mark)
+is_due_for now talkers held reason.Paced = not (is_paced talkers now held.who)
 
--- at this moment the reason is gone: far too much waits for no other; no more than may waits for the
--- link; the client takes bytes again, or its time is over. So it is where that one is gone
+-- at this moment the reason is gone: far too much waits for no other; no more than may waits for
+-- the link; the client takes bytes again, or its time is over; it may say a line. So it is where
+-- that one is gone
 abbrev pub is_due : ℕ → NumberedTalkers → Held → Bool
 is_due now talkers held = is_due_for now talkers held held.reason
 

@@ -1,5 +1,6 @@
 -- Numbers in a queue, each once.
-use Rattle.std.specs.Prelude.{◌≡◌, ◌≤◌, ℕ, Bool, true, false, not, nat_eq, if◌then◌else◌, List, [], ◌∷◌}
+use Rattle.std.specs.Prelude.{◌≡◌, ◌≤◌, ℕ, Bool, true, false, not, nat_eq, if◌then◌else◌, List, []}
+use Rattle.std.specs.Prelude.{◌∷◌}
 use Rattle.std.specs.Prelude.{◌++◌, length, take, drop, filter, slice_index_or, count_by}
 use Rattle.std.specs.List.{list_any}
 use Rattle.std.specs.VecDeque.{deque_capacity}

@@ -1,26 +1,29 @@
 -- One that talks to the server, a client or a link: what is asked of it, what is told of it, and
 -- what a turn leaves of it.
 use Rattle.std.specs.Prelude.{◌≡◌, ◌≤◌, ◌⊎◌, ⊤, ℕ, Bool, true, false, not, ◌&&◌, ◌||◌, ◌-◌, nat_eq}
-use Rattle.std.specs.Prelude.{nat_lt, nat_le, if◌then◌else◌, Option, Some, None, List, [], ◌++◌, length}
-use Rattle.std.specs.Prelude.{take, drop}
+use Rattle.std.specs.Prelude.{nat_lt, nat_le, if◌then◌else◌, Option, Some, None, List, [], ◌++◌}
+use Rattle.std.specs.Prelude.{length}
+use Rattle.std.specs.Prelude.{take, drop, min}
+use Rattle.irc_turns.specs.Allowances.{allowance_of, lines_at, spent}
 use Rattle.irc_turns.specs.Fronts.{GivesLines, IsFront}
 use Rattle.irc_moments.specs.Moments.{later}
 use Rattle.irc_turns.specs.Gathering.{nothing_waits, waits_behind}
 use Rattle.irc_turns.specs.Gathering.{is_put_off as waits_for_more}
 use Rattle.irc_turns.specs.Pacing.{at_first, at_rest, at_turn, behind_turn, paced_lines}
+use Rattle.irc_turns.specs.declared.allowance.LinesPace.{LinesPace}
 use Rattle.irc_turns.specs.declared.marks.Marks.{Marks}
 use Rattle.irc_turns.specs.declared.round.TooMuch.{TooMuch}
 use Rattle.irc_turns.specs.declared.round.TooMuch.TheVariants as too_much
 use Rattle.irc_turns.specs.declared.talker.AddedTo.{AddedTo}
-use Rattle.irc_turns.specs.declared.talker.TalkerMark.{TalkerMark}
 use Rattle.irc_turns.specs.declared.talker.Reading.{Reading}
 use Rattle.irc_turns.specs.declared.talker.Reading.TheVariants as reading
 use Rattle.irc_turns.specs.declared.talker.Talker.{Talker}
 use Rattle.irc_turns.specs.declared.talker.Readiness.{Readiness}
 
--- one that has come at a moment, and of which the system has told nothing yet
-abbrev pub new_talker : Bool → ℕ → ℕ → Talker
-new_talker is_client serial now = record {
+-- one that has come at a moment, and of which the system has told nothing yet; by this pace it may
+-- say something, or by none
+abbrev pub new_talker : Bool → ℕ → ℕ → Option LinesPace → Talker
+new_talker is_client serial now lines_pace = record {
   is_client = is_client;
   serial = serial;
   is_readable = false;
@@ -40,6 +43,7 @@ new_talker is_client serial now = record {
   free_until = 0;
   fills = None;
   grows = None;
+  allowance = allowance_of lines_pace now;
 }
 
 -- ---- what is asked of it
@@ -61,6 +65,21 @@ may_be_held talker =
 abbrev pub may_be_eased : Talker → ℕ → Bool
 may_be_eased talker now =
     not talker.was_held && (talker.is_client || not (nat_lt now talker.free_until))
+
+-- ---- how much it may say by time
+
+-- how many lines may begin at a moment: of a client, where there is a pace; else as many as can be
+abbrev pub lines_allowed : Option LinesPace → ℕ → Talker → ℕ
+lines_allowed None now talker = 18446744073709551615
+lines_allowed (Some pace) now talker =
+    if talker.is_client then lines_at pace now talker.allowance else 18446744073709551615
+
+-- a client says these bytes at a moment
+abbrev pub has_said : Option LinesPace → ℕ → List ℕ → Talker → Talker
+has_said None now bytes talker = talker
+has_said (Some pace) now bytes talker =
+    if talker.is_client
+    then record talker { allowance = spent pace now bytes talker.allowance } else talker
 
 -- ---- how much waits for it
 
@@ -155,27 +174,31 @@ held_no_more talker = record talker { was_held = talker.is_held; is_held = false
 abbrev pub read_begun : ℕ → Talker → Talker
 read_begun visits talker = record talker { pace = at_turn talker.pace visits }
 
+-- how many lines are for this turn, of which one may not begin more than so many
+abbrev pub turn_lines : ℕ → ℕ → Talker → ℕ
+turn_lines visits most talker = min (paced_lines talker.pace visits) most
+
 -- of what was left of the last read so many lines are given, as far as the buffer has room
-pub record GivesRest (visits : ℕ) (old : Talker) (buffer : List ℕ) (count : ℕ) (new : Talker)
+pub record GivesRest (visits most : ℕ) (old : Talker) (buffer : List ℕ) (count : ℕ) (new : Talker)
     (filled : List ℕ) : Type 0 where
   pub some : nat_eq 0 (length old.rest) ≡ false
-  pub lines : GivesLines (paced_lines old.pace visits) (length buffer) old.rest count
+  pub lines : GivesLines (turn_lines visits most old) (length buffer) old.rest count
   pub given : filled ≡ take count old.rest ++ drop count buffer
   pub left : new ≡ record (read_begun visits old) { rest = drop count old.rest }
 
 -- nothing was left, so the system is asked, and so many lines are for this turn
-pub record AsksAnew (visits : ℕ) (old : Talker) (buffer : List ℕ) (lines : ℕ) (new : Talker)
+pub record AsksAnew (visits most : ℕ) (old : Talker) (buffer : List ℕ) (lines : ℕ) (new : Talker)
     (filled : List ℕ) : Type 0 where
   pub none : nat_eq 0 (length old.rest) ≡ true
-  pub lines_are : lines ≡ paced_lines old.pace visits
+  pub lines_are : lines ≡ turn_lines visits most old
   pub begun : new ≡ read_begun visits old
   pub same : filled ≡ buffer
 
-abbrev pub BeginsRead : ℕ → Talker → List ℕ → Reading → Talker → List ℕ → Type 0
-BeginsRead visits old buffer (reading.Given count) new filled =
-    GivesRest visits old buffer count new filled
-BeginsRead visits old buffer (reading.Anew lines) new filled =
-    AsksAnew visits old buffer lines new filled
+abbrev pub BeginsRead : ℕ → ℕ → Talker → List ℕ → Reading → Talker → List ℕ → Type 0
+BeginsRead visits most old buffer (reading.Given count) new filled =
+    GivesRest visits most old buffer count new filled
+BeginsRead visits most old buffer (reading.Anew lines) new filled =
+    AsksAnew visits most old buffer lines new filled
 
 abbrev pub IsWithin : Reading → ℕ → Type 0
 IsWithin (reading.Given count) room = count ≤ room

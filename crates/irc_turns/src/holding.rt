@@ -20,6 +20,8 @@ pub(crate) enum Reason {
     /// It has added to this client, which takes nothing: until it does, and for `LONGEST_MS` at
     /// most.
     Filled(TalkerMark),
+    /// It has said all that clients may by time: until it may say a line.
+    Paced,
 }
 
 impl Reason {
@@ -31,7 +33,7 @@ impl Reason {
     {
         match self {
             Reason::Filled(_) => true,
-            Reason::OthersFull | Reason::Grown(_) => false,
+            Reason::OthersFull | Reason::Grown(_) | Reason::Paced => false,
         }
     }
 }

@@ -3,6 +3,7 @@
 //! up, and who is called again. Nothing here knows a socket.
 #![tactic(auto)]
 
+mod allowance;
 mod arrivals;
 mod crowd;
 mod holding;
@@ -22,6 +23,7 @@ mod talkers;
 mod waiting;
 mod waits;
 
+pub use allowance::{LinesPace, lines_are_counted, pace_is_kept};
 pub use arrivals::Arrivals;
 pub use crowd::Crowd;
 pub use marks::Marks;

@@ -2,6 +2,7 @@
 //! but what the system tells of it.
 ghost use Rattle.std.specs.Prelude.{◌≡◌, ◌≤◌, length};
 
+use crate::allowance::{Allowance, LinesPace};
 use crate::marks::Marks;
 use crate::pace::Pace;
 use crate::rest::{Rest, front_of};
@@ -93,6 +94,8 @@ pub struct Talker {
     pub(crate) fills: Option<TalkerMark>,
     /// A link for which more than may wait did behind its last turn, in which it grew.
     pub(crate) grows: Option<TalkerMark>,
+    /// How much it may say by time. Of a link nobody looks at it.
+    allowance: Allowance,
 }
 
 impl Talker {
@@ -101,12 +104,21 @@ impl Talker {
     ghost use Rattle.irc_turns.specs.Talking.{held_no_more, BeginsRead, IsWithin, IsTurnFront};
     ghost use Rattle.irc_turns.specs.Talking.{Keeps, none_read, read_over, is_put_off, has_taken};
     ghost use Rattle.irc_turns.specs.Talking.{took_none, written, named, given_up, load};
-    ghost use Rattle.irc_turns.specs.Talking.{is_over_soft, is_over_hard, may_be_held, may_be_eased};
+    ghost use Rattle.irc_turns.specs.Talking.{is_over_soft, is_over_hard, may_be_held};
+    ghost use Rattle.irc_turns.specs.Talking.{may_be_eased};
     ghost use Rattle.irc_turns.specs.Talking.{is_over, wants_signal, signalled, too_much_for};
+    ghost use Rattle.irc_turns.specs.Talking.{lines_allowed, has_said};
 
-    /// One that has come at this moment, and of which the system has told nothing yet.
-    pub fn new(alloc: Global, is_client: bool, serial: u64, now: Moment) -> Self
-        ensures { result ≡ new_talker is_client serial now }
+    /// One that has come at this moment, and of which the system has told nothing yet. A client
+    /// keeps to this pace, if there is one.
+    pub fn new(
+        alloc: Global,
+        is_client: bool,
+        serial: u64,
+        now: Moment,
+        lines_pace: Option<LinesPace>,
+    ) -> Self
+        ensures { result ≡ new_talker is_client serial now lines_pace }
     {
         Talker {
             is_client,
@@ -128,6 +140,7 @@ impl Talker {
             free_until: Moment::of(0),
             fills: None,
             grows: None,
+            allowance: Allowance::new(lines_pace, now),
         }
     }
 
@@ -277,13 +290,36 @@ impl Talker {
         }
     }
 
+    /// How many lines it may begin at this moment, where clients keep to this pace, or to none: any
+    /// number, where it is a link.
+    pub fn allowed(&self, lines_pace: Option<LinesPace>, now: Moment) -> usize
+        ensures { result ≡ lines_allowed lines_pace now self.now }
+    {
+        match lines_pace {
+            Some(lines_pace) if self.is_client => self.allowance.allowed(lines_pace, now),
+            _ => usize::MAX,
+        }
+    }
+
+    /// It has said these bytes at this moment.
+    pub fn spend(&mut self, lines_pace: Option<LinesPace>, given: &[u8], now: Moment)
+        ensures { self.new ≡ has_said lines_pace now given.now self.old }
+    {
+        if let Some(lines_pace) = lines_pace
+            && self.is_client
+        {
+            self.allowance.spend(lines_pace, given, now);
+        }
+    }
+
     /// A read begins, where somebody has come so often so far: what was left of the last one is
-    /// given, or the system is to be asked.
-    pub fn begin_read(&mut self, buffer: &mut [u8], visits: u64) -> Reading
-        ensures begun { BeginsRead visits self.old buffer.old result self.new buffer.new }
+    /// given, or the system is to be asked. So many lines are for this turn at most, and one in any
+    /// case.
+    pub fn begin_read(&mut self, buffer: &mut [u8], visits: u64, most: usize) -> Reading
+        ensures begun { BeginsRead visits most self.old buffer.old result self.new buffer.new }
         ensures within { IsWithin result (length buffer.old) }
     {
-        let lines = self.pace.lines(visits);
+        let lines = self.pace.lines(visits).min(most);
         if self.rest.is_empty() {
             Reading::Anew(lines)
         } else {

@@ -7,7 +7,7 @@ ghost use Rattle.slab.specs.Slab.{Updates, SameValues};
 ghost use Rattle.irc_turns.specs.HeldBack.{held_without, is_for_client};
 ghost use Rattle.irc_turns.specs.Rounds.{count_after};
 ghost use Rattle.irc_turns.specs.Queues.{queue_without, queued_as, queued_behind, turned_queue};
-ghost use Rattle.irc_turns.specs.Talking.{written, told_so, held_back};
+ghost use Rattle.irc_turns.specs.Talking.{written, told_so, held_back, has_said};
 ghost use Rattle.irc_turns.specs.Numbered.{talker_at, SameButQueue, SameLists, IsTalkerAdded, only};
 ghost use Rattle.irc_turns.specs.Numbered.{tried_again, queue_told, has_come, queue_asked};
 ghost use Rattle.irc_turns.specs.Numbered.{put_off_at, queue_written, round_behind, asked_again};
@@ -16,7 +16,9 @@ ghost use Rattle.irc_turns.specs.Numbered.{talker_mark, mark_of_one, turn_ended,
 ghost use Rattle.irc_turns.specs.Numbered.{reason_for, grown_reason, full_reason, filled_reason};
 ghost use Rattle.irc_turns.specs.Numbered.{is_grown, is_filled, IsHeldFor, ReportsFirst, LetsGo};
 ghost use Rattle.irc_turns.specs.Numbered.{is_due, tried_for, wants_signal_one, LetsGoAt};
+ghost use Rattle.irc_turns.specs.Numbered.{lines_allowed_at, paced_reason, is_paced};
 
+use crate::allowance::LinesPace;
 use crate::holding::{Held, Holding, Reason};
 use crate::marks::Marks;
 use crate::queue::Queue;
@@ -49,6 +51,8 @@ pub struct Talkers {
     marks: Marks,
     /// How many talkers there were.
     count: u64,
+    /// The pace to which clients keep, if they keep to one.
+    pace: Option<LinesPace>,
     alloc: Global,
 }
 
@@ -64,20 +68,22 @@ impl Model for Talkers {
       full = talkers.full.numbers;
       marks = talkers.marks;
       count = talkers.count;
+      pace = talkers.pace;
     } };
 
     ghost invariant = { λ talkers. HasRoom talkers.by_number talkers.queue talkers.full };
 }
 
 impl Talkers {
-    /// Nobody. By these marks much waits for somebody.
-    pub fn new(alloc: Global, marks: Marks) -> Self
+    /// Nobody. By these marks much waits for somebody; clients keep to this pace, if there is one.
+    pub fn new(alloc: Global, marks: Marks, pace: Option<LinesPace>) -> Self
         ensures talkers { (number : ℕ) → talker_at result number ≡ None }
         ensures queue { result.queue ≡ [] }
         ensures held { result.holding ≡ [] }
         ensures full { result.full ≡ [] }
         ensures marks { result.marks ≡ marks }
         ensures count { result.count ≡ 0 }
+        ensures pace { result.pace ≡ pace }
     {
         Talkers {
             by_number: Slab::new(alloc),
@@ -86,6 +92,7 @@ impl Talkers {
             full: Queue::new(alloc),
             marks,
             count: 0,
+            pace,
             alloc,
         }
     }
@@ -112,7 +119,7 @@ impl Talkers {
         self.queue.make_room(self.by_number.capacity())?;
         self.full.make_room(self.by_number.capacity())?;
         self.count = self.count.wrapping_add(1);
-        let talker = Talker::new(self.alloc, is_client, self.count, now);
+        let talker = Talker::new(self.alloc, is_client, self.count, now, self.pace);
         let number = self.by_number.insert_reserved(talker);
         // tells that no number is above the capacity, for which the queue has room
         let _places = self.by_number.capacity();
@@ -134,6 +141,7 @@ impl Talkers {
         ensures full { self.new.full ≡ queue_without number self.old.full }
         ensures marks { self.new.marks ≡ self.old.marks }
         ensures count { self.new.count ≡ self.old.count }
+        ensures pace { self.new.pace ≡ self.old.pace }
     {
         let _talker = self.by_number.try_remove(number);
         self.queue.remove(number);
@@ -216,6 +224,26 @@ impl Talkers {
         Some(talker.is_put_off(round.turn, all, may_wait))
     }
 
+    /// How many lines of one may begin at this moment: any number, where clients keep to no pace,
+    /// or it is a link.
+    pub fn allowed(&self, number: usize, now: Moment) -> usize
+        ensures { result ≡ lines_allowed_at number now self.now }
+    {
+        match self.by_number.get(number) {
+            Some(talker) => talker.allowed(self.pace, now),
+            None => usize::MAX,
+        }
+    }
+
+    /// These bytes of one are given on at this moment, which count by the pace of clients.
+    pub fn spend(&mut self, number: usize, given: &[u8], now: Moment)
+        ensures { self.new ≡ only (has_said self.old.pace now given.now) number self.old }
+    {
+        if let Some(talker) = self.by_number.get_mut(number) {
+            talker.spend(self.pace, given, now);
+        }
+    }
+
     /// A write to one is over, of so many bytes in all. It took so many of them, or failed. One
     /// that has taken its answers is asked again.
     pub fn end_write(&mut self, number: usize, all: usize, taken: Option<usize>, round: &mut Round)
@@ -242,7 +270,8 @@ impl Talkers {
         self.set_full(number, is_full);
     }
 
-    /// Far too much waits for one that is there, or does not. There is room: it was made as it came.
+    /// Far too much waits for one that is there, or does not. There is room: it was made as it
+    /// came.
     fn set_full(&mut self, number: usize, is_full: bool)
         requires { IsSome (talker_at self.old number) }
         ensures { self.new ≡ record self.old { full = queued_as is_full number self.old.full } }
@@ -297,7 +326,8 @@ impl Talkers {
     }
 
     /// Why one that would be asked is to wait at this moment, if it is to: first for a link that it
-    /// has added to, then for others for which far too much waits, then for a client.
+    /// has added to, then for others for which far too much waits, then for a client, then for its
+    /// pace.
     fn reason_for(&self, number: usize, now: Moment) -> Option<Reason>
         ensures { result ≡ reason_for self.now now number }
     {
@@ -307,7 +337,22 @@ impl Talkers {
         }
         let for_link = self.grown(talker.grows).or(self.others_full(number));
         let is_eased = talker.may_be_eased(now);
-        for_link.or(self.filled(talker.fills, is_eased))
+        let for_others = for_link.or(self.filled(talker.fills, is_eased));
+        for_others.or(self.paced(number, now))
+    }
+
+    /// That it has said all that it may for now, if it has.
+    fn paced(&self, number: usize, now: Moment) -> Option<Reason>
+        ensures { result ≡ paced_reason self.now now number }
+    {
+        self.is_paced(number, now).then_some(Reason::Paced)
+    }
+
+    /// Whether it has.
+    fn is_paced(&self, number: usize, now: Moment) -> bool
+        ensures { result ≡ is_paced self.now now number }
+    {
+        self.allowed(number, now) == 0
     }
 
     /// That too much waits for this link, if it does.
@@ -371,6 +416,7 @@ impl Talkers {
             Reason::OthersFull => self.full.is_beside(held.who),
             Reason::Grown(mark) => !self.is_grown(mark),
             Reason::Filled(mark) => !(held.may_wait(now) && self.is_filled(mark)),
+            Reason::Paced => !self.is_paced(held.who, now),
         }
     }
 
@@ -397,7 +443,7 @@ impl Talkers {
     {
         match reason {
             Reason::Filled(mark) => self.try_again(mark.number),
-            Reason::OthersFull | Reason::Grown(_) => {}
+            Reason::OthersFull | Reason::Grown(_) | Reason::Paced => {}
         }
     }
 

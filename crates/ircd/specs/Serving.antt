@@ -153,6 +153,7 @@ listening_of setup =
       link_room = setup.link_room;
       name_within = setup.name_within;
       links_per_address = setup.links_per_address;
+      pace = None;
     }
 
 -- An engine is open: it has served nobody, its server is the one that was set up, an outbox has

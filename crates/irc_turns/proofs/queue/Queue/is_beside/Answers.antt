@@ -1,4 +1,4 @@
-use Rattle.std.proofs.Common.{rules, ◌≡◌, nat_eq, false, sym, ◌∙◌, ap, length}
+use Rattle.std.proofs.Common.{rules, nat_eq, sym, ◌∙◌, ap, length}
 use Rattle.std.proofs.lemmas.Bool.{eqb-false, ne_eqb}
 use Rattle.irc_brakes.specs.Reading.{is_read_beside}
 use Rattle.irc_turns.specs.Queues.{Queued}
