@@ -1,2 +1,4 @@
+pub mod KeysLost
 pub mod KeysOfTables
+pub mod Paces
 pub mod ValuesOfArrays

@@ -8,9 +8,10 @@ use Rattle.toml.specs.Data.{Data, Members, get_member, as_str, as_integer, as_ar
 use Rattle.toml.specs.Parse.{parse_document}
 use Rattle.irc_settings.specs.declared.settings.Settings.{Settings}
 use Rattle.irc_settings.specs.declared.settings.PeerSettings.{PeerSettings}
+use Rattle.irc_settings.specs.declared.settings.LinesPace.{LinesPace}
 use Rattle.irc_settings.specs.declared.fault.SettingsFault.{SettingsFault}
 use Rattle.irc_settings.specs.declared.fault.SettingsFault.TheVariants.{BadConfiguration, Memory}
-use Rattle.irc_settings.specs.Keys.{is_in_form, server_keys, values_in}
+use Rattle.irc_settings.specs.Keys.{is_server, values_in}
 
 -- the text and the integer that a table has at a key
 abbrev pub text_at : List ℕ → Members → Option (List ℕ)
@@ -58,6 +59,22 @@ peer_told peer = record {
   retry = option_map pos peer.retry;
 }
 
+-- how many lines of a client a table lets through: in a second, where it says so, and at once,
+-- which are 10 where it does not say
+pub record PaceTold : Type 0 where
+  pub per_second : ℤ
+  pub burst : ℤ
+
+abbrev pub pace_of : Option ℤ → ℤ → PaceTold
+pace_of burst per_second = record { per_second = per_second; burst = unwrap_or burst (pos 10) }
+
+abbrev pub pace_at : Members → Option PaceTold
+pace_at table = option_map (pace_of (integer_at (codes "burst_lines") table))
+    (integer_at (codes "lines_per_second") table)
+
+abbrev pub pace_told : LinesPace → PaceTold
+pace_told pace = record { per_second = pos pace.per_second; burst = pos pace.burst }
+
 -- the settings are what the document has at their keys
 pub record Tells (document : Members) (settings : Settings) : Type 0 where
   pub name : text_at (codes "name") document ≡ Some (string_bytes settings.name)
@@ -75,16 +92,17 @@ pub record Tells (document : Members) (settings : Settings) : Type 0 where
       ≡ option_map pos settings.name_within
   pub links_per_address : limit_at (codes "links_per_address") 16 document
       ≡ option_map pos settings.links_per_address
+  pub pace : pace_at document ≡ option_map pace_told settings.pace
   pub peers : map peer_at (tables_at (codes "peer") document) ≡ map peer_told settings.peers.items
 
 -- whether a text is a configuration: a TOML document with the keys that it has to have, and no
 -- others
 abbrev pub is_configuration : List ℕ → Bool
-is_configuration text = option_map_or (is_in_form server_keys) (parse_document text) false
+is_configuration text = option_map_or is_server (parse_document text) false
 
 -- what comes of reading a text
 abbrev pub AreSettingsOf : List ℕ → Result Settings SettingsFault → Type 0
 AreSettingsOf text (Ok settings) = (document : Members) × (parse_document text ≡ Some document)
-    × (is_in_form server_keys document ≡ true) × Tells document settings
+    × (is_server document ≡ true) × Tells document settings
 AreSettingsOf text (Err BadConfiguration) = is_configuration text ≡ false
 AreSettingsOf text (Err Memory) = Unit {0}

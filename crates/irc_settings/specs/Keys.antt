@@ -98,4 +98,15 @@ server_keys =
     (integer 1 65535)
     ∷ optional (codes "name_within") (integer 0 3600) ∷ optional (codes "links_per_address")
     (integer 0 65535)
-    ∷ optional (codes "peer") (tables is_peer) ∷ []
+    ∷ optional (codes "lines_per_second") (integer 1 1000)
+    ∷ optional (codes "burst_lines") (integer 1 1000) ∷ optional (codes "peer") (tables is_peer)
+    ∷ []
+
+-- whether a number of lines at once goes with one of lines in a second
+abbrev pub bursts_are_paced : Members → Bool
+bursts_are_paced table =
+    not (has_key (codes "burst_lines") table) || has_key (codes "lines_per_second") table
+
+-- whether a table is a document of settings
+abbrev pub is_server : Members → Bool
+is_server table = is_in_form server_keys table && bursts_are_paced table

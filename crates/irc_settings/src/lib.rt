@@ -3,11 +3,12 @@
 
 mod fault;
 mod finding;
+mod pace;
 mod peers;
 mod settings;
 
 pub use fault::SettingsFault;
-pub use settings::{PeerSettings, Settings, read_settings};
+pub use settings::{LinesPace, PeerSettings, Settings, read_settings};
 
 /// The least number of bytes that may wait for a client or a link: one line's (our own choice).
 pub const LEAST_ROOM: usize = 512;
@@ -33,3 +34,9 @@ pub const NAME_WITHIN: u16 = 10;
 /// How many connections that have not named themselves one address may have at the door for links,
 /// where the configuration does not say (our own choice).
 pub const LINKS_PER_ADDRESS: u16 = 16;
+
+/// The most lines of a client that may be taken in a second, or at once (our own choice).
+pub const MOST_LINES: u16 = 1_000;
+
+/// How many are taken at once where the configuration does not say (our own choice).
+pub const BURST_LINES: u16 = 10;

@@ -1,9 +1,10 @@
 //! What stands in the configuration file of the daemon.
 ghost use Rattle.toml.specs.View.{table_view};
 ghost use Rattle.irc_settings.specs.Configuration.{AreSettingsOf};
-ghost use Rattle.irc_settings.specs.Loops.Finding.{IsParsedAs, ReadsSettings};
+ghost use Rattle.irc_settings.specs.Loops.Finding.{IsParsedAs, ReadsKeys, ReadsSettings};
 
 use crate::finding::{has_only, limit, optional_number, optional_text, room, text};
+use crate::pace::{bursts_are_paced, pace};
 use crate::peers::peers;
 use crate::{
     LINKS_PER_ADDRESS, MOST_CLIENT_ROOM, MOST_CONNECTIONS, MOST_LINK_ROOM, MOST_NAME_WITHIN,
@@ -13,7 +14,7 @@ use std::alloc::Global;
 use toml::Table;
 
 /// The keys of the document.
-const SERVER_KEYS: [&str; 11] = [
+const SERVER_KEYS: [&str; 13] = [
     "name",
     "info",
     "created",
@@ -24,6 +25,8 @@ const SERVER_KEYS: [&str; 11] = [
     "connections_per_address",
     "name_within",
     "links_per_address",
+    "lines_per_second",
+    "burst_lines",
     "peer",
 ];
 
@@ -53,8 +56,19 @@ pub struct Settings {
     /// How many connections for links that have not named themselves may be there from one address,
     /// if there is a limit: 1 to [`MOST_CONNECTIONS`].
     pub links_per_address: Option<u16>,
+    /// How many lines of a client are taken, if there is a limit.
+    pub pace: Option<LinesPace>,
     /// The servers that may be linked to: the tables `peer`, in order.
     pub peers: Vec<PeerSettings, Global>,
+}
+
+/// How many lines of a client are taken.
+#[derive(Clone, Copy, Drop)]
+pub struct LinesPace {
+    /// In a second, on the average: 1 to [`crate::MOST_LINES`].
+    pub per_second: u16,
+    /// At once: 1 to [`crate::MOST_LINES`].
+    pub burst: u16,
 }
 
 /// A server that may be linked to.
@@ -72,11 +86,11 @@ pub struct PeerSettings {
 }
 
 /// Reads a configuration file: a TOML document with the keys that [`Settings`] and [`PeerSettings`]
-/// have as fields, and no others.
-/// Only `listen_links`, `connections_per_address`, `name_within`, `links_per_address`, `peer` and a
-/// peer's `connect` and `retry` may be left out. `name_within` is [`NAME_WITHIN`] then, and
-/// `links_per_address` [`LINKS_PER_ADDRESS`]; 0 at either is no limit. A peer with `retry` has
-/// `connect` too. Names, passwords and addresses are any texts here.
+/// have as fields, and no others; the pace stands at `lines_per_second` and `burst_lines`.
+/// What is an `Option` or a list here may be left out. `name_within` is [`NAME_WITHIN`] then,
+/// `links_per_address` [`LINKS_PER_ADDRESS`], and `burst_lines` [`crate::BURST_LINES`]; 0 at the
+/// first two is no limit. `burst_lines` stands only beside `lines_per_second`, and a peer's `retry`
+/// beside `connect`. Names, passwords and addresses are any texts here.
 ///
 /// # Errors
 /// Where the text is no such document; where memory runs out, which may come first.
@@ -84,7 +98,7 @@ pub fn read_settings(alloc: Global, text: &str) -> Result<Settings, SettingsFaul
     ensures { AreSettingsOf text.now result }
 {
     let document = document(alloc, text)?;
-    settings_in(alloc, &document)
+    settings_of(alloc, &document)
 }
 
 /// The TOML document that a text is.
@@ -99,8 +113,18 @@ fn document(alloc: Global, text: &str) -> Result<Table, SettingsFault>
 }
 
 /// What a document tells.
-fn settings_in(alloc: Global, document: &Table) -> Result<Settings, SettingsFault>
+fn settings_of(alloc: Global, document: &Table) -> Result<Settings, SettingsFault>
     ensures { ReadsSettings (table_view document.now) result }
+{
+    if !bursts_are_paced(document) {
+        return Err(SettingsFault::BadConfiguration);
+    }
+    settings_in(alloc, document)
+}
+
+/// What a document tells at its keys.
+fn settings_in(alloc: Global, document: &Table) -> Result<Settings, SettingsFault>
+    ensures { ReadsKeys (table_view document.now) result }
 {
     if !has_only(document, &SERVER_KEYS) {
         return Err(SettingsFault::BadConfiguration);
@@ -125,6 +149,7 @@ fn settings_in(alloc: Global, document: &Table) -> Result<Settings, SettingsFaul
             MOST_CONNECTIONS,
             LINKS_PER_ADDRESS,
         )?,
+        pace: pace(document)?,
         peers: peers(alloc, document)?,
     })
 }

@@ -7,6 +7,7 @@ use Rattle.std.specs.declared.net.socket_addr.SocketAddr.{SocketAddr}
 use Rattle.irc_outbox.specs.Calls.{Call}
 use Rattle.irc_names.specs.Names.{IsServer}
 use Rattle.irc_settings.specs.declared.settings.Settings.{Settings}
+use Rattle.irc_settings.specs.declared.settings.LinesPace.{LinesPace as SettingsPace}
 use Rattle.irc_settings.specs.declared.settings.PeerSettings.{PeerSettings}
 use Rattle.irc_settings.specs.Configuration.{AreSettingsOf, is_configuration}
 use Rattle.irc_server.specs.declared.config.Config.{Config}
@@ -19,6 +20,7 @@ use Rattle.irc_journal.specs.Saying.{AreSomeSaid}
 use Rattle.irc_late.specs.declared.late_wire.LateWire.{LateWire}
 use Rattle.irc_late.specs.Around.{IsAround}
 use Rattle.irc_turns.specs.Spreads.{name_spread}
+use Rattle.irc_turns.specs.declared.allowance.LinesPace.{LinesPace}
 use Rattle.irc_sockets.specs.declared.calls.Callee.{Callee}
 use Rattle.irc_sockets.specs.declared.listening.Listening.{Listening}
 use Rattle.irc_sockets.specs.declared.mio_wire.MioWire.{MioWire}
@@ -84,9 +86,15 @@ pub record Configures (settings : Settings) (config : Config) : Type 0 where
   pub created : config.own.created.items ≡ string_bytes settings.created
   pub peers : map known_peer config.peers.items ≡ map peer_set settings.peers.items
 
+-- clients keep to the pace of the settings, if there is one
+abbrev pub pace_set : Option SettingsPace → Option LinesPace
+pace_set None = None
+pace_set (Some pace) = Some (record { per_second = pace.per_second; burst = pace.burst })
+
 -- The server is made of the settings, without clients, and of their name; where it listens, whom it
 -- calls, and again when, by its own name too, how many connections an address may have, how many of
--- these for links without a name and for how long, and how much may wait is theirs.
+-- these for links without a name and for how long, to which pace of lines clients keep, and how much
+-- may wait is theirs.
 pub record IsSetUp (settings : Settings) (setup : Setup) : Type 0 where
   pub config : Config
   pub configures : Configures settings config
@@ -100,6 +108,7 @@ pub record IsSetUp (settings : Settings) (setup : Setup) : Type 0 where
   pub connections_per_address : setup.connections_per_address ≡ settings.connections_per_address
   pub name_within : setup.name_within ≡ settings.name_within
   pub links_per_address : setup.links_per_address ≡ settings.links_per_address
+  pub pace : setup.pace ≡ pace_set settings.pace
   pub client_room : setup.client_room ≡ settings.client_room
   pub link_room : setup.link_room ≡ settings.link_room
 

@@ -79,7 +79,7 @@ fn open<T: Net>(net: &T, alloc: Global, setup: Setup) -> Result<Engine<LateWire<
         link_room: setup.link_room,
         name_within: setup.name_within,
         links_per_address: setup.links_per_address,
-        pace: None,
+        pace: setup.pace,
     };
     let Ok(wire) = MioWire::listen(net, alloc, listening, setup.callees, setup.spread) else {
         return Err(Stop::Failed);

@@ -39,7 +39,7 @@ const READY: &[u8] = b"ready\n";
 /// The file that each configuration is written to.
 const FILE: &str = "serve_tests.toml";
 
-static ROWS: [ServeRow; 32] = [
+static ROWS: [ServeRow; 34] = [
     ServeRow {
         room: ROOM,
         more: "",
@@ -295,6 +295,23 @@ static ROWS: [ServeRow; 32] = [
     ServeRow {
         room: ROOM,
         more: "name_within = 3601\n",
+        words: &["serve", FILE, "0"],
+        status: 3,
+        output: b"",
+        errors: BAD,
+    },
+    // lines that are counted, and a number of them at once alone
+    ServeRow {
+        room: ROOM,
+        more: "lines_per_second = 1000\nburst_lines = 1\n",
+        words: &["serve", FILE, "0"],
+        status: 0,
+        output: READY,
+        errors: b"",
+    },
+    ServeRow {
+        room: ROOM,
+        more: "burst_lines = 10\n",
         words: &["serve", FILE, "0"],
         status: 3,
         output: b"",

@@ -3,7 +3,7 @@ ghost use Rattle.std.specs.Prelude.{◌≡◌, ◌++◌, ◌∷◌, [], IfOk, On
 ghost use Rattle.std.specs.Prelude.{option_to_list, string_bytes};
 ghost use Rattle.irc_stage.specs.View.{known_peer};
 ghost use Rattle.irc_turns.specs.Spreads.{name_spread};
-ghost use Rattle.ircd.specs.Serving.{Configures, IsReadSetup, SetsUp, peer_set};
+ghost use Rattle.ircd.specs.Serving.{Configures, IsReadSetup, SetsUp, pace_set, peer_set};
 ghost use Rattle.ircd.specs.Loops.SettingUp.{FindsAddress, FindsCallee, FindsCallees, FindsName};
 ghost use Rattle.ircd.specs.Loops.SettingUp.{FindsOptional};
 
@@ -13,7 +13,7 @@ use irc_routes::Own;
 use irc_server::{Config, Peer, Server};
 use irc_settings::{PeerSettings, Settings, read_settings};
 use irc_sockets::Callee;
-use irc_turns::name_spread;
+use irc_turns::{LinesPace, name_spread};
 use std::alloc::{AllocError, Global};
 use std::net::SocketAddr;
 
@@ -41,6 +41,8 @@ pub struct Setup {
     /// How many connections for links that have not named themselves may be there from one address,
     /// if there is a limit.
     pub links_per_address: Option<u16>,
+    /// How many lines of a client are taken, if there is a limit.
+    pub pace: Option<LinesPace>,
     /// How many bytes may wait for a client.
     pub client_room: usize,
     /// How many bytes may wait for a link.
@@ -73,8 +75,20 @@ fn set_up(alloc: Global, settings: &Settings) -> Result<Setup, Stop>
         connections_per_address: settings.connections_per_address,
         name_within: settings.name_within,
         links_per_address: settings.links_per_address,
+        pace: pace(settings),
         client_room: settings.client_room,
         link_room: settings.link_room,
+    })
+}
+
+/// To which pace of lines clients keep, if to one.
+fn pace(settings: &Settings) -> Option<LinesPace>
+    ensures { result ≡ pace_set settings.now.pace }
+{
+    let pace = settings.pace?;
+    Some(LinesPace {
+        per_second: pace.per_second,
+        burst: pace.burst,
     })
 }
 

@@ -1,7 +1,9 @@
 -- What the code finds at one key of a table, and what it reads a value as.
 use Rattle.std.specs.Prelude.{◌≡◌, ℕ, pos, Bool, true, false, Option, Some, None, Result, Ok, Err}
-use Rattle.std.specs.Prelude.{is_some, option_map, List, map, codes, String, Vec, string_bytes}
+use Rattle.std.specs.Prelude.{is_some, option_map, ◌&&◌, List, map, codes, String, Vec}
+use Rattle.std.specs.Prelude.{string_bytes}
 use Rattle.std.specs.List.{filter_map, list_all, list_any}
+use Rattle.std.specs.Option.{unwrap_or}
 use Rattle.std.specs.Str.{bytes_eq}
 use Rattle.toml.specs.Data.{Data, Members, as_integer, as_str, as_table}
 use Rattle.toml.specs.Parse.{parse_document}
@@ -9,10 +11,11 @@ use Rattle.toml.specs.View.{table_view, view}
 use Rattle.toml.specs.declared.value.Value.{Value}
 use Rattle.std.specs.BTreeMap.{BTreeMap}
 use Rattle.std.specs.declared.alloc.Global.{Global}
-use Rattle.irc_settings.specs.Configuration.{Tells, integer_at, limit_at, peer_at, peer_told}
-use Rattle.irc_settings.specs.Configuration.{tables_at, tables_in, text_at}
-use Rattle.irc_settings.specs.Keys.{integer, is_in_form, is_kept, is_of_kind, is_peer, is_table}
-use Rattle.irc_settings.specs.Keys.{needed, optional, server_keys, tables, text}
+use Rattle.irc_settings.specs.Configuration.{Tells, integer_at, limit_at, pace_at, pace_told}
+use Rattle.irc_settings.specs.Configuration.{peer_at, peer_told, tables_at, tables_in, text_at}
+use Rattle.irc_settings.specs.Keys.{integer, is_in_form, is_kept, is_of_kind, is_peer, is_server}
+use Rattle.irc_settings.specs.Keys.{is_table, needed, optional, server_keys, tables, text}
+use Rattle.irc_settings.specs.declared.settings.LinesPace.{LinesPace}
 use Rattle.irc_settings.specs.declared.settings.PeerSettings.{PeerSettings}
 use Rattle.irc_settings.specs.declared.settings.Settings.{Settings}
 use denote.Ref.{Bor}
@@ -84,6 +87,20 @@ abbrev pub FindsLimit : List ℕ → ℕ → ℕ → Members → Result (Option 
 FindsLimit key most left_out table = FindsValue (is_kept table (optional key (integer 0 most)))
     (λ found. limit_at key left_out table ≡ option_map pos found)
 
+-- ---- the pace of lines
+
+-- of numbers of lines in a second and at once
+abbrev pub paced : (per_second burst : Option ℕ) → Option LinesPace
+paced per_second burst =
+    option_map (λ count. record { per_second = count; burst = unwrap_or burst 10 }) per_second
+
+-- the numbers at both keys, of which the second is left out where the first is
+abbrev pub FindsPace : Members → Result (Option LinesPace) SettingsFault → Type 0
+FindsPace table =
+    FindsValue (is_kept table (optional (codes "lines_per_second") (integer 1 1000))
+    && is_kept table (optional (codes "burst_lines") (integer 1 1000)))
+    (λ found. pace_at table ≡ option_map pace_told found)
+
 -- ---- peers
 
 -- a table tells of a peer, and so does a value that is such a table
@@ -113,6 +130,10 @@ FindsPeers table =
 
 -- ---- the document
 
--- what a document tells, where it is in form
+-- what a document tells at its keys, where these are in form
+abbrev pub ReadsKeys : Members → Result Settings SettingsFault → Type 0
+ReadsKeys document = FindsValue (is_in_form server_keys document) (Tells document)
+
+-- what a document tells
 abbrev pub ReadsSettings : Members → Result Settings SettingsFault → Type 0
-ReadsSettings document = FindsValue (is_in_form server_keys document) (Tells document)
+ReadsSettings document = FindsValue (is_server document) (Tells document)

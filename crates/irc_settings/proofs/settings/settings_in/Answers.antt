@@ -1,16 +1,50 @@
-use Rattle.std.proofs.Common.{◌≡◌, true, sym, ◌∙◌, rules}
+use Rattle.std.proofs.Common.{◌≡◌, ◌&&◌, true, [], drop, map, option_map, pos, refl, sym, ◌∙◌, rules}
+use Rattle.std.specs.Prelude.{ℕ, Option, Vec, codes}
+use Rattle.std.specs.declared.alloc.Global.{Global}
 use Rattle.std.specs.List.{list_all}
 use Rattle.toml.specs.View.{table_view}
-use Rattle.irc_settings.specs.Keys.{server_keys, is_kept}
+use Rattle.irc_settings.specs.Configuration.{Tells, integer_at, pace_at, pace_told, peer_at}
+use Rattle.irc_settings.specs.Configuration.{peer_told, tables_at}
+use Rattle.irc_settings.specs.Keys.{integer, is_in_form, is_kept, is_peer, optional, server_keys}
+use Rattle.irc_settings.specs.Keys.{tables}
+use Rattle.irc_settings.specs.declared.settings.LinesPace.{LinesPace}
+use Rattle.irc_settings.specs.declared.settings.PeerSettings.{PeerSettings}
+use Rattle.irc_settings.proofs.KeysLost.{key_lost, pair_lost, refused}
 use Rattle.irc_settings.proofs.KeysOfTables.{unknown_key, all_kept}
+use Rattle.irc_settings.proofs.Paces.{burst_kept, per_second_kept}
 use Rattle.irc_settings.proofs.settings.settings_in.Goals as goal
 
 pub returns-then-not-has_only : goal.returns-then-not-has_only
 returns-then-not-has_only c =
     unknown_key server_keys c.args.document.now.entries (sym c.has_only.ensures ∙ search rules)
 
+pub returns-in_err-pace : goal.returns-in_err-pace
+returns-in_err-pace c =
+    let table = table_view c.args.document.now in
+    let key = optional (codes "lines_per_second") (integer 1 1000) in
+    let other = optional (codes "burst_lines") (integer 1 1000) in
+    refused (is_kept table key && is_kept table other) (is_in_form server_keys table)
+    (λ (found : Option LinesPace). pace_at table ≡ option_map pace_told found) (Tells table)
+    c.from_residual-in_err-pace.result c.in_err-pace.field-0.0
+    (pair_lost 10 server_keys key other (drop 12 server_keys) table refl)
+    c.in_err-pace.ensures c.from_residual-in_err-pace.ensures.1
+
+pub returns-in_err-peers : goal.returns-in_err-peers
+returns-in_err-peers c =
+    let table = table_view c.args.document.now in
+    let key = optional (codes "peer") (tables is_peer) in
+    refused (is_kept table key) (is_in_form server_keys table)
+    (λ (found : Vec PeerSettings Global).
+    map peer_at (tables_at (codes "peer") table) ≡ map peer_told found.items) (Tells table)
+    c.from_residual-in_err-peers.result c.in_err-peers.field-0.0
+    (key_lost 12 server_keys key [] table refl)
+    c.in_err-peers.ensures c.from_residual-in_err-peers.ensures.1
+
 pub returns : goal.returns
 returns c =
+    let table = table_view c.args.document.now in
+    let per_second = is_kept table (optional (codes "lines_per_second") (integer 1 1000)) in
+    let burst = is_kept table (optional (codes "burst_lines") (integer 1 1000)) in
     let kept : list_all (is_kept (table_view c.args.document.now)) server_keys ≡ true = rw (
       c.in_ok-text.ensures.0,
       c.in_ok-text-2.ensures.0,
@@ -22,6 +56,8 @@ returns c =
       c.in_ok-optional_number.ensures.0,
       c.in_ok-limit.ensures.0,
       c.in_ok-limit-2.ensures.0,
+      per_second_kept per_second burst c.in_ok-pace.ensures.0,
+      burst_kept per_second burst c.in_ok-pace.ensures.0,
       c.in_ok-peers.ensures.0,
     ) in (
       all_kept server_keys c.args.document.now.entries (sym c.has_only.ensures ∙ search rules) kept,
@@ -36,6 +72,7 @@ returns c =
         connections_per_address = c.in_ok-optional_number.ensures.1;
         name_within = c.in_ok-limit.ensures.1;
         links_per_address = c.in_ok-limit-2.ensures.1;
+        pace = c.in_ok-pace.ensures.1;
         peers = c.in_ok-peers.ensures.1;
       },
     )
