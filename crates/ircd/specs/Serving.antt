@@ -162,7 +162,7 @@ listening_of setup =
       link_room = setup.link_room;
       name_within = setup.name_within;
       links_per_address = setup.links_per_address;
-      pace = None;
+      pace = setup.pace;
     }
 
 -- An engine is open: it has served nobody, its server is the one that was set up, an outbox has
