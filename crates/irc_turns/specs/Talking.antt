@@ -38,6 +38,7 @@ new_talker is_client serial now lines_pace = record {
   rest = [];
   pace = at_first;
   waiting = nothing_waits;
+  is_just_met = false;
   spared = 0;
   silent_since = now;
   free_until = 0;
@@ -83,11 +84,12 @@ has_said (Some pace) now bytes talker =
 
 -- ---- how much waits for it
 
--- for a link that was met all that waits, but for what is left of what waited as it was: a burst
--- keeps nobody waiting. One that was not met is told no more than how a link begins
+-- for a link that was met all that waits, but for what is left of what waited at the first write
+-- since: a burst keeps nobody waiting. One that was not met is told no more than how a link begins
 abbrev pub load : Talker → ℕ
 load talker =
-    if talker.is_client || not talker.is_named then 0 else talker.waiting.bytes - talker.spared
+    if (talker.is_client || not talker.is_named) || talker.is_just_met then 0
+    else talker.waiting.bytes - talker.spared
 
 abbrev pub is_over_soft : Marks → Talker → Bool
 is_over_soft marks talker = nat_lt marks.soft (load talker)
@@ -272,7 +274,8 @@ abbrev pub written : ℕ → ℕ → ℕ → Option ℕ → Talker → Talker
 written turn now all None talker = talker
 written turn now all (Some taken) talker = record talker {
   waiting = waits_behind talker.waiting turn all (all - taken);
-  spared = talker.spared - taken;
+  spared = (if talker.is_just_met then all else talker.spared) - taken;
+  is_just_met = false;
   silent_since =
       if nat_lt 0 taken || not (nat_lt 0 talker.waiting.bytes) then now else talker.silent_since;
 }
@@ -281,7 +284,7 @@ written turn now all (Some taken) talker = record talker {
 
 -- the link is met: what waits for it then keeps nobody waiting
 abbrev pub named : Talker → Talker
-named talker = record talker { is_named = true; spared = talker.waiting.bytes }
+named talker = record talker { is_named = true; is_just_met = true }
 
 abbrev pub given_up : Talker → Talker
 given_up talker = record talker { is_given_up = true }

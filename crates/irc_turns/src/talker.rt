@@ -84,6 +84,8 @@ pub struct Talker {
     rest: Rest,
     pace: Pace,
     pub(crate) waiting: WaitingWrite,
+    /// Whether a link was met, and nothing was written to it since.
+    is_just_met: bool,
     /// How much of what waits for a link was put out as it was met.
     spared: usize,
     /// Since when it has said nothing, and taken nothing of what waits.
@@ -135,6 +137,7 @@ impl Talker {
             rest: Rest::new(alloc),
             pace: Pace::new(),
             waiting: WaitingWrite::new(),
+            is_just_met: false,
             spared: 0,
             silent_since: now,
             free_until: Moment::of(0),
@@ -187,11 +190,13 @@ impl Talker {
         !self.was_held && (self.is_client || !now.is_before(self.free_until))
     }
 
-    /// How much waits for a link that was met, but for what is left of what waited then.
+    /// How much waits for a link that was met, but for what is left of what waited at the first
+    /// write to it since: a burst, which the write of the turn in which it was met may not have
+    /// been given.
     fn load(&self) -> usize
         ensures { result ≡ load self.now }
     {
-        if self.is_client || !self.is_named {
+        if self.is_client || !self.is_named || self.is_just_met {
             0
         } else {
             self.waiting.bytes.saturating_sub(self.spared)
@@ -217,7 +222,7 @@ impl Talker {
         ensures { self.new ≡ named self.old }
     {
         self.is_named = true;
-        self.spared = self.waiting.bytes;
+        self.is_just_met = true;
     }
 
     /// Its next read and its next write fail.
@@ -439,7 +444,9 @@ impl Talker {
             if taken > 0 || !self.waiting.is_some() {
                 self.silent_since = now;
             }
-            self.spared = self.spared.saturating_sub(taken);
+            let spared = if self.is_just_met { all } else { self.spared };
+            self.spared = spared.saturating_sub(taken);
+            self.is_just_met = false;
             self.waiting.note(turn, all, all.saturating_sub(taken));
         }
     }
