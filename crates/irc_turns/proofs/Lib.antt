@@ -1,5 +1,6 @@
 pub mod FirstReported
 pub mod FrontSteps
+pub mod FrontsBegun
 pub mod LettingGo
 pub mod LinesCounted
 pub mod PaceKept

@@ -32,7 +32,7 @@ lines_counted (byte ∷ bytes) allowance =
 
 -- ---- pieces that are not empty, but for the last, and but for the first too
 
-abbrev some_in : List (List ℕ) → ℕ
+abbrev pub some_in : List (List ℕ) → ℕ
 some_in [] = 0
 some_in (piece ∷ []) = 0
 some_in (piece ∷ next ∷ pieces) = cond (is_empty piece) 0 1 + some_in (next ∷ pieces)
@@ -80,7 +80,7 @@ record AreBegun (bytes : List ℕ) : Type 0 where
   all : some_in (slice_split is_line_end bytes) ≤ begun_in false bytes
   behind : some_behind (slice_split is_line_end bytes) ≤ begun_in true bytes
 
-abbrev split_by : Bool → ℕ → List (List ℕ) → List (List ℕ)
+abbrev pub split_by : Bool → ℕ → List (List ℕ) → List (List ℕ)
 split_by b byte pieces = cond b ([] ∷ pieces) (onto_first byte pieces)
 
 one_more : (b : Bool) (byte : ℕ) (bytes : List ℕ) → AreBegun bytes

@@ -1,8 +1,9 @@
 -- How many lines a client may say by time.
 use Rattle.std.specs.Prelude.{◌≡◌, ◌≤◌, ℕ, Bool, false, not, ◌&&◌, ◌+◌, ◌-◌, ◌*◌, ◌/◌, min, max}
-use Rattle.std.specs.Prelude.{if◌then◌else◌, Option, Some, None, List, [], ◌∷◌, ◌++◌, length}
+use Rattle.std.specs.Prelude.{if◌then◌else◌, Option, Some, None, List, [], ◌∷◌, ◌++◌, length, take}
 use Rattle.std.specs.List.{fold}
-use Rattle.irc_line.specs.Bytes.{is_line_end}
+use Rattle.irc_line.specs.Bytes.{is_line_end, has_nul}
+use Rattle.irc_turns.specs.Fronts.{IsFront}
 use Rattle.irc_line.specs.Lines.{lines}
 use Rattle.irc_turns.specs.Rounds.{at_most_word}
 use Rattle.irc_turns.specs.declared.allowance.Allowance.{Allowance}
@@ -106,3 +107,9 @@ abbrev pub PaceIsKept : Type 0
 PaceIsKept = (pace : LinesPace) (came begun : ℕ) (last : Allowance)
     → HasSaid pace (allowance_of (Some pace) came) begun last
     → begun * 1000 ≤ most_of pace + (last.counted_at - came) * max pace.per_second 1
+
+-- of the front of so many lines no more begin, or one, where no NUL is in it: what has one is no
+-- line, and counts nonetheless
+abbrev pub FrontBegins : Type 0
+FrontBegins = (wanted : ℕ) (bytes : List ℕ) (count : ℕ) (is_begun : Bool) → has_nul bytes ≡ false
+    → IsFront wanted bytes count → begun_in is_begun (take count bytes) ≤ max wanted 1

@@ -6,7 +6,7 @@ ghost use Rattle.std.specs.Prelude.{◌≡◌};
 ghost use Rattle.irc_turns.specs.Allowances.{most_of, gained, first_of, allowance_of};
 ghost use Rattle.irc_turns.specs.Allowances.{thousandths_at, lines_at, said_byte, said, spent};
 ghost use Rattle.irc_turns.specs.Allowances.{LinesAreCounted, NoneEndsUnbegun, SaidInPieces};
-ghost use Rattle.irc_turns.specs.Allowances.{PaceIsKept};
+ghost use Rattle.irc_turns.specs.Allowances.{PaceIsKept, FrontBegins};
 
 use irc_moments::Moment;
 
@@ -122,6 +122,11 @@ pub fn lines_are_counted()
     ensures counted { LinesAreCounted }
     ensures pieces { SaidInPieces }
     ensures begun { NoneEndsUnbegun }
+{}
+
+/// Of what a turn takes no more lines begin than it is to have.
+pub fn fronts_begin_so_many()
+    ensures { FrontBegins }
 {}
 
 /// Who has begun no more lines each time than it might has kept to the pace.

@@ -23,7 +23,7 @@ mod talkers;
 mod waiting;
 mod waits;
 
-pub use allowance::{LinesPace, lines_are_counted, pace_is_kept};
+pub use allowance::{LinesPace, fronts_begin_so_many, lines_are_counted, pace_is_kept};
 pub use arrivals::Arrivals;
 pub use crowd::Crowd;
 pub use marks::Marks;
