@@ -140,9 +140,10 @@ SCRIPTS = [
 DRAWN = 300
 
 
-def rows(free, taken, links_free, links_taken):
-    """Words, standard input, and the status, output and errors that are wanted. `free` listens on a free port, `taken` on one in use; those of links
-    call a server that is not there."""
+def rows(free, taken, links_free, links_taken, port):
+    """Words, standard input, and the status, output and errors that are wanted. `free` listens on a free port, `taken` on one in use, which is `port`;
+    those of links call a server that is not there."""
+    closed = b"ircd: cannot listen on 127.0.0.1:%d: Address already in use (os error 98)\n" % port + FAILED
     return [
         ([], PING, 2, b"", USAGE),
         (["sim", "sim"], PING, 2, b"", USAGE),
@@ -157,9 +158,9 @@ def rows(free, taken, links_free, links_taken):
         (["sim"], b"server a.net\nsay 1\n", 3, b"", b"ircd: line 2: bad script\n"),
         (["serve", "no_such_file.toml", "0"], b"", 3, b"", BAD_CONFIGURATION),
         (["serve", free, "0"], b"", 0, b"ready\n", b""),
-        (["serve", taken, "0"], b"", 4, b"", FAILED),
+        (["serve", taken, "0"], b"", 4, b"", closed),
         (["serve", links_free, "3"], b"", 0, b"ready\n", UNREACHED),
-        (["serve", links_taken, "0"], b"", 4, b"", FAILED),
+        (["serve", links_taken, "0"], b"", 4, b"", closed),
     ]
 
 
@@ -245,7 +246,7 @@ def main():
             path = pathlib.Path(folder, name + ".toml")
             path.write_text(text)
             files.append(str(path))
-        runs = rows(*files)
+        runs = rows(*files, used)
         differences = sum(differs(program, row) for row in runs) + is_lost(program)
         path = pathlib.Path(folder, "judged.toml")
         judgements = [(None, text) for text in GOOD] + BAD

@@ -1,9 +1,12 @@
 -- Where a wire of sockets listens.
-use Rattle.std.specs.Prelude.{◌≡◌, option_map}
+use Rattle.std.specs.Prelude.{◌≡◌, ◌⊎◌, ⊤, Some, option_map}
+use Rattle.std.specs.declared.net.socket_addr.SocketAddr.{SocketAddr}
 use Rattle.irc_turns.specs.Crowds.{nobody_open}
 use Rattle.irc_turns.specs.Marks.{marks_of}
 use Rattle.irc_turns.specs.Naming.{strangers_of}
 use Rattle.irc_sockets.specs.declared.door.Door.{Door}
+use Rattle.irc_sockets.specs.declared.listen_fault.ListenFault.{ListenFault}
+use Rattle.irc_sockets.specs.declared.listen_fault.ListenFault.TheVariants.{Address, Memory, Other}
 use Rattle.irc_sockets.specs.declared.listening.Listening.{Listening}
 use Rattle.irc_sockets.specs.declared.mio_wire.MioWire.{MioWire}
 
@@ -19,3 +22,16 @@ pub record ListensAt (listening : Listening) (wire : MioWire) : Type 0 where
   pub marks_are :
       wire.sockets.talkers.marks ≡ marks_of listening.client_room listening.link_room
   pub pace_is : wire.sockets.talkers.pace ≡ listening.pace
+
+-- it cannot listen at this address
+abbrev pub IsFaultAt : SocketAddr → ListenFault → Type 0
+IsFaultAt address (Address told error) = told ≡ address
+IsFaultAt address (Other error) = ⊥
+IsFaultAt address Memory = ⊥
+
+-- it cannot listen at an address of these, or lacks something else
+abbrev pub IsFaultOf : Listening → ListenFault → Type 0
+IsFaultOf listening (Address told error) =
+    (told ≡ listening.clients) ⊎ (listening.links ≡ Some told)
+IsFaultOf listening (Other error) = ⊤
+IsFaultOf listening Memory = ⊤

@@ -1,6 +1,8 @@
 //! A listening socket.
-ghost use Rattle.std.specs.Prelude.{◌≡◌, IfOk};
+ghost use Rattle.std.specs.Prelude.{◌≡◌, IfErr, IfOk};
+ghost use Rattle.irc_sockets.specs.Listening.{IsFaultAt};
 
+use crate::listen_fault::ListenFault;
 use irc_moments::Moment;
 use irc_turns::{Arrivals, Shortage};
 use mio::net::{TcpListener, TcpStream};
@@ -31,17 +33,19 @@ impl Door {
         address: SocketAddr,
         registry: &Registry,
         token: Token,
-    ) -> io::Result<Self>
-        ensures { IfOk result (λ door. door.asked ≡ address) }
+    ) -> Result<Self, ListenFault>
+        ensures asked { IfOk result (λ door. door.asked ≡ address) }
+        ensures fault { IfErr result (IsFaultAt address) }
     {
-        let mut listener = TcpListener::bind(net, address)?;
-        registry.register(&mut listener, token, Interest::READABLE)?;
-        Ok(Door {
-            listener,
-            asked: address,
-            arrivals: Arrivals::new(),
-            shortage: Shortage::new(),
-        })
+        match listener(net, address, registry, token) {
+            Ok(listener) => Ok(Door {
+                listener,
+                asked: address,
+                arrivals: Arrivals::new(),
+                shortage: Shortage::new(),
+            }),
+            Err(error) => Err(ListenFault::Address(address, error)),
+        }
     }
 
     /// The address on which it listens.
@@ -82,4 +86,16 @@ impl Door {
             }
         }
     }
+}
+
+/// A socket that listens on an address, and that the system reports under the token.
+fn listener<T: Net>(
+    net: &T,
+    address: SocketAddr,
+    registry: &Registry,
+    token: Token,
+) -> io::Result<TcpListener> {
+    let mut listener = TcpListener::bind(net, address)?;
+    registry.register(&mut listener, token, Interest::READABLE)?;
+    Ok(listener)
 }

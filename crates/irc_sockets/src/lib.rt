@@ -6,11 +6,13 @@ mod clock;
 mod door;
 mod host;
 mod keep_alive;
+mod listen_fault;
 mod listening;
 mod mio_wire;
 mod sockets;
 mod tokens;
 
 pub use calls::Callee;
+pub use listen_fault::ListenFault;
 pub use listening::Listening;
 pub use mio_wire::MioWire;

@@ -1,14 +1,15 @@
 //! A wire of TCP sockets.
-ghost use Rattle.std.specs.Prelude.{◌≡◌, ⊤, ◌≤◌, length, IfOk};
+ghost use Rattle.std.specs.Prelude.{◌≡◌, ⊤, ◌≤◌, length, IfErr, IfOk};
 ghost use Rattle.irc_outbox.specs.Calls.{Call, asks, reads, writes, closes, bytes_got, Adds};
 ghost use Rattle.irc_outbox.specs.Calls.{FitsIn, Keeps};
-ghost use Rattle.irc_sockets.specs.Listening.{ListensAt};
+ghost use Rattle.irc_sockets.specs.Listening.{IsFaultOf, ListensAt};
 
 use crate::calls::{Callee, Calls};
 use crate::clock::clock_time;
 use crate::door::Door;
 use crate::host::host_of;
 use crate::keep_alive::{ask_after, narrow};
+use crate::listen_fault::ListenFault;
 use crate::listening::Listening;
 use crate::sockets::Sockets;
 use crate::tokens::{CALLS, CLIENTS, FIRST_SOCKET, LINKS};
@@ -67,7 +68,8 @@ impl MioWire {
         listening: Listening,
         callees: Vec<Callee, Global>,
         spread: u64,
-    ) -> io::Result<Self>
+    ) -> Result<Self, ListenFault>
+        ensures faults { IfErr result (IsFaultOf listening) }
         ensures listens { IfOk result (λ wire. ListensAt listening wire) }
         ensures callees { IfOk result (λ wire. wire.calls.asked ≡ callees) }
         ensures spread { IfOk result (λ wire. wire.calls.retries.spread ≡ spread) }

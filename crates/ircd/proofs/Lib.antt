@@ -1,2 +1,3 @@
+mod ClosedLines
 mod SettingUp
 mod Ready

@@ -16,9 +16,16 @@ use Rattle.irc_endings.specs.declared.fault.Stop.TheVariants.{Usage, BadScript, 
 use Rattle.irc_endings.specs.declared.fault.Stop.TheVariants.{Failed}
 use Rattle.ircd.specs.declared.setup.Setup.{Setup}
 use Rattle.ircd.specs.Loops.Turns.{IsOfFile, TakesTurns}
-use Rattle.ircd.specs.Serving.{IsCutShort, IsOpened, IsReadSetup, IsTextOf, Serves, ServesFile}
-use Rattle.ircd.specs.Serving.{ServesText}
-use Rattle.ircd.specs.Serving.IsCutShort.{printing, unprinted}
+use Rattle.std.specs.declared.net.socket_addr.SocketAddr.{SocketAddr}
+use Rattle.ircd.specs.ClosedDoors.{SaysClosed, SaysFault}
+use Rattle.ircd.specs.Serving.{IsCutShort, IsFailed, IsOpened, IsReadSetup, IsTextOf, IsUnopened}
+use Rattle.ircd.specs.Serving.{Serves, ServesFile, ServesText, listening_of}
+use Rattle.ircd.specs.Serving.IsCutShort.{printing, unopened, unprinted}
+use Rattle.ircd.specs.Serving.IsFailed.{failed_opening, failed_serving}
+use Rattle.ircd.specs.Serving.IsUnopened.{clients_closed, links_closed, untold}
+use Rattle.irc_sockets.specs.Listening.{IsFaultOf}
+use Rattle.irc_sockets.specs.declared.listen_fault.ListenFault.{ListenFault}
+use Rattle.irc_sockets.specs.declared.listen_fault.ListenFault.TheVariants.{Address, Memory, Other}
 use Rattle.irc_endings.specs.Ready.{ready_text}
 use Rattle.irc_endings.specs.Sinks.{Wrote, sink}
 use Rattle.irc_endings.specs.ScriptLemmas.Sinking.{all_lost}
@@ -80,16 +87,27 @@ text_refused text turns (Err e) stop held said bad failed =
     (stopped_by text turns stop held said bad)
 
 -- nobody listens
+pub unopened_by : (setup : Setup) (fault : ListenFault) (said said_after : Option (List ℕ))
+    → IsFaultOf (listening_of setup) fault → SaysFault fault said said_after
+    → IsUnopened setup said said_after
+unopened_by setup (Address address error) said said_after (inl at_clients) says = clients_closed
+    (subst (λ (a : SocketAddr). SaysClosed a said said_after) at_clients says)
+unopened_by setup (Address address error) said said_after (inr at_links) says =
+    links_closed address at_links says
+unopened_by setup (Other error) said said_after of says = untold says
+unopened_by setup Memory said said_after of says = untold says
+
 pub not_opened : (text : List ℕ) (turns : ℕ) (r : Result (Unit {0}) Stop) (stop : Stop)
-    (held said : Option (List ℕ)) → stop ≡ Failed → IsErrAnd r (λ e. e ≡ stop)
-    → ServesText text turns r held held said said
-not_opened text turns (Ok _) stop held said is failed = absurd failed
-not_opened text turns (Err e) stop held said is failed =
-    subst (λ s. ServesText text turns (Err s) held held said said) (sym (failed ∙ is))
-    (unprinted refl refl)
+    (setup : Setup) (held said said_after : Option (List ℕ)) → IsTextOf text setup
+    → (stop ≡ Failed) × IsUnopened setup said said_after → IsErrAnd r (λ e. e ≡ stop)
+    → ServesText text turns r held held said said_after
+not_opened text turns (Ok _) stop setup held said said_after is none failed = absurd failed
+not_opened text turns (Err e) stop setup held said said_after is none failed =
+    subst (λ s. ServesText text turns (Err s) held held said said_after) (sym (failed ∙ none.0))
+    (unopened setup is refl none.1)
 
 -- what it sets up is served
-pub text_served : (turns : ℕ) (first last : EngineView (LateWire MioWire)) (text : List ℕ)
+text_served : (turns : ℕ) (first last : EngineView (LateWire MioWire)) (text : List ℕ)
     (setup : Setup) (held after said said_after : Option (List ℕ)) (r : Result (Unit {0}) Stop)
     → IsTextOf text setup → IsOpened setup first
     → Serves (λ wire calls. ⊤) turns first last held after said said_after r
@@ -113,6 +131,18 @@ text_served turns first last text setup held after said said_after (Err Usage) i
 text_served turns first last text setup held after said said_after
     (Err (BadScript line)) is opened serves = absurd serves
 
+-- the same, where nothing was said before
+pub opened_served : (turns : ℕ) (first last : EngineView (LateWire MioWire)) (text : List ℕ)
+    (setup : Setup) (held after said between said_after : Option (List ℕ))
+    (r : Result (Unit {0}) Stop) → IsTextOf text setup
+    → IsOpened setup first × (between ≡ said)
+    → Serves (λ wire calls. ⊤) turns first last held after between said_after r
+    → ServesText text turns r held after said said_after
+opened_served turns first last text setup held after said between said_after r is opened serves =
+    text_served turns first last text setup held after said said_after r is opened.0
+    (subst (λ s. Serves (λ wire calls. ⊤) turns first last held after s said_after r) opened.1
+    serves)
+
 -- a file is not read
 pub file_refused : (turns : ℕ) (r : Result (Unit {0}) Stop) (stop : Stop)
     (held said : Option (List ℕ)) → IsOfFile stop → IsErrAnd r (λ e. e ≡ stop)
@@ -123,17 +153,34 @@ file_refused turns (Err e) stop held said (inl is) failed =
     subst (λ s. ServesFile turns (Err s) held held said said) (sym (failed ∙ is)) (refl, refl)
 file_refused turns (Err e) stop held said (inr is) failed =
     subst (λ s. ServesFile turns (Err s) held held said said) (sym (failed ∙ is))
-    (tells_nothing held ready_text, nothing_said said)
+    (failed_serving (tells_nothing held ready_text) (nothing_said said))
 
--- what was printed where it is cut short is a front of `ready`, and what was said is of links
+-- nothing was printed, and nothing said
+nothing_done : (held after said said_after : Option (List ℕ)) → after ≡ held → said_after ≡ said
+    → IsFailed held after said said_after
+nothing_done held after said said_after is same =
+    failed_serving (subst (λ a. Wrote held a ready_text) (sym is) (tells_nothing held ready_text))
+    (subst (λ a. AreSomeSaid said a) (sym same) (nothing_said said))
+
+-- nothing was, since nobody listens
+nobody_listens : (setup : Setup) (held after said said_after : Option (List ℕ)) → after ≡ held
+    → IsUnopened setup said said_after → IsFailed held after said said_after
+nobody_listens setup held after said said_after is (untold same) =
+    nothing_done held after said said_after is same
+nobody_listens setup held after said said_after is (clients_closed says) =
+    failed_opening setup.clients is says
+nobody_listens setup held after said said_after is (links_closed address at_links says) =
+    failed_opening address is says
+
+-- what was printed and said where it is cut short
 cut_short : (text : List ℕ) (held after said said_after : Option (List ℕ))
-    → IsCutShort text held after said said_after → Wrote held after ready_text
-    × AreSomeSaid said said_after
-cut_short text held after said said_after (unprinted is same) = (
-  subst (λ a. Wrote held a ready_text) (sym is) (tells_nothing held ready_text),
-  subst (λ a. AreSomeSaid said a) (sym same) (nothing_said said),
-)
-cut_short text held after said said_after (printing setup is tells some) = (tells, some)
+    → IsCutShort text held after said said_after → IsFailed held after said said_after
+cut_short text held after said said_after (unprinted is same) =
+    nothing_done held after said said_after is same
+cut_short text held after said said_after (unopened setup set_up is none) =
+    nobody_listens setup held after said said_after is none
+cut_short text held after said said_after (printing setup is tells some) =
+    failed_serving tells some
 
 -- a file is served by the text that it holds
 pub file_served : (text : List ℕ) (turns : ℕ) (r : Result (Unit {0}) Stop)

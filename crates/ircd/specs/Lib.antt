@@ -1,3 +1,4 @@
 pub mod Loops
+pub mod ClosedDoors
 pub mod Endings
 pub mod Serving

@@ -29,6 +29,7 @@ use Rattle.irc_endings.specs.declared.fault.Stop.{Stop}
 use Rattle.irc_endings.specs.declared.fault.Stop.TheVariants.{Usage, BadScript, BadConfiguration}
 use Rattle.irc_endings.specs.declared.fault.Stop.TheVariants.{Failed}
 use Rattle.ircd.specs.declared.setup.Setup.{Setup}
+use Rattle.ircd.specs.ClosedDoors.{SaysClosed}
 use Rattle.irc_endings.specs.Sinks.{Wrote}
 use Rattle.irc_endings.specs.Ready.{ready_text}
 use Rattle.irc_endings.specs.Statuses.{ending_text, exit_status}
@@ -178,6 +179,14 @@ pub record IsOpened (setup : Setup) (engine : EngineView (LateWire MioWire)) : T
   pub spread : sockets.calls.retries.spread ≡ setup.spread
   pub is_new : IsNew setup.server wire setup.client_room setup.link_room engine
 
+-- None is: nothing was said; or that it cannot listen where clients, or servers, are to come.
+pub data IsUnopened (setup : Setup) (errors errors_after : Option (List ℕ)) : Type 0 where
+  untold : errors_after ≡ errors → IsUnopened setup errors errors_after
+  clients_closed : SaysClosed setup.clients errors errors_after
+      → IsUnopened setup errors errors_after
+  links_closed : (address : SocketAddr) → setup.links ≡ Some address
+      → SaysClosed address errors errors_after → IsUnopened setup errors errors_after
+
 -- `ready` was printed, all turns were taken, and behind each what there was to tell of links was
 -- said; else a front of `ready` was printed, the program failed, and what was said is of links
 abbrev pub Serves : {W : Type 0} → (W → List Call → Type 0) → ℕ → EngineView W → EngineView W
@@ -191,11 +200,14 @@ Serves is_after turns old new printed printed_after errors errors_after (Err Bad
 Serves is_after turns old new printed printed_after errors errors_after (Err Usage) = ⊥
 Serves is_after turns old new printed printed_after errors errors_after (Err (BadScript line)) = ⊥
 
--- where the program failed: nothing was printed or said; or the text sets up a server, a front of
--- `ready` was printed, and what was said is of links
+-- where the program failed: nothing was printed or said; or the text sets up a server, and nothing
+-- was printed, since none is open; or a front of `ready` was, and what was said is of links
 pub data IsCutShort (text : List ℕ) (printed printed_after errors errors_after : Option (List ℕ)) :
     Type 0 where
   unprinted : printed_after ≡ printed → errors_after ≡ errors
+      → IsCutShort text printed printed_after errors errors_after
+  unopened : (setup : Setup) → IsTextOf text setup → printed_after ≡ printed
+      → IsUnopened setup errors errors_after
       → IsCutShort text printed printed_after errors errors_after
   printing : (setup : Setup) → IsTextOf text setup → Wrote printed printed_after ready_text
       → AreSomeSaid errors errors_after → IsCutShort text printed printed_after errors errors_after
@@ -226,6 +238,15 @@ ServesText text turns (Err Failed) printed printed_after errors errors_after =
 ServesText text turns (Err Usage) printed printed_after errors errors_after = ⊥
 ServesText text turns (Err (BadScript line)) printed printed_after errors errors_after = ⊥
 
+-- the same of any text: a front of `ready` was printed, and what was said is of links; or nothing
+-- was, and what was said is of an address
+pub data IsFailed (printed printed_after errors errors_after : Option (List ℕ)) : Type 0 where
+  failed_serving : Wrote printed printed_after ready_text → AreSomeSaid errors errors_after
+      → IsFailed printed printed_after errors errors_after
+  failed_opening : (address : SocketAddr) → printed_after ≡ printed
+      → SaysClosed address errors errors_after
+      → IsFailed printed printed_after errors errors_after
+
 -- How serving by a file ends. What the file holds no clause can tell: some text, or none where it
 -- cannot be read.
 abbrev pub ServesFile : ℕ → Result (Unit {0}) Stop
@@ -233,7 +254,7 @@ abbrev pub ServesFile : ℕ → Result (Unit {0}) Stop
 ServesFile turns (Err BadConfiguration) printed printed_after errors errors_after =
     (printed_after ≡ printed) × (errors_after ≡ errors)
 ServesFile turns (Err Failed) printed printed_after errors errors_after =
-    Wrote printed printed_after ready_text × AreSomeSaid errors errors_after
+    IsFailed printed printed_after errors errors_after
 ServesFile turns (Err Usage) printed printed_after errors errors_after = ⊥
 ServesFile turns (Err (BadScript line)) printed printed_after errors errors_after = ⊥
 ServesFile turns (Ok _) printed printed_after errors errors_after =

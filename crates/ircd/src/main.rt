@@ -5,6 +5,7 @@
 ghost use Rattle.std.specs.Process.{exit_status};
 ghost use Rattle.ircd.specs.Endings.{IsStatus};
 
+mod closed_door;
 mod program;
 #[cfg(test)]
 mod program_tests;

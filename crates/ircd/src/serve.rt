@@ -1,16 +1,19 @@
 //! `ircd serve`: a server on TCP sockets.
-ghost use Rattle.std.specs.Prelude.{IfErr};
+ghost use Rattle.std.specs.Prelude.{◌≡◌, IfErr};
+ghost use Rattle.irc_endings.specs.declared.fault.Stop.TheVariants.{Failed};
 ghost use Rattle.irc_engine.specs.Knowing.{HasNobody};
 ghost use Rattle.irc_engine.specs.EngineView.{engine_view};
+ghost use Rattle.ircd.specs.ClosedDoors.{SaysFault};
 ghost use Rattle.ircd.specs.Loops.Turns.{IsOfFile, IsRun, Opens, TakesTurns};
 ghost use Rattle.ircd.specs.Serving.{ServesFile, ServesText};
 
+use crate::closed_door::say_closed;
 use crate::setup::{Setup, read_setup};
 use irc_endings::{Stop, say_ready};
 use irc_engine::Engine;
 use irc_late::LateWire;
 use irc_outbox::Wire;
-use irc_sockets::{Listening, MioWire};
+use irc_sockets::{ListenFault, Listening, MioWire};
 use std::alloc::Global;
 use std::fs::{Files, read_to_string};
 use std::io::{ErrorKind, Write};
@@ -18,7 +21,8 @@ use std::net::Net;
 
 /// Serves as a file says, for so many turns. Says `ready` as soon as clients and servers can
 /// connect, and the servers that it calls are called, whether they are reached or not. What becomes
-/// of links is said to `errors` behind each turn.
+/// of links is said to `errors` behind each turn, and before that an address at which the system
+/// lets nobody listen.
 ///
 /// # Errors
 /// - [`Stop::BadConfiguration`] where the file cannot be read, or is no configuration. Then nothing
@@ -62,14 +66,20 @@ fn serve_text<T: AllocGlobal + Net, O: Write, E: Write>(
         (E.contents errors.old) (E.contents errors.new) }
 {
     let setup = read_setup(rt.alloc(), text)?;
-    let mut engine = open(rt, rt.alloc(), setup)?;
+    let mut engine = open(rt, rt.alloc(), setup, errors)?;
     run_engine(&mut engine, turns, output, errors)
 }
 
-/// An engine that listens, and has called whom it is to call.
-fn open<T: Net>(net: &T, alloc: Global, setup: Setup) -> Result<Engine<LateWire<MioWire>>, Stop>
+/// An engine that listens, and has called whom it is to call. An address at which the system lets
+/// nobody listen is told.
+fn open<T: Net, E: Write>(
+    net: &T,
+    alloc: Global,
+    setup: Setup,
+    errors: &mut E,
+) -> Result<Engine<LateWire<MioWire>>, Stop>
     requires { HasNobody setup.server }
-    ensures { Opens setup result }
+    ensures { Opens setup result (E.contents errors.old) (E.contents errors.new) }
 {
     let listening = Listening {
         clients: setup.clients,
@@ -81,8 +91,9 @@ fn open<T: Net>(net: &T, alloc: Global, setup: Setup) -> Result<Engine<LateWire<
         links_per_address: setup.links_per_address,
         pace: setup.pace,
     };
-    let Ok(wire) = MioWire::listen(net, alloc, listening, setup.callees, setup.spread) else {
-        return Err(Stop::Failed);
+    let wire = match MioWire::listen(net, alloc, listening, setup.callees, setup.spread) {
+        Ok(wire) => wire,
+        Err(fault) => return Err(stop_for(fault, errors)),
     };
     let engine = Engine::new(
         alloc,
@@ -92,6 +103,21 @@ fn open<T: Net>(net: &T, alloc: Global, setup: Setup) -> Result<Engine<LateWire<
         setup.link_room,
     )?;
     Ok(engine)
+}
+
+/// The program ends since nobody can come. Where that is for an address, it is told.
+fn stop_for<E: Write>(fault: ListenFault, errors: &mut E) -> Stop
+    ensures stop { result ≡ Failed }
+    ensures said { SaysFault fault (E.contents errors.old) (E.contents errors.new) }
+{
+    match fault {
+        ListenFault::Address(address, error) => {
+            say_closed(address, error, errors);
+            Stop::Failed
+        }
+        ListenFault::Other(_) => Stop::Failed,
+        ListenFault::Memory => Stop::Failed,
+    }
 }
 
 /// Says `ready`, and takes so many turns.

@@ -32,7 +32,8 @@ const USAGE: &[u8] = b"ircd: usage: ircd sim | ircd serve FILE [TURNS]\n";
 
 const BAD: &[u8] = b"ircd: bad configuration\n";
 
-const FAILED: &[u8] = b"ircd: failed\n";
+const CLOSED: &[u8] = b"ircd: cannot listen on 192.0.2.1:1: Cannot assign requested address \
+    (os error 99)\nircd: failed\n";
 
 const READY: &[u8] = b"ready\n";
 
@@ -142,7 +143,7 @@ static ROWS: [ServeRow; 34] = [
         words: &["serve", FILE, "0"],
         status: 4,
         output: b"",
-        errors: FAILED,
+        errors: CLOSED,
     },
     ServeRow {
         room: ROOM,

@@ -10,12 +10,14 @@ use Rattle.irc_journal.specs.Saying.{AreSomeSaid}
 use Rattle.irc_endings.specs.declared.fault.Stop.{Stop}
 use Rattle.irc_endings.specs.declared.fault.Stop.TheVariants.{BadConfiguration, Failed}
 use Rattle.ircd.specs.declared.setup.Setup.{Setup}
-use Rattle.ircd.specs.Serving.{IsOpened, Serves}
+use Rattle.ircd.specs.Serving.{IsOpened, IsUnopened, Serves}
 
--- what was set up is open, or the program failed
-abbrev pub Opens : Setup → Result (Engine (LateWire MioWire)) Stop → Type 0
-Opens setup (Ok engine) = IsOpened setup (engine_view engine)
-Opens setup (Err stop) = stop ≡ Failed
+-- what was set up is open, and nothing was said; or the program failed
+abbrev pub Opens : Setup → Result (Engine (LateWire MioWire)) Stop
+    → (errors errors_after : Option (List ℕ)) → Type 0
+Opens setup (Ok engine) errors errors_after =
+    IsOpened setup (engine_view engine) × (errors_after ≡ errors)
+Opens setup (Err stop) errors errors_after = (stop ≡ Failed) × IsUnopened setup errors errors_after
 
 -- all of so many turns were taken, or one was not, and the program failed; what was said is of
 -- links

@@ -1,5 +1,5 @@
 use Rattle.irc_engine.specs.Lemmas.NewServers.{made_has_nobody}
-use Rattle.ircd.proofs.Ready.{not_opened, text_refused, text_served}
+use Rattle.ircd.proofs.Ready.{not_opened, opened_served, text_refused}
 use Rattle.ircd.proofs.serve.serve_text.Goals as goal
 
 pub open-requires : goal.open-requires
@@ -14,9 +14,9 @@ returns-in_err-setup g c = text_refused c.args.text.now c.args.turns c.from_resi
 pub returns-in_err-engine : goal.returns-in_err-engine
 returns-in_err-engine g c =
     not_opened c.args.text.now c.args.turns c.from_residual-in_err-engine.result
-    c.in_err-engine.field-0.0 _ _ c.in_err-engine.ensures
-    c.from_residual-in_err-engine.ensures.1
+    c.in_err-engine.field-0.0 c.in_ok-setup.setup _ _ _ c.in_ok-setup.ensures
+    c.in_err-engine.ensures c.from_residual-in_err-engine.ensures.1
 
 pub returns : goal.returns
-returns g c = text_served c.args.turns _ _ c.args.text.now _ _ _ _ _ c.run_engine.result
+returns g c = opened_served c.args.turns _ _ c.args.text.now _ _ _ _ _ _ c.run_engine.result
     c.in_ok-setup.ensures c.in_ok-engine.ensures c.run_engine.ensures
