@@ -187,8 +187,8 @@ pub data IsUnopened (setup : Setup) (errors errors_after : Option (List ℕ)) : 
   links_closed : (address : SocketAddr) → setup.links ≡ Some address
       → SaysClosed address errors errors_after → IsUnopened setup errors errors_after
 
--- `ready` was printed, all turns were taken, and behind each what there was to tell of links was
--- said; else a front of `ready` was printed, the program failed, and what was said is of links
+-- `ready` was printed, all turns were taken, and behind each what there was to tell was said; else
+-- a front of `ready` was printed, the program failed, and what was said is lines of the journal
 abbrev pub Serves : {W : Type 0} → (W → List Call → Type 0) → ℕ → EngineView W → EngineView W
     → Option (List ℕ) → Option (List ℕ) → Option (List ℕ) → Option (List ℕ) → Result (Unit {0}) Stop
     → Type 0
@@ -201,7 +201,7 @@ Serves is_after turns old new printed printed_after errors errors_after (Err Usa
 Serves is_after turns old new printed printed_after errors errors_after (Err (BadScript line)) = ⊥
 
 -- where the program failed: nothing was printed or said; or the text sets up a server, and nothing
--- was printed, since none is open; or a front of `ready` was, and what was said is of links
+-- was printed, since none is open; or a front of `ready` was, and what was said is of the journal
 pub data IsCutShort (text : List ℕ) (printed printed_after errors errors_after : Option (List ℕ)) :
     Type 0 where
   unprinted : printed_after ≡ printed → errors_after ≡ errors
@@ -213,8 +213,8 @@ pub data IsCutShort (text : List ℕ) (printed printed_after errors errors_after
       → AreSomeSaid errors errors_after → IsCutShort text printed printed_after errors errors_after
 
 -- A text was served: it sets up a server; once this was open, `ready` was printed, and all of so
--- many turns were taken, with what there was to tell of links said behind each. Sockets keep no
--- account of their calls.
+-- many turns were taken, with what there was to tell said behind each. Sockets keep no account of
+-- their calls.
 pub record IsServed (text : List ℕ) (turns : ℕ)
     (printed printed_after errors errors_after : Option (List ℕ)) : Type 0 where
   pub setup : Setup
@@ -238,7 +238,7 @@ ServesText text turns (Err Failed) printed printed_after errors errors_after =
 ServesText text turns (Err Usage) printed printed_after errors errors_after = ⊥
 ServesText text turns (Err (BadScript line)) printed printed_after errors errors_after = ⊥
 
--- the same of any text: a front of `ready` was printed, and what was said is of links; or nothing
+-- the same of any text: a front of `ready` was printed, and what was said is of the journal; or nothing
 -- was, and what was said is of an address
 pub data IsFailed (printed printed_after errors errors_after : Option (List ℕ)) : Type 0 where
   failed_serving : Wrote printed printed_after ready_text → AreSomeSaid errors errors_after
@@ -261,7 +261,7 @@ ServesFile turns (Ok _) printed printed_after errors errors_after =
     (text : List ℕ) × IsServed text turns printed printed_after errors errors_after
 
 -- the status is that of how serving ended, and so is what is said last on standard error, behind
--- what was said of links
+-- lines of the journal
 pub record EndsServing (turns status : ℕ)
     (printed printed_after errors errors_after : Option (List ℕ)) : Type 0 where
   pub ending : Result (Unit {0}) Stop
