@@ -61,7 +61,7 @@ impl Door {
         self.arrivals.take();
         match self.listener.accept() {
             Ok(taken) => {
-                self.shortage.note(false);
+                self.shortage.end();
                 Some(taken)
             }
             Err(error) => {
@@ -77,11 +77,11 @@ impl Door {
         match kind {
             ErrorKind::ConnectionAborted | ErrorKind::Interrupted => {}
             ErrorKind::WouldBlock => {
-                self.shortage.note(false);
+                self.shortage.end();
                 self.arrivals.end();
             }
             _ => {
-                self.shortage.note(true);
+                self.shortage.note(now);
                 self.arrivals.rest(now);
             }
         }

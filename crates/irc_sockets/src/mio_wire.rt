@@ -218,9 +218,10 @@ impl MioWire {
 
     /// That connections cannot be taken any more, or again, at one of the doors.
     fn shortage(&mut self) -> Option<Notice> {
-        let told = match self.clients.shortage.tell() {
+        let now = self.round.began;
+        let told = match self.clients.shortage.tell(now) {
             Some(told) => Some(told),
-            None => self.links.as_mut()?.shortage.tell(),
+            None => self.links.as_mut()?.shortage.tell(now),
         };
         if told? {
             Some(Notice::DescriptorsGone)
