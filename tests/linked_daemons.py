@@ -44,6 +44,8 @@ TOP = os.path.dirname(os.path.dirname(os.path.abspath(__file__)))
 SECONDS = 20
 # how long nothing has to come where nothing may
 QUIET = 0.3
+# how many may be at the door for links from one address that have not named themselves
+MOST_UNNAMED = 16
 PASSWORD = "pw"
 TICKS = os.sysconf("SC_CLK_TCK")
 
@@ -643,17 +645,21 @@ def doors(program):
 def silent(program):
     network, al, bo = with_peer(program)
     with network:
-        mute = [network.peer("a.net", "w.net", greets=False) for _ in range(50)]
+        mute = [network.peer("a.net", "w.net", greets=False) for _ in range(MOST_UNNAMED - 1)]
         endless = network.peer("a.net", "w.net", greets=False)
         endless.sends(b"x" * 1_000_000)
+        one_more = network.peer("a.net", "w.net", greets=False)
+        is_refused = one_more.ends()
         time.sleep(QUIET)
         before = network["a.net"].seconds()
         time.sleep(1)
         busy = network["a.net"].seconds() - before
         is_open = all(one.is_open() for one in mute) and endless.is_open()
         endless.sends(b"\r\n")
-        return told("silent", is_open and endless.ends() and busy < 0.05 and are_well(network, al, bo) and al.is_quiet(),
-                    f"50 that say nothing and a line of a million bytes without an end wait, and cost {busy * 100:.0f} of 100 of a processor; its end closes the last one")
+        has_ended = endless.ends() and all(one.ends() for one in mute)
+        return told("silent", is_refused and is_open and has_ended and busy < 0.05 and are_well(network, al, bo) and al.is_quiet(),
+                    f"{len(mute)} that say nothing and a line of a million bytes without an end wait, and cost {busy * 100:.0f} of 100 of a processor; "
+                    "one more is closed at once, the last one by its end, and they within 10 s")
 
 
 KNOCKER = """
