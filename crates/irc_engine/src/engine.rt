@@ -146,6 +146,7 @@ impl<W: Wire> Engine<W> {
             return Err(EngineFault::Failed);
         }
         tell_known(&mut self.core.connections.wire, &self.core.server);
+        tell_user(&mut self.core.connections.wire, &self.core.server);
         match self.core.connections.wire.ready() {
             Ok(ready) => self.take(ready),
             Err(_) => Err(EngineFault::Device),
@@ -443,6 +444,15 @@ fn tell_known<W: Wire>(wire: &mut W, server: &Server)
         let is_known = knows(server, name);
         let yields = yields_to(server, name);
         wire.know(is_known, yields);
+    }
+}
+
+/// Tells a wire whether the client that it would give up is a user, if it would give up one.
+fn tell_user<W: Wire>(wire: &mut W, server: &Server)
+    ensures { Keeps W.is_after wire.old wire.new }
+{
+    if let Some(conn) = wire.would_give_up() {
+        wire.know_user(server.has_user(conn));
     }
 }
 

@@ -334,8 +334,20 @@ impl<W: Wire> Wire for LateWire<W> {
         self.wire.know(is_known, yields);
     }
 
+    fn would_give_up(&self) -> Option<u64> {
+        self.wire.would_give_up()
+    }
+
+    fn know_user(&mut self, is_user: bool) {
+        self.wire.know_user(is_user);
+    }
+
     fn named(&mut self, conn: u64) {
         self.wire.named(conn);
+    }
+
+    fn owes(&mut self, link: u64, bytes: usize) {
+        self.wire.owes(link, bytes);
     }
 
     fn whence(&self, conn: u64) -> Option<Host> {

@@ -559,7 +559,15 @@ impl Wire for MemoryWire {
 
     fn know(&mut self, _is_known: bool, _yields: bool) {}
 
+    fn would_give_up(&self) -> Option<u64> {
+        None
+    }
+
+    fn know_user(&mut self, _is_user: bool) {}
+
     fn named(&mut self, _conn: u64) {}
+
+    fn owes(&mut self, _link: u64, _bytes: usize) {}
 
     fn whence(&self, _conn: u64) -> Option<Host> {
         None

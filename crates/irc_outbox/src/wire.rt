@@ -110,8 +110,23 @@ pub trait Wire {
     fn know(&mut self, is_known: bool, yields: bool)
         ensures { Keeps is_after self.old self.new };
 
+    /// The client that the device would give up, if there is one: the time within which it was to
+    /// become a user is over. Whether it is a user by now is to be told by [`Wire::know_user`],
+    /// before `ready` is asked again.
+    fn would_give_up(&self) -> Option<u64>;
+
+    /// Tells whether the client that the device would give up is a user: if it is, it is not given
+    /// up. It is no part of the account.
+    fn know_user(&mut self, is_user: bool)
+        ensures { Keeps is_after self.old self.new };
+
     /// A connection has named itself: a link is met. It is no part of the account.
     fn named(&mut self, conn: u64)
+        ensures { Keeps is_after self.old self.new };
+
+    /// So many bytes were put out on a link that its other end has not said to have read: a device
+    /// may slow others for them. It is no part of the account.
+    fn owes(&mut self, link: u64, bytes: usize)
         ensures { Keeps is_after self.old self.new };
 
     /// From which host a connection comes, also one that was closed since `ready` was asked last;

@@ -7,10 +7,13 @@
 --   `:b.net KILL cy :x` by 3       the end of 2 is put out, and 2 is a client no more
 --   `FOO` comes by 3               the end of 3 is put out, and 3 is a link no more
 --   link 6 is opened to x.net      which is no peer: the end of 6 is put out, and 6 is no link
-use Rattle.std.specs.Prelude.{◌≡◌, ℕ, Bool, true, false, not, ◌&&◌, ◌||◌, nat_eq, is_some, List}
+use Rattle.std.specs.Prelude.{◌≡◌, ℕ, Bool, true, false, not, ◌&&◌, ◌||◌, nat_eq, is_some, Option}
+use Rattle.std.specs.Prelude.{Some, None, List}
 use Rattle.std.specs.FinMap.{get}
 use Rattle.std.specs.List.{list_any}
 use Rattle.irc_batch.specs.Batches.{Sent, end_of, end_of_link}
+use Rattle.irc_stage.specs.declared.clients.Client.{Client}
+use Rattle.irc_stage.specs.declared.clients.Client.TheVariants.{Registering, Registered}
 use Rattle.irc_stage.specs.Handle.{connects, goes}
 use Rattle.irc_stage.specs.View.{View}
 use Rattle.irc_server.specs.Served.{ReadEvent, of_client, link_up, link_down, served}
@@ -20,6 +23,15 @@ use Rattle.irc_server.specs.Own.{IsNewLink}
 
 abbrev pub has_client : View → ℕ → Bool
 has_client view conn = is_some (get view.clients conn)
+
+-- A client is a user once it has given NICK and USER (RFC 2812 section 3.1).
+abbrev pub is_user : Option Client → Bool
+is_user None = false
+is_user (Some (Registering pending)) = false
+is_user (Some (Registered nick)) = true
+
+abbrev pub has_user : View → ℕ → Bool
+has_user view conn = is_user (get view.clients conn)
 
 abbrev pub has_link : View → ℕ → Bool
 has_link view link = is_some (get view.ends link)

@@ -4,6 +4,7 @@ ghost use Rattle.std.specs.FinMap.{get};
 ghost use Rattle.std.specs.Option.{option_and_then, option_copied, option_map, option_map_or};
 ghost use Rattle.std.specs.Option.{option_or};
 ghost use Rattle.irc_server.specs.Configuring.{IsMade};
+ghost use Rattle.irc_server.specs.Connected.{has_user, is_user};
 ghost use Rattle.irc_server.specs.ReadEvents.{AreHandled, IsHandled};
 ghost use Rattle.irc_server.specs.Owed.{AllReceive};
 ghost use Rattle.irc_server.specs.Loops.Acting.{room_kept, room_of};
@@ -15,7 +16,7 @@ use crate::event::{Event, ServerFault};
 use irc_batch::Batch;
 use irc_room::Room;
 use irc_routes::Routes;
-use irc_stage::{Conn, FirstStage, Stage, View};
+use irc_stage::{Client, Conn, FirstStage, Stage, View};
 use std::alloc::{AllocError, Global};
 use std::marker::Model;
 
@@ -64,6 +65,16 @@ fn taken(first: &mut Option<FirstStage>, stage: &mut Option<Stage>) -> Result<St
     match first.take() {
         Some(first) => first.keep(),
         None => Err(AllocError),
+    }
+}
+
+/// Whether a client is a user.
+fn is_user(client: Option<&Client>) -> bool
+    ensures { result ≡ is_user (option_copied client) }
+{
+    match client {
+        Some(Client::Registered(_)) => true,
+        Some(Client::Registering(_)) | None => false,
     }
 }
 
@@ -139,6 +150,18 @@ impl Server {
     {
         match self.view() {
             Some(view) => view.client_of(Conn::of(conn)).is_some(),
+            None => false,
+        }
+    }
+
+    /// Whether a connection is a client that is a user: it has given NICK and USER (RFC 2812
+    /// section 3.1), and was taken in. None is once memory ran out.
+    pub fn has_user(&self, conn: u64) -> bool
+        ensures { result ≡ option_map_or
+            (λ (view : View). has_user view conn) self.now false }
+    {
+        match self.view() {
+            Some(view) => is_user(view.client_of(Conn::of(conn))),
             None => false,
         }
     }

@@ -92,6 +92,8 @@ pub record Tells (document : Members) (settings : Settings) : Type 0 where
       ≡ option_map pos settings.name_within
   pub links_per_address : limit_at (codes "links_per_address") 16 document
       ≡ option_map pos settings.links_per_address
+  pub register_within : integer_at (codes "register_within") document
+      ≡ option_map pos settings.register_within
   pub pace : pace_at document ≡ option_map pace_told settings.pace
   pub peers : map peer_at (tables_at (codes "peer") document) ≡ map peer_told settings.peers.items
 

@@ -98,6 +98,7 @@ server_keys =
     (integer 1 65535)
     ∷ optional (codes "name_within") (integer 0 3600) ∷ optional (codes "links_per_address")
     (integer 0 65535)
+    ∷ optional (codes "register_within") (integer 1 3600)
     ∷ optional (codes "lines_per_second") (integer 1 1000)
     ∷ optional (codes "burst_lines") (integer 1 1000) ∷ optional (codes "peer") (tables is_peer)
     ∷ []

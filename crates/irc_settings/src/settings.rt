@@ -8,13 +8,13 @@ use crate::pace::{bursts_are_paced, pace};
 use crate::peers::peers;
 use crate::{
     LINKS_PER_ADDRESS, MOST_CLIENT_ROOM, MOST_CONNECTIONS, MOST_LINK_ROOM, MOST_NAME_WITHIN,
-    NAME_WITHIN, SettingsFault,
+    MOST_REGISTER_WITHIN, NAME_WITHIN, SettingsFault,
 };
 use std::alloc::Global;
 use toml::Table;
 
 /// The keys of the document.
-const SERVER_KEYS: [&str; 13] = [
+const SERVER_KEYS: [&str; 14] = [
     "name",
     "info",
     "created",
@@ -25,6 +25,7 @@ const SERVER_KEYS: [&str; 13] = [
     "connections_per_address",
     "name_within",
     "links_per_address",
+    "register_within",
     "lines_per_second",
     "burst_lines",
     "peer",
@@ -56,6 +57,9 @@ pub struct Settings {
     /// How many connections for links that have not named themselves may be there from one address,
     /// if there is a limit: 1 to [`MOST_CONNECTIONS`].
     pub links_per_address: Option<u16>,
+    /// For how many seconds a client may stay without becoming a user, if there is a limit: 1 to
+    /// [`MOST_REGISTER_WITHIN`].
+    pub register_within: Option<u16>,
     /// How many lines of a client are taken, if there is a limit.
     pub pace: Option<LinesPace>,
     /// The servers that may be linked to: the tables `peer`, in order.
@@ -149,6 +153,7 @@ fn settings_in(alloc: Global, document: &Table) -> Result<Settings, SettingsFaul
             MOST_CONNECTIONS,
             LINKS_PER_ADDRESS,
         )?,
+        register_within: optional_number(document, "register_within", MOST_REGISTER_WITHIN)?,
         pace: pace(document)?,
         peers: peers(alloc, document)?,
     })

@@ -21,6 +21,8 @@ pub struct Listening {
     /// How many connections for links that have not named themselves may be there from one address,
     /// if there is a limit.
     pub links_per_address: Option<u16>,
+    /// For how many seconds a client may stay without becoming a user, if there is a limit.
+    pub register_within: Option<u16>,
     /// The pace of lines to which each client keeps, if there is one. What it sends beyond waits.
     pub pace: Option<LinesPace>,
 }

@@ -16,7 +16,7 @@ use crate::tokens::{CALLS, CLIENTS, FIRST_SOCKET, LINKS};
 use irc_moments::Moment;
 use irc_names::{Host, ServerName};
 use irc_outbox::{Got, IoFault, Notice, Ready, Wire};
-use irc_turns::{Crowd, Marks, Round, Signals, Strangers, wait_for};
+use irc_turns::{Crowd, Marks, Newcomers, Round, Signals, Strangers, wait_for};
 use mio::net::TcpStream;
 use mio::{Events, Interest, Poll, Token};
 use std::alloc::Global;
@@ -50,6 +50,8 @@ pub struct MioWire {
     unnamed: Crowd,
     /// Links that are to name themselves in time, also such as were called.
     strangers: Strangers,
+    /// Clients that are to become users in time.
+    newcomers: Newcomers,
     signals: Signals,
     round: Round,
 }
@@ -97,6 +99,7 @@ impl MioWire {
             crowd: Crowd::new(alloc, listening.connections_per_address),
             unnamed: Crowd::new(alloc, listening.links_per_address),
             strangers: Strangers::new(alloc, listening.name_within),
+            newcomers: Newcomers::new(alloc, listening.register_within),
             signals: Signals::new(now),
             round: Round::new(now),
         })
@@ -147,7 +150,8 @@ impl MioWire {
     /// How many milliseconds to wait for something to do.
     fn wait(&self) -> u64 {
         let talkers = &self.sockets.talkers;
-        let is_busy = talkers.waiting() > 0 || self.has_arrivals() || self.round.has_more;
+        let has_more = self.round.has_more || self.newcomers.asks();
+        let is_busy = talkers.waiting() > 0 || self.has_arrivals() || has_more;
         let is_awaited = !talkers.holds_nobody() || self.calls.retries.are_waiting();
         wait_for(is_busy, is_awaited)
     }
@@ -260,6 +264,17 @@ impl MioWire {
         let number = self.admit(stream, address, true)?;
         if self.crowd.note(number, address).is_err() {
             self.sockets.remove(number as usize);
+            return None;
+        }
+        self.note_newcomer(number)
+    }
+
+    /// A client is to become a user in time. Where there is no memory to know when, it is closed.
+    fn note_newcomer(&mut self, number: u64) -> Option<u64> {
+        let mark = self.sockets.talkers.mark(number as usize)?;
+        if self.newcomers.add(mark, self.round.began).is_err() {
+            self.sockets.remove(number as usize);
+            self.crowd.forget(number);
             return None;
         }
         Some(number)
@@ -382,6 +397,7 @@ impl Wire for MioWire {
             return Err(IoFault::Failed);
         }
         self.round.begin_turn();
+        self.newcomers.look(self.round.began);
         Ok(self.report())
     }
 
@@ -415,9 +431,25 @@ impl Wire for MioWire {
             .know(is_known, yields, registry, self.round.began);
     }
 
+    fn would_give_up(&self) -> Option<u64> {
+        self.newcomers.late()
+    }
+
+    fn know_user(&mut self, is_user: bool) {
+        if let Some(mark) = self.newcomers.end_late()
+            && !is_user
+        {
+            self.sockets.talkers.end_time(mark);
+        }
+    }
+
     fn named(&mut self, conn: u64) {
         self.sockets.talkers.name(conn as usize);
         self.unnamed.forget(conn);
+    }
+
+    fn owes(&mut self, link: u64, bytes: usize) {
+        self.sockets.talkers.owe(link as usize, bytes);
     }
 
     fn whence(&self, conn: u64) -> Option<Host> {

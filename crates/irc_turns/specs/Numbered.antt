@@ -236,6 +236,18 @@ link_named_if number talkers (Some talker) = record talkers {
 abbrev pub link_named : ℕ → NumberedTalkers → NumberedTalkers
 link_named number talkers = link_named_if number talkers (talker_at talkers number)
 
+-- so much was put out on a link that its other end has not said to have read, and whether that is
+-- far too much is known from then on
+abbrev pub link_owes_if : ℕ → ℕ → NumberedTalkers → Option Talker → NumberedTalkers
+link_owes_if bytes number talkers None = talkers
+link_owes_if bytes number talkers (Some talker) = record talkers {
+  by_number = with_value talkers.by_number number (record talker { owed = bytes });
+  full = queued_as (is_over_hard talkers.marks (record talker { owed = bytes })) number talkers.full;
+}
+
+abbrev pub link_owes : ℕ → ℕ → NumberedTalkers → NumberedTalkers
+link_owes bytes number talkers = link_owes_if bytes number talkers (talker_at talkers number)
+
 -- the time of one is over: it is given up, unless it has named itself or is gone
 abbrev pub time_ended_if : TalkerMark → NumberedTalkers → Option Talker → NumberedTalkers
 time_ended_if mark talkers None = talkers

@@ -8,6 +8,7 @@ mod arrivals;
 mod crowd;
 mod holding;
 mod marks;
+mod newcomers;
 mod pace;
 mod queue;
 mod rest;
@@ -27,6 +28,7 @@ pub use allowance::{LinesPace, fronts_begin_so_many, lines_are_counted, pace_is_
 pub use arrivals::Arrivals;
 pub use crowd::Crowd;
 pub use marks::Marks;
+pub use newcomers::Newcomers;
 pub use retries::Retries;
 pub use round::{Round, TooMuch};
 pub use shortage::Shortage;

@@ -14,6 +14,10 @@ use std::alloc::Global;
 /// For how many milliseconds a link may neither take anything of what waits nor say anything.
 const LONGEST_SILENCE_MS: u64 = 30_000;
 
+/// So many bytes that were put out on a link, and that its other end has not said to have read, are
+/// far too much.
+const MOST_OWED_BYTES: usize = 1_048_576;
+
 /// A link that was held back for a client is not again before so many milliseconds are over.
 const HELD_ONCE_IN_MS: u64 = 1_000;
 
@@ -88,6 +92,8 @@ pub struct Talker {
     is_just_met: bool,
     /// How much of what waits for a link was put out as it was met.
     spared: usize,
+    /// How much was put out on a link that its other end has not said to have read.
+    owed: usize,
     /// Since when it has said nothing, and taken nothing of what waits.
     silent_since: Moment,
     /// Until when a link is not held back for a client again.
@@ -139,6 +145,7 @@ impl Talker {
             waiting: WaitingWrite::new(),
             is_just_met: false,
             spared: 0,
+            owed: 0,
             silent_since: now,
             free_until: Moment::of(0),
             fills: None,
@@ -210,11 +217,19 @@ impl Talker {
         self.load() > marks.soft
     }
 
-    /// Whether more waits for a link than may before nobody else is read.
+    /// Whether more waits for a link than may before nobody else is read, or more was put out on it
+    /// than its other end may leave unread.
     pub fn is_over_hard(&self, marks: Marks) -> bool
         ensures { result ≡ is_over_hard marks self.now }
     {
-        self.load() > marks.hard
+        self.load() > marks.hard || self.owed >= MOST_OWED_BYTES
+    }
+
+    /// So many bytes were put out on a link that its other end has not said to have read.
+    pub fn owe(&mut self, bytes: usize)
+        ensures { self.new ≡ record self.old { owed = bytes } }
+    {
+        self.owed = bytes;
     }
 
     /// The link is met: the server at its other end is known. A burst that waits holds nobody back.

@@ -12,6 +12,7 @@ ghost use Rattle.irc_turns.specs.Numbered.{talker_at, SameButQueue, SameLists, I
 ghost use Rattle.irc_turns.specs.Numbered.{tried_again, queue_told, has_come, queue_asked};
 ghost use Rattle.irc_turns.specs.Numbered.{put_off_at, queue_written, round_behind, asked_again};
 ghost use Rattle.irc_turns.specs.Numbered.{full_written, SameButQueueAndFull, link_named};
+ghost use Rattle.irc_turns.specs.Numbered.{link_owes};
 ghost use Rattle.irc_turns.specs.Numbered.{talker_mark, mark_of_one, turn_ended, time_ended};
 ghost use Rattle.irc_turns.specs.Numbered.{reason_for, grown_reason, full_reason, filled_reason};
 ghost use Rattle.irc_turns.specs.Numbered.{is_grown, is_filled, IsHeldFor, ReportsFirst, LetsGo};
@@ -484,6 +485,18 @@ impl Talkers {
             talker.name();
             self.full.remove(number);
         }
+    }
+
+    /// So many bytes were put out on a link that its other end has not said to have read.
+    pub fn owe(&mut self, number: usize, bytes: usize)
+        ensures { self.new ≡ link_owes bytes number self.old }
+    {
+        let Some(talker) = self.by_number.get_mut(number) else {
+            return;
+        };
+        talker.owe(bytes);
+        let is_full = talker.is_over_hard(self.marks);
+        self.set_full(number, is_full);
     }
 
     /// What tells a talker from each other, also from one that gets its number later.

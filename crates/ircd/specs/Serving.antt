@@ -109,6 +109,7 @@ pub record IsSetUp (settings : Settings) (setup : Setup) : Type 0 where
   pub connections_per_address : setup.connections_per_address ≡ settings.connections_per_address
   pub name_within : setup.name_within ≡ settings.name_within
   pub links_per_address : setup.links_per_address ≡ settings.links_per_address
+  pub register_within : setup.register_within ≡ settings.register_within
   pub pace : setup.pace ≡ pace_set settings.pace
   pub client_room : setup.client_room ≡ settings.client_room
   pub link_room : setup.link_room ≡ settings.link_room
@@ -163,6 +164,7 @@ listening_of setup =
       link_room = setup.link_room;
       name_within = setup.name_within;
       links_per_address = setup.links_per_address;
+      register_within = setup.register_within;
       pace = setup.pace;
     }
 

@@ -89,6 +89,7 @@ fn open<T: Net, E: Write>(
         link_room: setup.link_room,
         name_within: setup.name_within,
         links_per_address: setup.links_per_address,
+        register_within: setup.register_within,
         pace: setup.pace,
     };
     let wire = match MioWire::listen(net, alloc, listening, setup.callees, setup.spread) {

@@ -41,6 +41,8 @@ pub struct Setup {
     /// How many connections for links that have not named themselves may be there from one address,
     /// if there is a limit.
     pub links_per_address: Option<u16>,
+    /// For how many seconds a client may stay without becoming a user, if there is a limit.
+    pub register_within: Option<u16>,
     /// How many lines of a client are taken, if there is a limit.
     pub pace: Option<LinesPace>,
     /// How many bytes may wait for a client.
@@ -75,6 +77,7 @@ fn set_up(alloc: Global, settings: &Settings) -> Result<Setup, Stop>
         connections_per_address: settings.connections_per_address,
         name_within: settings.name_within,
         links_per_address: settings.links_per_address,
+        register_within: settings.register_within,
         pace: pace(settings),
         client_room: settings.client_room,
         link_room: settings.link_room,

@@ -36,6 +36,7 @@ fn listening(
         link_room: ROOM,
         name_within: None,
         links_per_address: None,
+        register_within: None,
         pace: None,
     }
 }

@@ -26,7 +26,7 @@ returns-in_err-pace c =
     refused (is_kept table key && is_kept table other) (is_in_form server_keys table)
     (λ (found : Option LinesPace). pace_at table ≡ option_map pace_told found) (Tells table)
     c.from_residual-in_err-pace.result c.in_err-pace.field-0.0
-    (pair_lost 10 server_keys key other (drop 12 server_keys) table refl)
+    (pair_lost 11 server_keys key other (drop 13 server_keys) table refl)
     c.in_err-pace.ensures c.from_residual-in_err-pace.ensures.1
 
 pub returns-in_err-peers : goal.returns-in_err-peers
@@ -37,7 +37,7 @@ returns-in_err-peers c =
     (λ (found : Vec PeerSettings Global).
     map peer_at (tables_at (codes "peer") table) ≡ map peer_told found.items) (Tells table)
     c.from_residual-in_err-peers.result c.in_err-peers.field-0.0
-    (key_lost 12 server_keys key [] table refl)
+    (key_lost 13 server_keys key [] table refl)
     c.in_err-peers.ensures c.from_residual-in_err-peers.ensures.1
 
 pub returns : goal.returns
@@ -56,6 +56,7 @@ returns c =
       c.in_ok-optional_number.ensures.0,
       c.in_ok-limit.ensures.0,
       c.in_ok-limit-2.ensures.0,
+      c.in_ok-optional_number-2.ensures.0,
       per_second_kept per_second burst c.in_ok-pace.ensures.0,
       burst_kept per_second burst c.in_ok-pace.ensures.0,
       c.in_ok-peers.ensures.0,
@@ -72,6 +73,7 @@ returns c =
         connections_per_address = c.in_ok-optional_number.ensures.1;
         name_within = c.in_ok-limit.ensures.1;
         links_per_address = c.in_ok-limit-2.ensures.1;
+        register_within = c.in_ok-optional_number-2.ensures.1;
         pace = c.in_ok-pace.ensures.1;
         peers = c.in_ok-peers.ensures.1;
       },

@@ -55,6 +55,7 @@ returns c = record {
   connections_per_address = refl;
   name_within = refl;
   links_per_address = refl;
+  register_within = refl;
   pace = c.pace.ensures;
   client_room = refl;
   link_room = refl;
