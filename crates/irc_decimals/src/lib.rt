@@ -1,0 +1,6 @@
+//! Numbers as they are written in a line of text: in decimal digits, each in one way.
+#![tactic(auto)]
+
+mod number;
+
+pub use number::read_number;

@@ -1,0 +1,4 @@
+pub mod Arrivals
+pub mod Counting
+pub mod Pieces
+pub mod Tallies
