@@ -1,4 +1,4 @@
-pub mod Arrivals
 pub mod Counting
+pub mod Ends
 pub mod Pieces
 pub mod Tallies

@@ -16,8 +16,9 @@ pub record WholePiece : Type 0 where
   pub lines : Lines
   pub mark : Option Mark
 
--- what has come of a piece, how many lines are still to come, and how many pieces there were
-pub record ArrivingPiece : Type 0 where
+-- One end of a link: how many pieces there were, and what has come of one, with how many lines that
+-- are still to come.
+pub record CountedEnd : Type 0 where
   pub counts : Counts
   pub left : ℕ
   pub mark : Option Mark

@@ -1,10 +1,11 @@
-//! Lines that come by a link, as they make pieces.
-ghost use Rattle.std.specs.Prelude.{◌≡◌, IfOk, OnOk};
+//! One end of a link on which lines go in pieces.
+ghost use Rattle.std.specs.Prelude.{◌≡◌, ◌-◌, IfOk, OnOk};
 ghost use Rattle.irc_line.specs.MessageViews.{parsed_result};
-ghost use Rattle.irc_pieces.specs.Arrivals.{after_count, after_line, after_text, ended, heard_count};
-ghost use Rattle.irc_pieces.specs.Arrivals.{heard_line, heard_text, may_begin, nothing_begun, whole};
-ghost use Rattle.irc_pieces.specs.Arrivals.{with_line};
+ghost use Rattle.irc_pieces.specs.Ends.{after_count, after_line, after_text, ended, heard_count};
+ghost use Rattle.irc_pieces.specs.Ends.{heard_line, heard_text, may_begin, nothing_begun, whole};
+ghost use Rattle.irc_pieces.specs.Ends.{has_put_out, has_told, with_line};
 ghost use Rattle.irc_pieces.specs.Counting.{count_line};
+ghost use Rattle.irc_pieces.specs.Tallies.{count_alone, count_for, unread};
 
 use crate::count::{Count, Mark, read_count};
 use crate::counts::Counts;
@@ -43,9 +44,9 @@ pub enum Heard {
     Fault(CloseReason),
 }
 
-/// The lines that have come of a piece, and how many pieces there were.
+/// One end of a link: the lines that have come of a piece, and how many pieces there were.
 #[derive(Drop)]
-pub struct Arriving {
+pub struct PieceEnd {
     counts: Counts,
     /// How many lines of the piece are still to come; 0 where none has begun.
     left: u64,
@@ -56,26 +57,26 @@ pub struct Arriving {
     alloc: Global,
 }
 
-impl Model for Arriving {
-    ghost use Rattle.irc_pieces.specs.Pieces.{lines_of, ArrivingPiece};
+impl Model for PieceEnd {
+    ghost use Rattle.irc_pieces.specs.Pieces.{lines_of, CountedEnd};
 
-    ghost Value = { ArrivingPiece };
+    ghost Value = { CountedEnd };
 
-    ghost view = { λ arriving. record {
-      counts = arriving.counts;
-      left = arriving.left;
-      mark = arriving.mark;
-      lines = lines_of arriving.lines.items;
-      bytes = arriving.bytes;
+    ghost view = { λ end. record {
+      counts = end.counts;
+      left = end.left;
+      mark = end.mark;
+      lines = lines_of end.lines.items;
+      bytes = end.bytes;
     } };
 }
 
-impl Arriving {
-    /// That of a link on which nothing has come.
+impl PieceEnd {
+    /// That of a link on which nothing has gone.
     pub fn new(alloc: Global) -> Self
         ensures { result ≡ nothing_begun }
     {
-        Arriving {
+        PieceEnd {
             counts: Counts::new(),
             left: 0,
             mark: None,
@@ -85,12 +86,28 @@ impl Arriving {
         }
     }
 
-    /// How many pieces there were.
-    pub fn counts(&mut self) -> &mut Counts
-        ensures counts { result.old ≡ self.old.counts }
-        ensures changed { self.new ≡ record self.old { counts = result.new } }
+    /// How many pieces the other end had not read when it wrote its last count.
+    pub fn unread(&self) -> u64
+        ensures { result ≡ unread self.now.counts }
     {
-        &mut self.counts
+        self.counts.unread()
+    }
+
+    /// A piece of so many lines is put out: what is to stand in front of it. Nothing is where all
+    /// that was read is told, and the piece is one line and says no more.
+    pub fn put_out(&mut self, lines: u64, mark: Option<Mark>) -> Option<Count>
+        ensures count { result ≡ count_for lines mark self.old.counts }
+        ensures counted { self.new ≡ has_put_out self.old }
+    {
+        self.counts.put_out(lines, mark)
+    }
+
+    /// The count alone, where so much was read and not told that it is to be.
+    pub fn put_out_alone(&mut self) -> Option<Count>
+        ensures count { result ≡ count_alone self.old.counts }
+        ensures counted { self.new ≡ has_told self.old }
+    {
+        self.counts.put_out_alone()
     }
 
     /// Takes a line that has come, without its CR LF: what it completes.
