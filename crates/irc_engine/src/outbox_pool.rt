@@ -11,7 +11,7 @@ const MAX_SPARE: usize = 64;
 
 /// Empty outboxes of one size.
 #[derive(Drop)]
-pub struct SpareOutboxes {
+struct SpareOutboxes {
     /// How many bytes each of them has room for.
     room: usize,
     outboxes: Vec<Outbox, Global>,
@@ -80,7 +80,7 @@ impl SpareOutboxes {
 
 /// Empty outboxes of the two sizes that the connections of an engine have.
 #[derive(Drop)]
-pub struct OutboxPool {
+pub(crate) struct OutboxPool {
     alloc: Global,
     /// Those of clients.
     clients: SpareOutboxes,
