@@ -113,7 +113,7 @@ impl<W: Wire + Drop> Engine<W> {
                 journal: Journal::new(alloc),
                 connections: Connections {
                     wire,
-                    table: ConnectionTable::new(alloc),
+                    table: ConnectionTable::new(alloc, client_room, link_room),
                     waiting: BTreeSet::new(alloc),
                     lost: BTreeMap::new(alloc),
                 },

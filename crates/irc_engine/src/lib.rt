@@ -6,7 +6,9 @@ mod connection_table;
 mod connections;
 mod engine;
 mod kind;
+mod lent_outbox;
 mod noting;
+mod outbox_pool;
 mod telling;
 
 pub use engine::{Engine, EngineFault};
