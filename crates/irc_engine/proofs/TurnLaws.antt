@@ -1,5 +1,5 @@
 -- A turn, from what the wire told and what was done then.
-use Rattle.std.proofs.Common.{◌≡◌, ℕ, ◌<◌, false, IsErrAnd, Result, Ok, Err, OnOk, List, ◌⊎◌, inl}
+use Rattle.std.proofs.Common.{◌≡◌, ℕ, ◌<◌, false, IsErrAnd, Result, Ok, Err, OnOk, Option, List, ◌⊎◌, inl}
 use Rattle.std.proofs.Common.{inr, sym, subst}
 use Rattle.irc_outbox.specs.declared.wire.Ready.{Ready}
 use Rattle.irc_outbox.specs.declared.wire.Ready.TheVariants.{Idle, Writable}
@@ -8,25 +8,28 @@ use Rattle.irc_engine.specs.declared.engine.Core.{Core}
 use Rattle.irc_engine.specs.declared.engine.Engine.{Engine}
 use Rattle.irc_engine.specs.declared.engine.OutboxSizes.{OutboxSizes}
 use Rattle.irc_engine.specs.declared.engine.EngineFault.{EngineFault}
-use Rattle.irc_engine.specs.Running.{Moment, AllTold, Answers, Does, Flushes, IsInOrder}
+use Rattle.irc_engine.specs.Machines.{Handles}
+use Rattle.irc_stage.specs.View.{View}
+use Rattle.irc_engine.specs.Running.{MomentOf, AllTold, AnswersBy, DoesBy, FlushesBy, IsInOrder}
 use Rattle.irc_engine.specs.Loops.Connections.{IsMarkedAt, KeepsNotes}
 use Rattle.irc_engine.specs.Moments.{moment_of}
-use Rattle.irc_engine.specs.EngineView.{ChangesWireAlone, EngineView}
+use Rattle.irc_engine.specs.EngineView.{ChangesWireAlone, EngineViewOf}
 use Rattle.irc_engine.proofs.RunLaws.{ran_none}
-use Rattle.irc_engine.specs.Turning.{Taken, takes_it, runs_out, Turned, takes_turn}
-use Rattle.irc_engine.specs.Turning.{wants_memory, Turns, Runs, stopped}
+use Rattle.irc_engine.specs.Turning.{TakenBy, takes_it, runs_out, TurnedBy, takes_turn}
+use Rattle.irc_engine.specs.Turning.{wants_memory, TurnsBy, RunsBy, stopped}
 
 -- a call behind something that is no call
 pub kept_then : {W : Type 0} (is_after : W → List Call → Type 0) (old between new : W) (call : Call)
     → Keeps is_after old between → Adds is_after between call new → Adds is_after old call new
 kept_then is_after old between new call keeps adds calls after = adds calls (keeps calls after)
 
-module _ {W : Type 0} (is_after : W → List Call → Type 0) (old new : EngineView W) (ready : Ready)
+module _ {W M : Type 0} {server_of : M → Option View} {handles : Handles M}
+    (is_after : W → List Call → Type 0) (old new : EngineViewOf W M) (ready : Ready)
     (asked : W) where
   pub turned_from : (result : Result (Unit {0}) EngineFault)
       → old.failed ≡ false → Adds is_after old.now.wire (asks (Ok ready)) asked
-      → Taken is_after ready (record old { now = record old.now { wire = asked } }) new result
-      → Turned is_after old new result
+      → TakenBy is_after server_of handles ready (record old { now = record old.now { wire = asked } }) new result
+      → TurnedBy is_after server_of handles old new result
   turned_from (Ok done) serves account (takes_it still same does) =
       takes_turn serves still same
       (record { report = ready; wire = asked; account = account; does = does })
@@ -37,24 +40,27 @@ module _ {W : Type 0} (is_after : W → List Call → Type 0) (old new : EngineV
       (record { nothing_ready = idle.nothing_ready; nothing_left = idle.nothing_left }))
 
 -- a turn for which the wire has told what is ready
-pub told_ready : {W : Type 0} (is_after : W → List Call → Type 0) (ready : Ready)
-    (old new : EngineView W) (before after : Engine W)
-    (result : Result (Unit {0}) EngineFault) → Taken is_after ready old new result
+pub told_ready : {W M : Type 0} {server_of : M → Option View} {handles : Handles M} {g : _}
+    (is_after : W → List Call → Type 0) (ready : Ready)
+    (old new : EngineViewOf W M) (before after : Engine W M g)
+    (result : Result (Unit {0}) EngineFault) → TakenBy is_after server_of handles ready old new result
     → ChangesWireAlone result before after
 told_ready is_after ready old new before after (Ok done) (takes_it still same does) = tt
 told_ready is_after ready old new before after (Err fault) (runs_out failed busy) = tt
 
 -- nothing is ready, or only that a connection takes bytes again
-pub nothing_to_do : {W : Type 0} (is_after : W → List Call → Type 0) (sizes : OutboxSizes)
-    (now : Moment W) (ready : Ready) → (ready ≡ Idle) ⊎ ((conn : ℕ) × (ready ≡ Writable conn))
-    → Answers is_after sizes ready now now
+pub nothing_to_do : {W M : Type 0} {server_of : M → Option View} {handles : Handles M}
+    (is_after : W → List Call → Type 0) (sizes : OutboxSizes)
+    (now : MomentOf W M) (ready : Ready) → (ready ≡ Idle) ⊎ ((conn : ℕ) × (ready ≡ Writable conn))
+    → AnswersBy is_after server_of handles sizes ready now now
 nothing_to_do is_after sizes now ready (inl is) =
-    subst (λ r. Answers is_after sizes r now now) (sym is) (ran_none is_after now)
+    subst (λ r. AnswersBy is_after server_of handles sizes r now now) (sym is) (ran_none is_after now)
 nothing_to_do is_after sizes now ready (inr is) =
-    subst (λ r. Answers is_after sizes r now now) (sym is.1) (ran_none is_after now)
+    subst (λ r. AnswersBy is_after server_of handles sizes r now now) (sym is.1) (ran_none is_after now)
 
 -- what is ready is done, and then outboxes are written
-module _ {W : Type 0} (is_after : W → List Call → Type 0) (old between new : Core W) where
+module _ {W M : Type 0} {server_of : M → Option View} {handles : Handles M}
+    (is_after : W → List Call → Type 0) (old between new : Core W M) where
   order_between : (AllTold (moment_of old) → AllTold (moment_of between))
       → KeepsNotes old.connections between.connections → IsInOrder (moment_of old)
       → IsInOrder (moment_of between)
@@ -68,12 +74,12 @@ module _ {W : Type 0} (is_after : W → List Call → Type 0) (old between new :
       marked q = notes q (record { noted_is = order.noted q; not_done = order.none_done q })
 
   pub does_both : {E : Type 0} (sizes : OutboxSizes) (ready : Ready) (result : Result (Unit {0}) E)
-      → Answers is_after sizes ready (moment_of old) (moment_of between) → (AllTold (moment_of old)
+      → AnswersBy is_after server_of handles sizes ready (moment_of old) (moment_of between) → (AllTold (moment_of old)
       → AllTold (moment_of between)) → KeepsNotes old.connections between.connections
-      → OnOk result (Flushes is_after (moment_of between) (moment_of new))
+      → OnOk result (FlushesBy is_after server_of handles (moment_of between) (moment_of new))
       → OnOk result (AllTold (moment_of between) → AllTold (moment_of new))
       → OnOk result (IsInOrder (moment_of between) → IsInOrder (moment_of new))
-      → OnOk result (Does is_after sizes ready (moment_of old) (moment_of new))
+      → OnOk result (DoesBy is_after server_of handles sizes ready (moment_of old) (moment_of new))
   does_both sizes ready (Ok done) answers told notes writes later still = record {
     between = moment_of between;
     answers = answers;
@@ -84,11 +90,12 @@ module _ {W : Type 0} (is_after : W → List Call → Type 0) (old between new :
   does_both sizes ready (Err fault) answers told notes writes later still = tt
 
 -- one turn is not taken, behind those that were
-pub stops_by : {W : Type 0} (is_after : W → List Call → Type 0) (old between new : EngineView W)
+pub stops_by : {W M : Type 0} {server_of : M → Option View} {handles : Handles M}
+    (is_after : W → List Call → Type 0) (old between new : EngineViewOf W M)
     (taken turns : ℕ) (result : Result (Unit {0}) EngineFault) (fault : EngineFault)
-    → taken < turns → Turns is_after old taken between → Turned is_after between new (Err fault)
-    → IsErrAnd result (λ e. e ≡ fault) → Runs is_after old turns new result
+    → taken < turns → TurnsBy is_after server_of handles old taken between → TurnedBy is_after server_of handles between new (Err fault)
+    → IsErrAnd result (λ e. e ≡ fault) → RunsBy is_after server_of handles old turns new result
 stops_by is_after old between new taken turns (Ok done) fault less so_far last fails = absurd fails
 stops_by is_after old between new taken turns (Err e) fault less so_far last fails =
     stopped taken between e less so_far
-    (subst (λ f. Turned is_after between new (Err f)) (sym fails) last)
+    (subst (λ f. TurnedBy is_after server_of handles between new (Err f)) (sym fails) last)

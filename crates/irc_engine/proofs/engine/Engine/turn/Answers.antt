@@ -32,9 +32,9 @@ returns-in-Ok-clause-device g c =
 pub returns-in-Err-clause-device : goal.returns-in-Err-clause-device
 returns-in-Err-clause-device g c =
     ap (λ (settled : c.args.self.now.failed ≡ false
-    → IsSettled c.args.self.now.core.server (connection_of c.args.self.now.core.connections.table)
+    → IsSettled (g.M.Machine.server_of c.args.self.now.core.machine) (connection_of c.args.self.now.core.connections.table)
     (lost_at c.args.self.now.core.connections.lost)).
     record (with_wire c.ready.new.self c.args.self.now) { settled = settled })
-    (settled_once c.args.self.now.failed c.args.self.now.core.server
+    (settled_once c.args.self.now.failed (g.M.Machine.server_of c.args.self.now.core.machine)
     (connection_of c.args.self.now.core.connections.table)
     (lost_at c.args.self.now.core.connections.lost) _ c.args.self.now.settled)
