@@ -375,8 +375,8 @@ module _ {W : Type 0} (is_after : W → List Call → Type 0) where
     has = λ q seen is.
         let was = by.connected seen is in
         subst (λ (k : Option ConnectionKind). HasAs seen q k) (sym (known_now q))
-        (has_after was.0 awaits.kinds (λ p. awaits.has p was.0 was.1.0) event awaits.is_of seen
-        by.outs was.1.1 q);
+        (has_after was.0 awaits.kinds (λ p. awaits.has p was.0 was.1) event awaits.is_of seen
+        by.outs was.2 q);
     lost_is_gone = λ q. gone_passage q carries.calls outs (connection_of old.table q)
         (lost_at old.lost q) (connection_of new.table q) (lost_at new.lost q)
         (carries.passage q) (awaits.lost_is_gone q);

@@ -67,21 +67,21 @@ pub none_there : (connection : Option Connection) → is_some connection ≡ fal
 none_there None none = refl
 none_there (Some connection) none = cc none
 
-pub asked_on : {M : Type 0} {server_of : M → Option View} {handles : Handles M}
+pub asked_on : {M : Type 0} (server_of : M → Option View) (handles : Handles M)
     (old mid new : AskedOf M) (a b : List Event) (x y : List Sent)
     → AreAskedBy server_of handles old a x mid → AreAskedBy server_of handles mid b y new
     → AreAskedBy server_of handles old (a ++ b) (x ++ y) new
-asked_on {M} {server_of} {handles} old mid new [] b x y one other =
+asked_on {M} server_of handles old mid new [] b x y one other =
     subst (λ (o : AskedOf M). AreAskedBy server_of handles o b (x ++ y) new) one.1
     (subst (λ (os : List Sent). AreAskedBy server_of handles mid b (os ++ y) new) (sym one.0) other)
-asked_on old mid new (event ∷ a) b x y one other = record {
+asked_on server_of handles old mid new (event ∷ a) b x y one other = record {
   between = one.between;
   first = one.first;
   more = one.more ++ y;
   is_handled = one.is_handled;
   is_noted = one.is_noted;
   outs_are = ap (λ os. os ++ y) one.outs_are ∙ append_assoc one.first one.more y;
-  rest_is = asked_on one.between mid new a b one.more y one.rest_is other;
+  rest_is = asked_on server_of handles one.between mid new a b one.more y one.rest_is other;
 }
 
 either_false : (a b : Bool) → (a || b) ≡ false → (a ≡ false) × (b ≡ false)
@@ -367,6 +367,129 @@ at_connections server journal room connections = record {
   read_room = room;
 }
 
+-- The server is told that a connection is gone, which was lost and of which it was to be told.
+gone_once : (kind : ConnectionKind) (conn q : ℕ) (t : Bool) → nat_eq conn q ≡ t
+    → times_gone q (end_event_of kind conn ∷ []) ≡ 0 + cond t 1 0
+gone_once kinds.Client conn q t is = ap (λ u. 0 + cond u 1 0) is
+gone_once kinds.Link conn q t is = ap (λ u. 0 + cond u 1 0) is
+
+gone_of : (kind : ConnectionKind) (conn q : ℕ) (t l o : Bool) (events : List Event)
+    (outs : List Sent) (now : ConnectionState) → nat_eq conn q ≡ t → (t ≡ true → l ≡ true)
+    → TellsServer q (record { lost = cond t false l; is_open = o }) events outs now
+    → TellsServer q (record { lost = l; is_open = o }) (end_event_of kind conn ∷ events) outs now
+gone_of kind conn q true true true events outs now is lost tells = λ apart. cc apart
+gone_of kind conn q true true false events outs now is lost tells = λ apart.
+    let told = tells refl in
+    let here = gone_once kind conn q true is in
+    record {
+      at_most = omega (
+        arith,
+        told.at_most,
+        here,
+        times_gone-append q (end_event_of kind conn ∷ []) events,
+      );
+      unless_closed = λ is_open. omega (
+        arith,
+        told.unless_closed is_open,
+        here,
+        times_gone-append q (end_event_of kind conn ∷ []) events,
+      );
+      apart = told.apart;
+    }
+gone_of kind conn q true false o events outs now is lost tells = cc (lost refl)
+gone_of kind conn q false l o events outs now is lost tells = λ apart.
+    let told = tells apart in
+    let here = gone_once kind conn q false is in
+    record {
+      at_most = omega (
+        arith,
+        told.at_most,
+        here,
+        times_gone-append q (end_event_of kind conn ∷ []) events,
+      );
+      unless_closed = λ is_open. omega (
+        arith,
+        told.unless_closed is_open,
+        here,
+        times_gone-append q (end_event_of kind conn ∷ []) events,
+      );
+      apart = told.apart;
+    }
+
+no_line_of_an_end : (kind : ConnectionKind) (conn q : ℕ) (events : List Event)
+    → lines_by q (end_event_of kind conn ∷ events) ≡ lines_by q events
+no_line_of_an_end kinds.Client conn q events = refl
+no_line_of_an_end kinds.Link conn q events = refl
+
+still_lost : (t : Bool) (l : Option ConnectionKind)
+    → is_some (cond t None l) ≡ cond t false (is_some l)
+still_lost true l = refl
+still_lost false l = refl
+
+-- the fate of one connection, and that of the others
+fate_of_one : (conn : ℕ) (old new : ℕ → Option Connection) (calls : List Call) (outs : List Sent)
+    → ((q : ℕ) → nat_eq conn q ≡ false → new q ≡ old q)
+    → ((q : ℕ) → nat_eq conn q ≡ false → IsElsewhere q calls outs)
+    → Fate conn (old conn) calls outs (new conn) → (q : ℕ) → Fate q (old q) calls outs (new q)
+fate_of_one conn old new calls outs same apart here q = by (nat_eq conn q) refl
+  where
+    by : (t : Bool) → nat_eq conn q ≡ t → Fate q (old q) calls outs (new q)
+    by true one = subst (λ p. Fate p (old p) calls outs (new p)) (one_number conn q one) here
+    by false two = subst (λ (s : Option Connection). Fate q (old q) calls outs s)
+        (sym (same q two)) (untouched_fate q calls outs (apart q two) (old q))
+
+-- a read that gave bytes, or none yet
+goes_by : (conn room : ℕ) (answer : Result Got IoFault) (bytes : List ℕ) (n : ℕ)
+    → came answer ≡ Some n → (q : ℕ) → IsElsewhere q (reads conn room answer bytes ∷ []) []
+goes_by conn room (Ok (Bytes m)) bytes n is q = record {
+  silent = record {
+    nothing = refl;
+    never = refl;
+  };
+  never_cut = refl;
+  nothing = refl;
+  never_closed = refl;
+}
+goes_by conn room (Ok Later) bytes n is q = record {
+  silent = record {
+    nothing = refl;
+    never = refl;
+  };
+  never_cut = refl;
+  nothing = refl;
+  never_closed = refl;
+}
+goes_by conn room (Ok End) bytes n is q = cc is
+goes_by conn room (Err fault) bytes n is q = cc is
+
+-- a read that ended or failed
+cut_elsewhere : (conn room : ℕ) (answer : Result Got IoFault) (bytes : List ℕ)
+    → came answer ≡ None → (q : ℕ) → nat_eq conn q ≡ false
+    → IsElsewhere q (reads conn room answer bytes ∷ []) []
+cut_elsewhere conn room (Ok (Bytes m)) bytes is q two = cc is
+cut_elsewhere conn room (Ok Later) bytes is q two = cc is
+cut_elsewhere conn room (Ok End) bytes is q two =
+    record {
+      silent = record { nothing = refl; never = refl };
+      never_cut = ap (λ t. t || false) two;
+      nothing = refl;
+      never_closed = refl;
+    }
+cut_elsewhere conn room (Err fault) bytes is q two =
+    record {
+      silent = record { nothing = refl; never = refl };
+      never_cut = ap (λ t. t || false) two;
+      nothing = refl;
+      never_closed = refl;
+    }
+
+cut_here : (conn room : ℕ) (answer : Result Got IoFault) (bytes : List ℕ) → came answer ≡ None
+    → is_cut_off conn (reads conn room answer bytes ∷ closes conn ∷ []) ≡ true
+cut_here conn room (Ok (Bytes m)) bytes is = cc is
+cut_here conn room (Ok Later) bytes is = cc is
+cut_here conn room (Ok End) bytes is = ap (λ t. t || false) (nat_eq-refl conn)
+cut_here conn room (Err fault) bytes is = ap (λ t. t || false) (nat_eq-refl conn)
+
 module _ {W M : Type 0} {server_of : M → Option View} {handles : Handles M}
     (is_after : W → List Call → Type 0) where
   pub ran_both : (a b : List Call) (first : List Event) (f g h : ℕ → List ℕ)
@@ -378,7 +501,7 @@ module _ {W M : Type 0} {server_of : M → Option View} {handles : Handles M}
     calls = one.calls ++ other.calls;
     are_asked = subst (λ (es : List Event). AreAskedBy server_of handles (asked_at old) es (one.outs ++ other.outs)
         (asked_at new)) (append_assoc first one.events other.events)
-        (asked_on (asked_at old) (asked_at mid) (asked_at new)
+        (asked_on server_of handles (asked_at old) (asked_at mid) (asked_at new)
         (first ++ one.events) other.events one.outs other.outs one.are_asked other.are_asked);
     account = adds_both is_after old.wire mid.wire new.wire one.calls other.calls one.account
         other.account;
@@ -541,65 +664,6 @@ module _ {W M : Type 0} {server_of : M → Option View} {handles : Handles M}
     same_room = refl;
   }
 
-  -- The server is told that a connection is gone, which was lost and of which it was to be told.
-  gone_once : (kind : ConnectionKind) (conn q : ℕ) (t : Bool) → nat_eq conn q ≡ t
-      → times_gone q (end_event_of kind conn ∷ []) ≡ 0 + cond t 1 0
-  gone_once kinds.Client conn q t is = ap (λ u. 0 + cond u 1 0) is
-  gone_once kinds.Link conn q t is = ap (λ u. 0 + cond u 1 0) is
-
-  gone_of : (kind : ConnectionKind) (conn q : ℕ) (t l o : Bool) (events : List Event)
-      (outs : List Sent) (now : ConnectionState) → nat_eq conn q ≡ t → (t ≡ true → l ≡ true)
-      → TellsServer q (record { lost = cond t false l; is_open = o }) events outs now
-      → TellsServer q (record { lost = l; is_open = o }) (end_event_of kind conn ∷ events) outs now
-  gone_of kind conn q true true true events outs now is lost tells = λ apart. cc apart
-  gone_of kind conn q true true false events outs now is lost tells = λ apart.
-      let told = tells refl in
-      let here = gone_once kind conn q true is in
-      record {
-        at_most = omega (
-          arith,
-          told.at_most,
-          here,
-          times_gone-append q (end_event_of kind conn ∷ []) events,
-        );
-        unless_closed = λ is_open. omega (
-          arith,
-          told.unless_closed is_open,
-          here,
-          times_gone-append q (end_event_of kind conn ∷ []) events,
-        );
-        apart = told.apart;
-      }
-  gone_of kind conn q true false o events outs now is lost tells = cc (lost refl)
-  gone_of kind conn q false l o events outs now is lost tells = λ apart.
-      let told = tells apart in
-      let here = gone_once kind conn q false is in
-      record {
-        at_most = omega (
-          arith,
-          told.at_most,
-          here,
-          times_gone-append q (end_event_of kind conn ∷ []) events,
-        );
-        unless_closed = λ is_open. omega (
-          arith,
-          told.unless_closed is_open,
-          here,
-          times_gone-append q (end_event_of kind conn ∷ []) events,
-        );
-        apart = told.apart;
-      }
-
-  no_line_of_an_end : (kind : ConnectionKind) (conn q : ℕ) (events : List Event)
-      → lines_by q (end_event_of kind conn ∷ events) ≡ lines_by q events
-  no_line_of_an_end kinds.Client conn q events = refl
-  no_line_of_an_end kinds.Link conn q events = refl
-
-  still_lost : (t : Bool) (l : Option ConnectionKind)
-      → is_some (cond t None l) ≡ cond t false (is_some l)
-  still_lost true l = refl
-  still_lost false l = refl
-
   pub ran_gone : (server : M) (journal : Journal) (room conn : ℕ)
       (kind : ConnectionKind) (old mid : Connections W) (new : MomentOf W M) → mid.wire ≡ old.wire
       → mid.table ≡ old.table → lost_at old.lost conn ≡ Some kind → ((q : ℕ)
@@ -656,42 +720,6 @@ module _ {W M : Type 0} {server_of : M → Option View} {handles : Handles M}
           by true never = cc never
           by false same = kind_of_loss same
 
-  -- the fate of one connection, and that of the others
-  fate_of_one : (conn : ℕ) (old new : ℕ → Option Connection) (calls : List Call) (outs : List Sent)
-      → ((q : ℕ) → nat_eq conn q ≡ false → new q ≡ old q)
-      → ((q : ℕ) → nat_eq conn q ≡ false → IsElsewhere q calls outs)
-      → Fate conn (old conn) calls outs (new conn) → (q : ℕ) → Fate q (old q) calls outs (new q)
-  fate_of_one conn old new calls outs same apart here q = by (nat_eq conn q) refl
-    where
-      by : (t : Bool) → nat_eq conn q ≡ t → Fate q (old q) calls outs (new q)
-      by true one = subst (λ p. Fate p (old p) calls outs (new p)) (one_number conn q one) here
-      by false two = subst (λ (s : Option Connection). Fate q (old q) calls outs s)
-          (sym (same q two)) (untouched_fate q calls outs (apart q two) (old q))
-
-  -- a read that gave bytes, or none yet
-  goes_by : (conn room : ℕ) (answer : Result Got IoFault) (bytes : List ℕ) (n : ℕ)
-      → came answer ≡ Some n → (q : ℕ) → IsElsewhere q (reads conn room answer bytes ∷ []) []
-  goes_by conn room (Ok (Bytes m)) bytes n is q = record {
-    silent = record {
-      nothing = refl;
-      never = refl;
-    };
-    never_cut = refl;
-    nothing = refl;
-    never_closed = refl;
-  }
-  goes_by conn room (Ok Later) bytes n is q = record {
-    silent = record {
-      nothing = refl;
-      never = refl;
-    };
-    never_cut = refl;
-    nothing = refl;
-    never_closed = refl;
-  }
-  goes_by conn room (Ok End) bytes n is q = cc is
-  goes_by conn room (Err fault) bytes n is q = cc is
-
   pub ran_read : (server : M) (journal : Journal) (old new : Connections W)
       (size later conn room : ℕ) (answer : Result Got IoFault) (bytes : List ℕ) (n : ℕ)
       → came answer ≡ Some n → Adds is_after old.wire (reads conn room answer bytes) new.wire
@@ -724,34 +752,6 @@ module _ {W M : Type 0} {server_of : M → Option View} {handles : Handles M}
     where
       at : (q : ℕ) → connection_of new.table q ≡ connection_of old.table q
       at q = ap (λ s. connection_of s q) table
-
-  -- a read that ended or failed
-  cut_elsewhere : (conn room : ℕ) (answer : Result Got IoFault) (bytes : List ℕ)
-      → came answer ≡ None → (q : ℕ) → nat_eq conn q ≡ false
-      → IsElsewhere q (reads conn room answer bytes ∷ []) []
-  cut_elsewhere conn room (Ok (Bytes m)) bytes is q two = cc is
-  cut_elsewhere conn room (Ok Later) bytes is q two = cc is
-  cut_elsewhere conn room (Ok End) bytes is q two =
-      record {
-        silent = record { nothing = refl; never = refl };
-        never_cut = ap (λ t. t || false) two;
-        nothing = refl;
-        never_closed = refl;
-      }
-  cut_elsewhere conn room (Err fault) bytes is q two =
-      record {
-        silent = record { nothing = refl; never = refl };
-        never_cut = ap (λ t. t || false) two;
-        nothing = refl;
-        never_closed = refl;
-      }
-
-  cut_here : (conn room : ℕ) (answer : Result Got IoFault) (bytes : List ℕ) → came answer ≡ None
-      → is_cut_off conn (reads conn room answer bytes ∷ closes conn ∷ []) ≡ true
-  cut_here conn room (Ok (Bytes m)) bytes is = cc is
-  cut_here conn room (Ok Later) bytes is = cc is
-  cut_here conn room (Ok End) bytes is = ap (λ t. t || false) (nat_eq-refl conn)
-  cut_here conn room (Err fault) bytes is = ap (λ t. t || false) (nat_eq-refl conn)
 
   pub ran_cut : (server : M) (journal : Journal) (size later : ℕ)
       (old mid new : Connections W) (conn room : ℕ) (answer : Result Got IoFault) (bytes : List ℕ)

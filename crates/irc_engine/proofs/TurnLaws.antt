@@ -49,30 +49,31 @@ told_ready is_after ready old new before after (Ok done) (takes_it still same do
 told_ready is_after ready old new before after (Err fault) (runs_out failed busy) = tt
 
 -- nothing is ready, or only that a connection takes bytes again
-pub nothing_to_do : {W M : Type 0} {server_of : M → Option View} {handles : Handles M}
-    (is_after : W → List Call → Type 0) (sizes : OutboxSizes)
+pub nothing_to_do : {W M : Type 0} (is_after : W → List Call → Type 0)
+    (server_of : M → Option View) (handles : Handles M) (sizes : OutboxSizes)
     (now : MomentOf W M) (ready : Ready) → (ready ≡ Idle) ⊎ ((conn : ℕ) × (ready ≡ Writable conn))
     → AnswersBy is_after server_of handles sizes ready now now
-nothing_to_do is_after sizes now ready (inl is) =
+nothing_to_do is_after server_of handles sizes now ready (inl is) =
     subst (λ r. AnswersBy is_after server_of handles sizes r now now) (sym is) (ran_none is_after now)
-nothing_to_do is_after sizes now ready (inr is) =
+nothing_to_do is_after server_of handles sizes now ready (inr is) =
     subst (λ r. AnswersBy is_after server_of handles sizes r now now) (sym is.1) (ran_none is_after now)
 
--- what is ready is done, and then outboxes are written
-module _ {W M : Type 0} {server_of : M → Option View} {handles : Handles M}
-    (is_after : W → List Call → Type 0) (old between new : Core W M) where
-  order_between : (AllTold (moment_of old) → AllTold (moment_of between))
-      → KeepsNotes old.connections between.connections → IsInOrder (moment_of old)
-      → IsInOrder (moment_of between)
-  order_between told notes order = record {
-    all_told = told order.all_told;
-    noted = λ q. (marked q).noted_is;
-    none_done = λ q. (marked q).not_done;
-  }
-    where
-      marked : (q : ℕ) → IsMarkedAt q false between.connections
-      marked q = notes q (record { noted_is = order.noted q; not_done = order.none_done q })
+order_between : {W M : Type 0} (old between : Core W M)
+    → (AllTold (moment_of old) → AllTold (moment_of between))
+    → KeepsNotes old.connections between.connections → IsInOrder (moment_of old)
+    → IsInOrder (moment_of between)
+order_between old between told notes order = record {
+  all_told = told order.all_told;
+  noted = λ q. (marked q).noted_is;
+  none_done = λ q. (marked q).not_done;
+}
+  where
+    marked : (q : ℕ) → IsMarkedAt q false between.connections
+    marked q = notes q (record { noted_is = order.noted q; not_done = order.none_done q })
 
+-- what is ready is done, and then outboxes are written
+module _ {W M : Type 0} (is_after : W → List Call → Type 0)
+    (server_of : M → Option View) (handles : Handles M) (old between new : Core W M) where
   pub does_both : {E : Type 0} (sizes : OutboxSizes) (ready : Ready) (result : Result (Unit {0}) E)
       → AnswersBy is_after server_of handles sizes ready (moment_of old) (moment_of between) → (AllTold (moment_of old)
       → AllTold (moment_of between)) → KeepsNotes old.connections between.connections
@@ -85,7 +86,10 @@ module _ {W M : Type 0} {server_of : M → Option View} {handles : Handles M}
     answers = answers;
     writes = writes;
     all_told = λ before. (told before, later (told before));
-    in_order = λ order. (order_between told notes order, still (order_between told notes order));
+    in_order = λ order. (
+      order_between old between told notes order,
+      still (order_between old between told notes order),
+    );
   }
   does_both sizes ready (Err fault) answers told notes writes later still = tt
 
@@ -96,6 +100,7 @@ pub stops_by : {W M : Type 0} {server_of : M → Option View} {handles : Handles
     → taken < turns → TurnsBy is_after server_of handles old taken between → TurnedBy is_after server_of handles between new (Err fault)
     → IsErrAnd result (λ e. e ≡ fault) → RunsBy is_after server_of handles old turns new result
 stops_by is_after old between new taken turns (Ok done) fault less so_far last fails = absurd fails
-stops_by is_after old between new taken turns (Err e) fault less so_far last fails =
+stops_by {server_of = server_of} {handles = handles} is_after old between new taken turns
+    (Err e) fault less so_far last fails =
     stopped taken between e less so_far
     (subst (λ f. TurnedBy is_after server_of handles between new (Err f)) (sym fails) last)

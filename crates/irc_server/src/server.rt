@@ -70,7 +70,7 @@ fn taken(first: &mut Option<FirstStage>, stage: &mut Option<Stage>) -> Result<St
 
 /// Whether a client is a user.
 fn is_user(client: Option<&Client>) -> bool
-    ensures { result ≡ is_user (option_copied client) }
+    ensures { result ≡ is_user (option_copied client.entry) }
 {
     match client {
         Some(Client::Registered(_)) => true,

@@ -89,8 +89,8 @@ other_connection : (old new : Option Connection) (connection : Option Connection
 other_connection old new connection true none set some = cc (sym some ∙ ap has_some_at (none refl))
 other_connection old new connection false none set some = set
 
-module _ {W M : Type 0} {server_of : M → Option View} {handles : Handles M}
-    (is_after : W → List Call → Type 0) (sizes : OutboxSizes) (conn : ℕ) where
+module _ {W M : Type 0} (is_after : W → List Call → Type 0) (server_of : M → Option View)
+    (handles : Handles M) (sizes : OutboxSizes) (conn : ℕ) where
   ran_waits : (exchanges : List Call) (first : List Event) (came : ℕ → List ℕ) (old new : MomentOf W M)
       → written conn exchanges ≡ [] → RanBy is_after server_of handles exchanges first came old new
       → has_some_at (old.connections conn) ≡ true → is_some (new.connections conn) ≡ true
