@@ -7,6 +7,7 @@ starts its own daemons, and says what was wanted and what came. A link is lost w
   parting    fifty join and part ten channels each, with a text, beside two that say PING without end; no link is lost
   called     one says PING, or an unregistered one a byte, 1,000 times a second; a lost link is called again in time
   strangers  a thousand connect to `listen_links` and say nothing; a client's PING costs at most twice what it costs without them
+  nameless   clients connect, and do not register; they are closed in time, and nobody who has registered is
   mute       a peer accepts a call and never speaks; it is called again
   reader     how long a slow reader is kept at another server than who floods it; a figure alone
   quiet      how long the line of a quiet person takes over a link over which 1, 10 and 50 flood; at 1.25 MB/s less than a second
@@ -42,6 +43,8 @@ CLIENT_ROOM = 524288
 SPREAD = 0.8
 # until when a peer has to have named itself
 NAME_WITHIN = 10
+# until when a client has to have registered, where that is given
+REGISTER_WITHIN = 3
 # how long a link may take nothing and say nothing, where the daemon has a key for that, and for how long it is given here
 GIVE_UP, SHORT_GIVE_UP = 30, 5
 # what is said of a link that was up: all but these words
@@ -477,6 +480,25 @@ def strangers(program, given):
     return held
 
 
+def nameless(program, given):
+    """Those who say nothing, or no more than a nickname, beside one who registers at once and one who does in the last second."""
+    with Tree(program, [], more=f"register_within = {REGISTER_WITHIN}\n") as tree:
+        person = tree.person("a.net", "al")
+        silent = [tree.keep(socket.create_connection(("127.0.0.1", tree["a.net"].port), timeout=SECONDS)) for _ in range(300)]
+        for half in silent[::2]:
+            half.sendall(b"NICK bo\r\n")
+        time.sleep(REGISTER_WITHIN - 1)
+        early = sum(not is_open(one) for one in silent)
+        late = tree.person("a.net", "cy")
+        time.sleep(1 + given.slack)
+        left = sum(is_open(one) for one in silent)
+        time.sleep(REGISTER_WITHIN)
+        stay = person.answers() is not None and late.answers() is not None
+        return told("nameless", early == 0 and left == 0 and stay and tree.all_run(),
+                    f"wanted: of 300 who do not register none is closed a second before {REGISTER_WITHIN} s are over, all are then, and two who have registered "
+                    f"stay; came: {early} were closed early, {left} late or never, {'both stay' if stay else 'NOT BOTH STAY'}")
+
+
 def mute(program, given):
     wanted = NAME_WITHIN + 1 + SPREAD + given.slack
     with Network(program, ["b.net"], []) as network, network.keep(socket.create_server(("127.0.0.1", 0))) as door:
@@ -611,7 +633,7 @@ def stopped(program, given):
                     f"came: {tree.what_came(took)}; {room.missing()}, after {room.longest():.2f} s at most")
 
 
-ROWS = {"relayed": relayed, "coming": coming, "parting": parting, "called": called, "strangers": strangers, "mute": mute, "reader": reader,
+ROWS = {"relayed": relayed, "coming": coming, "parting": parting, "called": called, "strangers": strangers, "nameless": nameless, "mute": mute, "reader": reader,
         "quiet": quiet, "memory": memory, "line": line, "star": star, "stopped": stopped}
 
 

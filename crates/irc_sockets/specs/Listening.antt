@@ -3,7 +3,8 @@ use Rattle.std.specs.Prelude.{◌≡◌, ◌⊎◌, ⊤, Some, option_map}
 use Rattle.std.specs.declared.net.socket_addr.SocketAddr.{SocketAddr}
 use Rattle.irc_turns.specs.Crowds.{nobody_open}
 use Rattle.irc_turns.specs.Marks.{marks_of}
-use Rattle.irc_turns.specs.Naming.{newcomers_of, strangers_of}
+use Rattle.irc_turns.specs.Naming.{strangers_of}
+use Rattle.irc_turns.specs.Registering.{newcomers_of}
 use Rattle.irc_sockets.specs.declared.door.Door.{Door}
 use Rattle.irc_sockets.specs.declared.listen_fault.ListenFault.{ListenFault}
 use Rattle.irc_sockets.specs.declared.listen_fault.ListenFault.TheVariants.{Address, Memory, Other}

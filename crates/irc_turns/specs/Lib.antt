@@ -9,6 +9,7 @@ pub mod Naming
 pub mod Numbered
 pub mod Pacing
 pub mod Queues
+pub mod Registering
 pub mod Retries
 pub mod Rounds
 pub mod Shortages

@@ -1,8 +1,7 @@
 -- Those who have come by a door and have yet to name themselves, or to become users, and until when.
 use Rattle.std.specs.Prelude.{ℕ, ◌*◌, nat_lt, if◌then◌else◌, Option, Some, None, List, [], ◌∷◌}
-use Rattle.std.specs.Prelude.{◌++◌, Bool, is_some}
+use Rattle.std.specs.Prelude.{◌++◌}
 use Rattle.irc_moments.specs.Moments.{later}
-use Rattle.irc_turns.specs.declared.newcomers.Newcomers.{Newcomers}
 use Rattle.irc_turns.specs.declared.strangers.Stranger.{Stranger}
 use Rattle.irc_turns.specs.declared.talker.TalkerMark.{TalkerMark}
 
@@ -43,29 +42,3 @@ without_over now (first ∷ others) = if nat_lt now first.until then first ∷ o
 
 abbrev pub others_of : ℕ → TimedStrangers → TimedStrangers
 others_of now strangers = record strangers { comers = without_over now strangers.comers }
-
--- ---- clients
-
-abbrev pub newcomers_of : Option ℕ → Newcomers
-newcomers_of seconds = record { comers = strangers_of seconds; late = None }
-
-abbrev pub newcomer_too : TalkerMark → ℕ → Newcomers → Newcomers
-newcomer_too mark now newcomers =
-    record newcomers { comers = stranger_too mark now newcomers.comers }
-
--- where it is asked of none, it is of the next whose time is over at a moment, who leaves the others
-abbrev pub looked_for : ℕ → TimedStrangers → Option TalkerMark → Newcomers
-looked_for now comers None = record { comers = others_of now comers; late = first_over now comers }
-looked_for now comers (Some mark) = record { comers = comers; late = Some mark }
-
-abbrev pub looked_at : ℕ → Newcomers → Newcomers
-looked_at now newcomers = looked_for now newcomers.comers newcomers.late
-
-abbrev pub is_late : Newcomers → Bool
-is_late newcomers = is_some newcomers.late
-
-abbrev pub number_of_mark : TalkerMark → ℕ
-number_of_mark mark = mark.number
-
-abbrev pub asked_no_more : Newcomers → Newcomers
-asked_no_more newcomers = record newcomers { late = None }

@@ -1,7 +1,7 @@
 //! Clients that have come and are to become users in time.
 ghost use Rattle.std.specs.Prelude.{◌≡◌, option_map, OnOk, OnErr};
-ghost use Rattle.irc_turns.specs.Naming.{newcomers_of, newcomer_too, looked_at, asked_no_more};
-ghost use Rattle.irc_turns.specs.Naming.{number_of_mark, is_late};
+ghost use Rattle.irc_turns.specs.Registering.{newcomers_of, newcomer_too, looked_at, asked_no_more};
+ghost use Rattle.irc_turns.specs.Registering.{asks_of_one, number_of_mark};
 
 use crate::strangers::Strangers;
 use crate::talker::TalkerMark;
@@ -50,7 +50,7 @@ impl Newcomers {
 
     /// Whether it is asked of one.
     pub fn asks(&self) -> bool
-        ensures { result ≡ is_late self.now }
+        ensures { result ≡ asks_of_one self.now }
     {
         self.late.is_some()
     }

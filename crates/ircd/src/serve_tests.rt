@@ -301,6 +301,23 @@ static ROWS: [ServeRow; 34] = [
         output: b"",
         errors: BAD,
     },
+    // the most time to register, and none
+    ServeRow {
+        room: ROOM,
+        more: "register_within = 3600\n",
+        words: &["serve", FILE, "0"],
+        status: 0,
+        output: READY,
+        errors: b"",
+    },
+    ServeRow {
+        room: ROOM,
+        more: "register_within = 0\n",
+        words: &["serve", FILE, "0"],
+        status: 3,
+        output: b"",
+        errors: BAD,
+    },
     // lines that are counted, and a number of them at once alone
     ServeRow {
         room: ROOM,

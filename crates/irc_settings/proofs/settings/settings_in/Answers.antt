@@ -18,6 +18,17 @@ pub returns-then-not-has_only : goal.returns-then-not-has_only
 returns-then-not-has_only c =
     unknown_key server_keys c.args.document.now.entries (sym c.has_only.ensures ∙ search rules)
 
+pub returns-in_err-optional_number-2 : goal.returns-in_err-optional_number-2
+returns-in_err-optional_number-2 c =
+    let table = table_view c.args.document.now in
+    let key = optional (codes "register_within") (integer 1 3600) in
+    refused (is_kept table key) (is_in_form server_keys table)
+    (λ (found : Option ℕ). integer_at (codes "register_within") table ≡ option_map pos found)
+    (Tells table) c.from_residual-in_err-optional_number-2.result
+    c.in_err-optional_number-2.field-0.0
+    (key_lost 10 server_keys key (drop 11 server_keys) table refl)
+    c.in_err-optional_number-2.ensures c.from_residual-in_err-optional_number-2.ensures.1
+
 pub returns-in_err-pace : goal.returns-in_err-pace
 returns-in_err-pace c =
     let table = table_view c.args.document.now in
