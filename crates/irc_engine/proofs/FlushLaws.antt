@@ -246,9 +246,11 @@ module _ {W M : Type 0} {server_of : M → Option View} {handles : Handles M}
       → ((q : ℕ) → has later q ≡ cond (nat_eq conn q) false (has pending q))
       → ((q : ℕ) → has pending q ≡ true → is_gt (nat_cmp conn q) ≡ false)
       → Writes is_after conn now.connections mid
-      → RanOnBy is_after server_of handles (moment_of (record now { connections = mid })) (moment_of new)
+      → RanOnBy is_after server_of handles (moment_of (record now { connections = mid }))
+      (moment_of new)
       → AllTold (moment_of new) → KeepsMarks mid new.connections
-      → FlushesSoFar is_after server_of handles pending old now → FlushesSoFar is_after server_of handles later old new
+      → FlushesSoFar is_after server_of handles pending old now
+      → FlushesSoFar is_after server_of handles later old new
   flushes_one old now new mid pending later conn popped later_is least wrote ran told keeps so_far =
       record {
         exchanges = so_far.exchanges ++ wrote.exchanges;
@@ -275,7 +277,8 @@ module _ {W M : Type 0} {server_of : M → Option View} {handles : Handles M}
             ∙ still_false (nat_eq conn q);
       }
     where
-      more : RanBy is_after server_of handles wrote.exchanges [] nothing_of (moment_of now) (moment_of new)
+      more : RanBy is_after server_of handles wrote.exchanges [] nothing_of (moment_of now)
+          (moment_of new)
       more = ran_after is_after wrote.exchanges [] nothing_of (moment_of now)
           (moment_of (record now { connections = mid })) (moment_of new)
           (ran_connections is_after now.machine now.journal _ wrote.exchanges now.connections mid

@@ -1,5 +1,5 @@
--- A server as what handles the events of an engine: who is connected to it behind an event, and what
--- it refuses.
+-- A server as what handles the events of an engine: who is connected to it behind an event, and
+-- what it refuses.
 use Rattle.std.proofs.Common.{◌≡◌, Option, Some, None, IfErr, OnOk, Result, Ok, Err, List, ◌++◌}
 use Rattle.std.proofs.Common.{refl, sym, ◌∙◌, subst}
 use Rattle.std.specs.FinMap.{get}

@@ -493,13 +493,16 @@ cut_here conn room (Err fault) bytes is = ap (λ t. t || false) (nat_eq-refl con
 module _ {W M : Type 0} {server_of : M → Option View} {handles : Handles M}
     (is_after : W → List Call → Type 0) where
   pub ran_both : (a b : List Call) (first : List Event) (f g h : ℕ → List ℕ)
-      (old mid new : MomentOf W M) → ((q : ℕ) → h q ≡ f q ++ g q) → RanBy is_after server_of handles a first f old mid
-      → RanBy is_after server_of handles b [] g mid new → RanBy is_after server_of handles (a ++ b) first h old new
+      (old mid new : MomentOf W M) → ((q : ℕ) → h q ≡ f q ++ g q)
+      → RanBy is_after server_of handles a first f old mid
+      → RanBy is_after server_of handles b [] g mid new
+      → RanBy is_after server_of handles (a ++ b) first h old new
   ran_both a b first f g h old mid new is one other = record {
     events = one.events ++ other.events;
     outs = one.outs ++ other.outs;
     calls = one.calls ++ other.calls;
-    are_asked = subst (λ (es : List Event). AreAskedBy server_of handles (asked_at old) es (one.outs ++ other.outs)
+    are_asked = subst (λ (es : List Event). AreAskedBy server_of handles (asked_at old) es
+        (one.outs ++ other.outs)
         (asked_at new)) (append_assoc first one.events other.events)
         (asked_on server_of handles (asked_at old) (asked_at mid) (asked_at new)
         (first ++ one.events) other.events one.outs other.outs one.are_asked other.are_asked);
@@ -532,20 +535,24 @@ module _ {W M : Type 0} {server_of : M → Option View} {handles : Handles M}
 
   pub ran_then : (exchanges : List Call) (first : List Event) (f g h : ℕ → List ℕ)
       (old mid new : MomentOf W M) → ((q : ℕ) → h q ≡ f q ++ g q)
-      → RanBy is_after server_of handles exchanges first f old mid → RanBy is_after server_of handles [] [] g mid new
+      → RanBy is_after server_of handles exchanges first f old mid
+      → RanBy is_after server_of handles [] [] g mid new
       → RanBy is_after server_of handles exchanges first h old new
   ran_then exchanges first f g h old mid new is one other =
-      subst (λ (cs : List Call). RanBy is_after server_of handles cs first h old new) (append-nil exchanges)
+      subst (λ (cs : List Call). RanBy is_after server_of handles cs first h old new) (append-nil
+      exchanges)
       (ran_both exchanges [] first f g h old mid new is one other)
 
   pub ran_after : (exchanges : List Call) (first : List Event) (came : ℕ → List ℕ)
-      (old mid new : MomentOf W M) → RanBy is_after server_of handles exchanges first came old mid → RanOnBy is_after server_of handles mid new
+      (old mid new : MomentOf W M) → RanBy is_after server_of handles exchanges first came old mid
+      → RanOnBy is_after server_of handles mid new
       → RanBy is_after server_of handles exchanges first came old new
   ran_after exchanges first came old mid new one other =
       ran_then exchanges first came nothing_of came old mid new
       (λ q. sym (append-nil (came q))) one other
 
-  pub ran_on : (old mid new : MomentOf W M) → RanOnBy is_after server_of handles old mid → RanOnBy is_after server_of handles mid new
+  pub ran_on : (old mid new : MomentOf W M) → RanOnBy is_after server_of handles old mid
+      → RanOnBy is_after server_of handles mid new
       → RanOnBy is_after server_of handles old new
   ran_on old mid new one other = ran_after [] [] nothing_of old mid new one other
 
@@ -591,8 +598,10 @@ module _ {W M : Type 0} {server_of : M → Option View} {handles : Handles M}
   ran_event : (server after : M) (journal entered written : Journal)
       (room : ℕ) (old new : Connections W) (event : Event) (before outs : List Sent)
       → before ≡ [] → handles server event before (Ok tt) after outs → EntersAll
-      (event_signs event (server_of after)) journal entered → EntersAll (out_signs outs) entered written
-      → Carries is_after [] old outs new → RanBy is_after server_of handles [] (event ∷ []) nothing_of
+      (event_signs event (server_of after)) journal entered
+      → EntersAll (out_signs outs) entered written
+      → Carries is_after [] old outs new → RanBy is_after server_of handles [] (event ∷ [])
+      nothing_of
       (at_connections server journal room old) (at_connections after written room new)
   ran_event server after journal entered written room old new event before outs none handled noted
       closed carries = record {
@@ -625,7 +634,8 @@ module _ {W M : Type 0} {server_of : M → Option View} {handles : Handles M}
   pub asked_once : (server after : M) (journal entered written : Journal)
       (room : ℕ) (old new : Connections W) (event : Event) (before outs : List Sent)
       → before ≡ [] → handles server event before (Ok tt) after outs → EntersAll
-      (event_signs event (server_of after)) journal entered → EntersAll (out_signs outs) entered written
+      (event_signs event (server_of after)) journal entered
+      → EntersAll (out_signs outs) entered written
       → Carries is_after [] old outs new → AsksOnceBy is_after server_of handles event
       (at_connections server journal room old) (at_connections after written room new)
   unfolding ran_event
@@ -638,14 +648,16 @@ module _ {W M : Type 0} {server_of : M → Option View} {handles : Handles M}
 
   -- the event by which the server is asked, called otherwise
   pub asks_as : (event told : Event) (old new : MomentOf W M) → event ≡ told
-      → AsksOnceBy is_after server_of handles event old new → AsksOnceBy is_after server_of handles told old new
+      → AsksOnceBy is_after server_of handles event old new
+      → AsksOnceBy is_after server_of handles told old new
   asks_as event told old new same asks =
       subst (λ (e : Event). AsksOnceBy is_after server_of handles e old new) same asks
 
   -- something is done that no event asks for
   pub ran_connections : (server : M) (journal : Journal) (room : ℕ)
       (exchanges : List Call) (old new : Connections W) → Carries is_after exchanges old [] new
-      → RanBy is_after server_of handles exchanges [] nothing_of (at_connections server journal room old)
+      → RanBy is_after server_of handles exchanges [] nothing_of (at_connections server journal
+      room old)
       (at_connections server journal room new)
   ran_connections server journal room exchanges old new carries = record {
     events = [];
@@ -667,7 +679,8 @@ module _ {W M : Type 0} {server_of : M → Option View} {handles : Handles M}
   pub ran_gone : (server : M) (journal : Journal) (room conn : ℕ)
       (kind : ConnectionKind) (old mid : Connections W) (new : MomentOf W M) → mid.wire ≡ old.wire
       → mid.table ≡ old.table → lost_at old.lost conn ≡ Some kind → ((q : ℕ)
-      → lost_at mid.lost q ≡ cond (nat_eq conn q) None (lost_at old.lost q)) → RanBy is_after server_of handles []
+      → lost_at mid.lost q ≡ cond (nat_eq conn q) None (lost_at old.lost q))
+      → RanBy is_after server_of handles []
       (end_event_of kind conn ∷ []) nothing_of (at_connections server journal room mid) new
       → RanOnBy is_after server_of handles (at_connections server journal room old) new
   ran_gone server journal room conn kind old mid new wire table as_lost popped ran = record {
@@ -758,7 +771,8 @@ module _ {W M : Type 0} {server_of : M → Option View} {handles : Handles M}
       → came answer ≡ None → is_open_at (connection_of old.table conn) ≡ true
       → Adds is_after old.wire (reads conn room answer bytes) mid.wire
       → mid.table ≡ old.table → mid.lost ≡ old.lost → Loses is_after conn mid new
-      → later ≡ size → RanBy is_after server_of handles (reads conn room answer bytes ∷ []) [] nothing_of
+      → later ≡ size → RanBy is_after server_of handles (reads conn room answer bytes ∷ []) []
+      nothing_of
       (at_connections server journal size old) (at_connections server journal later new)
   ran_cut server journal size later old mid new conn room answer bytes is is_open account same
       same_lost loses as_large = record {
@@ -878,7 +892,8 @@ module _ {W M : Type 0} {server_of : M → Option View} {handles : Handles M}
   ran_framed server journal size old mid new conn piece used kind line result is frames wire lost
       ran = by (subst (λ r. FramesAt conn piece old.table r mid.table) is frames)
     where
-      by : FramesAt conn piece old.table (Some (used, kind, line)) mid.table → RanBy is_after server_of handles [] []
+      by : FramesAt conn piece old.table (Some (used, kind, line)) mid.table
+          → RanBy is_after server_of handles [] []
           (only_of conn (take used piece)) (at_connections server journal size old) new
       by (no_connection none same never) = cc never
       by (at_connection connection now was set so) = record {
@@ -1024,14 +1039,16 @@ module _ {W M : Type 0} {server_of : M → Option View} {handles : Handles M}
   pub ran_refused : (server : M) (journal : Journal) (size : ℕ) (old new : Connections W)
       (conn : ℕ) (piece bytes : List ℕ) (result : Option (ℕ × ConnectionKind × Option (ArrayVec ℕ)))
       → result ≡ None → FramesAt conn piece old.table result new.table
-      → new.wire ≡ old.wire → new.lost ≡ old.lost → RanBy is_after server_of handles [] [] (only_of conn bytes)
+      → new.wire ≡ old.wire → new.lost ≡ old.lost → RanBy is_after server_of handles [] [] (only_of
+      conn bytes)
       (at_connections server journal size old) (at_connections server journal size new)
   ran_refused server journal size old new conn piece bytes result is frames wire lost =
       by (subst (λ r. FramesAt conn piece old.table r new.table) is frames)
     where
       so_then : begun_at (connection_of old.table conn) ≡ None
           → ((q : ℕ) → connection_of new.table q ≡ connection_of old.table q)
-          → RanBy is_after server_of handles [] [] (only_of conn bytes) (at_connections server journal size old)
+          → RanBy is_after server_of handles [] [] (only_of conn bytes) (at_connections server
+          journal size old)
           (at_connections server journal size new)
       so_then closed same = record {
         events = [];
@@ -1075,7 +1092,8 @@ module _ {W M : Type 0} {server_of : M → Option View} {handles : Handles M}
       as_before q connection now false two was now_is set =
           set ∙ ap (λ t. cond t (Some now) (connection_of old.table q)) two
 
-      by : FramesAt conn piece old.table None new.table → RanBy is_after server_of handles [] [] (only_of conn bytes)
+      by : FramesAt conn piece old.table None new.table
+          → RanBy is_after server_of handles [] [] (only_of conn bytes)
           (at_connections server journal size old) (at_connections server journal size new)
       by (no_connection none same never) = so_then (ap begun_at none) same
       by (at_connection connection now was set so) = so_then (ap begun_at was ∙ so.0)
@@ -1084,9 +1102,11 @@ module _ {W M : Type 0} {server_of : M → Option View} {handles : Handles M}
   -- what a read gave is heard
   pub ran_fed : (exchanges : List Call) (conn : ℕ) (answer : Result Got IoFault)
       (buffer after : List ℕ) (n : ℕ) (old mid new : MomentOf W M) → came answer ≡ Some n
-      → take n after ≡ take n buffer → RanBy is_after server_of handles exchanges [] nothing_of old mid
+      → take n after ≡ take n buffer → RanBy is_after server_of handles exchanges [] nothing_of old
+      mid
       → RanBy is_after server_of handles [] [] (only_of conn (take n after)) mid new
-      → RanBy is_after server_of handles exchanges [] (only_of conn (bytes_got answer buffer)) old new
+      → RanBy is_after server_of handles exchanges [] (only_of conn (bytes_got answer buffer)) old
+      new
   ran_fed exchanges conn answer buffer after n old mid new is same one other =
       ran_then exchanges [] nothing_of (only_of conn (take n after))
       (only_of conn (bytes_got answer buffer)) old mid new
@@ -1094,8 +1114,10 @@ module _ {W M : Type 0} {server_of : M → Option View} {handles : Handles M}
 
   -- a read that ended or failed gave nothing
   pub ran_ended : (exchanges : List Call) (conn : ℕ) (answer : Result Got IoFault) (buffer : List ℕ)
-      (old new : MomentOf W M) → came answer ≡ None → RanBy is_after server_of handles exchanges [] nothing_of old new
-      → RanBy is_after server_of handles exchanges [] (only_of conn (bytes_got answer buffer)) old new
+      (old new : MomentOf W M) → came answer ≡ None → RanBy is_after server_of handles exchanges []
+      nothing_of old new
+      → RanBy is_after server_of handles exchanges [] (only_of conn (bytes_got answer buffer)) old
+      new
   ran_ended exchanges conn answer buffer old new is ran =
       ran_then exchanges [] nothing_of nothing_of
       (only_of conn (bytes_got answer buffer)) old new new
@@ -1103,12 +1125,14 @@ module _ {W M : Type 0} {server_of : M → Option View} {handles : Handles M}
       (ran_none new)
 
   -- no bytes have come so far
-  pub ran_unfed : (conn : ℕ) (old : MomentOf W M) → RanBy is_after server_of handles [] [] (only_of conn []) old old
+  pub ran_unfed : (conn : ℕ) (old : MomentOf W M) → RanBy is_after server_of handles [] [] (only_of
+      conn []) old old
   ran_unfed conn old = ran_then [] [] nothing_of nothing_of (only_of conn []) old old old
       (λ q. none_of (nat_eq conn q)) (ran_none old) (ran_none old)
 
   -- bytes at the front of a piece are heard, behind those before them
-  pub ran_step : (start mid new : MomentOf W M) (conn : ℕ) (buffer piece : List ℕ) (used more count : ℕ)
+  pub ran_step : (start mid new : MomentOf W M) (conn : ℕ) (buffer piece : List ℕ)
+      (used more count : ℕ)
       → piece ≡ slice_range buffer used count → used ≤ count → more ≤ length piece
       → RanBy is_after server_of handles [] [] (only_of conn (take used buffer)) start mid
       → RanBy is_after server_of handles [] [] (only_of conn (take more piece)) mid new
@@ -1121,8 +1145,10 @@ module _ {W M : Type 0} {server_of : M → Option View} {handles : Handles M}
 
   -- what is left of the bytes comes of a connection that is not open
   pub ran_rest : (start mid new : MomentOf W M) (conn : ℕ) (buffer : List ℕ) (used count : ℕ)
-      → used ≤ count → RanBy is_after server_of handles [] [] (only_of conn (take used buffer)) start mid
-      → RanBy is_after server_of handles [] [] (only_of conn (take (count - used) (drop used buffer))) mid new
+      → used ≤ count → RanBy is_after server_of handles [] [] (only_of conn (take used buffer))
+      start mid
+      → RanBy is_after server_of handles [] [] (only_of conn (take (count - used) (drop used
+      buffer))) mid new
       → RanBy is_after server_of handles [] [] (only_of conn (take count buffer)) start new
   ran_rest start mid new conn buffer used count within one other =
       ran_then [] [] (only_of conn (take used buffer)) (only_of conn (take (count - used)
@@ -1131,7 +1157,10 @@ module _ {W M : Type 0} {server_of : M → Option View} {handles : Handles M}
       ∙ only_both (nat_eq conn q) (take used buffer)
       (take (count - used) (drop used buffer))) one other
 
-  pub ran_no_line : (kind : ConnectionKind) (conn : ℕ) (line : Option (ArrayVec ℕ)) (now : MomentOf W M)
-      → line ≡ None → RanBy is_after server_of handles [] (passed_on kind conn line) nothing_of now now
-  ran_no_line kind conn line now none = subst (λ (o : Option (ArrayVec ℕ)). RanBy is_after server_of handles []
+  pub ran_no_line : (kind : ConnectionKind) (conn : ℕ) (line : Option (ArrayVec ℕ))
+      (now : MomentOf W M)
+      → line ≡ None → RanBy is_after server_of handles [] (passed_on kind conn line) nothing_of now
+      now
+  ran_no_line kind conn line now none = subst (λ (o : Option (ArrayVec ℕ)). RanBy is_after
+      server_of handles []
       (passed_on kind conn o) nothing_of now now) (sym none) (ran_none now)

@@ -13,11 +13,13 @@ pub told_stops : {W M : Type 0} {server_of : M → Option View} {handles : Handl
     (held then after : Option (List ℕ)) (taken turns : ℕ)
     (result : Result (Unit {0}) EngineFault) (fault : EngineFault) → taken < turns
     → ToldTurnsBy is_after server_of handles old held taken between then
-    → TellsTurnedBy is_after server_of handles between new then after (Err fault) → IsErrAnd result (λ e. e ≡ fault)
+    → TellsTurnedBy is_after server_of handles between new then after (Err fault)
+    → IsErrAnd result (λ e. e ≡ fault)
     → RunsTellingBy is_after server_of handles old held turns new after result
 told_stops is_after old between new held
     then after taken turns (Ok done) fault less so_far last fails = absurd fails
 told_stops {server_of = server_of} {handles = handles} is_after old between new held
     then after taken turns (Err e) fault less so_far last fails =
     told_stopped taken between then e less so_far
-    (subst (λ f. TellsTurnedBy is_after server_of handles between new then after (Err f)) (sym fails) last)
+    (subst (λ f. TellsTurnedBy is_after server_of handles between new then after (Err f)) (sym
+    fails) last)

@@ -1,6 +1,6 @@
 -- A turn, from what the wire told and what was done then.
-use Rattle.std.proofs.Common.{◌≡◌, ℕ, ◌<◌, false, IsErrAnd, Result, Ok, Err, OnOk, Option, List, ◌⊎◌, inl}
-use Rattle.std.proofs.Common.{inr, sym, subst}
+use Rattle.std.proofs.Common.{◌≡◌, ℕ, ◌<◌, false, IsErrAnd, Result, Ok, Err, OnOk, Option, List}
+use Rattle.std.proofs.Common.{◌⊎◌, inl, inr, sym, subst}
 use Rattle.irc_outbox.specs.declared.wire.Ready.{Ready}
 use Rattle.irc_outbox.specs.declared.wire.Ready.TheVariants.{Idle, Writable}
 use Rattle.irc_outbox.specs.Calls.{Call, asks, Adds, Keeps}
@@ -28,7 +28,8 @@ module _ {W M : Type 0} {server_of : M → Option View} {handles : Handles M}
     (asked : W) where
   pub turned_from : (result : Result (Unit {0}) EngineFault)
       → old.failed ≡ false → Adds is_after old.now.wire (asks (Ok ready)) asked
-      → TakenBy is_after server_of handles ready (record old { now = record old.now { wire = asked } }) new result
+      → TakenBy is_after server_of handles ready
+      (record old { now = record old.now { wire = asked } }) new result
       → TurnedBy is_after server_of handles old new result
   turned_from (Ok done) serves account (takes_it still same does) =
       takes_turn serves still same
@@ -43,7 +44,8 @@ module _ {W M : Type 0} {server_of : M → Option View} {handles : Handles M}
 pub told_ready : {W M : Type 0} {server_of : M → Option View} {handles : Handles M} {g : _}
     (is_after : W → List Call → Type 0) (ready : Ready)
     (old new : EngineViewOf W M) (before after : Engine W M g)
-    (result : Result (Unit {0}) EngineFault) → TakenBy is_after server_of handles ready old new result
+    (result : Result (Unit {0}) EngineFault) → TakenBy is_after server_of handles ready old new
+    result
     → ChangesWireAlone result before after
 told_ready is_after ready old new before after (Ok done) (takes_it still same does) = tt
 told_ready is_after ready old new before after (Err fault) (runs_out failed busy) = tt
@@ -54,9 +56,11 @@ pub nothing_to_do : {W M : Type 0} (is_after : W → List Call → Type 0)
     (now : MomentOf W M) (ready : Ready) → (ready ≡ Idle) ⊎ ((conn : ℕ) × (ready ≡ Writable conn))
     → AnswersBy is_after server_of handles sizes ready now now
 nothing_to_do is_after server_of handles sizes now ready (inl is) =
-    subst (λ r. AnswersBy is_after server_of handles sizes r now now) (sym is) (ran_none is_after now)
+    subst (λ r. AnswersBy is_after server_of handles sizes r now now) (sym is) (ran_none is_after
+    now)
 nothing_to_do is_after server_of handles sizes now ready (inr is) =
-    subst (λ r. AnswersBy is_after server_of handles sizes r now now) (sym is.1) (ran_none is_after now)
+    subst (λ r. AnswersBy is_after server_of handles sizes r now now) (sym is.1) (ran_none is_after
+    now)
 
 order_between : {W M : Type 0} (old between : Core W M)
     → (AllTold (moment_of old) → AllTold (moment_of between))
@@ -75,7 +79,8 @@ order_between old between told notes order = record {
 module _ {W M : Type 0} (is_after : W → List Call → Type 0)
     (server_of : M → Option View) (handles : Handles M) (old between new : Core W M) where
   pub does_both : {E : Type 0} (sizes : OutboxSizes) (ready : Ready) (result : Result (Unit {0}) E)
-      → AnswersBy is_after server_of handles sizes ready (moment_of old) (moment_of between) → (AllTold (moment_of old)
+      → AnswersBy is_after server_of handles sizes ready (moment_of old) (moment_of between)
+      → (AllTold (moment_of old)
       → AllTold (moment_of between)) → KeepsNotes old.connections between.connections
       → OnOk result (FlushesBy is_after server_of handles (moment_of between) (moment_of new))
       → OnOk result (AllTold (moment_of between) → AllTold (moment_of new))
@@ -97,7 +102,8 @@ module _ {W M : Type 0} (is_after : W → List Call → Type 0)
 pub stops_by : {W M : Type 0} {server_of : M → Option View} {handles : Handles M}
     (is_after : W → List Call → Type 0) (old between new : EngineViewOf W M)
     (taken turns : ℕ) (result : Result (Unit {0}) EngineFault) (fault : EngineFault)
-    → taken < turns → TurnsBy is_after server_of handles old taken between → TurnedBy is_after server_of handles between new (Err fault)
+    → taken < turns → TurnsBy is_after server_of handles old taken between
+    → TurnedBy is_after server_of handles between new (Err fault)
     → IsErrAnd result (λ e. e ≡ fault) → RunsBy is_after server_of handles old turns new result
 stops_by is_after old between new taken turns (Ok done) fault less so_far last fails = absurd fails
 stops_by {server_of = server_of} {handles = handles} is_after old between new taken turns

@@ -31,9 +31,9 @@ use Rattle.irc_engine.specs.Noting.{signs_by}
 use Rattle.irc_journal.specs.declared.journal.Journal.{Journal}
 use Rattle.irc_journal.specs.Signs.{EntersAll}
 
--- An engine at one moment: what handles its events, a server or a machine around one, the journal of
--- its links, its wire, the connections, those that were lost and of which the server has yet to be
--- told, with their kinds, those that are noted to be written to, and how many bytes it reads at
+-- An engine at one moment: what handles its events, a server or a machine around one, the journal
+-- of its links, its wire, the connections, those that were lost and of which the server has yet to
+-- be told, with their kinds, those that are noted to be written to, and how many bytes it reads at
 -- most.
 pub record MomentOf (W M : Type 0) : Type 0 where
   pub server : M

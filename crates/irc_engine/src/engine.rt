@@ -12,8 +12,7 @@ ghost use Rattle.irc_engine.specs.Loops.Moments.{KeepsTold, Spans};
 ghost use Rattle.irc_engine.specs.Loops.Faults.{is_out_of_memory};
 ghost use Rattle.irc_engine.specs.Loops.Connections.{KeepsMarks, KeepsNotes};
 ghost use Rattle.irc_engine.specs.Running.{AllTold, AnswersBy, AsksOnceBy, DoesBy, FlushesBy};
-ghost use Rattle.irc_engine.specs.Running.{PassesOnBy};
-ghost use Rattle.irc_engine.specs.Running.{RanOnBy, ReadsBy, StartsBy, TellsLossesBy};
+ghost use Rattle.irc_engine.specs.Running.{PassesOnBy, RanOnBy, ReadsBy, StartsBy, TellsLossesBy};
 
 use crate::connection_table::ConnectionTable;
 use crate::connections::{Connections, take_lowest};
@@ -87,9 +86,9 @@ impl<W: Wire + Drop, M: Machine + Drop> Engine<W, M> {
     ghost use Rattle.irc_engine.specs.EngineView.{engine_view};
     ghost use Rattle.irc_engine.specs.Turning.{IsNew};
 
-    /// An engine for a machine whose server has no connection and no link, over a wire that has reported
-    /// nothing. An outbox of a client has room for `client_room` bytes, and that of a link for
-    /// `link_room`.
+    /// An engine for a machine whose server has no connection and no link, over a wire that has
+    /// reported nothing. An outbox of a client has room for `client_room` bytes, and that of a link
+    /// for `link_room`.
     ///
     /// # Errors
     /// Where memory runs out.
@@ -352,8 +351,8 @@ impl<W: Wire, M: Machine> Core<W, M> {
         requires open { IsOpenAs conn kind self.old }
         ensures at_one { OnOk result (IsAtOneIn M.server_of self.new) }
         ensures ran { OnOk result
-            (AsksFor W.is_after M.server_of M.handles (passed_on kind conn line) self.old self.new)
-            }
+            (AsksFor W.is_after M.server_of M.handles (passed_on kind conn line)
+            self.old self.new) }
         ensures told { OnOk result (KeepsTold self.old self.new) }
         ensures marks { OnOk result (KeepsMarks self.old.connections self.new.connections) }
         ensures same { self.new.buffer ≡ self.old.buffer }

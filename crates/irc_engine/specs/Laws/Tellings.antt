@@ -39,7 +39,8 @@ module _ {W M : Type 0} {server_of : M → Option View} {handles : Handles M}
       (notice_said tells.notice tells.between after tells.notice_said)
 
   pub turns_tell_some : (old : EngineViewOf W M) (held : Option (List ℕ)) (turns : ℕ)
-      (new : EngineViewOf W M) (after : Option (List ℕ)) → ToldTurnsBy is_after server_of handles old held turns new after
+      (new : EngineViewOf W M) (after : Option (List ℕ))
+      → ToldTurnsBy is_after server_of handles old held turns new after
       → AreSomeSaid held after
   turns_tell_some old held turns new after no_told = ([], refl)
   turns_tell_some old held turns new after (told_more n between last then end so_far more) =
@@ -49,7 +50,8 @@ module _ {W M : Type 0} {server_of : M → Option View} {handles : Handles M}
   -- whatever comes of turns, what is said is of links alone
   pub runs_tell_some : (old : EngineViewOf W M) (held : Option (List ℕ)) (turns : ℕ)
       (new : EngineViewOf W M) (after : Option (List ℕ)) (result : Result (Unit {0}) EngineFault)
-      → RunsTellingBy is_after server_of handles old held turns new after result → AreSomeSaid held after
+      → RunsTellingBy is_after server_of handles old held turns new after result
+      → AreSomeSaid held after
   runs_tell_some old held turns new after result (all_told so_far) =
       turns_tell_some old held turns new after so_far
   runs_tell_some old held turns new after result (told_stopped taken between
@@ -57,7 +59,8 @@ module _ {W M : Type 0} {server_of : M → Option View} {handles : Handles M}
       some_said_both held then after (turns_tell_some old held taken between then so_far)
       (tells_some last.between new then after last.tells)
 
-  well_after : (old new : EngineViewOf W M) → TurnedBy is_after server_of handles old new (Ok tt) → new.failed ≡ false
+  well_after : (old new : EngineViewOf W M) → TurnedBy is_after server_of handles old new (Ok tt)
+      → new.failed ≡ false
   well_after old new (takes_turn serves still room turn) = still
 
   in_order_told : (old new : EngineViewOf W M) (held after : Option (List ℕ))
@@ -68,7 +71,8 @@ module _ {W M : Type 0} {server_of : M → Option View} {handles : Handles M}
 
   -- an engine is in order behind each of them
   pub in_order_after_told : (old : EngineViewOf W M) (held : Option (List ℕ)) (turns : ℕ)
-      (new : EngineViewOf W M) (after : Option (List ℕ)) → ToldTurnsBy is_after server_of handles old held turns new after
+      (new : EngineViewOf W M) (after : Option (List ℕ))
+      → ToldTurnsBy is_after server_of handles old held turns new after
       → IsInOrder old.now → IsInOrder new.now
   in_order_after_told old held turns new after no_told order = order
   in_order_after_told old held turns new after (told_more n between last

@@ -34,7 +34,8 @@ module _ {W M : Type 0} {server_of : M → Option View} {handles : Handles M}
     (is_after : W → List Call → Type 0) where
   -- a turn that does not want memory leaves an engine in order
   pub in_order_after : (old new : EngineViewOf W M) (result : Result (Unit {0}) EngineFault)
-      → TurnedBy is_after server_of handles old new result → new.failed ≡ false → IsInOrder old.now → IsInOrder new.now
+      → TurnedBy is_after server_of handles old new result → new.failed ≡ false
+      → IsInOrder old.now → IsInOrder new.now
   in_order_after old new result (takes_turn serves still room turn) well order =
       (turn.does.in_order (order_as old.now turn.wire order)).1
   in_order_after old new result (device_failed fault serves still room account same) well order =
@@ -91,7 +92,8 @@ other_connection old new connection false none set some = set
 
 module _ {W M : Type 0} (is_after : W → List Call → Type 0) (server_of : M → Option View)
     (handles : Handles M) (sizes : OutboxSizes) (conn : ℕ) where
-  ran_waits : (exchanges : List Call) (first : List Event) (came : ℕ → List ℕ) (old new : MomentOf W M)
+  ran_waits : (exchanges : List Call) (first : List Event) (came : ℕ → List ℕ)
+      (old new : MomentOf W M)
       → written conn exchanges ≡ [] → RanBy is_after server_of handles exchanges first came old new
       → has_some_at (old.connections conn) ≡ true → is_some (new.connections conn) ≡ true
       → has_some_at (new.connections conn) ≡ true
@@ -101,7 +103,8 @@ module _ {W M : Type 0} (is_after : W → List Call → Type 0) (server_of : M �
       ∙ nothing) some there
 
   starts_waits : (kind : ConnectionKind) (room which : ℕ) (event : Event) (old new : MomentOf W M)
-      → StartsBy is_after server_of handles kind room which event old new → has_some_at (old.connections conn) ≡ true
+      → StartsBy is_after server_of handles kind room which event old new
+      → has_some_at (old.connections conn) ≡ true
       → is_some (new.connections conn) ≡ true → has_some_at (new.connections conn) ≡ true
   starts_waits kind room which event old new (in_use used ran) some there =
       ran_waits [] [] _ old new refl ran some there
@@ -112,7 +115,8 @@ module _ {W M : Type 0} (is_after : W → List Call → Type 0) (server_of : M �
       (λ one. ap old.connections (sym (eqb-true which conn one)) ∙ free) (set conn) some in
       ran_waits [] _ _ between new refl ran (ap has_some_at same ∙ some) there
 
-  reads_waits : (which : ℕ) (old new : MomentOf W M) → ReadsBy is_after server_of handles which old new
+  reads_waits : (which : ℕ) (old new : MomentOf W M) → ReadsBy is_after server_of handles which old
+      new
       → has_some_at (old.connections conn) ≡ true → is_some (new.connections conn) ≡ true
       → has_some_at (new.connections conn) ≡ true
   reads_waits which old new (not_open closed ran) some there =
@@ -120,7 +124,8 @@ module _ {W M : Type 0} (is_after : W → List Call → Type 0) (server_of : M �
   reads_waits which old new (read_once size answer bytes is_open as_large ran) some there =
       ran_waits _ [] _ old new refl ran some there
 
-  answers_wait : (report : Ready) (old new : MomentOf W M) → AnswersBy is_after server_of handles sizes report old new
+  answers_wait : (report : Ready) (old new : MomentOf W M)
+      → AnswersBy is_after server_of handles sizes report old new
       → has_some_at (old.connections conn) ≡ true → is_some (new.connections conn) ≡ true
       → has_some_at (new.connections conn) ≡ true
   answers_wait Idle old new ran some there = ran_waits [] [] _ old new refl ran some there
@@ -134,7 +139,8 @@ module _ {W M : Type 0} (is_after : W → List Call → Type 0) (server_of : M �
 
   -- A connection whose outbox was not empty before a turn, and which the turn does not close, is
   -- written to once.
-  pub written_in_turn : (old new : MomentOf W M) (turn : TurnBy is_after server_of handles sizes old new) → IsInOrder old
+  pub written_in_turn : (old new : MomentOf W M) (turn : TurnBy is_after server_of handles sizes
+      old new) → IsInOrder old
       → has_some_at (old.connections conn) ≡ true → is_some (new.connections conn) ≡ true
       → times_written conn turn.does.writes.exchanges ≡ 1
   written_in_turn old new turn order some there =

@@ -9,7 +9,8 @@ use Rattle.irc_engine.proofs.engine.Core.take_lines.Given as goal
 -- the bytes so far are heard
 abbrev pub invariant-loop-used : goal.invariant-loop-used
 invariant-loop-used g l = record {
-  ran : RanBy g.W.Wire.is_after g.M.Machine.server_of g.M.Machine.handles [] [] (only_of l.conn (take l.used l.fn.self.buffer.items))
+  ran : RanBy g.W.Wire.is_after g.M.Machine.server_of g.M.Machine.handles [] [] (only_of l.conn
+      (take l.used l.fn.self.buffer.items))
       (moment_of l.fn.self) (moment_of l.self);
   at_one : IsAtOneIn g.M.Machine.server_of l.self;
   told : KeepsTold l.fn.self l.self;

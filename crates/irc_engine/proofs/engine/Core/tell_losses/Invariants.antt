@@ -8,8 +8,10 @@ use Rattle.irc_engine.proofs.engine.Core.tell_losses.Given as goal
 
 abbrev pub invariant-loop-conn : goal.invariant-loop-conn
 invariant-loop-conn g l = record {
-  ran : RanOnBy g.W.Wire.is_after g.M.Machine.server_of g.M.Machine.handles (moment_of l.fn.self) (moment_of l.self);
-  in_order : TellsLossesBy g.W.Wire.is_after g.M.Machine.server_of g.M.Machine.handles (moment_of l.fn.self) (moment_of l.self);
+  ran : RanOnBy g.W.Wire.is_after g.M.Machine.server_of g.M.Machine.handles (moment_of l.fn.self)
+      (moment_of l.self);
+  in_order : TellsLossesBy g.W.Wire.is_after g.M.Machine.server_of g.M.Machine.handles (moment_of
+      l.fn.self) (moment_of l.self);
   at_one : IsAtOneIn g.M.Machine.server_of l.self;
   marks : KeepsMarks l.fn.self.connections l.self.connections;
   same : l.self.buffer ≡ l.fn.self.buffer;
