@@ -12,8 +12,8 @@ use Rattle.irc_endings.specs.declared.words.Task.TheVariants as task
 use Rattle.irc_endings.specs.declared.fault.Stop.{Stop}
 use Rattle.irc_endings.specs.declared.fault.Stop.TheVariants.{Failed}
 use Rattle.irc_endings.specs.Statuses.{stop_unread}
-use Rattle.irc_script.specs.Limits.{max_script_number}
-use Rattle.irc_script.specs.Numbers.{script_number}
+use Rattle.irc_decimals.specs.Numbers.{max_number}
+use Rattle.irc_decimals.specs.Numbers.{written_number}
 
 -- what the program may be asked to do: to run a script, and to serve as a file says for so many
 -- turns
@@ -32,9 +32,9 @@ abbrev pub task_of : List (List ℕ) → Option Errand
 task_of [] = None
 task_of (word ∷ []) = if bytes_eq word (codes "sim") then Some runs_script else None
 task_of (word ∷ file ∷ []) =
-    if bytes_eq word (codes "serve") then Some (serves file max_script_number) else None
+    if bytes_eq word (codes "serve") then Some (serves file max_number) else None
 task_of (word ∷ file ∷ turns ∷ []) =
-    if bytes_eq word (codes "serve") then option_map (serves file) (script_number turns) else None
+    if bytes_eq word (codes "serve") then option_map (serves file) (written_number turns) else None
 task_of (word ∷ file ∷ turns ∷ next ∷ words) = None
 
 abbrev pub texts_of : {Z : Type 0} → List (String Z) → List (List ℕ)

@@ -1,13 +1,13 @@
 //! What the words of the command line ask for.
 ghost use Rattle.std.specs.Prelude.{◌≡◌, option_map, IfErr, IfOk};
 ghost use Rattle.irc_endings.specs.declared.fault.Stop.TheVariants.{Failed};
-ghost use Rattle.irc_script.specs.Numbers.{script_number};
+ghost use Rattle.irc_decimals.specs.Numbers.{written_number};
 ghost use Rattle.irc_endings.specs.Words.{behind_name, errand, serves, task_of, texts_of, AreGiven};
 ghost use Rattle.irc_endings.specs.Words.{AreWordsOf};
 ghost use Rattle.irc_endings.specs.Statuses.{stop_unread};
 
 use crate::fault::Stop;
-use irc_script::read_number;
+use irc_decimals::read_number;
 use std::alloc::Global;
 use std::env::{Args, Env, args};
 use std::io;
@@ -24,7 +24,7 @@ pub enum Task<'a> {
 
 impl<'a> Task<'a> {
     /// What the words behind the program's name ask for; none where they are no words of a task.
-    #[tactic(auto, unfolding(irc_script::specs::Limits::max_script_number))]
+    #[tactic(auto, unfolding(irc_decimals::specs::Numbers::max_number))]
     pub fn read(words: &'a [String]) -> Option<Self>
         ensures { option_map errand result ≡ task_of (texts_of words.now) }
     {
@@ -44,7 +44,7 @@ impl<'a> Task<'a> {
 
 /// To serve as a file says, for as many turns as a word is a number of.
 fn serve_for<'a>(file: &'a str, turns: &[u8]) -> Option<Task<'a>>
-    ensures { option_map errand result ≡ option_map (serves file.now) (script_number turns.now) }
+    ensures { option_map errand result ≡ option_map (serves file.now) (written_number turns.now) }
 {
     match read_number(turns) {
         Some(turns) => Some(Task::Serve(file, turns)),

@@ -1,4 +1,3 @@
-pub mod NumbersWritten
 pub mod LineEnds
 pub mod ScriptSteps
 pub mod InOrder

@@ -7,7 +7,7 @@ use Rattle.std.specs.Option.{option_and_then, option_map}
 use Rattle.irc_line.specs.Lines.{IsLine, lines}
 use Rattle.irc_names.specs.Names.{is_host, is_server}
 use Rattle.irc_script.specs.Moves.{gives_line}
-use Rattle.irc_script.specs.Numbers.{script_number}
+use Rattle.irc_decimals.specs.Numbers.{written_number}
 use Rattle.irc_script.specs.Scripts.{Request, connects, says, goes, links, cuts, delivers, takes}
 use Rattle.irc_script.specs.Scripts.{settles, ScriptAsked, Cut, Pair, bytes_from, bytes_in}
 use Rattle.irc_script.specs.Scripts.{connect_in, cut_at_space, is_bad_line, is_word, judged}
@@ -62,7 +62,7 @@ pair_hosted make so (Some pair) = so pair
 say_hosted : (cut : Option Cut) → IsHosted (option_and_then say_in cut)
 say_hosted None = none_hosted
 say_hosted (Some words) = number_hosted (λ client. says client words.behind)
-    (λ n server host is. cc is) (script_number words.before)
+    (λ n server host is. cc is) (written_number words.before)
 
 counted_hosted : (from : List ℕ) (cut : Option Cut)
     → IsHosted (option_and_then (bytes_from from) cut)
@@ -70,7 +70,7 @@ counted_hosted from None = none_hosted
 counted_hosted from (Some words) =
     if_hosted (is_server from && is_server words.before) _ _
     (number_hosted (λ count. takes from words.before count) (λ n server host is. cc is)
-    (script_number words.behind)) none_hosted
+    (written_number words.behind)) none_hosted
 
 bytes_hosted : (cut : Option Cut) → IsHosted (option_and_then bytes_in cut)
 bytes_hosted None = none_hosted
@@ -81,7 +81,7 @@ request_hosted line =
     if_hosted (is_word line.before (codes "connect")) _ _ (found_hosted (cut_at_space line.behind))
     (if_hosted (is_word line.before (codes "say")) _ _ (say_hosted (cut_at_space line.behind))
     (if_hosted (is_word line.before (codes "gone")) _ _
-    (number_hosted goes (λ n server host is. cc is) (script_number line.behind))
+    (number_hosted goes (λ n server host is. cc is) (written_number line.behind))
     (if_hosted (is_word line.before (codes "link")) _ _ (pair_hosted
     (λ pair. links pair.near pair.far) (λ pair server host is. cc is) (pair_of line.behind))
     (if_hosted (is_word line.before (codes "cut")) _ _ (pair_hosted

@@ -1,6 +1,5 @@
 pub mod Limits
 pub mod Faults
-pub mod Numbers
 pub mod Scripts
 pub mod ScriptViews
 pub mod Moves

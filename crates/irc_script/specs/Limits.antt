@@ -1,11 +1,6 @@
 -- The limits of scripts and of what is printed. All are our own choice.
 use Rattle.std.specs.Prelude.{ℕ}
 
--- the greatest number that a script may have in it, and the last number of a client: 64 bits; our
--- own choice
-unfoldable pub max_script_number : ℕ
-max_script_number = 18446744073709551615
-
 -- how many servers a script may name; our own choice
 unfoldable pub max_script_servers : ℕ
 max_script_servers = 256

@@ -9,7 +9,7 @@ use Rattle.irc_line.specs.Bytes.{line_feed, is_space}
 use Rattle.irc_line.specs.Lines.{is_empty, last_piece, earlier_pieces}
 use Rattle.irc_names.specs.Names.{is_server, is_host}
 use Rattle.irc_script.specs.Limits.{max_script_servers}
-use Rattle.irc_script.specs.Numbers.{script_number}
+use Rattle.irc_decimals.specs.Numbers.{written_number}
 
 -- what one line asks for
 pub data Request : Type 0 where
@@ -67,14 +67,14 @@ connect_of words = option_and_then connect_in (cut_at_space words)
 
 -- `N REST`
 abbrev pub say_in : Cut → Option Request
-say_in words = option_map (λ client. says client words.behind) (script_number words.before)
+say_in words = option_map (λ client. says client words.behind) (written_number words.before)
 
 abbrev pub say_of : List ℕ → Option Request
 say_of words = option_and_then say_in (cut_at_space words)
 
 -- `N`
 abbrev pub gone_of : List ℕ → Option Request
-gone_of word = option_map goes (script_number word)
+gone_of word = option_map goes (written_number word)
 
 -- the names of two servers
 pub record Pair : Type 0 where
@@ -102,7 +102,7 @@ deliver_of words = option_map (λ pair. delivers pair.near pair.far) (pair_of wo
 abbrev pub bytes_from : List ℕ → Cut → Option Request
 bytes_from from words =
     if is_server from && is_server words.before then option_map
-    (λ count. takes from words.before count) (script_number words.behind) else None
+    (λ count. takes from words.before count) (written_number words.behind) else None
 
 abbrev pub bytes_in : Cut → Option Request
 bytes_in words = option_and_then (bytes_from words.before) (cut_at_space words.behind)

@@ -8,7 +8,7 @@ ghost use Rattle.irc_script.specs.Scripts.{bytes_asked};
 ghost use Rattle.irc_script.specs.ScriptViews.{cut_now, pair_now, request};
 ghost use Rattle.irc_script.specs.Loops.Commands.{request_by};
 
-use crate::number::read_number;
+use irc_decimals::read_number;
 use irc_names::{Host, ServerName};
 use irc_net::ClientNumber;
 

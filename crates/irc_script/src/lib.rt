@@ -7,7 +7,6 @@ mod configs;
 mod fault;
 pub mod laws;
 mod lines;
-mod number;
 mod printing;
 mod script;
 mod script_run;
@@ -15,6 +14,5 @@ mod sim;
 mod sink;
 
 pub use fault::{SimFault, Trouble, Unwritten};
-pub use number::read_number;
 pub use sim::{MAX_READS, run_sim};
 pub use sink::{MAX_WRITES, flush, write_whole};

@@ -1,14 +1,14 @@
-//! Numbers in a script.
+//! Numbers in decimal digits.
 ghost use Rattle.std.specs.Prelude.{◌≡◌};
-ghost use Rattle.irc_script.specs.Numbers.{script_number, writes};
+ghost use Rattle.irc_decimals.specs.Numbers.{written_number, writes};
 
 use itoa::Buffer;
 use std::str::from_utf8;
 
-/// The number that a word is, of at most 64 bits, as the program itself writes it: no sign, and no
-/// zero in front of other digits.
+/// The number that a word is, of at most 64 bits, as it is written here: no sign, and no zero in
+/// front of other digits.
 pub fn read_number(word: &[u8]) -> Option<u64>
-    ensures { result ≡ script_number word.now }
+    ensures { result ≡ written_number word.now }
 {
     let Ok(text) = from_utf8(word) else {
         return None;
@@ -23,7 +23,7 @@ pub fn read_number(word: &[u8]) -> Option<u64>
     }
 }
 
-/// Whether a word is how the program writes a number.
+/// Whether a word is how a number is written.
 fn writes(number: u64, word: &[u8]) -> bool
     ensures { result ≡ writes number word.now }
 {

@@ -4,9 +4,9 @@ use Rattle.std.proofs.lemmas.Fmt.{parse-decimal, IsAscii-decimal}
 use Rattle.std.proofs.lemmas.Slice.Eq.{bytes_eq-Decides}
 use Rattle.std.proofs.lemmas.Str.{IsUtf8-from_ascii}
 use Rattle.std.specs.Str.{IsAscii}
-use Rattle.irc_script.specs.Numbers.{writes}
-use Rattle.irc_script.proofs.NumbersWritten.{written, not_written}
-use Rattle.irc_script.proofs.number.read_number.Goals as goal
+use Rattle.irc_decimals.specs.Numbers.{writes}
+use Rattle.irc_decimals.proofs.NumbersWritten.{written, not_written}
+use Rattle.irc_decimals.proofs.number.read_number.Goals as goal
 
 -- a result is not both
 not_both : {E : Type 0} (r : Result ℕ E) (n : ℕ) (e : E) → r ≡ Ok n → r ≡ Err e → ⊥

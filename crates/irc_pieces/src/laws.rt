@@ -1,0 +1,1 @@
+//! What holds of pieces that are written and read.
