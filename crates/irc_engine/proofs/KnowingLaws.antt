@@ -17,8 +17,9 @@ use Rattle.irc_server.specs.Served.{ReadEvent, fault_of, link_there, no_link, no
 use Rattle.irc_server.specs.ReadEvents.{read_event_of}
 use Rattle.irc_server.specs.Connected.{client_comes, client_goes, is_client_ended}
 use Rattle.irc_server.specs.Connected.{is_link_ended, link_comes, link_goes}
-use Rattle.irc_engine.specs.Machines.{is_owed, ran_out_before, runs_out_now, AreConnectedBy}
-use Rattle.irc_engine.specs.Machines.{IsConnectedBy, IsRefusal}
+use Rattle.irc_engine.specs.Machines.{is_out_of_memory, is_owed, ran_out_before, runs_out_now}
+use Rattle.irc_engine.specs.Machines.{AreConnectedBy, AreStillConnected, IsConnectedBy, IsRefusal}
+use Rattle.irc_engine.specs.Machines.{IsStillConnected}
 use Rattle.irc_engine.specs.declared.connections.Connections.{Connections}
 use Rattle.irc_engine.specs.declared.kind.ConnectionKind.{ConnectionKind}
 use Rattle.irc_engine.specs.declared.kind.ConnectionKind.TheVariants as kinds
@@ -30,7 +31,6 @@ use Rattle.irc_engine.specs.Carrying.{kind_of_loss, Passage}
 use Rattle.irc_engine.specs.Hearing.{end_event_of, line_event_of}
 use Rattle.irc_engine.specs.Knowing.{is_client, is_link, kind_after, known_kind, HasAs, HasNobody}
 use Rattle.irc_engine.specs.Knowing.{IsArrival, IsAtOne, IsOf, IsSettled, IsToHear}
-use Rattle.irc_engine.specs.Loops.Faults.{is_out_of_memory}
 use Rattle.irc_engine.specs.Loops.Tables.{at_connection, no_connection, FramesAt}
 use Rattle.irc_engine.specs.Moments.{connection_of, lost_at}
 use Rattle.irc_engine.specs.Loops.Tables.{IsSet}
@@ -282,6 +282,37 @@ module _ (view : View) (known : ℕ → Option ConnectionKind)
       client_was ended =
           ap (λ t. t || client_comes q now) (sym (has q).0 ∙ after.clients_were_there q ended)
 
+  -- and so behind what is put out by no event
+  has_still : (new : View) (out : List Sent) → AreStillConnected view out new → (q : ℕ)
+      → HasAs new q (cond (is_closed_by q out) None (known q))
+  has_still new out after q = (
+    after.clients q ∙ ap (λ t. t && not (is_client_ended q out)) (has q).0
+        ∙ there_unless_closed is_client is_link refl link_is_no_client (known q)
+        (is_client (known q)) (is_link (known q)) false false (is_client_ended q out)
+        (is_link_ended q out) (and_true (is_client (known q))) (and_true (is_link (known q)))
+        (λ never. cc never) link_was
+        ∙ ap (λ t. is_client (cond t None (known q))) (sym (closed_by_either q out)),
+    after.links q ∙ ap (λ t. t && not (is_link_ended q out)) (has q).1
+        ∙ there_unless_closed is_link is_client refl client_is_no_link (known q)
+        (is_link (known q)) (is_client (known q)) false false (is_link_ended q out)
+        (is_client_ended q out) (and_true (is_link (known q))) (and_true (is_client (known q)))
+        (λ never. cc never) client_was
+        ∙ ap (λ t. is_link (cond t None (known q)))
+        (swap (is_link_ended q out) (is_client_ended q out) ∙ sym (closed_by_either q out)),
+  )
+    where
+      swap : (a b : Bool) → (a || b) ≡ (b || a)
+      swap true true = refl
+      swap true false = refl
+      swap false true = refl
+      swap false false = refl
+
+      link_was : is_link_ended q out ≡ true → is_link (known q) ≡ true
+      link_was ended = sym (has q).1 ∙ after.links_were_there q ended
+
+      client_was : is_client_ended q out ≡ true → is_client (known q) ≡ true
+      client_was ended = sym (has q).0 ∙ after.clients_were_there q ended
+
 -- what a machine that does not refuse an event answers, where it does not handle it
 pub only_memory : (event : Event) (server : Option View) (fault : ServerFault)
     (connections : ℕ → Option Connection) (lost : ℕ → Option ConnectionKind)
@@ -364,6 +395,35 @@ module _ (conn : ℕ) (calls : List Call) (outs : List Sent) where
       cc (gone (lost_before (is_some was) (is_some o.framer) (not (is_closed_by conn outs))
       (sym lost ∙ passed.lost_is)))
 
+-- something was put out by no event
+at_one_still : (server after : Option View) (before outs : List Sent)
+    (old new : ℕ → Option Connection) (lost now : ℕ → Option ConnectionKind) → before ≡ []
+    → IsStillConnected server before after outs → IsAtOne server old lost
+    → ((q : ℕ) → known_kind (new q) (now q)
+    ≡ cond (is_closed_by q outs) None (known_kind (old q) (lost q)))
+    → ((q : ℕ) → is_some (now q) ≡ true → new q ≡ None) → IsAtOne after new now
+at_one_still server after before outs old new lost now none still one known gone = record {
+  has = λ q seen is.
+      let was = still.connected seen is in
+      subst (λ (k : Option ConnectionKind). HasAs seen q k)
+      (sym (known q
+      ∙ ap (λ os. cond (is_closed_by q os) None (known_kind (old q) (lost q)))
+      (still.after_is ∙ ap (λ os. os ++ still.outs) none)))
+      (has_still was.0 (λ p. known_kind (old p) (lost p)) (λ p. one.has p was.0 was.1) seen
+      still.outs was.2 q);
+  lost_is_gone = gone;
+}
+
+-- nothing was put out
+pub at_one_quiet : (server after : Option View) (before outs : List Sent)
+    (connections : ℕ → Option Connection) (lost : ℕ → Option ConnectionKind) → before ≡ []
+    → IsStillConnected server before after outs → outs ≡ [] → IsAtOne server connections lost
+    → IsAtOne after connections lost
+at_one_quiet server after before outs connections lost none still quiet one =
+    at_one_still server after before outs connections connections lost lost none still one
+    (λ q. ap (λ os. cond (is_closed_by q os) None (known_kind (connections q) (lost q)))
+    (sym quiet)) one.lost_is_gone
+
 -- the machine has handled an event, and what it put out is done
 module _ {W : Type 0} (is_after : W → List Call → Type 0) where
   pub at_one_after : (event : Event) (server after : Option View) (before outs : List Sent)
@@ -395,6 +455,20 @@ module _ {W : Type 0} (is_after : W → List Call → Type 0) where
           (known_kind (connection_of old.table q) (lost_at old.lost q))) put_out
           ∙ ap (λ (k : Option ConnectionKind). cond (is_closed_by q by.outs) None k)
           (awaits.known q)
+
+  -- something was due, and what was put out by it is done
+  pub at_one_due : (server after : Option View) (before outs : List Sent) (old new : Connections W)
+      → before ≡ [] → IsStillConnected server before after outs → Carries is_after [] old outs new
+      → IsAtOne server (connection_of old.table) (lost_at old.lost)
+      → IsAtOne after (connection_of new.table) (lost_at new.lost)
+  at_one_due server after before outs old new none still carries one =
+      at_one_still server after before outs (connection_of old.table) (connection_of new.table)
+      (lost_at old.lost) (lost_at new.lost) none still one
+      (λ q. known_passage q carries.calls outs (connection_of old.table q) (lost_at old.lost q)
+      (connection_of new.table q) (lost_at new.lost q) (carries.passage q) (one.lost_is_gone q))
+      (λ q. gone_passage q carries.calls outs (connection_of old.table q)
+      (lost_at old.lost q) (connection_of new.table q) (lost_at new.lost q)
+      (carries.passage q) (one.lost_is_gone q))
 
   -- something is done that no event asks for
   pub at_one_carried : (server : Option View) (exchanges : List Call) (old new : Connections W)

@@ -1,7 +1,7 @@
 -- A server as what handles the events of an engine: who is connected to it behind an event, and
 -- what it refuses.
-use Rattle.std.proofs.Common.{◌≡◌, Option, Some, None, IfErr, OnOk, Result, Ok, Err, List, ◌++◌}
-use Rattle.std.proofs.Common.{refl, sym, ◌∙◌, subst}
+use Rattle.std.proofs.Common.{◌≡◌, Bool, true, false, ◌&&◌, Option, Some, None, IfErr, OnOk, Result}
+use Rattle.std.proofs.Common.{Ok, Err, List, [], ◌++◌, refl, sym, ◌∙◌, subst, append-nil}
 use Rattle.std.specs.FinMap.{get}
 use Rattle.irc_batch.specs.Batches.{Sent}
 use Rattle.irc_stage.specs.View.{End, View}
@@ -9,13 +9,14 @@ use Rattle.irc_server.specs.declared.event.Event.{Event}
 use Rattle.irc_server.specs.declared.event.Event.TheVariants.{Connect, Line, Gone, LinkUp, LinkLine}
 use Rattle.irc_server.specs.declared.event.Event.TheVariants.{LinkDown}
 use Rattle.irc_server.specs.declared.event.ServerFault.{ServerFault}
-use Rattle.irc_server.specs.Connected.{AreConnectedAfter, WhoIsConnected}
+use Rattle.irc_server.specs.Connected.{has_client, has_link, AreConnectedAfter, WhoIsConnected}
 use Rattle.irc_server.specs.Own.{IsNewLink}
 use Rattle.irc_server.specs.ReadEvents.{read_event_of, IsHandled, has_failed, refuses_it, takes_it}
 use Rattle.irc_server.specs.ReadEvents.{wants_memory, Does}
 use Rattle.irc_server.specs.Served.{fault_of, link_there, served}
 use Rattle.irc_engine.specs.Machines.{is_owed, ran_out_before, runs_out_now, AreConnectedBy}
-use Rattle.irc_engine.specs.Machines.{IsConnectedBy, IsRefusal}
+use Rattle.irc_engine.specs.Machines.{AreStillConnected, IsConnectedBy, IsRefusal}
+use Rattle.irc_engine.specs.Machines.{IsStillConnected}
 
 no_end : (end : Option End) → link_there end ≡ None → end ≡ None
 no_end None none = refl
@@ -74,3 +75,25 @@ server_refuses event server after before outs result (refuses_it {old = view} {f
     is_owed view fault refl is
 server_refuses event server after before outs result (wants_memory none) = runs_out_now
 server_refuses event server after before outs result has_failed = ran_out_before
+
+-- ---- nothing is due
+
+stays_there : (b : Bool) → b ≡ (b && true)
+stays_there true = refl
+stays_there false = refl
+
+still_all : (view : View) → AreStillConnected view [] view
+still_all view = record {
+  clients = λ conn. stays_there (has_client view conn);
+  links = λ link. stays_there (has_link view link);
+  clients_were_there = λ conn ended. cc ended;
+  links_were_there = λ link ended. cc ended;
+}
+
+pub server_stays : (server : Option View) (before : List Sent)
+    → IsStillConnected server before server before
+server_stays server before = record {
+  outs = [];
+  after_is = sym (append-nil before);
+  connected = λ behind is. (behind, is, still_all behind);
+}

@@ -31,9 +31,9 @@ use Rattle.irc_engine.specs.Hearing.{nothing_of, only_of, Hears}
 use Rattle.irc_journal.specs.declared.journal.Journal.{Journal}
 use Rattle.irc_journal.specs.Signs.{EntersAll}
 use Rattle.irc_engine.specs.Noting.{event_signs, out_signs}
-use Rattle.irc_engine.specs.Machines.{Handles}
+use Rattle.irc_engine.specs.Machines.{due_by, never_due, Dues, Handles, IsDue}
 use Rattle.irc_engine.specs.Running.{MomentOf, AskedOf, AreAskedBy, asked, asked_at, AsksOnceBy}
-use Rattle.irc_engine.specs.Running.{IsNews}
+use Rattle.irc_engine.specs.Running.{IsDoneBy, IsNews}
 use Rattle.irc_engine.specs.Running.{a_line, an_end, RanBy, RanOnBy, ConnectionState, standing_of}
 use Rattle.irc_engine.specs.Running.{TellsServer}
 use Rattle.irc_engine.specs.Writing.{one_if}
@@ -1164,3 +1164,63 @@ module _ {W M : Type 0} {server_of : M → Option View} {handles : Handles M}
   ran_no_line kind conn line now none = subst (λ (o : Option (ArrayVec ℕ)). RanBy is_after
       server_of handles []
       (passed_on kind conn o) nothing_of now now) (sym none) (ran_none now)
+
+module _ {W M : Type 0} (is_after : W → List Call → Type 0) (server_of : M → Option View)
+    (handles : Handles M) where
+  -- something was due, and what was put out by it is done
+  pub due_carried : (dues : Dues M) (server after : M) (moment : ℕ) (journal written : Journal)
+      (room : ℕ) (old mid : Connections W) (before outs : List Sent) (new : MomentOf W M)
+      → before ≡ [] → (length outs ≡ 0 → ⊥) → IsDue dues server moment before (Ok tt) after outs
+      → EntersAll (out_signs outs) journal written → Carries is_after [] old outs mid
+      → RanOnBy is_after server_of handles (at_connections after written room mid) new
+      → IsDoneBy is_after server_of handles dues (at_connections server journal room old) new
+  due_carried never_due server after moment journal written room old mid before outs new none some
+  due
+      closed carries losses = absurd (some (ap length (due.2 ∙ none)))
+  due_carried (due_by is_due) server after moment journal written room old mid before outs new
+      none some due closed carries losses = record {
+        moment = moment;
+        between = at_connections after written room mid;
+        outs = outs;
+        calls = carries.calls;
+        was_due = subst (λ (os : List Sent). is_due server moment os (Ok tt) after outs) none due;
+        is_noted = closed;
+        account = carries.account;
+        exchanged = carries.exchanged;
+        fates = λ conn. (carries.passage conn).fate;
+        keep_kinds = λ conn. (carries.passage conn).keeps_kind;
+        hears = λ conn. (carries.passage conn).hears_none;
+        tells = λ conn. tells_passage conn (connection_of old.table conn)
+            (lost_at old.lost conn) carries.calls outs (connection_of mid.table conn)
+            (lost_at mid.lost conn) (carries.passage conn);
+        same_room = refl;
+        losses = losses;
+      }
+
+  -- nothing was put out
+  pub due_quiet : (dues : Dues M) (server after : M) (moment : ℕ) (journal : Journal)
+      (room : ℕ) (connections : Connections W) (before outs : List Sent) → before ≡ []
+      → IsDue dues server moment before (Ok tt) after outs → outs ≡ []
+      → IsDoneBy is_after server_of handles dues (at_connections server journal room connections)
+      (at_connections after journal room connections)
+  due_quiet never_due server after moment journal room connections before outs none due quiet =
+      ap (λ (m : M). at_connections m journal room connections) due.1
+  due_quiet (due_by is_due) server after moment journal room connections before outs none due
+      quiet = record {
+        moment = moment;
+        between = at_connections after journal room connections;
+        outs = [];
+        calls = [];
+        was_due = subst (λ (os : List Sent). is_due server moment os (Ok tt) after []) none
+            (subst (λ (os : List Sent). is_due server moment before (Ok tt) after os) quiet due);
+        is_noted = refl;
+        account = adds_none is_after connections.wire connections.wire refl;
+        exchanged = refl;
+        fates = λ conn. same_fate conn (connection_of connections.table conn);
+        keep_kinds = λ conn kind is. is;
+        hears = λ conn. hears_kept (begun_at (connection_of connections.table conn));
+        tells = λ conn. tells_still conn
+            (standing_of conn (at_connections server journal room connections));
+        same_room = refl;
+        losses = ran_none is_after _;
+      }

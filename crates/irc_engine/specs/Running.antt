@@ -12,6 +12,7 @@ use Rattle.irc_outbox.specs.declared.wire.Got.{Got}
 use Rattle.irc_outbox.specs.declared.wire.IoFault.{IoFault}
 use Rattle.irc_outbox.specs.Calls.{Call, asks, reads, Adds}
 use Rattle.irc_server.specs.declared.event.Event.{Event}
+use Rattle.irc_server.specs.declared.event.ServerFault.{ServerFault}
 use Rattle.irc_server.specs.declared.event.Event.TheVariants.{Connect, LinkUp}
 use Rattle.irc_batch.specs.Batches.{Sent}
 use Rattle.irc_stage.specs.View.{View}
@@ -25,9 +26,9 @@ use Rattle.irc_engine.specs.Carrying.{is_open_at, AddsAll, Fate, fresh_connectio
 use Rattle.irc_engine.specs.Carrying.{KeepsKind}
 use Rattle.irc_engine.specs.Hearing.{begun_at, end_event_of, line_event_of, lines_by, nothing_of}
 use Rattle.irc_engine.specs.Hearing.{only_of, times_gone, Hears}
-use Rattle.irc_engine.specs.Machines.{Handles, itself}
+use Rattle.irc_engine.specs.Machines.{due_by, itself, never_due, Dues, Handles}
 use Rattle.irc_engine.specs.Writing.{one_if, WritesEach}
-use Rattle.irc_engine.specs.Noting.{signs_by}
+use Rattle.irc_engine.specs.Noting.{out_signs, signs_by}
 use Rattle.irc_journal.specs.declared.journal.Journal.{Journal}
 use Rattle.irc_journal.specs.Signs.{EntersAll}
 
@@ -228,11 +229,48 @@ module _ {W M : Type 0} (is_after : W → List Call → Type 0) (server_of : M �
     pub ran : RanBy exchanges [] nothing_of old new
     pub each : IsInOrder old → WritesEach old.connections exchanges new.connections
 
+  -- What is due is done, at some moment: what the machine puts out then, and it is told of the
+  -- connections that were lost by it. Nothing is asked, read or written.
+  pub record DoesDueBy
+      (is_due : M → ℕ → List Sent → Result (Unit {0}) ServerFault → M → List Sent → Type 0)
+      (old new : MomentOf W M) : Type 0 where
+    pub moment : ℕ
+    pub between : MomentOf W M
+    pub outs : List Sent
+    pub calls : List Call
+    pub was_due : is_due old.server moment [] (Ok tt) between.server outs
+    pub is_noted : EntersAll (out_signs outs) old.journal between.journal
+    pub account : AddsAll is_after old.wire calls between.wire
+    pub exchanged : filter is_exchange calls ≡ []
+    pub fates : (conn : ℕ)
+        → Fate conn (old.connections conn) calls outs (between.connections conn)
+    pub keep_kinds : (conn : ℕ) → KeepsKind (old.connections conn) (old.lost conn)
+        (between.connections conn) (between.lost conn)
+    pub hears : (conn : ℕ) → Hears (begun_at (old.connections conn)) [] []
+        (begun_at (between.connections conn))
+    pub tells : (conn : ℕ)
+        → TellsServer conn (standing_of conn old) [] outs (standing_of conn between)
+    pub same_room : between.read_room ≡ old.read_room
+    pub losses : RanOnBy between new
+
+  -- nothing is due, ever; or what is due is done
+  abbrev pub IsDoneBy : Dues M → MomentOf W M → MomentOf W M → Type 0
+  IsDoneBy never_due old new = new ≡ old
+  IsDoneBy (due_by is_due) old new = DoesDueBy is_due old new
+
+  -- what is due is done, if anything may be, and then outboxes are written
+  abbrev pub EndsBy : Dues M → MomentOf W M → MomentOf W M → Type 0
+  EndsBy never_due old new = FlushesBy old new
+  EndsBy (due_by is_due) old new =
+      (between : MomentOf W M) × DoesDueBy is_due old between × FlushesBy between new
+
+module _ {W M : Type 0} (is_after : W → List Call → Type 0) (server_of : M → Option View)
+    (handles : Handles M) (dues : Dues M) where
   -- What is ready is done, and then outboxes are written.
   pub record DoesBy (sizes : OutboxSizes) (report : Ready) (old new : MomentOf W M) : Type 0 where
     pub between : MomentOf W M
-    pub answers : AnswersBy sizes report old between
-    pub writes : FlushesBy between new
+    pub answers : AnswersBy is_after server_of handles sizes report old between
+    pub writes : EndsBy is_after server_of handles dues between new
     pub all_told : AllTold old → AllTold between × AllTold new
     pub in_order : IsInOrder old → IsInOrder between × IsInOrder new
 
@@ -281,7 +319,7 @@ module _ {W : Type 0} (is_after : W → List Call → Type 0) where
   Flushes = FlushesBy is_after itself IsHandled
 
   abbrev pub Does : OutboxSizes → Ready → Moment W → Moment W → Type 0
-  Does = DoesBy is_after itself IsHandled
+  Does = DoesBy is_after itself IsHandled never_due
 
   abbrev pub Turn : OutboxSizes → Moment W → Moment W → Type 0
-  Turn = TurnBy is_after itself IsHandled
+  Turn = TurnBy is_after itself IsHandled never_due

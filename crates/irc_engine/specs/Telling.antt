@@ -14,7 +14,7 @@ use Rattle.irc_journal.specs.Saying.{AreTold, IsFrontSaid, IsSaid}
 use Rattle.irc_engine.specs.declared.engine.EngineFault.{EngineFault}
 use Rattle.irc_server.specs.ReadEvents.{IsHandled}
 use Rattle.irc_stage.specs.View.{View}
-use Rattle.irc_engine.specs.Machines.{Handles, itself}
+use Rattle.irc_engine.specs.Machines.{itself, never_due, Dues, Handles}
 use Rattle.irc_engine.specs.Turning.{TurnedBy}
 use Rattle.irc_engine.specs.EngineView.{EngineView, EngineViewOf}
 
@@ -56,12 +56,12 @@ pub record Tells {W M : Type 0} (is_after : W → List Call → Type 0) (old new
 -- ---- of any machine
 
 module _ {W M : Type 0} (is_after : W → List Call → Type 0) (server_of : M → Option View)
-    (handles : Handles M) where
+    (handles : Handles M) (dues : Dues M) where
   -- a turn is asked for, and then what there is to tell is said
   pub record TellsTurnedBy (old new : EngineViewOf W M) (held after : Option (List ℕ))
       (result : Result (Unit {0}) EngineFault) : Type 0 where
     pub between : EngineViewOf W M
-    pub turned : TurnedBy is_after server_of handles old between result
+    pub turned : TurnedBy is_after server_of handles dues old between result
     pub tells : Tells is_after between new held after
 
   -- so many turns, one after another, with what is said behind each
@@ -89,12 +89,12 @@ module _ {W M : Type 0} (is_after : W → List Call → Type 0) (server_of : M �
 module _ {W : Type 0} (is_after : W → List Call → Type 0) where
   abbrev pub TellsTurned : EngineView W → EngineView W → (held after : Option (List ℕ))
       → Result (Unit {0}) EngineFault → Type 0
-  TellsTurned = TellsTurnedBy is_after itself IsHandled
+  TellsTurned = TellsTurnedBy is_after itself IsHandled never_due
 
   abbrev pub ToldTurns : EngineView W → Option (List ℕ) → ℕ → EngineView W → Option (List ℕ)
       → Type 0
-  ToldTurns = ToldTurnsBy is_after itself IsHandled
+  ToldTurns = ToldTurnsBy is_after itself IsHandled never_due
 
   abbrev pub RunsTelling : EngineView W → Option (List ℕ) → ℕ → EngineView W → Option (List ℕ)
       → Result (Unit {0}) EngineFault → Type 0
-  RunsTelling = RunsTellingBy is_after itself IsHandled
+  RunsTelling = RunsTellingBy is_after itself IsHandled never_due

@@ -13,7 +13,7 @@ use Rattle.irc_engine.specs.Carrying.{has_some_at}
 use Rattle.irc_journal.specs.Signs.{IsBlank}
 use Rattle.irc_server.specs.ReadEvents.{IsHandled}
 use Rattle.irc_engine.specs.EngineView.{EngineView, EngineViewOf}
-use Rattle.irc_engine.specs.Machines.{Handles, itself}
+use Rattle.irc_engine.specs.Machines.{itself, never_due, Dues, Handles, UnlessDue}
 use Rattle.irc_engine.specs.Running.{MomentOf, IsInOrder, DoesBy, TurnBy}
 
 -- an engine that has served nobody
@@ -46,15 +46,16 @@ HasFailed engine = engine.failed ≡ true
 -- ---- of any machine
 
 module _ {W M : Type 0} (is_after : W → List Call → Type 0) (server_of : M → Option View)
-    (handles : Handles M) where
+    (handles : Handles M) (dues : Dues M) where
   -- What is ready is done, and then outboxes are written; or memory ran out, which it does not
-  -- where there is nothing to do.
+  -- where there is nothing to do, unless something may be due.
   pub data TakenBy (report : Ready) (old new : EngineViewOf W M)
       : Result (Unit {0}) EngineFault → Type 0 where
     takes_it : new.failed ≡ false → new.sizes ≡ old.sizes
-        → DoesBy is_after server_of handles old.sizes report old.now new.now
+        → DoesBy is_after server_of handles dues old.sizes report old.now new.now
         → TakenBy report old new (Ok tt)
-    runs_out : new.failed ≡ true → (IsInOrder old.now → ¬ (IsNothingToDo report old.now))
+    runs_out : new.failed ≡ true
+        → UnlessDue dues (IsInOrder old.now → ¬ (IsNothingToDo report old.now))
         → TakenBy report old new (Err Memory)
 
   -- A turn is taken; or the wire could not tell what is ready, and nothing else has happened; or
@@ -62,13 +63,15 @@ module _ {W M : Type 0} (is_after : W → List Call → Type 0) (server_of : M �
   -- stay what they were.
   pub data TurnedBy (old new : EngineViewOf W M) : Result (Unit {0}) EngineFault → Type 0 where
     takes_turn : old.failed ≡ false → new.failed ≡ false → new.sizes ≡ old.sizes
-        → TurnBy is_after server_of handles old.sizes old.now new.now → TurnedBy old new (Ok tt)
+        → TurnBy is_after server_of handles dues old.sizes old.now new.now
+        → TurnedBy old new (Ok tt)
     device_failed : (fault : IoFault) → old.failed ≡ false → new.failed ≡ false
         → new.sizes ≡ old.sizes → Adds is_after old.now.wire (asks (Err fault)) new.now.wire
         → new.now ≡ record old.now { wire = new.now.wire } → TurnedBy old new (Err Device)
     wants_memory : (report : Ready) (wire : W) → old.failed ≡ false → new.failed ≡ true
-        → Adds is_after old.now.wire (asks (Ok report)) wire → (IsInOrder old.now
-        → ¬ (IsNothingToDo report old.now)) → TurnedBy old new (Err Memory)
+        → Adds is_after old.now.wire (asks (Ok report)) wire
+        → UnlessDue dues (IsInOrder old.now → ¬ (IsNothingToDo report old.now))
+        → TurnedBy old new (Err Memory)
     has_failed : old.failed ≡ true → new ≡ old → TurnedBy old new (Err Failed)
 
   -- so many turns, one after another
@@ -89,13 +92,13 @@ module _ {W M : Type 0} (is_after : W → List Call → Type 0) (server_of : M �
 
 module _ {W : Type 0} (is_after : W → List Call → Type 0) where
   abbrev pub Taken : Ready → EngineView W → EngineView W → Result (Unit {0}) EngineFault → Type 0
-  Taken = TakenBy is_after itself IsHandled
+  Taken = TakenBy is_after itself IsHandled never_due
 
   abbrev pub Turned : EngineView W → EngineView W → Result (Unit {0}) EngineFault → Type 0
-  Turned = TurnedBy is_after itself IsHandled
+  Turned = TurnedBy is_after itself IsHandled never_due
 
   abbrev pub Turns : EngineView W → ℕ → EngineView W → Type 0
-  Turns = TurnsBy is_after itself IsHandled
+  Turns = TurnsBy is_after itself IsHandled never_due
 
   abbrev pub Runs : EngineView W → ℕ → EngineView W → Result (Unit {0}) EngineFault → Type 0
-  Runs = RunsBy is_after itself IsHandled
+  Runs = RunsBy is_after itself IsHandled never_due

@@ -9,9 +9,10 @@ ghost use Rattle.irc_engine.specs.Moments.{moment_of, connection_of, lost_at};
 ghost use Rattle.irc_engine.specs.Loops.Moments.{AsksFor, HearsFrom, IsAtOneIn, IsNobodyNoted};
 ghost use Rattle.irc_engine.specs.Loops.Moments.{IsOpenAs, IsSettledIn, IsToHearIn, KeepsOrder};
 ghost use Rattle.irc_engine.specs.Loops.Moments.{KeepsTold, Spans};
-ghost use Rattle.irc_engine.specs.Loops.Faults.{is_out_of_memory};
+ghost use Rattle.irc_engine.specs.Machines.{is_never, is_out_of_memory};
 ghost use Rattle.irc_engine.specs.Loops.Connections.{KeepsMarks, KeepsNotes};
 ghost use Rattle.irc_engine.specs.Running.{AllTold, AnswersBy, AsksOnceBy, DoesBy, FlushesBy};
+ghost use Rattle.irc_engine.specs.Running.{IsDoneBy};
 ghost use Rattle.irc_engine.specs.Running.{PassesOnBy, RanOnBy, ReadsBy, StartsBy, TellsLossesBy};
 
 use crate::connection_table::ConnectionTable;
@@ -140,7 +141,7 @@ impl<W: Wire, M: Machine> Engine<W, M> {
     ///   changed then.
     /// - [`EngineFault::Memory`] where memory runs out.
     pub fn turn(&mut self) -> Result<(), EngineFault>
-        ensures turned { TurnedBy W.is_after M.server_of M.handles (engine_view self.old)
+        ensures turned { TurnedBy W.is_after M.server_of M.handles M.dues (engine_view self.old)
             (engine_view self.new) result }
         ensures failed_before { HasFailed (engine_view self.old) → self.new ≡ self.old }
         ensures device { ChangesWireAlone result self.old self.new }
@@ -159,7 +160,7 @@ impl<W: Wire, M: Machine> Engine<W, M> {
     /// Does what is ready, and writes.
     fn take(&mut self, ready: Ready) -> Result<(), EngineFault>
         requires { self.old.failed ≡ false }
-        ensures { TakenBy W.is_after M.server_of M.handles ready (engine_view self.old)
+        ensures { TakenBy W.is_after M.server_of M.handles M.dues ready (engine_view self.old)
             (engine_view self.new) result }
     {
         self.failed = true;
@@ -177,7 +178,7 @@ impl<W: Wire, M: Machine> Engine<W, M> {
     /// # Errors
     /// As [`Engine::turn`], for that turn.
     pub fn run(&mut self, turns: u64) -> Result<(), EngineFault>
-        ensures ran { RunsBy W.is_after M.server_of M.handles (engine_view self.old) turns
+        ensures ran { RunsBy W.is_after M.server_of M.handles M.dues (engine_view self.old) turns
             (engine_view self.new) result }
         ensures failed_before { HasFailed (engine_view self.old) → self.new ≡ self.old }
     {
@@ -191,16 +192,41 @@ impl<W: Wire, M: Machine> Engine<W, M> {
 impl<W: Wire, M: Machine> Core<W, M> {
     ghost use Rattle.irc_engine.specs.Turning.{brings_nothing};
 
-    /// Does what is ready, and writes.
+    /// Does what is ready, and what is due, and writes.
     fn turn(&mut self, ready: Ready, sizes: OutboxSizes) -> Result<(), AllocError>
         requires { IsSettledIn M.server_of self.old }
         ensures settled { OnOk result (IsSettledIn M.server_of self.new) }
-        ensures done { OnOk result (Spans (DoesBy W.is_after M.server_of M.handles sizes ready)
+        ensures done { OnOk result (Spans (DoesBy W.is_after M.server_of M.handles M.dues sizes ready)
             self.old self.new) }
-        ensures quiet { brings_nothing ready ≡ true → IsNobodyNoted self.old → result ≡ Ok tt }
+        ensures quiet { is_never M.dues ≡ true → brings_nothing ready ≡ true
+            → IsNobodyNoted self.old → result ≡ Ok tt }
     {
         self.answer(ready, sizes)?;
+        self.do_due()?;
         self.flush()
+    }
+
+    /// Does what is due now, and tells the server of each connection that was lost by this.
+    fn do_due(&mut self) -> Result<(), AllocError>
+        requires { IsAtOneIn M.server_of self.old }
+        ensures at_one { OnOk result (IsAtOneIn M.server_of self.new) }
+        ensures done { OnOk result (Spans (IsDoneBy W.is_after M.server_of M.handles M.dues)
+            self.old self.new) }
+        ensures told { OnOk result (KeepsTold self.old self.new) }
+        ensures marks { OnOk result (KeepsMarks self.old.connections self.new.connections) }
+        ensures quiet { is_never M.dues ≡ true
+            → (result ≡ Ok tt) × (self.new.connections ≡ self.old.connections) }
+    {
+        self.out.clear();
+        let moment = self.connections.wire.moment();
+        if let Err(fault) = self.machine.due(moment, &mut self.out) {
+            return Err(want_of_memory(fault));
+        }
+        if self.out.len() == 0 {
+            return Ok(());
+        }
+        self.connections.dispatch(&self.out, &mut self.journal)?;
+        self.tell_losses()
     }
 
     /// Does what is ready.

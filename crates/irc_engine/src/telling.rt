@@ -21,7 +21,7 @@ impl<W: Wire, M: Machine> Engine<W, M> {
     /// # Errors
     /// As [`Engine::turn`], for that turn.
     pub fn run_telling<E: Write>(&mut self, turns: u64, errors: &mut E) -> Result<(), EngineFault>
-        ensures { RunsTellingBy W.is_after M.server_of M.handles (engine_view self.old) (E.contents
+        ensures { RunsTellingBy W.is_after M.server_of M.handles M.dues (engine_view self.old) (E.contents
             errors.old) turns
             (engine_view self.new) (E.contents errors.new) result }
     {
@@ -33,7 +33,7 @@ impl<W: Wire, M: Machine> Engine<W, M> {
 
     /// Takes one turn, and says what there is to tell.
     fn turn_telling<E: Write>(&mut self, errors: &mut E) -> Result<(), EngineFault>
-        ensures { TellsTurnedBy W.is_after M.server_of M.handles (engine_view self.old)
+        ensures { TellsTurnedBy W.is_after M.server_of M.handles M.dues (engine_view self.old)
             (engine_view self.new)
             (E.contents errors.old) (E.contents errors.new) result }
     {

@@ -20,7 +20,7 @@ use Rattle.irc_engine.specs.Running.{MomentOf, IsInOrder, RanBy, StartsBy, in_us
 use Rattle.irc_engine.specs.Running.{ReadsBy, not_open, read_once, AnswersBy, TurnBy}
 use Rattle.irc_engine.specs.Turning.{TurnedBy, takes_turn, device_failed, wants_memory}
 use Rattle.irc_engine.specs.EngineView.{EngineViewOf}
-use Rattle.irc_engine.specs.Machines.{Handles}
+use Rattle.irc_engine.specs.Machines.{never_due, Dues, Handles}
 use Rattle.irc_stage.specs.View.{View}
 use Rattle.irc_engine.specs.Turning.{has_failed, TurnsBy, no_turn, one_more}
 use Rattle.irc_engine.specs.Writing.{one_if}
@@ -31,10 +31,10 @@ order_as now wire order =
     record { all_told = order.all_told; noted = order.noted; none_done = order.none_done }
 
 module _ {W M : Type 0} {server_of : M → Option View} {handles : Handles M}
-    (is_after : W → List Call → Type 0) where
+    {dues : Dues M} (is_after : W → List Call → Type 0) where
   -- a turn that does not want memory leaves an engine in order
   pub in_order_after : (old new : EngineViewOf W M) (result : Result (Unit {0}) EngineFault)
-      → TurnedBy is_after server_of handles old new result → new.failed ≡ false
+      → TurnedBy is_after server_of handles dues old new result → new.failed ≡ false
       → IsInOrder old.now → IsInOrder new.now
   in_order_after old new result (takes_turn serves still room turn) well order =
       (turn.does.in_order (order_as old.now turn.wire order)).1
@@ -46,7 +46,8 @@ module _ {W M : Type 0} {server_of : M → Option View} {handles : Handles M}
       cc (sym failed ∙ sym (ap (λ (e : EngineViewOf W M). e.failed) same) ∙ well)
 
   pub in_order_after_all : (old : EngineViewOf W M) (turns : ℕ) (new : EngineViewOf W M)
-      → TurnsBy is_after server_of handles old turns new → IsInOrder old.now → IsInOrder new.now
+      → TurnsBy is_after server_of handles dues old turns new → IsInOrder old.now
+      → IsInOrder new.now
   in_order_after_all old turns new no_turn order = order
   in_order_after_all old turns new
       (one_more n between last so_far (takes_turn serves still room turn)) order =
@@ -138,8 +139,9 @@ module _ {W M : Type 0} (is_after : W → List Call → Type 0) (server_of : M �
       ran_waits [] [] _ old new refl ran some there
 
   -- A connection whose outbox was not empty before a turn, and which the turn does not close, is
-  -- written to once.
-  pub written_in_turn : (old new : MomentOf W M) (turn : TurnBy is_after server_of handles sizes
+  -- written to once, where nothing is ever due.
+  pub written_in_turn : (old new : MomentOf W M) (turn : TurnBy is_after server_of handles
+      never_due sizes
       old new) → IsInOrder old
       → has_some_at (old.connections conn) ≡ true → is_some (new.connections conn) ≡ true
       → times_written conn turn.does.writes.exchanges ≡ 1
