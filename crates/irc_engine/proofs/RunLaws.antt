@@ -1174,9 +1174,8 @@ module _ {W M : Type 0} (is_after : W → List Call → Type 0) (server_of : M �
       → EntersAll (out_signs outs) journal written → Carries is_after [] old outs mid
       → RanOnBy is_after server_of handles (at_connections after written room mid) new
       → IsDoneBy is_after server_of handles dues (at_connections server journal room old) new
-  due_carried never_due server after moment journal written room old mid before outs new none some
-  due
-      closed carries losses = absurd (some (ap length (due.2 ∙ none)))
+  due_carried never_due server after moment journal written room old mid before outs new none
+      some due closed carries losses = absurd (some (ap length (due.2 ∙ none)))
   due_carried (due_by is_due) server after moment journal written room old mid before outs new
       none some due closed carries losses = record {
         moment = moment;

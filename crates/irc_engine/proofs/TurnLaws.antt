@@ -1,6 +1,5 @@
 -- A turn, from what the wire told and what was done then.
-use Rattle.std.proofs.Common.{◌≡◌, ℕ, ◌<◌, false, IsErrAnd, Result, Ok, Err, OnOk, Option, List,
-true}
+use Rattle.std.proofs.Common.{◌≡◌, ℕ, ◌<◌, true, false, IsErrAnd, Option, Result, Ok, Err, OnOk}
 use Rattle.std.proofs.Common.{List, ◌⊎◌, inl, inr, refl, sym, subst}
 use Rattle.irc_outbox.specs.declared.wire.Ready.{Ready}
 use Rattle.irc_outbox.specs.declared.wire.Ready.TheVariants.{Idle, Writable}
@@ -136,8 +135,7 @@ pub stops_by : {W M : Type 0} {server_of : M → Option View} {handles : Handles
     → TurnedBy is_after server_of handles dues between new (Err fault)
     → IsErrAnd result (λ e. e ≡ fault) → RunsBy is_after server_of handles dues old turns new result
 stops_by is_after old between new taken turns (Ok done) fault less so_far last fails = absurd fails
-stops_by {server_of = server_of} {handles = handles} {dues = dues} is_after old between new taken
-    turns
-    (Err e) fault less so_far last fails =
+stops_by {server_of = server_of} {handles = handles} {dues = dues} is_after old between new
+    taken turns (Err e) fault less so_far last fails =
     stopped taken between e less so_far
     (subst (λ f. TurnedBy is_after server_of handles dues between new (Err f)) (sym fails) last)

@@ -23,9 +23,9 @@ use Rattle.irc_stage.specs.View.{View}
 abbrev pub Handles : Type 0 → Type 1
 Handles M = M → Event → List Sent → Result (Unit {0}) ServerFault → M → List Sent → Type 0
 
--- Whether it may be that something is due, at moments, and what may come of that then: of the machine,
--- the moment, what was put out before, the answer, the machine and what is put out behind it. Of a
--- server nothing ever is.
+-- Whether anything may be due, at moments, and what may come of that: of the machine, the moment,
+-- what was put out before, the answer, the machine and what is put out behind it. Of a server
+-- nothing ever is.
 pub data Dues (M : Type 0) : Type 1 where
   never_due : Dues M
   due_by : (M → ℕ → List Sent → Result (Unit {0}) ServerFault → M → List Sent → Type 0) → Dues M
@@ -37,8 +37,8 @@ is_never (due_by is_due) = false
 -- what comes of asking a machine for what is due
 abbrev pub IsDue : {M : Type 0} → Dues M → M → ℕ → List Sent → Result (Unit {0}) ServerFault → M
     → List Sent → Type 0
-IsDue never_due old moment before result new after = (result ≡ Ok tt) × (new ≡ old) × (after ≡
-    before)
+IsDue never_due old moment before result new after =
+    (result ≡ Ok tt) × (new ≡ old) × (after ≡ before)
 IsDue (due_by is_due) old moment before result new after =
     is_due old moment before result new after
 

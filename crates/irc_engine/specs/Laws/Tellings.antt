@@ -66,9 +66,8 @@ module _ {W M : Type 0} {server_of : M → Option View} {handles : Handles M}
       some_said_both held then after (turns_tell_some old held taken between then so_far)
       (tells_some is_after last.between new then after last.tells)
 
-  well_after : (old new : EngineViewOf W M) → TurnedBy is_after server_of handles dues old new (Ok
-      tt)
-      → new.failed ≡ false
+  well_after : (old new : EngineViewOf W M)
+      → TurnedBy is_after server_of handles dues old new (Ok tt) → new.failed ≡ false
   well_after old new (takes_turn serves still room turn) = still
 
   -- an engine is in order behind each of them

@@ -140,9 +140,8 @@ module _ {W M : Type 0} (is_after : W → List Call → Type 0) (server_of : M �
 
   -- A connection whose outbox was not empty before a turn, and which the turn does not close, is
   -- written to once, where nothing is ever due.
-  pub written_in_turn : (old new : MomentOf W M) (turn : TurnBy is_after server_of handles
-      never_due sizes
-      old new) → IsInOrder old
+  pub written_in_turn : (old new : MomentOf W M)
+      (turn : TurnBy is_after server_of handles never_due sizes old new) → IsInOrder old
       → has_some_at (old.connections conn) ≡ true → is_some (new.connections conn) ≡ true
       → times_written conn turn.does.writes.exchanges ≡ 1
   written_in_turn old new turn order some there =

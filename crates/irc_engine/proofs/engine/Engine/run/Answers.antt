@@ -11,8 +11,7 @@ pub loop-turn-preserved : goal.loop-turn-preserved
 loop-turn-preserved g c = record {
   taken = one_more _ _ _ c.loop-turn.invariant.taken
       (subst (λ r. TurnedBy g.W.Wire.is_after g.M.Machine.server_of g.M.Machine.handles
-      g.M.Machine.dues
-      (engine_view c.loop-turn.self)
+      g.M.Machine.dues (engine_view c.loop-turn.self)
       (engine_view c.turn.new.self) r) c.in_ok-turn.was c.turn.ensures.turned);
   failed_before = λ failed.
       let same = c.loop-turn.invariant.failed_before failed in
@@ -33,8 +32,8 @@ returns-in_err-turn-clause-failed_before g c = λ failed.
 
 pub returns-clause-ran : goal.returns-clause-ran
 returns-clause-ran g c = all_taken (subst (λ n. TurnsBy g.W.Wire.is_after g.M.Machine.server_of
-    g.M.Machine.handles g.M.Machine.dues
-    (engine_view c.args.self.now) n (engine_view c.loop-turn.self)) (omega
+    g.M.Machine.handles g.M.Machine.dues (engine_view c.args.self.now) n (engine_view
+    c.loop-turn.self)) (omega
     (arith, c.loop-turn-test.false, c.loop-turn.auto._turn-end)) c.loop-turn.invariant.taken)
 
 pub returns-clause-failed_before : goal.returns-clause-failed_before

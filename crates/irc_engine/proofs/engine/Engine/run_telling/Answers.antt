@@ -11,8 +11,7 @@ pub loop-turn-preserved : goal.loop-turn-preserved
 loop-turn-preserved g c =
     told_more _ _ _ _ _ c.loop-turn.invariant
     (subst (λ r. TellsTurnedBy g.W.Wire.is_after g.M.Machine.server_of g.M.Machine.handles
-    g.M.Machine.dues
-    (engine_view c.loop-turn.self)
+    g.M.Machine.dues (engine_view c.loop-turn.self)
     (engine_view c.turn_telling.new.self)
     (g.E.Write.contents c.loop-turn.errors) (g.E.Write.contents c.turn_telling.new.errors) r)
     c.in_ok-turn_telling.was c.turn_telling.ensures)
@@ -26,8 +25,7 @@ returns-in_err-turn_telling g c =
 pub returns : goal.returns
 returns g c =
     all_told (subst (λ n. ToldTurnsBy g.W.Wire.is_after g.M.Machine.server_of g.M.Machine.handles
-    g.M.Machine.dues
-    (engine_view c.args.self.now)
+    g.M.Machine.dues (engine_view c.args.self.now)
     (g.E.Write.contents c.args.errors.now) n (engine_view c.loop-turn.self)
     (g.E.Write.contents c.loop-turn.errors)) (omega
     (arith, c.loop-turn-test.false, c.loop-turn.auto._turn-end)) c.loop-turn.invariant)
