@@ -1,0 +1,2 @@
+pub mod ComingWhole
+pub mod CountsRead

@@ -7,7 +7,7 @@
 --   COUNT 2 0              nothing: a count alone
 --   COUNT 3 1              closes the link: more than was put out; as COUNT 1 1 does, since 2 were
 -- A count between the lines of a piece closes it as well.
-use Rattle.std.specs.Prelude.{ℕ, zero, suc, ◌+◌, ◌-◌, Bool, true, false, ◌&&◌, Option, Some}
+use Rattle.std.specs.Prelude.{ℕ, zero, suc, Bool, ◌&&◌, nat_eq, Option, Some}
 use Rattle.std.specs.Prelude.{None, Result, Ok, Err, List, [], ◌∷◌, ◌++◌, length, if◌then◌else◌}
 use Rattle.irc_batch.specs.declared.close_reason.CloseReason.{CloseReason}
 use Rattle.irc_batch.specs.declared.close_reason.CloseReason.TheVariants.{Parameters}
@@ -68,11 +68,7 @@ begun count end = record end {
 }
 
 abbrev pub may_begin : Count → CountedEnd → Bool
-may_begin count end = none_left end.left && is_possible end.counts count.read
-  where
-    none_left : ℕ → Bool
-    none_left zero = true
-    none_left (suc more) = false
+may_begin count end = nat_eq end.left 0 && is_possible end.counts count.read
 
 abbrev pub heard_count : Result Count CloseReason → CountedEnd → Heard
 heard_count (Err reason) end = Fault reason
