@@ -1,7 +1,7 @@
 -- A server as what handles the events of an engine: who is connected to it behind an event, and
 -- what it refuses.
 use Rattle.std.proofs.Common.{◌≡◌, Bool, true, false, ◌&&◌, Option, Some, None, IfErr, OnOk, Result}
-use Rattle.std.proofs.Common.{Ok, Err, List, [], ◌++◌, refl, sym, ◌∙◌, subst, append-nil}
+use Rattle.std.proofs.Common.{List, [], refl, sym, ◌∙◌, subst, append-nil}
 use Rattle.std.specs.FinMap.{get}
 use Rattle.irc_batch.specs.Batches.{Sent}
 use Rattle.irc_stage.specs.View.{End, View}
@@ -12,7 +12,7 @@ use Rattle.irc_server.specs.declared.event.ServerFault.{ServerFault}
 use Rattle.irc_server.specs.Connected.{has_client, has_link, AreConnectedAfter, WhoIsConnected}
 use Rattle.irc_server.specs.Own.{IsNewLink}
 use Rattle.irc_server.specs.ReadEvents.{read_event_of, IsHandled, has_failed, refuses_it, takes_it}
-use Rattle.irc_server.specs.ReadEvents.{wants_memory, Does}
+use Rattle.irc_server.specs.ReadEvents.{wants_memory}
 use Rattle.irc_server.specs.Served.{fault_of, link_there, served}
 use Rattle.irc_engine.specs.Machines.{is_owed, ran_out_before, runs_out_now, AreConnectedBy}
 use Rattle.irc_engine.specs.Machines.{AreStillConnected, IsConnectedBy, IsRefusal}
