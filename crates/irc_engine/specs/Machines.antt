@@ -5,6 +5,7 @@
 -- of itself. By a line of link 3 behind which link 3 is closed, its server is told that it is lost:
 --   put out     the end of 3, and what the server says to clients of those who are gone
 --   connected   all who were, but for 3
+-- `Lemmas/Layers.antt` has of each of these that the promise is kept.
 use Rattle.std.specs.Prelude.{◌≡◌, ℕ, ⊤, Bool, true, false, not, ◌&&◌, ◌||◌, Option, Some, Result}
 use Rattle.std.specs.Prelude.{Ok, List, ◌++◌}
 use Rattle.irc_batch.specs.Batches.{Sent}
