@@ -1,3 +1,4 @@
+pub mod Lending
 pub mod Carrying
 pub mod Hearing
 pub mod Writing

@@ -12,15 +12,13 @@ ghost use Rattle.irc_engine.specs.Loops.Tables.{Within};
 
 use crate::boxed_framer::BoxedFramer;
 use crate::kind::ConnectionKind;
+use crate::lent_outbox::LentOutbox;
+use crate::outbox_pool::OutboxPool;
 use irc_line::Line;
-use irc_outbox::{IoFault, Outbox, Overflow, Wire};
+use irc_outbox::{IoFault, Overflow, Wire};
 use std::alloc::{AllocError, Global};
-use std::cmp::max;
 use std::collections::HashMap;
 use std::hash::{BuildHasherDefault, FoldHasher};
-
-/// Memory for outboxes is asked of the system in pieces of so many bytes (our own choice).
-const PIECE: usize = 2_097_152;
 
 /// A connection.
 #[derive(Drop)]
@@ -28,7 +26,7 @@ pub struct Connection {
     /// Whether it is a client's or a link's.
     pub kind: ConnectionKind,
     /// What is still to be written to it.
-    pub outbox: Outbox,
+    pub outbox: LentOutbox,
     /// What has come of its next line; none once the server has closed the connection.
     pub framer: Option<BoxedFramer>,
 }
@@ -53,11 +51,10 @@ impl Connection {
     ) -> Result<Self, AllocError>
         ensures { IfOk result (λ connection. connection ≡ fresh_connection kind room) }
     {
-        let outbox = Outbox::with_capacity(alloc, room)?;
         let framer = BoxedFramer::new(alloc)?;
         Ok(Connection {
             kind,
-            outbox,
+            outbox: LentOutbox::new(room),
             framer: Some(framer),
         })
     }
@@ -83,19 +80,25 @@ impl Connection {
     /// Takes bytes that are to be written, unless the server has closed the connection.
     ///
     /// # Errors
-    /// Where they do not fit.
-    fn push(&mut self, bytes: &[u8]) -> Result<Pushed, Overflow>
-        ensures { IsPushedTo self.old bytes.now result self.new }
+    /// Where memory runs out. Whether they fit is told within.
+    fn push(
+        &mut self,
+        pool: &mut OutboxPool,
+        bytes: &[u8],
+    ) -> Result<Result<Pushed, Overflow>, AllocError>
+        ensures { IfOk result (λ pushed. IsPushedTo self.old bytes.now pushed self.new) }
     {
         if self.framer.is_none() || bytes.is_empty() {
-            return Ok(Pushed::Nothing);
+            return Ok(Ok(Pushed::Nothing));
         }
         let held = self.outbox.len();
-        self.outbox.push(bytes)?;
+        if let Err(overflow) = self.outbox.push(pool, bytes)? {
+            return Ok(Err(overflow));
+        }
         if held == 0 {
-            Ok(Pushed::First)
+            Ok(Ok(Pushed::First))
         } else {
-            Ok(Pushed::More)
+            Ok(Ok(Pushed::More))
         }
     }
 
@@ -119,16 +122,20 @@ pub(crate) struct ConnectionTable {
     dense: Vec<Option<Connection>, Global>,
     /// Those of other numbers.
     sparse: HashMap<u64, Connection, BuildHasherDefault<FoldHasher>, Global>,
+    /// Outboxes for those to which bytes wait.
+    pool: OutboxPool,
 }
 
 impl ConnectionTable {
-    /// No connections.
-    pub(crate) fn new(alloc: Global) -> Self
+    /// No connections. Those of clients will have room for `client_room` bytes each that wait, and
+    /// those of links for `link_room`; for others no memory is kept.
+    pub(crate) fn new(alloc: Global, client_room: usize, link_room: usize) -> Self
         ensures { (conn : ℕ) → connection_of result conn ≡ None }
     {
         ConnectionTable {
             dense: Vec::new(alloc),
             sparse: HashMap::new(alloc),
+            pool: OutboxPool::new(alloc, client_room, link_room),
         }
     }
 
@@ -199,7 +206,6 @@ impl ConnectionTable {
     ) -> Result<(), AllocError>
         ensures { OnOk result (Sets self.old conn (Some (fresh_connection kind room)) self.new) }
     {
-        ask_ahead(alloc, conn as usize, room);
         let fresh = Connection::fresh(alloc, kind, room)?;
         let next = self.dense.len();
         match self.dense.get_mut(conn as usize) {
@@ -250,16 +256,21 @@ impl ConnectionTable {
     /// Pushes bytes to a connection.
     ///
     /// # Errors
-    /// Where they do not fit.
-    pub(crate) fn push(&mut self, conn: u64, bytes: &[u8]) -> Result<Pushed, Overflow>
-        ensures at { IsPushedAt conn bytes.now self.old result self.new }
-        ensures len { connection_count self.new ≡ connection_count self.old }
+    /// Where memory runs out. Whether they fit is told within.
+    pub(crate) fn push(
+        &mut self,
+        conn: u64,
+        bytes: &[u8],
+    ) -> Result<Result<Pushed, Overflow>, AllocError>
+        ensures at { IfOk result (λ pushed. IsPushedAt conn bytes.now self.old pushed self.new) }
+        ensures len { IfOk result
+            (λ pushed. connection_count self.new ≡ connection_count self.old) }
     {
         match self.dense.get_mut(conn as usize) {
-            Some(slot) => push(slot, bytes),
+            Some(slot) => push(slot, &mut self.pool, bytes),
             None => match self.sparse.get_mut(&conn) {
-                Some(connection) => connection.push(bytes),
-                None => Ok(Pushed::Nothing),
+                Some(connection) => connection.push(&mut self.pool, bytes),
+                None => Ok(Ok(Pushed::Nothing)),
             },
         }
     }
@@ -309,9 +320,9 @@ impl ConnectionTable {
         ensures len { connection_count self.new ≡ connection_count self.old }
     {
         match self.dense.get_mut(conn as usize) {
-            Some(slot) => write(slot, wire, conn),
+            Some(slot) => write(slot, &mut self.pool, wire, conn),
             None => match self.sparse.get_mut(&conn) {
-                Some(connection) => connection.outbox.write_some(wire, conn),
+                Some(connection) => connection.outbox.write_some(&mut self.pool, wire, conn),
                 None => Ok(0),
             },
         }
@@ -319,12 +330,16 @@ impl ConnectionTable {
 }
 
 /// Pushes bytes to the connection of this place, if there is one.
-fn push(slot: &mut Option<Connection>, bytes: &[u8]) -> Result<Pushed, Overflow>
-    ensures { IsPushedIn bytes.now slot.old result slot.new }
+fn push(
+    slot: &mut Option<Connection>,
+    pool: &mut OutboxPool,
+    bytes: &[u8],
+) -> Result<Result<Pushed, Overflow>, AllocError>
+    ensures { IfOk result (λ pushed. IsPushedIn bytes.now slot.old pushed slot.new) }
 {
     match slot {
-        Some(connection) => connection.push(bytes),
-        None => Ok(Pushed::Nothing),
+        Some(connection) => connection.push(pool, bytes),
+        None => Ok(Ok(Pushed::Nothing)),
     }
 }
 
@@ -352,21 +367,16 @@ fn take(
 }
 
 /// Writes once to the connection of this place, if there is one.
-fn write<W: Wire>(slot: &mut Option<Connection>, wire: &mut W, conn: u64) -> Result<usize, IoFault>
+fn write<W: Wire>(
+    slot: &mut Option<Connection>,
+    pool: &mut OutboxPool,
+    wire: &mut W,
+    conn: u64,
+) -> Result<usize, IoFault>
     ensures { IsWrittenIn W.is_after conn slot.old wire.old result slot.new wire.new }
 {
     match slot {
-        Some(connection) => connection.outbox.write_some(wire, conn),
+        Some(connection) => connection.outbox.write_some(pool, wire, conn),
         None => Ok(0),
-    }
-}
-
-/// Asks for the memory of many outboxes at once, and gives it back, where the number is a multiple
-/// of how many these are. It stays with the process, and each of the next connections takes its own
-/// from it: else the system is asked for nearly every one. Where it is refused, nothing is lost.
-fn ask_ahead(alloc: Global, number: usize, room: usize) {
-    let outboxes = PIECE / max(room, 1);
-    if outboxes > 0 && number % outboxes == 0 {
-        let _given_back = Vec::<u8, Global>::with_capacity(alloc, PIECE);
     }
 }

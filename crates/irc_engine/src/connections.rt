@@ -117,7 +117,7 @@ impl<W: Wire> Connections<W> {
             (CarriesOne W.is_after self.old (line_to conn line.now) self.new) }
         ensures marks { OnOk result (KeepsMarks self.old self.new) }
     {
-        match self.table.push(conn, line) {
+        match self.table.push(conn, line)? {
             Ok(Pushed::First) => note(&mut self.waiting, conn),
             Ok(Pushed::More) => Ok(()),
             Ok(Pushed::Nothing) => Ok(()),

@@ -116,7 +116,7 @@ impl<W: Wire + Drop, M: Machine + Drop> Engine<W, M> {
                 journal: Journal::new(alloc),
                 connections: Connections {
                     wire,
-                    table: ConnectionTable::new(alloc),
+                    table: ConnectionTable::new(alloc, client_room, link_room),
                     waiting: BTreeSet::new(alloc),
                     lost: BTreeMap::new(alloc),
                 },

@@ -7,8 +7,10 @@ mod connection_table;
 mod connections;
 mod engine;
 mod kind;
+mod lent_outbox;
 mod machine;
 mod noting;
+mod outbox_pool;
 mod telling;
 
 pub use engine::{Engine, EngineFault};

@@ -1,22 +1,21 @@
 -- Lines that are put out as a piece come as it.
-use Rattle.std.proofs.Common.{◌≡◌, ◌≢◌, ◌≤◌, ℕ, zero, suc, ◌+◌, Bool, true, false, not, ◌&&◌, ◌||◌}
-use Rattle.std.proofs.Common.{Option, Some, None, Ok, List, [], ◌∷◌, ◌++◌, length, refl, sym, ap, ◌∙◌}
+use Rattle.std.proofs.Common.{◌≡◌, ◌≤◌, ℕ, suc, Bool, true, false, not, ◌&&◌, ◌||◌}
+use Rattle.std.proofs.Common.{Option, Some, None, List, [], ◌∷◌, ◌++◌, length, refl, sym, ap, ◌∙◌}
 use Rattle.std.proofs.Common.{subst, arith, nat_eq, nat_le, nat_lt, is_some, if◌then◌else◌}
 use Rattle.std.proofs.Common.{append_assoc}
 use Rattle.std.proofs.lemmas.Bool.Decides.{nat_tests}
 use Rattle.std.specs.Cmp.{first_so, second_so}
 use Rattle.std.specs.List.{AllByRecursion}
-use Rattle.irc_pieces.specs.Counting.{count_line, count_parts, may_have}
-use Rattle.irc_pieces.specs.Ends.{after_as, after_count, after_line, after_text, begun, heard_as}
-use Rattle.irc_pieces.specs.Ends.{heard_count, heard_line, heard_text, may_begin, whole, with_line}
+use Rattle.irc_pieces.specs.Counting.{count_line, count_parts}
+use Rattle.irc_pieces.specs.Ends.{after_as, after_line, after_text, begun, heard_as}
+use Rattle.irc_pieces.specs.Ends.{heard_line, heard_text, may_begin, whole, with_line}
 use Rattle.irc_batch.specs.declared.close_reason.CloseReason.TheVariants.{Parameters}
 use Rattle.irc_pieces.specs.Laws.{CountsAreRead, IsBetween, IsCount, IsHeardWhole, MayBePiece}
-use Rattle.irc_pieces.specs.Laws.{after_all, all_heard, lines_of_count, pieces_in, put_out_lines}
-use Rattle.irc_pieces.specs.Pieces.{CountedEnd, Lines, WholePiece}
+use Rattle.irc_pieces.specs.Laws.{after_all, all_heard, lines_of_count, pieces_in}
+use Rattle.irc_pieces.specs.Pieces.{CountedEnd, Lines}
 use Rattle.irc_pieces.specs.Tallies.{count_now, is_plain, is_possible}
 use Rattle.irc_pieces.specs.declared.count.Count.{Count}
 use Rattle.irc_pieces.specs.declared.count.Mark.{Mark}
-use Rattle.irc_pieces.specs.declared.piece_end.Heard.{Heard}
 use Rattle.irc_pieces.specs.declared.piece_end.Heard.TheVariants.{Nothing, Fault}
 use Rattle.irc_line.specs.Messages.{line_text}
 

@@ -1,7 +1,7 @@
 -- What stands in front of a piece is read again as it was written.
-use Rattle.std.proofs.Common.{◌≡◌, ◌≢◌, ◌≤◌, ◌<◌, ◌+◌, ℕ, Bool, true, false, not, ◌&&◌, ◌||◌, Option}
+use Rattle.std.proofs.Common.{◌≡◌, ◌≤◌, ◌<◌, ◌+◌, ℕ, true, false, not, ◌&&◌, ◌||◌, Option}
 use Rattle.std.proofs.Common.{Some, None, Ok, List, [], ◌∷◌, ◌++◌, codes, decimal, length, refl}
-use Rattle.std.proofs.Common.{sym, ap, ◌∙◌, arith, nat_eq, lit≤, if◌then◌else◌, rules, length-append}
+use Rattle.std.proofs.Common.{sym, ap, ◌∙◌, arith, lit≤, if◌then◌else◌, length-append}
 use Rattle.std.proofs.lemmas.Bool.Decides.{nat_tests}
 use Rattle.std.specs.Char.{is_ascii_digit}
 use Rattle.std.specs.Cmp.{first_so, second_so}
@@ -9,7 +9,7 @@ use Rattle.std.specs.List.{list_all, AllByRecursion}
 use Rattle.std.specs.Prelude.{option_and_then}
 use Rattle.irc_decimals.specs.Numbers.{written_number}
 use Rattle.irc_decimals.specs.Laws.{AreDigits, NumbersAreDigits, WrittenIsRead}
-use Rattle.irc_line.specs.Bytes.{is_nul, is_space, is_colon, has_nul, begins}
+use Rattle.irc_line.specs.Bytes.{is_nul, is_space, is_colon, has_nul}
 use Rattle.irc_line.specs.Laws as line_laws
 use Rattle.irc_line.specs.Messages.{IsPlain, IsPlainWord, joined_text, line_text, message_of}
 use Rattle.irc_line.specs.Reading.{read_of}
@@ -99,8 +99,12 @@ parts_plain count read lines = record {
 -- words behind one another, with a space in front of each
 together : (a b c : List ℕ) → length ((a ++ (32 ∷ (b ++ c))) ++ [])
     ≡ length a + (1 + (length b + length c))
-together a b c = omega (arith, length-append (a ++ (32 ∷ (b ++ c))) [],
-    length-append a (32 ∷ (b ++ c)), length-append b c)
+together a b c = omega (
+  arith,
+  length-append (a ++ (32 ∷ (b ++ c))) [],
+  length-append a (32 ∷ (b ++ c)),
+  length-append b c,
+)
 
 -- so short a line is not cut
 line_fits : (count : Count) → AreDigits count.read → AreDigits count.lines
@@ -109,12 +113,26 @@ line_fits count read lines = fits count.mark
   where
     fits : (mark : Option Mark) → length (joined_text (from_nobody
         (decimal count.read ∷ decimal count.lines ∷ mark_words mark))) ≤ 510
-    fits None = omega (arith, together (decimal count.read) (decimal count.lines) [], read.few,
-      lines.few)
-    fits (Some Birth) = omega (arith, together (decimal count.read) (decimal count.lines)
-      (32 ∷ codes "birth" ++ []), read.few, lines.few)
-    fits (Some Echo) = omega (arith, together (decimal count.read) (decimal count.lines)
-      (32 ∷ codes "echo" ++ []), read.few, lines.few)
+    fits None = omega (
+      arith,
+      together (decimal count.read) (decimal count.lines) [],
+      read.few,
+      lines.few,
+    )
+    fits (Some Birth) = omega (
+      arith,
+      together (decimal count.read) (decimal count.lines)
+          (32 ∷ codes "birth" ++ []),
+      read.few,
+      lines.few,
+    )
+    fits (Some Echo) = omega (
+      arith,
+      together (decimal count.read) (decimal count.lines)
+          (32 ∷ codes "echo" ++ []),
+      read.few,
+      lines.few,
+    )
 
 message_read : IsKnown → (count : Count) → IsCount count
     → read_of (line_text (count_parts count)) ≡ Ok (message_of (count_parts count))
@@ -131,8 +149,11 @@ count_found : (read lines : ℕ) (mark : Option Mark) → written_number (decima
     → count_in (decimal read) (decimal lines) mark
     ≡ Some (record { read = read; lines = lines; mark = mark })
 count_found read lines mark many few may =
-    ap (option_and_then (λ n. option_and_then (λ m. if_possible (record { read = n; lines = m;
-    mark = mark })) (written_number (decimal lines)))) many
+    ap (option_and_then (λ n. option_and_then (λ m. if_possible (record {
+      read = n;
+      lines = m;
+      mark = mark;
+    })) (written_number (decimal lines)))) many
     ∙ ap (option_and_then (λ m. if_possible (record { read = read; lines = m; mark = mark }))) few
     ∙ ap (λ b. if b then Some (record { read = read; lines = lines; mark = mark }) else None) may
 

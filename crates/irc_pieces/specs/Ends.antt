@@ -11,14 +11,13 @@ use Rattle.std.specs.Prelude.{ℕ, zero, suc, Bool, ◌&&◌, nat_eq, Option, So
 use Rattle.std.specs.Prelude.{None, Result, Ok, Err, List, [], ◌∷◌, ◌++◌, length, if◌then◌else◌}
 use Rattle.irc_batch.specs.declared.close_reason.CloseReason.{CloseReason}
 use Rattle.irc_batch.specs.declared.close_reason.CloseReason.TheVariants.{Parameters}
-use Rattle.irc_pieces.specs.Pieces.{CountedEnd, Lines}
+use Rattle.irc_pieces.specs.Pieces.{CountedEnd}
 use Rattle.irc_pieces.specs.Counting.{count_line}
 use Rattle.irc_pieces.specs.Tallies.{all_told, and_more, is_due, is_possible, none_counted}
 use Rattle.irc_pieces.specs.Tallies.{one_read, put_one_out}
 use Rattle.irc_pieces.specs.declared.piece_end.Heard.{Heard}
 use Rattle.irc_pieces.specs.declared.piece_end.Heard.TheVariants.{Nothing, Piece, Fault}
 use Rattle.irc_pieces.specs.declared.count.Count.{Count}
-use Rattle.irc_pieces.specs.declared.count.Mark.{Mark}
 
 abbrev pub nothing_begun : CountedEnd
 nothing_begun =

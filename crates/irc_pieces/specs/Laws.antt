@@ -1,12 +1,12 @@
 -- What holds of pieces that are written and read.
-use Rattle.std.specs.Prelude.{◌≡◌, ◌≢◌, ◌≤◌, ℕ, true, Option, Some, None, Result, Ok, List, []}
+use Rattle.std.specs.Prelude.{◌≡◌, ◌≢◌, ◌≤◌, true, Option, Some, None, Ok, List, []}
 use Rattle.std.specs.Prelude.{◌∷◌, ◌++◌, length, option_map}
 use Rattle.std.specs.List.{AllByRecursion}
 use Rattle.irc_line.specs.Messages.{line_text}
 use Rattle.irc_pieces.specs.Counting.{count_line, count_parts, may_have}
-use Rattle.irc_pieces.specs.Ends.{after_line, ended, heard_line}
+use Rattle.irc_pieces.specs.Ends.{after_line, heard_line}
 use Rattle.irc_pieces.specs.Pieces.{CountedEnd, Lines, WholePiece}
-use Rattle.irc_pieces.specs.Tallies.{count_for, is_possible, one_read}
+use Rattle.irc_pieces.specs.Tallies.{count_for, is_possible}
 use Rattle.irc_pieces.specs.declared.count.Count.{Count}
 use Rattle.irc_pieces.specs.declared.count.Mark.{Mark}
 use Rattle.irc_pieces.specs.declared.counts.Counts.{Counts}

@@ -98,8 +98,7 @@ impl Counts {
     fn is_due(&self) -> bool
         ensures { result ≡ is_due self.now }
     {
-        self.read.saturating_sub(self.told) >= MOST_UNTOLD
-            || self.untold_bytes >= MOST_UNTOLD_BYTES
+        self.read.saturating_sub(self.told) >= MOST_UNTOLD || self.untold_bytes >= MOST_UNTOLD_BYTES
     }
 
     /// All that was read is told.
