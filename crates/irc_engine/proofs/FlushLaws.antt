@@ -25,7 +25,9 @@ use Rattle.irc_engine.specs.Loops.Connections.{AreWrites, IsMarked, KeepsMarks, 
 use Rattle.irc_engine.specs.Moments.{has, moment_of, connection_of}
 use Rattle.irc_engine.specs.Loops.Flushing.{Flushing, FlushesSoFar}
 use Rattle.irc_engine.specs.Hearing.{nothing_of}
-use Rattle.irc_engine.specs.Running.{AllTold, Flushes, IsInOrder, Ran, RanOn}
+use Rattle.irc_engine.specs.Machines.{Handles}
+use Rattle.irc_stage.specs.View.{View}
+use Rattle.irc_engine.specs.Running.{AllTold, FlushesBy, IsInOrder, RanBy, RanOnBy}
 use Rattle.irc_engine.proofs.RunLaws.{ran_after, ran_connections, ran_both, ran_marked}
 use Rattle.irc_engine.proofs.TableLaws.{one_number}
 
@@ -215,14 +217,15 @@ still_false : (t : Bool) → cond t false false ≡ false
 still_false true = refl
 still_false false = refl
 
-module _ {W : Type 0} (is_after : W → List Call → Type 0) where
+module _ {W M : Type 0} {server_of : M → Option View} {handles : Handles M}
+    (is_after : W → List Call → Type 0) where
   -- all that are noted are to be written to
-  pub flushes_none : (core : Core W) (rest pending : BTreeSet ℕ) → ((q : ℕ) → has rest q ≡ false)
-      → pending ≡ core.connections.waiting → FlushesSoFar is_after pending core
+  pub flushes_none : (core : Core W M) (rest pending : BTreeSet ℕ) → ((q : ℕ) → has rest q ≡ false)
+      → pending ≡ core.connections.waiting → FlushesSoFar is_after server_of handles pending core
       (record core { connections = record core.connections { waiting = rest } })
   flushes_none core rest pending none is = record {
     exchanges = [];
-    ran = ran_marked is_after core.server core.journal _ core.connections rest;
+    ran = ran_marked is_after core.machine core.journal _ core.connections rest;
     told = λ told. told;
     halfway = λ order. record {
       all_told = order.all_told;
@@ -238,14 +241,16 @@ module _ {W : Type 0} (is_after : W → List Call → Type 0) where
   }
 
   -- one connection more is written to, and the server is told of those that are lost
-  pub flushes_one : (old now new : Core W) (mid : Connections W)
+  pub flushes_one : (old now new : Core W M) (mid : Connections W)
       (pending later : BTreeSet ℕ) (conn : ℕ) → has pending conn ≡ true
       → ((q : ℕ) → has later q ≡ cond (nat_eq conn q) false (has pending q))
       → ((q : ℕ) → has pending q ≡ true → is_gt (nat_cmp conn q) ≡ false)
       → Writes is_after conn now.connections mid
-      → RanOn is_after (moment_of (record now { connections = mid })) (moment_of new)
+      → RanOnBy is_after server_of handles (moment_of (record now { connections = mid }))
+      (moment_of new)
       → AllTold (moment_of new) → KeepsMarks mid new.connections
-      → FlushesSoFar is_after pending old now → FlushesSoFar is_after later old new
+      → FlushesSoFar is_after server_of handles pending old now
+      → FlushesSoFar is_after server_of handles later old new
   flushes_one old now new mid pending later conn popped later_is least wrote ran told keeps so_far =
       record {
         exchanges = so_far.exchanges ++ wrote.exchanges;
@@ -272,16 +277,17 @@ module _ {W : Type 0} (is_after : W → List Call → Type 0) where
             ∙ still_false (nat_eq conn q);
       }
     where
-      more : Ran is_after wrote.exchanges [] nothing_of (moment_of now) (moment_of new)
+      more : RanBy is_after server_of handles wrote.exchanges [] nothing_of (moment_of now)
+          (moment_of new)
       more = ran_after is_after wrote.exchanges [] nothing_of (moment_of now)
           (moment_of (record now { connections = mid })) (moment_of new)
-          (ran_connections is_after now.server now.journal _ wrote.exchanges now.connections mid
+          (ran_connections is_after now.machine now.journal _ wrote.exchanges now.connections mid
           wrote.carries) ran
 
-  module _ (pending : BTreeSet ℕ) (old new : Core W) (none : (q : ℕ) → has pending q ≡ false)
-      (so_far : FlushesSoFar is_after pending old new) where
+  module _ (pending : BTreeSet ℕ) (old new : Core W M) (none : (q : ℕ) → has pending q ≡ false)
+      (so_far : FlushesSoFar is_after server_of handles pending old new) where
     -- all have been written to
-    pub flushes_all : Flushes is_after (moment_of old) (moment_of new)
+    pub flushes_all : FlushesBy is_after server_of handles (moment_of old) (moment_of new)
     flushes_all = record {
       exchanges = so_far.exchanges;
       ran = so_far.ran;

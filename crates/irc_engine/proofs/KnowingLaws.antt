@@ -1,7 +1,7 @@
 -- What an engine and its server know of each other stays so, step by step.
 use mathlib.Core.Bool.{Bool-set}
 use Rattle.std.proofs.Common.{◌≡◌, ℕ, Bool, true, false, not, ◌&&◌, ◌||◌, cond, nat_eq, is_some}
-use Rattle.std.proofs.Common.{Option, Some, None, Ok, Err, List, [], ◌∷◌, ◌++◌, refl, sym, ◌∙◌, ap}
+use Rattle.std.proofs.Common.{Option, Some, None, List, [], ◌∷◌, ◌++◌, refl, sym, ◌∙◌, ap}
 use Rattle.std.proofs.Common.{subst}
 use Rattle.std.specs.FinMap.{get}
 use Rattle.arrayvec.specs.ArrayVec.{ArrayVec}
@@ -13,14 +13,13 @@ use Rattle.irc_server.specs.declared.event.Event.{Event}
 use Rattle.irc_server.specs.declared.event.Event.TheVariants.{Connect, Line, Gone, LinkUp, LinkLine}
 use Rattle.irc_server.specs.declared.event.Event.TheVariants.{LinkDown}
 use Rattle.irc_server.specs.declared.event.ServerFault.{ServerFault}
-use Rattle.irc_server.specs.Served.{ReadEvent, fault_of, link_there, no_link, not_there, served}
-use Rattle.irc_server.specs.Served.{there}
-use Rattle.irc_server.specs.ReadEvents.{read_event_of, IsHandled, has_failed, refuses_it, takes_it}
-use Rattle.irc_server.specs.ReadEvents.{wants_memory}
+use Rattle.irc_server.specs.Served.{ReadEvent, fault_of, link_there, no_link, not_there, there}
+use Rattle.irc_server.specs.ReadEvents.{read_event_of}
 use Rattle.irc_server.specs.Connected.{client_comes, client_goes, is_client_ended}
-use Rattle.irc_server.specs.Connected.{is_link_ended, link_comes, link_goes, AreConnectedAfter}
-use Rattle.irc_server.specs.Connected.{WhoIsConnected}
-use Rattle.irc_server.specs.Own.{IsNewLink}
+use Rattle.irc_server.specs.Connected.{is_link_ended, link_comes, link_goes}
+use Rattle.irc_engine.specs.Machines.{is_out_of_memory, is_owed, ran_out_before, runs_out_now}
+use Rattle.irc_engine.specs.Machines.{AreConnectedBy, AreStillConnected, IsConnectedBy, IsRefusal}
+use Rattle.irc_engine.specs.Machines.{IsStillConnected}
 use Rattle.irc_engine.specs.declared.connections.Connections.{Connections}
 use Rattle.irc_engine.specs.declared.kind.ConnectionKind.{ConnectionKind}
 use Rattle.irc_engine.specs.declared.kind.ConnectionKind.TheVariants as kinds
@@ -32,7 +31,6 @@ use Rattle.irc_engine.specs.Carrying.{kind_of_loss, Passage}
 use Rattle.irc_engine.specs.Hearing.{end_event_of, line_event_of}
 use Rattle.irc_engine.specs.Knowing.{is_client, is_link, kind_after, known_kind, HasAs, HasNobody}
 use Rattle.irc_engine.specs.Knowing.{IsArrival, IsAtOne, IsOf, IsSettled, IsToHear}
-use Rattle.irc_engine.specs.Loops.Faults.{is_out_of_memory}
 use Rattle.irc_engine.specs.Loops.Tables.{at_connection, no_connection, FramesAt}
 use Rattle.irc_engine.specs.Moments.{connection_of, lost_at}
 use Rattle.irc_engine.specs.Loops.Tables.{IsSet}
@@ -240,20 +238,11 @@ module _ (view : View) (known : ℕ → Option ConnectionKind)
   no_fault (LinkLine link line) due = link_some (get view.ends link) ((has link).1 ∙ ap is_link due)
   no_fault (LinkDown link) due = link_some (get view.ends link) ((has link).1 ∙ ap is_link due)
 
-  new_link : (event : Event) → IsOf event known → IsNewLink view (read_event_of event)
-  new_link (Connect conn host) due = tt
-  new_link (Line conn line) due = tt
-  new_link (Gone conn) due = tt
-  new_link (LinkUp link starts) due = no_option (get view.ends link) ((has link).1 ∙ ap is_link due)
-  new_link (LinkLine link line) due = tt
-  new_link (LinkDown link) due = tt
-
-  -- behind the event it has just those whom it is to have, but for those that it has closed
-  has_after : WhoIsConnected → (event : Event) → IsOf event known → (q : ℕ)
-      → HasAs (served view (read_event_of event)).state q
-      (cond (is_closed_by q (served view (read_event_of event)).out) None
-      (kind_after event q (known q)))
-  has_after law event due q = (
+  -- behind the event it has just those whom it is to have, but for those that are closed by it
+  has_after : (event : Event) → IsOf event known → (new : View) (out : List Sent)
+      → AreConnectedBy view (read_event_of event) out new → (q : ℕ)
+      → HasAs new q (cond (is_closed_by q out) None (kind_after event q (known q)))
+  has_after event due new out after q = (
     after.clients q ∙ ap (λ t. (t || client_comes q now)
         && not (client_goes q now || is_client_ended q out)) (has q).0
         ∙ there_unless_closed is_client is_link refl link_is_no_client kind
@@ -276,14 +265,8 @@ module _ (view : View) (known : ℕ → Option ConnectionKind)
       now : ReadEvent
       now = read_event_of event
 
-      out : List Sent
-      out = (served view now).out
-
       kind : Option ConnectionKind
       kind = kind_after event q (known q)
-
-      after : AreConnectedAfter view now
-      after = law view now (new_link event due)
 
       or_swap : (a b : Bool) → (a || b) ≡ (b || a)
       or_swap true true = refl
@@ -299,17 +282,46 @@ module _ (view : View) (known : ℕ → Option ConnectionKind)
       client_was ended =
           ap (λ t. t || client_comes q now) (sym (has q).0 ∙ after.clients_were_there q ended)
 
--- what a server that does not refuse an event answers, where it does not handle it
-pub only_memory : (event : Event) (server after : Option View) (out out_after : List Sent)
-    (fault : ServerFault) (connections : ℕ → Option Connection) (lost : ℕ → Option ConnectionKind)
-    → IsToHear event server connections lost
-    → IsHandled server event out (Err fault) after out_after → is_out_of_memory fault ≡ true
-only_memory event server after out out_after fault connections lost awaits
-    (refuses_it {old = view} is) =
-    cc (sym (no_fault view awaits.kinds (λ q. awaits.has q view refl) event awaits.is_of) ∙ is)
-only_memory event server after out out_after fault connections lost awaits (wants_memory none) =
-    refl
-only_memory event server after out out_after fault connections lost awaits has_failed = refl
+  -- and so behind what is put out by no event
+  has_still : (new : View) (out : List Sent) → AreStillConnected view out new → (q : ℕ)
+      → HasAs new q (cond (is_closed_by q out) None (known q))
+  has_still new out after q = (
+    after.clients q ∙ ap (λ t. t && not (is_client_ended q out)) (has q).0
+        ∙ there_unless_closed is_client is_link refl link_is_no_client (known q)
+        (is_client (known q)) (is_link (known q)) false false (is_client_ended q out)
+        (is_link_ended q out) (and_true (is_client (known q))) (and_true (is_link (known q)))
+        (λ never. cc never) link_was
+        ∙ ap (λ t. is_client (cond t None (known q))) (sym (closed_by_either q out)),
+    after.links q ∙ ap (λ t. t && not (is_link_ended q out)) (has q).1
+        ∙ there_unless_closed is_link is_client refl client_is_no_link (known q)
+        (is_link (known q)) (is_client (known q)) false false (is_link_ended q out)
+        (is_client_ended q out) (and_true (is_link (known q))) (and_true (is_client (known q)))
+        (λ never. cc never) client_was
+        ∙ ap (λ t. is_link (cond t None (known q)))
+        (swap (is_link_ended q out) (is_client_ended q out) ∙ sym (closed_by_either q out)),
+  )
+    where
+      swap : (a b : Bool) → (a || b) ≡ (b || a)
+      swap true true = refl
+      swap true false = refl
+      swap false true = refl
+      swap false false = refl
+
+      link_was : is_link_ended q out ≡ true → is_link (known q) ≡ true
+      link_was ended = sym (has q).1 ∙ after.links_were_there q ended
+
+      client_was : is_client_ended q out ≡ true → is_client (known q) ≡ true
+      client_was ended = sym (has q).0 ∙ after.clients_were_there q ended
+
+-- what a machine that does not refuse an event answers, where it does not handle it
+pub only_memory : (event : Event) (server : Option View) (fault : ServerFault)
+    (connections : ℕ → Option Connection) (lost : ℕ → Option ConnectionKind)
+    → IsToHear event server connections lost → IsRefusal server event fault
+    → is_out_of_memory fault ≡ true
+only_memory event server fault connections lost awaits runs_out_now = refl
+only_memory event server fault connections lost awaits ran_out_before = refl
+only_memory event server fault connections lost awaits (is_owed view owed is refused) =
+    cc (sym (no_fault view awaits.kinds (λ q. awaits.has q view is) event awaits.is_of) ∙ refused)
 
 -- ---- the connections
 
@@ -383,44 +395,80 @@ module _ (conn : ℕ) (calls : List Call) (outs : List Sent) where
       cc (gone (lost_before (is_some was) (is_some o.framer) (not (is_closed_by conn outs))
       (sym lost ∙ passed.lost_is)))
 
--- the server has handled an event, and what it put out is done
-module _ {W : Type 0} (is_after : W → List Call → Type 0) where
-  pub at_one_after : WhoIsConnected → (event : Event) (server after : Option View)
-      (before outs : List Sent) (old new : Connections W) → before ≡ []
-      → IsHandled server event before (Ok tt) after outs → IsToHear event server
-      (connection_of old.table) (lost_at old.lost) → Carries is_after [] old outs new
-      → IsAtOne after (connection_of new.table) (lost_at new.lost)
-  at_one_after law event server after before outs old new none
-      (takes_it {old = view} {new = view_after} no_fault_is does) awaits carries = record {
-        has = λ q seen is.
-            subst (λ (v : View). HasAs v q (known_kind (connection_of new.table q)
-            (lost_at new.lost q))) (sym does.view_is ∙ one_view view_after seen is)
-            (subst (λ (k : Option ConnectionKind).
-            HasAs (served view (read_event_of event)).state q k)
-            (sym (known_now q))
-            (has_after view awaits.kinds (λ p. awaits.has p view refl) law event awaits.is_of q));
-        lost_is_gone = λ q. gone_passage q carries.calls outs (connection_of old.table q)
-            (lost_at old.lost q) (connection_of new.table q) (lost_at new.lost q)
-            (carries.passage q) (awaits.lost_is_gone q);
-      }
-    where
-      one_view : (a b : View) → Some a ≡ Some b → a ≡ b
-      one_view a b same = cc same
+-- something was put out by no event
+at_one_still : (server after : Option View) (before outs : List Sent)
+    (old new : ℕ → Option Connection) (lost now : ℕ → Option ConnectionKind) → before ≡ []
+    → IsStillConnected server before after outs → IsAtOne server old lost
+    → ((q : ℕ) → known_kind (new q) (now q)
+    ≡ cond (is_closed_by q outs) None (known_kind (old q) (lost q)))
+    → ((q : ℕ) → is_some (now q) ≡ true → new q ≡ None) → IsAtOne after new now
+at_one_still server after before outs old new lost now none still one known gone = record {
+  has = λ q seen is.
+      let was = still.connected seen is in
+      subst (λ (k : Option ConnectionKind). HasAs seen q k)
+      (sym (known q
+      ∙ ap (λ os. cond (is_closed_by q os) None (known_kind (old q) (lost q)))
+      (still.after_is ∙ ap (λ os. os ++ still.outs) none)))
+      (has_still was.0 (λ p. known_kind (old p) (lost p)) (λ p. one.has p was.0 was.1) seen
+      still.outs was.2 q);
+  lost_is_gone = gone;
+}
 
-      put_out : outs ≡ (served view (read_event_of event)).out
-      put_out = does.out_is ∙ ap (λ os. os ++ (served view (read_event_of event)).out) none
+-- nothing was put out
+pub at_one_quiet : (server after : Option View) (before outs : List Sent)
+    (connections : ℕ → Option Connection) (lost : ℕ → Option ConnectionKind) → before ≡ []
+    → IsStillConnected server before after outs → outs ≡ [] → IsAtOne server connections lost
+    → IsAtOne after connections lost
+at_one_quiet server after before outs connections lost none still quiet one =
+    at_one_still server after before outs connections connections lost lost none still one
+    (λ q. ap (λ os. cond (is_closed_by q os) None (known_kind (connections q) (lost q)))
+    (sym quiet)) one.lost_is_gone
+
+-- the machine has handled an event, and what it put out is done
+module _ {W : Type 0} (is_after : W → List Call → Type 0) where
+  pub at_one_after : (event : Event) (server after : Option View) (before outs : List Sent)
+      (old new : Connections W) → before ≡ [] → IsConnectedBy server event before after outs
+      → IsToHear event server (connection_of old.table) (lost_at old.lost)
+      → Carries is_after [] old outs new
+      → IsAtOne after (connection_of new.table) (lost_at new.lost)
+  at_one_after event server after before outs old new none by awaits carries = record {
+    has = λ q seen is.
+        let was = by.connected seen is in
+        subst (λ (k : Option ConnectionKind). HasAs seen q k) (sym (known_now q))
+        (has_after was.0 awaits.kinds (λ p. awaits.has p was.0 was.1) event awaits.is_of seen
+        by.outs was.2 q);
+    lost_is_gone = λ q. gone_passage q carries.calls outs (connection_of old.table q)
+        (lost_at old.lost q) (connection_of new.table q) (lost_at new.lost q)
+        (carries.passage q) (awaits.lost_is_gone q);
+  }
+    where
+      put_out : outs ≡ by.outs
+      put_out = by.after_is ∙ ap (λ os. os ++ by.outs) none
 
       known_now : (q : ℕ) → known_kind (connection_of new.table q) (lost_at new.lost q)
-          ≡ cond (is_closed_by q (served view (read_event_of event)).out) None
-          (kind_after event q (awaits.kinds q))
+          ≡ cond (is_closed_by q by.outs) None (kind_after event q (awaits.kinds q))
       known_now q =
           known_passage q carries.calls outs (connection_of old.table q) (lost_at old.lost q)
           (connection_of new.table q) (lost_at new.lost q) (carries.passage q)
           (awaits.lost_is_gone q)
           ∙ ap (λ os. cond (is_closed_by q os) None
           (known_kind (connection_of old.table q) (lost_at old.lost q))) put_out
-          ∙ ap (λ (k : Option ConnectionKind). cond
-          (is_closed_by q (served view (read_event_of event)).out) None k) (awaits.known q)
+          ∙ ap (λ (k : Option ConnectionKind). cond (is_closed_by q by.outs) None k)
+          (awaits.known q)
+
+  -- something was due, and what was put out by it is done
+  pub at_one_due : (server after : Option View) (before outs : List Sent) (old new : Connections W)
+      → before ≡ [] → IsStillConnected server before after outs → Carries is_after [] old outs new
+      → IsAtOne server (connection_of old.table) (lost_at old.lost)
+      → IsAtOne after (connection_of new.table) (lost_at new.lost)
+  at_one_due server after before outs old new none still carries one =
+      at_one_still server after before outs (connection_of old.table) (connection_of new.table)
+      (lost_at old.lost) (lost_at new.lost) none still one
+      (λ q. known_passage q carries.calls outs (connection_of old.table q) (lost_at old.lost q)
+      (connection_of new.table q) (lost_at new.lost q) (carries.passage q) (one.lost_is_gone q))
+      (λ q. gone_passage q carries.calls outs (connection_of old.table q)
+      (lost_at old.lost q) (connection_of new.table q) (lost_at new.lost q)
+      (carries.passage q) (one.lost_is_gone q))
 
   -- something is done that no event asks for
   pub at_one_carried : (server : Option View) (exchanges : List Call) (old new : Connections W)

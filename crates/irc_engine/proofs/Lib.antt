@@ -8,6 +8,7 @@ pub mod WriteSteps
 pub mod FlushLaws
 pub mod RunLaws
 pub mod KnowingLaws
+pub mod MachineLaws
 pub mod TurnLaws
 pub mod TellingLaws
 pub mod ToldSoFar

@@ -16,7 +16,6 @@ use Rattle.irc_outbox.specs.Calls.{Call, reads, closes, bytes_got, Adds, FitsIn}
 use Rattle.irc_server.specs.declared.event.Event.{Event}
 use Rattle.irc_batch.specs.Batches.{Sent}
 use Rattle.irc_stage.specs.View.{View}
-use Rattle.irc_server.specs.ReadEvents.{IsHandled}
 use Rattle.irc_engine.specs.declared.connections.Connections.{Connections}
 use Rattle.irc_engine.specs.declared.kind.ConnectionKind.{ConnectionKind}
 use Rattle.irc_engine.specs.declared.kind.ConnectionKind.TheVariants as kinds
@@ -32,9 +31,10 @@ use Rattle.irc_engine.specs.Hearing.{nothing_of, only_of, Hears}
 use Rattle.irc_journal.specs.declared.journal.Journal.{Journal}
 use Rattle.irc_journal.specs.Signs.{EntersAll}
 use Rattle.irc_engine.specs.Noting.{event_signs, out_signs}
-use Rattle.irc_engine.specs.Running.{Moment, ServerAsked, AreAsked, asked, asked_at, AsksOnce}
-use Rattle.irc_engine.specs.Running.{IsNews}
-use Rattle.irc_engine.specs.Running.{a_line, an_end, Ran, RanOn, ConnectionState, standing_of}
+use Rattle.irc_engine.specs.Machines.{due_by, never_due, Dues, Handles, IsDue}
+use Rattle.irc_engine.specs.Running.{MomentOf, AskedOf, AreAskedBy, asked, asked_at, AsksOnceBy}
+use Rattle.irc_engine.specs.Running.{IsDoneBy, IsNews}
+use Rattle.irc_engine.specs.Running.{a_line, an_end, RanBy, RanOnBy, ConnectionState, standing_of}
 use Rattle.irc_engine.specs.Running.{TellsServer}
 use Rattle.irc_engine.specs.Writing.{one_if}
 use Rattle.irc_engine.proofs.NotingLaws.{enters_both}
@@ -67,19 +67,21 @@ pub none_there : (connection : Option Connection) → is_some connection ≡ fal
 none_there None none = refl
 none_there (Some connection) none = cc none
 
-pub asked_on : (old mid new : ServerAsked) (a b : List Event) (x y : List Sent)
-    → AreAsked old a x mid → AreAsked mid b y new → AreAsked old (a ++ b) (x ++ y) new
-asked_on old mid new [] b x y one other =
-    subst (λ (o : ServerAsked). AreAsked o b (x ++ y) new) one.1
-    (subst (λ (os : List Sent). AreAsked mid b (os ++ y) new) (sym one.0) other)
-asked_on old mid new (event ∷ a) b x y one other = record {
+pub asked_on : {M : Type 0} (server_of : M → Option View) (handles : Handles M)
+    (old mid new : AskedOf M) (a b : List Event) (x y : List Sent)
+    → AreAskedBy server_of handles old a x mid → AreAskedBy server_of handles mid b y new
+    → AreAskedBy server_of handles old (a ++ b) (x ++ y) new
+asked_on {M} server_of handles old mid new [] b x y one other =
+    subst (λ (o : AskedOf M). AreAskedBy server_of handles o b (x ++ y) new) one.1
+    (subst (λ (os : List Sent). AreAskedBy server_of handles mid b (os ++ y) new) (sym one.0) other)
+asked_on server_of handles old mid new (event ∷ a) b x y one other = record {
   between = one.between;
   first = one.first;
   more = one.more ++ y;
   is_handled = one.is_handled;
   is_noted = one.is_noted;
   outs_are = ap (λ os. os ++ y) one.outs_are ∙ append_assoc one.first one.more y;
-  rest_is = asked_on one.between mid new a b one.more y one.rest_is other;
+  rest_is = asked_on server_of handles one.between mid new a b one.more y one.rest_is other;
 }
 
 either_false : (a b : Bool) → (a || b) ≡ false → (a ≡ false) × (b ≡ false)
@@ -345,7 +347,7 @@ all_as : {X : Type 0} (P Q : X → Type 0) → ((x : X) → P x → Q x) → (xs
 all_as P Q so [] all = tt
 all_as P Q so (x ∷ xs) all = (so x all.0, all_as P Q so xs all.1)
 
-news_before : {W : Type 0} (old mid : Moment W) → ((conn : ℕ)
+news_before : {W M : Type 0} (old mid : MomentOf W M) → ((conn : ℕ)
     → KeepsKind (old.connections conn) (old.lost conn) (mid.connections conn) (mid.lost conn))
     → (event : Event) → IsNews mid event → IsNews old event
 news_before old mid keep event (a_line kind conn line is told) =
@@ -354,7 +356,7 @@ news_before old mid keep event (an_end kind conn is told) =
     an_end kind conn (keep conn kind is) told
 
 -- the engine's connections, and what else there is of it, at one moment
-abbrev pub at_connections : {W : Type 0} → Option View → Journal → ℕ → Connections W → Moment W
+abbrev pub at_connections : {W M : Type 0} → M → Journal → ℕ → Connections W → MomentOf W M
 at_connections server journal room connections = record {
   server = server;
   journal = journal;
@@ -365,17 +367,144 @@ at_connections server journal room connections = record {
   read_room = room;
 }
 
-module _ {W : Type 0} (is_after : W → List Call → Type 0) where
+-- The server is told that a connection is gone, which was lost and of which it was to be told.
+gone_once : (kind : ConnectionKind) (conn q : ℕ) (t : Bool) → nat_eq conn q ≡ t
+    → times_gone q (end_event_of kind conn ∷ []) ≡ 0 + cond t 1 0
+gone_once kinds.Client conn q t is = ap (λ u. 0 + cond u 1 0) is
+gone_once kinds.Link conn q t is = ap (λ u. 0 + cond u 1 0) is
+
+gone_of : (kind : ConnectionKind) (conn q : ℕ) (t l o : Bool) (events : List Event)
+    (outs : List Sent) (now : ConnectionState) → nat_eq conn q ≡ t → (t ≡ true → l ≡ true)
+    → TellsServer q (record { lost = cond t false l; is_open = o }) events outs now
+    → TellsServer q (record { lost = l; is_open = o }) (end_event_of kind conn ∷ events) outs now
+gone_of kind conn q true true true events outs now is lost tells = λ apart. cc apart
+gone_of kind conn q true true false events outs now is lost tells = λ apart.
+    let told = tells refl in
+    let here = gone_once kind conn q true is in
+    record {
+      at_most = omega (
+        arith,
+        told.at_most,
+        here,
+        times_gone-append q (end_event_of kind conn ∷ []) events,
+      );
+      unless_closed = λ is_open. omega (
+        arith,
+        told.unless_closed is_open,
+        here,
+        times_gone-append q (end_event_of kind conn ∷ []) events,
+      );
+      apart = told.apart;
+    }
+gone_of kind conn q true false o events outs now is lost tells = cc (lost refl)
+gone_of kind conn q false l o events outs now is lost tells = λ apart.
+    let told = tells apart in
+    let here = gone_once kind conn q false is in
+    record {
+      at_most = omega (
+        arith,
+        told.at_most,
+        here,
+        times_gone-append q (end_event_of kind conn ∷ []) events,
+      );
+      unless_closed = λ is_open. omega (
+        arith,
+        told.unless_closed is_open,
+        here,
+        times_gone-append q (end_event_of kind conn ∷ []) events,
+      );
+      apart = told.apart;
+    }
+
+no_line_of_an_end : (kind : ConnectionKind) (conn q : ℕ) (events : List Event)
+    → lines_by q (end_event_of kind conn ∷ events) ≡ lines_by q events
+no_line_of_an_end kinds.Client conn q events = refl
+no_line_of_an_end kinds.Link conn q events = refl
+
+still_lost : (t : Bool) (l : Option ConnectionKind)
+    → is_some (cond t None l) ≡ cond t false (is_some l)
+still_lost true l = refl
+still_lost false l = refl
+
+-- the fate of one connection, and that of the others
+fate_of_one : (conn : ℕ) (old new : ℕ → Option Connection) (calls : List Call) (outs : List Sent)
+    → ((q : ℕ) → nat_eq conn q ≡ false → new q ≡ old q)
+    → ((q : ℕ) → nat_eq conn q ≡ false → IsElsewhere q calls outs)
+    → Fate conn (old conn) calls outs (new conn) → (q : ℕ) → Fate q (old q) calls outs (new q)
+fate_of_one conn old new calls outs same apart here q = by (nat_eq conn q) refl
+  where
+    by : (t : Bool) → nat_eq conn q ≡ t → Fate q (old q) calls outs (new q)
+    by true one = subst (λ p. Fate p (old p) calls outs (new p)) (one_number conn q one) here
+    by false two = subst (λ (s : Option Connection). Fate q (old q) calls outs s)
+        (sym (same q two)) (untouched_fate q calls outs (apart q two) (old q))
+
+-- a read that gave bytes, or none yet
+goes_by : (conn room : ℕ) (answer : Result Got IoFault) (bytes : List ℕ) (n : ℕ)
+    → came answer ≡ Some n → (q : ℕ) → IsElsewhere q (reads conn room answer bytes ∷ []) []
+goes_by conn room (Ok (Bytes m)) bytes n is q = record {
+  silent = record {
+    nothing = refl;
+    never = refl;
+  };
+  never_cut = refl;
+  nothing = refl;
+  never_closed = refl;
+}
+goes_by conn room (Ok Later) bytes n is q = record {
+  silent = record {
+    nothing = refl;
+    never = refl;
+  };
+  never_cut = refl;
+  nothing = refl;
+  never_closed = refl;
+}
+goes_by conn room (Ok End) bytes n is q = cc is
+goes_by conn room (Err fault) bytes n is q = cc is
+
+-- a read that ended or failed
+cut_elsewhere : (conn room : ℕ) (answer : Result Got IoFault) (bytes : List ℕ)
+    → came answer ≡ None → (q : ℕ) → nat_eq conn q ≡ false
+    → IsElsewhere q (reads conn room answer bytes ∷ []) []
+cut_elsewhere conn room (Ok (Bytes m)) bytes is q two = cc is
+cut_elsewhere conn room (Ok Later) bytes is q two = cc is
+cut_elsewhere conn room (Ok End) bytes is q two =
+    record {
+      silent = record { nothing = refl; never = refl };
+      never_cut = ap (λ t. t || false) two;
+      nothing = refl;
+      never_closed = refl;
+    }
+cut_elsewhere conn room (Err fault) bytes is q two =
+    record {
+      silent = record { nothing = refl; never = refl };
+      never_cut = ap (λ t. t || false) two;
+      nothing = refl;
+      never_closed = refl;
+    }
+
+cut_here : (conn room : ℕ) (answer : Result Got IoFault) (bytes : List ℕ) → came answer ≡ None
+    → is_cut_off conn (reads conn room answer bytes ∷ closes conn ∷ []) ≡ true
+cut_here conn room (Ok (Bytes m)) bytes is = cc is
+cut_here conn room (Ok Later) bytes is = cc is
+cut_here conn room (Ok End) bytes is = ap (λ t. t || false) (nat_eq-refl conn)
+cut_here conn room (Err fault) bytes is = ap (λ t. t || false) (nat_eq-refl conn)
+
+module _ {W M : Type 0} {server_of : M → Option View} {handles : Handles M}
+    (is_after : W → List Call → Type 0) where
   pub ran_both : (a b : List Call) (first : List Event) (f g h : ℕ → List ℕ)
-      (old mid new : Moment W) → ((q : ℕ) → h q ≡ f q ++ g q) → Ran is_after a first f old mid
-      → Ran is_after b [] g mid new → Ran is_after (a ++ b) first h old new
+      (old mid new : MomentOf W M) → ((q : ℕ) → h q ≡ f q ++ g q)
+      → RanBy is_after server_of handles a first f old mid
+      → RanBy is_after server_of handles b [] g mid new
+      → RanBy is_after server_of handles (a ++ b) first h old new
   ran_both a b first f g h old mid new is one other = record {
     events = one.events ++ other.events;
     outs = one.outs ++ other.outs;
     calls = one.calls ++ other.calls;
-    are_asked = subst (λ (es : List Event). AreAsked (asked_at old) es (one.outs ++ other.outs)
+    are_asked = subst (λ (es : List Event). AreAskedBy server_of handles (asked_at old) es
+        (one.outs ++ other.outs)
         (asked_at new)) (append_assoc first one.events other.events)
-        (asked_on (asked_at old) (asked_at mid) (asked_at new)
+        (asked_on server_of handles (asked_at old) (asked_at mid) (asked_at new)
         (first ++ one.events) other.events one.outs other.outs one.are_asked other.are_asked);
     account = adds_both is_after old.wire mid.wire new.wire one.calls other.calls one.account
         other.account;
@@ -405,26 +534,30 @@ module _ {W : Type 0} (is_after : W → List Call → Type 0) where
   }
 
   pub ran_then : (exchanges : List Call) (first : List Event) (f g h : ℕ → List ℕ)
-      (old mid new : Moment W) → ((q : ℕ) → h q ≡ f q ++ g q)
-      → Ran is_after exchanges first f old mid → Ran is_after [] [] g mid new
-      → Ran is_after exchanges first h old new
+      (old mid new : MomentOf W M) → ((q : ℕ) → h q ≡ f q ++ g q)
+      → RanBy is_after server_of handles exchanges first f old mid
+      → RanBy is_after server_of handles [] [] g mid new
+      → RanBy is_after server_of handles exchanges first h old new
   ran_then exchanges first f g h old mid new is one other =
-      subst (λ (cs : List Call). Ran is_after cs first h old new) (append-nil exchanges)
+      subst (λ (cs : List Call). RanBy is_after server_of handles cs first h old new) (append-nil
+      exchanges)
       (ran_both exchanges [] first f g h old mid new is one other)
 
   pub ran_after : (exchanges : List Call) (first : List Event) (came : ℕ → List ℕ)
-      (old mid new : Moment W) → Ran is_after exchanges first came old mid → RanOn is_after mid new
-      → Ran is_after exchanges first came old new
+      (old mid new : MomentOf W M) → RanBy is_after server_of handles exchanges first came old mid
+      → RanOnBy is_after server_of handles mid new
+      → RanBy is_after server_of handles exchanges first came old new
   ran_after exchanges first came old mid new one other =
       ran_then exchanges first came nothing_of came old mid new
       (λ q. sym (append-nil (came q))) one other
 
-  pub ran_on : (old mid new : Moment W) → RanOn is_after old mid → RanOn is_after mid new
-      → RanOn is_after old new
+  pub ran_on : (old mid new : MomentOf W M) → RanOnBy is_after server_of handles old mid
+      → RanOnBy is_after server_of handles mid new
+      → RanOnBy is_after server_of handles old new
   ran_on old mid new one other = ran_after [] [] nothing_of old mid new one other
 
   -- nothing has happened
-  pub ran_none : (old : Moment W) → RanOn is_after old old
+  pub ran_none : (old : MomentOf W M) → RanOnBy is_after server_of handles old old
   ran_none old = record {
     events = [];
     outs = [];
@@ -441,9 +574,9 @@ module _ {W : Type 0} (is_after : W → List Call → Type 0) where
   }
 
   -- nothing has happened, but that other connections are noted
-  pub ran_marked : (server : Option View) (journal : Journal)
+  pub ran_marked : (server : M) (journal : Journal)
       (room : ℕ) (connections : Connections W) (waiting : BTreeSet ℕ)
-      → RanOn is_after (at_connections server journal room connections)
+      → RanOnBy is_after server_of handles (at_connections server journal room connections)
       (at_connections server journal room (record connections { waiting = waiting }))
   ran_marked server journal room connections waiting = record {
     events = [];
@@ -462,11 +595,13 @@ module _ {W : Type 0} (is_after : W → List Call → Type 0) where
   }
 
   -- what the server put out by an event is done
-  ran_event : (server after : Option View) (journal entered written : Journal)
+  ran_event : (server after : M) (journal entered written : Journal)
       (room : ℕ) (old new : Connections W) (event : Event) (before outs : List Sent)
-      → before ≡ [] → IsHandled server event before (Ok tt) after outs → EntersAll
-      (event_signs event after) journal entered → EntersAll (out_signs outs) entered written
-      → Carries is_after [] old outs new → Ran is_after [] (event ∷ []) nothing_of
+      → before ≡ [] → handles server event before (Ok tt) after outs → EntersAll
+      (event_signs event (server_of after)) journal entered
+      → EntersAll (out_signs outs) entered written
+      → Carries is_after [] old outs new → RanBy is_after server_of handles [] (event ∷ [])
+      nothing_of
       (at_connections server journal room old) (at_connections after written room new)
   ran_event server after journal entered written room old new event before outs none handled noted
       closed carries = record {
@@ -478,8 +613,8 @@ module _ {W : Type 0} (is_after : W → List Call → Type 0) where
           first = outs;
           more = [];
           is_handled =
-              subst (λ (os : List Sent). IsHandled server event os (Ok tt) after outs) none handled;
-          is_noted = enters_both (event_signs event after)
+              subst (λ (os : List Sent). handles server event os (Ok tt) after outs) none handled;
+          is_noted = enters_both (event_signs event (server_of after))
               (out_signs outs) journal entered written noted closed;
           outs_are = sym (append-nil outs);
           rest_is = (refl, refl);
@@ -496,11 +631,12 @@ module _ {W : Type 0} (is_after : W → List Call → Type 0) where
         same_room = refl;
       }
 
-  pub asked_once : (server after : Option View) (journal entered written : Journal)
+  pub asked_once : (server after : M) (journal entered written : Journal)
       (room : ℕ) (old new : Connections W) (event : Event) (before outs : List Sent)
-      → before ≡ [] → IsHandled server event before (Ok tt) after outs → EntersAll
-      (event_signs event after) journal entered → EntersAll (out_signs outs) entered written
-      → Carries is_after [] old outs new → AsksOnce is_after event
+      → before ≡ [] → handles server event before (Ok tt) after outs → EntersAll
+      (event_signs event (server_of after)) journal entered
+      → EntersAll (out_signs outs) entered written
+      → Carries is_after [] old outs new → AsksOnceBy is_after server_of handles event
       (at_connections server journal room old) (at_connections after written room new)
   unfolding ran_event
   asked_once server after journal entered written room old new event before outs none handled noted
@@ -511,15 +647,17 @@ module _ {W : Type 0} (is_after : W → List Call → Type 0) where
       )
 
   -- the event by which the server is asked, called otherwise
-  pub asks_as : (event told : Event) (old new : Moment W) → event ≡ told
-      → AsksOnce is_after event old new → AsksOnce is_after told old new
+  pub asks_as : (event told : Event) (old new : MomentOf W M) → event ≡ told
+      → AsksOnceBy is_after server_of handles event old new
+      → AsksOnceBy is_after server_of handles told old new
   asks_as event told old new same asks =
-      subst (λ (e : Event). AsksOnce is_after e old new) same asks
+      subst (λ (e : Event). AsksOnceBy is_after server_of handles e old new) same asks
 
   -- something is done that no event asks for
-  pub ran_connections : (server : Option View) (journal : Journal) (room : ℕ)
+  pub ran_connections : (server : M) (journal : Journal) (room : ℕ)
       (exchanges : List Call) (old new : Connections W) → Carries is_after exchanges old [] new
-      → Ran is_after exchanges [] nothing_of (at_connections server journal room old)
+      → RanBy is_after server_of handles exchanges [] nothing_of (at_connections server journal
+      room old)
       (at_connections server journal room new)
   ran_connections server journal room exchanges old new carries = record {
     events = [];
@@ -538,71 +676,13 @@ module _ {W : Type 0} (is_after : W → List Call → Type 0) where
     same_room = refl;
   }
 
-  -- The server is told that a connection is gone, which was lost and of which it was to be told.
-  gone_once : (kind : ConnectionKind) (conn q : ℕ) (t : Bool) → nat_eq conn q ≡ t
-      → times_gone q (end_event_of kind conn ∷ []) ≡ 0 + cond t 1 0
-  gone_once kinds.Client conn q t is = ap (λ u. 0 + cond u 1 0) is
-  gone_once kinds.Link conn q t is = ap (λ u. 0 + cond u 1 0) is
-
-  gone_of : (kind : ConnectionKind) (conn q : ℕ) (t l o : Bool) (events : List Event)
-      (outs : List Sent) (now : ConnectionState) → nat_eq conn q ≡ t → (t ≡ true → l ≡ true)
-      → TellsServer q (record { lost = cond t false l; is_open = o }) events outs now
-      → TellsServer q (record { lost = l; is_open = o }) (end_event_of kind conn ∷ events) outs now
-  gone_of kind conn q true true true events outs now is lost tells = λ apart. cc apart
-  gone_of kind conn q true true false events outs now is lost tells = λ apart.
-      let told = tells refl in
-      let here = gone_once kind conn q true is in
-      record {
-        at_most = omega (
-          arith,
-          told.at_most,
-          here,
-          times_gone-append q (end_event_of kind conn ∷ []) events,
-        );
-        unless_closed = λ is_open. omega (
-          arith,
-          told.unless_closed is_open,
-          here,
-          times_gone-append q (end_event_of kind conn ∷ []) events,
-        );
-        apart = told.apart;
-      }
-  gone_of kind conn q true false o events outs now is lost tells = cc (lost refl)
-  gone_of kind conn q false l o events outs now is lost tells = λ apart.
-      let told = tells apart in
-      let here = gone_once kind conn q false is in
-      record {
-        at_most = omega (
-          arith,
-          told.at_most,
-          here,
-          times_gone-append q (end_event_of kind conn ∷ []) events,
-        );
-        unless_closed = λ is_open. omega (
-          arith,
-          told.unless_closed is_open,
-          here,
-          times_gone-append q (end_event_of kind conn ∷ []) events,
-        );
-        apart = told.apart;
-      }
-
-  no_line_of_an_end : (kind : ConnectionKind) (conn q : ℕ) (events : List Event)
-      → lines_by q (end_event_of kind conn ∷ events) ≡ lines_by q events
-  no_line_of_an_end kinds.Client conn q events = refl
-  no_line_of_an_end kinds.Link conn q events = refl
-
-  still_lost : (t : Bool) (l : Option ConnectionKind)
-      → is_some (cond t None l) ≡ cond t false (is_some l)
-  still_lost true l = refl
-  still_lost false l = refl
-
-  pub ran_gone : (server : Option View) (journal : Journal) (room conn : ℕ)
-      (kind : ConnectionKind) (old mid : Connections W) (new : Moment W) → mid.wire ≡ old.wire
+  pub ran_gone : (server : M) (journal : Journal) (room conn : ℕ)
+      (kind : ConnectionKind) (old mid : Connections W) (new : MomentOf W M) → mid.wire ≡ old.wire
       → mid.table ≡ old.table → lost_at old.lost conn ≡ Some kind → ((q : ℕ)
-      → lost_at mid.lost q ≡ cond (nat_eq conn q) None (lost_at old.lost q)) → Ran is_after []
+      → lost_at mid.lost q ≡ cond (nat_eq conn q) None (lost_at old.lost q))
+      → RanBy is_after server_of handles []
       (end_event_of kind conn ∷ []) nothing_of (at_connections server journal room mid) new
-      → RanOn is_after (at_connections server journal room old) new
+      → RanOnBy is_after server_of handles (at_connections server journal room old) new
   ran_gone server journal room conn kind old mid new wire table as_lost popped ran = record {
     events = end_event_of kind conn ∷ ran.events;
     outs = ran.outs;
@@ -653,47 +733,11 @@ module _ {W : Type 0} (is_after : W → List Call → Type 0) where
           by true never = cc never
           by false same = kind_of_loss same
 
-  -- the fate of one connection, and that of the others
-  fate_of_one : (conn : ℕ) (old new : ℕ → Option Connection) (calls : List Call) (outs : List Sent)
-      → ((q : ℕ) → nat_eq conn q ≡ false → new q ≡ old q)
-      → ((q : ℕ) → nat_eq conn q ≡ false → IsElsewhere q calls outs)
-      → Fate conn (old conn) calls outs (new conn) → (q : ℕ) → Fate q (old q) calls outs (new q)
-  fate_of_one conn old new calls outs same apart here q = by (nat_eq conn q) refl
-    where
-      by : (t : Bool) → nat_eq conn q ≡ t → Fate q (old q) calls outs (new q)
-      by true one = subst (λ p. Fate p (old p) calls outs (new p)) (one_number conn q one) here
-      by false two = subst (λ (s : Option Connection). Fate q (old q) calls outs s)
-          (sym (same q two)) (untouched_fate q calls outs (apart q two) (old q))
-
-  -- a read that gave bytes, or none yet
-  goes_by : (conn room : ℕ) (answer : Result Got IoFault) (bytes : List ℕ) (n : ℕ)
-      → came answer ≡ Some n → (q : ℕ) → IsElsewhere q (reads conn room answer bytes ∷ []) []
-  goes_by conn room (Ok (Bytes m)) bytes n is q = record {
-    silent = record {
-      nothing = refl;
-      never = refl;
-    };
-    never_cut = refl;
-    nothing = refl;
-    never_closed = refl;
-  }
-  goes_by conn room (Ok Later) bytes n is q = record {
-    silent = record {
-      nothing = refl;
-      never = refl;
-    };
-    never_cut = refl;
-    nothing = refl;
-    never_closed = refl;
-  }
-  goes_by conn room (Ok End) bytes n is q = cc is
-  goes_by conn room (Err fault) bytes n is q = cc is
-
-  pub ran_read : (server : Option View) (journal : Journal) (old new : Connections W)
+  pub ran_read : (server : M) (journal : Journal) (old new : Connections W)
       (size later conn room : ℕ) (answer : Result Got IoFault) (bytes : List ℕ) (n : ℕ)
       → came answer ≡ Some n → Adds is_after old.wire (reads conn room answer bytes) new.wire
       → new.table ≡ old.table → new.lost ≡ old.lost → later ≡ size
-      → Ran is_after (reads conn room answer bytes ∷ []) [] nothing_of
+      → RanBy is_after server_of handles (reads conn room answer bytes ∷ []) [] nothing_of
       (at_connections server journal size old) (at_connections server journal later new)
   ran_read server journal old new size later conn room answer bytes n is account table lost
       as_large = record {
@@ -722,40 +766,13 @@ module _ {W : Type 0} (is_after : W → List Call → Type 0) where
       at : (q : ℕ) → connection_of new.table q ≡ connection_of old.table q
       at q = ap (λ s. connection_of s q) table
 
-  -- a read that ended or failed
-  cut_elsewhere : (conn room : ℕ) (answer : Result Got IoFault) (bytes : List ℕ)
-      → came answer ≡ None → (q : ℕ) → nat_eq conn q ≡ false
-      → IsElsewhere q (reads conn room answer bytes ∷ []) []
-  cut_elsewhere conn room (Ok (Bytes m)) bytes is q two = cc is
-  cut_elsewhere conn room (Ok Later) bytes is q two = cc is
-  cut_elsewhere conn room (Ok End) bytes is q two =
-      record {
-        silent = record { nothing = refl; never = refl };
-        never_cut = ap (λ t. t || false) two;
-        nothing = refl;
-        never_closed = refl;
-      }
-  cut_elsewhere conn room (Err fault) bytes is q two =
-      record {
-        silent = record { nothing = refl; never = refl };
-        never_cut = ap (λ t. t || false) two;
-        nothing = refl;
-        never_closed = refl;
-      }
-
-  cut_here : (conn room : ℕ) (answer : Result Got IoFault) (bytes : List ℕ) → came answer ≡ None
-      → is_cut_off conn (reads conn room answer bytes ∷ closes conn ∷ []) ≡ true
-  cut_here conn room (Ok (Bytes m)) bytes is = cc is
-  cut_here conn room (Ok Later) bytes is = cc is
-  cut_here conn room (Ok End) bytes is = ap (λ t. t || false) (nat_eq-refl conn)
-  cut_here conn room (Err fault) bytes is = ap (λ t. t || false) (nat_eq-refl conn)
-
-  pub ran_cut : (server : Option View) (journal : Journal) (size later : ℕ)
+  pub ran_cut : (server : M) (journal : Journal) (size later : ℕ)
       (old mid new : Connections W) (conn room : ℕ) (answer : Result Got IoFault) (bytes : List ℕ)
       → came answer ≡ None → is_open_at (connection_of old.table conn) ≡ true
       → Adds is_after old.wire (reads conn room answer bytes) mid.wire
       → mid.table ≡ old.table → mid.lost ≡ old.lost → Loses is_after conn mid new
-      → later ≡ size → Ran is_after (reads conn room answer bytes ∷ []) [] nothing_of
+      → later ≡ size → RanBy is_after server_of handles (reads conn room answer bytes ∷ []) []
+      nothing_of
       (at_connections server journal size old) (at_connections server journal later new)
   ran_cut server journal size later old mid new conn room answer bytes is is_open account same
       same_lost loses as_large = record {
@@ -861,21 +878,22 @@ module _ {W : Type 0} (is_after : W → List Call → Type 0) where
       }
 
   -- A framer has taken bytes, and the line that they complete is passed on.
-  pub ran_framed : (server : Option View) (journal : Journal) (size : ℕ) (old mid : Connections W)
-      (new : Moment W) (conn : ℕ) (piece : List ℕ) (used : ℕ) (kind : ConnectionKind)
+  pub ran_framed : (server : M) (journal : Journal) (size : ℕ) (old mid : Connections W)
+      (new : MomentOf W M) (conn : ℕ) (piece : List ℕ) (used : ℕ) (kind : ConnectionKind)
       (line : Option (ArrayVec ℕ))
       (result : Option (ℕ × ConnectionKind × Option (ArrayVec ℕ)))
       → result ≡ Some (used, kind, line)
       → FramesAt conn piece old.table result mid.table → mid.wire ≡ old.wire
       → mid.lost ≡ old.lost
-      → Ran is_after [] (passed_on kind conn line) nothing_of
+      → RanBy is_after server_of handles [] (passed_on kind conn line) nothing_of
       (at_connections server journal size mid) new
-      → Ran is_after [] [] (only_of conn (take used piece))
+      → RanBy is_after server_of handles [] [] (only_of conn (take used piece))
       (at_connections server journal size old) new
   ran_framed server journal size old mid new conn piece used kind line result is frames wire lost
       ran = by (subst (λ r. FramesAt conn piece old.table r mid.table) is frames)
     where
-      by : FramesAt conn piece old.table (Some (used, kind, line)) mid.table → Ran is_after [] []
+      by : FramesAt conn piece old.table (Some (used, kind, line)) mid.table
+          → RanBy is_after server_of handles [] []
           (only_of conn (take used piece)) (at_connections server journal size old) new
       by (no_connection none same never) = cc never
       by (at_connection connection now was set so) = record {
@@ -1018,17 +1036,19 @@ module _ {W : Type 0} (is_after : W → List Call → Type 0) where
               (Some now) set q two))))
 
   -- bytes come of a connection that is not open
-  pub ran_refused : (server : Option View) (journal : Journal) (size : ℕ) (old new : Connections W)
+  pub ran_refused : (server : M) (journal : Journal) (size : ℕ) (old new : Connections W)
       (conn : ℕ) (piece bytes : List ℕ) (result : Option (ℕ × ConnectionKind × Option (ArrayVec ℕ)))
       → result ≡ None → FramesAt conn piece old.table result new.table
-      → new.wire ≡ old.wire → new.lost ≡ old.lost → Ran is_after [] [] (only_of conn bytes)
+      → new.wire ≡ old.wire → new.lost ≡ old.lost → RanBy is_after server_of handles [] [] (only_of
+      conn bytes)
       (at_connections server journal size old) (at_connections server journal size new)
   ran_refused server journal size old new conn piece bytes result is frames wire lost =
       by (subst (λ r. FramesAt conn piece old.table r new.table) is frames)
     where
       so_then : begun_at (connection_of old.table conn) ≡ None
           → ((q : ℕ) → connection_of new.table q ≡ connection_of old.table q)
-          → Ran is_after [] [] (only_of conn bytes) (at_connections server journal size old)
+          → RanBy is_after server_of handles [] [] (only_of conn bytes) (at_connections server
+          journal size old)
           (at_connections server journal size new)
       so_then closed same = record {
         events = [];
@@ -1072,7 +1092,8 @@ module _ {W : Type 0} (is_after : W → List Call → Type 0) where
       as_before q connection now false two was now_is set =
           set ∙ ap (λ t. cond t (Some now) (connection_of old.table q)) two
 
-      by : FramesAt conn piece old.table None new.table → Ran is_after [] [] (only_of conn bytes)
+      by : FramesAt conn piece old.table None new.table
+          → RanBy is_after server_of handles [] [] (only_of conn bytes)
           (at_connections server journal size old) (at_connections server journal size new)
       by (no_connection none same never) = so_then (ap begun_at none) same
       by (at_connection connection now was set so) = so_then (ap begun_at was ∙ so.0)
@@ -1080,10 +1101,12 @@ module _ {W : Type 0} (is_after : W → List Call → Type 0) where
 
   -- what a read gave is heard
   pub ran_fed : (exchanges : List Call) (conn : ℕ) (answer : Result Got IoFault)
-      (buffer after : List ℕ) (n : ℕ) (old mid new : Moment W) → came answer ≡ Some n
-      → take n after ≡ take n buffer → Ran is_after exchanges [] nothing_of old mid
-      → Ran is_after [] [] (only_of conn (take n after)) mid new
-      → Ran is_after exchanges [] (only_of conn (bytes_got answer buffer)) old new
+      (buffer after : List ℕ) (n : ℕ) (old mid new : MomentOf W M) → came answer ≡ Some n
+      → take n after ≡ take n buffer → RanBy is_after server_of handles exchanges [] nothing_of old
+      mid
+      → RanBy is_after server_of handles [] [] (only_of conn (take n after)) mid new
+      → RanBy is_after server_of handles exchanges [] (only_of conn (bytes_got answer buffer)) old
+      new
   ran_fed exchanges conn answer buffer after n old mid new is same one other =
       ran_then exchanges [] nothing_of (only_of conn (take n after))
       (only_of conn (bytes_got answer buffer)) old mid new
@@ -1091,8 +1114,10 @@ module _ {W : Type 0} (is_after : W → List Call → Type 0) where
 
   -- a read that ended or failed gave nothing
   pub ran_ended : (exchanges : List Call) (conn : ℕ) (answer : Result Got IoFault) (buffer : List ℕ)
-      (old new : Moment W) → came answer ≡ None → Ran is_after exchanges [] nothing_of old new
-      → Ran is_after exchanges [] (only_of conn (bytes_got answer buffer)) old new
+      (old new : MomentOf W M) → came answer ≡ None → RanBy is_after server_of handles exchanges []
+      nothing_of old new
+      → RanBy is_after server_of handles exchanges [] (only_of conn (bytes_got answer buffer)) old
+      new
   ran_ended exchanges conn answer buffer old new is ran =
       ran_then exchanges [] nothing_of nothing_of
       (only_of conn (bytes_got answer buffer)) old new new
@@ -1100,16 +1125,18 @@ module _ {W : Type 0} (is_after : W → List Call → Type 0) where
       (ran_none new)
 
   -- no bytes have come so far
-  pub ran_unfed : (conn : ℕ) (old : Moment W) → Ran is_after [] [] (only_of conn []) old old
+  pub ran_unfed : (conn : ℕ) (old : MomentOf W M) → RanBy is_after server_of handles [] [] (only_of
+      conn []) old old
   ran_unfed conn old = ran_then [] [] nothing_of nothing_of (only_of conn []) old old old
       (λ q. none_of (nat_eq conn q)) (ran_none old) (ran_none old)
 
   -- bytes at the front of a piece are heard, behind those before them
-  pub ran_step : (start mid new : Moment W) (conn : ℕ) (buffer piece : List ℕ) (used more count : ℕ)
+  pub ran_step : (start mid new : MomentOf W M) (conn : ℕ) (buffer piece : List ℕ)
+      (used more count : ℕ)
       → piece ≡ slice_range buffer used count → used ≤ count → more ≤ length piece
-      → Ran is_after [] [] (only_of conn (take used buffer)) start mid
-      → Ran is_after [] [] (only_of conn (take more piece)) mid new
-      → Ran is_after [] [] (only_of conn (take (used + more) buffer)) start new
+      → RanBy is_after server_of handles [] [] (only_of conn (take used buffer)) start mid
+      → RanBy is_after server_of handles [] [] (only_of conn (take more piece)) mid new
+      → RanBy is_after server_of handles [] [] (only_of conn (take (used + more) buffer)) start new
   ran_step start mid new conn buffer piece used more count is within fits one other =
       ran_then [] [] (only_of conn (take used buffer)) (only_of conn (take more piece))
       (only_of conn (take (used + more) buffer)) start mid new
@@ -1117,10 +1144,12 @@ module _ {W : Type 0} (is_after : W → List Call → Type 0) where
       ∙ only_both (nat_eq conn q) (take used buffer) (take more piece)) one other
 
   -- what is left of the bytes comes of a connection that is not open
-  pub ran_rest : (start mid new : Moment W) (conn : ℕ) (buffer : List ℕ) (used count : ℕ)
-      → used ≤ count → Ran is_after [] [] (only_of conn (take used buffer)) start mid
-      → Ran is_after [] [] (only_of conn (take (count - used) (drop used buffer))) mid new
-      → Ran is_after [] [] (only_of conn (take count buffer)) start new
+  pub ran_rest : (start mid new : MomentOf W M) (conn : ℕ) (buffer : List ℕ) (used count : ℕ)
+      → used ≤ count → RanBy is_after server_of handles [] [] (only_of conn (take used buffer))
+      start mid
+      → RanBy is_after server_of handles [] [] (only_of conn (take (count - used) (drop used
+      buffer))) mid new
+      → RanBy is_after server_of handles [] [] (only_of conn (take count buffer)) start new
   ran_rest start mid new conn buffer used count within one other =
       ran_then [] [] (only_of conn (take used buffer)) (only_of conn (take (count - used)
       (drop used buffer))) (only_of conn (take count buffer)) start mid new
@@ -1128,7 +1157,69 @@ module _ {W : Type 0} (is_after : W → List Call → Type 0) where
       ∙ only_both (nat_eq conn q) (take used buffer)
       (take (count - used) (drop used buffer))) one other
 
-  pub ran_no_line : (kind : ConnectionKind) (conn : ℕ) (line : Option (ArrayVec ℕ)) (now : Moment W)
-      → line ≡ None → Ran is_after [] (passed_on kind conn line) nothing_of now now
-  ran_no_line kind conn line now none = subst (λ (o : Option (ArrayVec ℕ)). Ran is_after []
+  pub ran_no_line : (kind : ConnectionKind) (conn : ℕ) (line : Option (ArrayVec ℕ))
+      (now : MomentOf W M)
+      → line ≡ None → RanBy is_after server_of handles [] (passed_on kind conn line) nothing_of now
+      now
+  ran_no_line kind conn line now none = subst (λ (o : Option (ArrayVec ℕ)). RanBy is_after
+      server_of handles []
       (passed_on kind conn o) nothing_of now now) (sym none) (ran_none now)
+
+module _ {W M : Type 0} (is_after : W → List Call → Type 0) (server_of : M → Option View)
+    (handles : Handles M) where
+  -- something was due, and what was put out by it is done
+  pub due_carried : (dues : Dues M) (server after : M) (moment : ℕ) (journal written : Journal)
+      (room : ℕ) (old mid : Connections W) (before outs : List Sent) (new : MomentOf W M)
+      → before ≡ [] → (length outs ≡ 0 → ⊥) → IsDue dues server moment before (Ok tt) after outs
+      → EntersAll (out_signs outs) journal written → Carries is_after [] old outs mid
+      → RanOnBy is_after server_of handles (at_connections after written room mid) new
+      → IsDoneBy is_after server_of handles dues (at_connections server journal room old) new
+  due_carried never_due server after moment journal written room old mid before outs new none
+      some due closed carries losses = absurd (some (ap length (due.2 ∙ none)))
+  due_carried (due_by is_due) server after moment journal written room old mid before outs new
+      none some due closed carries losses = record {
+        moment = moment;
+        between = at_connections after written room mid;
+        outs = outs;
+        calls = carries.calls;
+        was_due = subst (λ (os : List Sent). is_due server moment os (Ok tt) after outs) none due;
+        is_noted = closed;
+        account = carries.account;
+        exchanged = carries.exchanged;
+        fates = λ conn. (carries.passage conn).fate;
+        keep_kinds = λ conn. (carries.passage conn).keeps_kind;
+        hears = λ conn. (carries.passage conn).hears_none;
+        tells = λ conn. tells_passage conn (connection_of old.table conn)
+            (lost_at old.lost conn) carries.calls outs (connection_of mid.table conn)
+            (lost_at mid.lost conn) (carries.passage conn);
+        same_room = refl;
+        losses = losses;
+      }
+
+  -- nothing was put out
+  pub due_quiet : (dues : Dues M) (server after : M) (moment : ℕ) (journal : Journal)
+      (room : ℕ) (connections : Connections W) (before outs : List Sent) → before ≡ []
+      → IsDue dues server moment before (Ok tt) after outs → outs ≡ []
+      → IsDoneBy is_after server_of handles dues (at_connections server journal room connections)
+      (at_connections after journal room connections)
+  due_quiet never_due server after moment journal room connections before outs none due quiet =
+      ap (λ (m : M). at_connections m journal room connections) due.1
+  due_quiet (due_by is_due) server after moment journal room connections before outs none due
+      quiet = record {
+        moment = moment;
+        between = at_connections after journal room connections;
+        outs = [];
+        calls = [];
+        was_due = subst (λ (os : List Sent). is_due server moment os (Ok tt) after []) none
+            (subst (λ (os : List Sent). is_due server moment before (Ok tt) after os) quiet due);
+        is_noted = refl;
+        account = adds_none is_after connections.wire connections.wire refl;
+        exchanged = refl;
+        fates = λ conn. same_fate conn (connection_of connections.table conn);
+        keep_kinds = λ conn kind is. is;
+        hears = λ conn. hears_kept (begun_at (connection_of connections.table conn));
+        tells = λ conn. tells_still conn
+            (standing_of conn (at_connections server journal room connections));
+        same_room = refl;
+        losses = ran_none is_after _;
+      }

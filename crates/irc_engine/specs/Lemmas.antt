@@ -2,3 +2,4 @@
 pub mod HearingLaws
 pub mod CarryingLaws
 pub mod NewServers
+pub mod Layers

@@ -4,6 +4,7 @@ pub mod Hearing
 pub mod Writing
 pub mod Noting
 pub mod Knowing
+pub mod Machines
 pub mod Running
 pub mod Moments
 pub mod EngineView

@@ -10,7 +10,7 @@ use Rattle.irc_engine.specs.declared.kind.ConnectionKind.{ConnectionKind}
 use Rattle.irc_engine.specs.declared.connection_table.Connection.{Connection}
 use Rattle.irc_engine.specs.declared.connection_table.ConnectionTable.{ConnectionTable}
 use Rattle.irc_engine.specs.declared.engine.Core.{Core}
-use Rattle.irc_engine.specs.Running.{Moment}
+use Rattle.irc_engine.specs.Running.{MomentOf}
 
 -- a number among the dense ones has the connection that is there, and another that of the other map
 abbrev pub connection_at : Option (Option Connection) → Option Connection → Option Connection
@@ -31,9 +31,9 @@ abbrev pub lost_at : BTreeMap ℕ ConnectionKind → ℕ → Option ConnectionKi
 lost_at lost conn = get_in_tree nat_cmp lost conn
 
 -- all of that as one moment
-abbrev pub moment_of : {W : Type 0} → Core W → Moment W
+abbrev pub moment_of : {W M : Type 0} → Core W M → MomentOf W M
 moment_of core = record {
-  server = core.server;
+  server = core.machine;
   journal = core.journal;
   wire = core.connections.wire;
   connections = connection_of core.connections.table;

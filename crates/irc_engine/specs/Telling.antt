@@ -12,8 +12,11 @@ use Rattle.irc_journal.specs.Signs.{IsEmptied}
 use Rattle.irc_journal.specs.Lines.{connections_line}
 use Rattle.irc_journal.specs.Saying.{AreTold, IsFrontSaid, IsSaid}
 use Rattle.irc_engine.specs.declared.engine.EngineFault.{EngineFault}
-use Rattle.irc_engine.specs.Turning.{Turned}
-use Rattle.irc_engine.specs.EngineView.{EngineView}
+use Rattle.irc_server.specs.ReadEvents.{IsHandled}
+use Rattle.irc_stage.specs.View.{View}
+use Rattle.irc_engine.specs.Machines.{itself, never_due, Dues, Handles}
+use Rattle.irc_engine.specs.Turning.{TurnedBy}
+use Rattle.irc_engine.specs.EngineView.{EngineView, EngineViewOf}
 
 -- what is told of a call that has failed
 abbrev pub call_told : FailedCall → Tidings
@@ -36,7 +39,7 @@ IsNoticeSaid (Some notices.DescriptorsBack) held after =
 
 -- All that there was to tell of links is told, at some moment and of each from some address, as the
 -- wire answers; and then what the wire itself has to tell is said. Nothing else has changed.
-pub record Tells {W : Type 0} (is_after : W → List Call → Type 0) (old new : EngineView W)
+pub record Tells {W M : Type 0} (is_after : W → List Call → Type 0) (old new : EngineViewOf W M)
     (held after : Option (List ℕ)) : Type 0 where
   pub emptied : Journal
   pub is_emptied : IsEmptied old.now.journal emptied
@@ -50,30 +53,48 @@ pub record Tells {W : Type 0} (is_after : W → List Call → Type 0) (old new :
   pub keeps : Keeps is_after old.now.wire wire
   pub new_is : new ≡ record old { now = record old.now { journal = journal; wire = wire } }
 
--- a turn is asked for, and then what there is to tell is said
-pub record TellsTurned {W : Type 0} (is_after : W → List Call → Type 0) (old new : EngineView W)
-    (held after : Option (List ℕ))
-    (result : Result (Unit {0}) EngineFault) : Type 0 where
-  pub between : EngineView W
-  pub turned : Turned is_after old between result
-  pub tells : Tells is_after between new held after
+-- ---- of any machine
 
--- so many turns, one after another, with what is said behind each
-pub data ToldTurns {W : Type 0} (is_after : W → List Call → Type 0) (old : EngineView W)
-    (held : Option (List ℕ)) : ℕ → EngineView W → Option (List ℕ) → Type 0 where
-  no_told : ToldTurns is_after old held 0 old held
-  told_more : (n : ℕ) (between new : EngineView W) (then after : Option (List ℕ))
-      → ToldTurns is_after old held n between then → TellsTurned is_after between new
-      then after (Ok tt) → ToldTurns is_after old held (n + 1) new after
+module _ {W M : Type 0} (is_after : W → List Call → Type 0) (server_of : M → Option View)
+    (handles : Handles M) (dues : Dues M) where
+  -- a turn is asked for, and then what there is to tell is said
+  pub record TellsTurnedBy (old new : EngineViewOf W M) (held after : Option (List ℕ))
+      (result : Result (Unit {0}) EngineFault) : Type 0 where
+    pub between : EngineViewOf W M
+    pub turned : TurnedBy is_after server_of handles dues old between result
+    pub tells : Tells is_after between new held after
 
--- All of so many turns were taken; or the one behind some of them was not, and that is the last.
--- What there is to tell is said behind each, that one too.
-pub data RunsTelling {W : Type 0} (is_after : W → List Call → Type 0) (old : EngineView W)
-    (held : Option (List ℕ)) (turns : ℕ) (new : EngineView W) (after : Option (List ℕ))
-    : Result (Unit {0}) EngineFault → Type 0 where
-  all_told : ToldTurns is_after old held turns new after
-      → RunsTelling is_after old held turns new after (Ok tt)
-  told_stopped : (taken : ℕ) (between : EngineView W) (then : Option (List ℕ)) (fault : EngineFault)
-      → taken < turns → ToldTurns is_after old held taken between then
-      → TellsTurned is_after between new then after (Err fault)
-      → RunsTelling is_after old held turns new after (Err fault)
+  -- so many turns, one after another, with what is said behind each
+  pub data ToldTurnsBy (old : EngineViewOf W M) (held : Option (List ℕ)) : ℕ → EngineViewOf W M
+      → Option (List ℕ) → Type 0 where
+    no_told : ToldTurnsBy old held 0 old held
+    told_more : (n : ℕ) (between new : EngineViewOf W M) (then after : Option (List ℕ))
+        → ToldTurnsBy old held n between then → TellsTurnedBy between new then after (Ok tt)
+        → ToldTurnsBy old held (n + 1) new after
+
+  -- All of so many turns were taken; or the one behind some of them was not, and that is the last.
+  -- What there is to tell is said behind each, that one too.
+  pub data RunsTellingBy (old : EngineViewOf W M) (held : Option (List ℕ)) (turns : ℕ)
+      (new : EngineViewOf W M) (after : Option (List ℕ))
+      : Result (Unit {0}) EngineFault → Type 0 where
+    all_told : ToldTurnsBy old held turns new after
+        → RunsTellingBy old held turns new after (Ok tt)
+    told_stopped : (taken : ℕ) (between : EngineViewOf W M) (then : Option (List ℕ))
+        (fault : EngineFault) → taken < turns → ToldTurnsBy old held taken between then
+        → TellsTurnedBy between new then after (Err fault)
+        → RunsTellingBy old held turns new after (Err fault)
+
+-- ---- of a server
+
+module _ {W : Type 0} (is_after : W → List Call → Type 0) where
+  abbrev pub TellsTurned : EngineView W → EngineView W → (held after : Option (List ℕ))
+      → Result (Unit {0}) EngineFault → Type 0
+  TellsTurned = TellsTurnedBy is_after itself IsHandled never_due
+
+  abbrev pub ToldTurns : EngineView W → Option (List ℕ) → ℕ → EngineView W → Option (List ℕ)
+      → Type 0
+  ToldTurns = ToldTurnsBy is_after itself IsHandled never_due
+
+  abbrev pub RunsTelling : EngineView W → Option (List ℕ) → ℕ → EngineView W → Option (List ℕ)
+      → Result (Unit {0}) EngineFault → Type 0
+  RunsTelling = RunsTellingBy is_after itself IsHandled never_due

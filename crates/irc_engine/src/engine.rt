@@ -1,4 +1,4 @@
-//! An engine: one server over a wire.
+//! An engine: one server, or a machine around one, over a wire.
 ghost use Rattle.std.specs.Prelude.{◌≡◌, ◌≤◌, true, false, Ok, [], ◌∷◌, length, IfOk, OnOk};
 ghost use Rattle.irc_outbox.specs.Calls.{Keeps};
 ghost use Rattle.irc_engine.specs.Loops.Counts.{count_of};
@@ -9,14 +9,16 @@ ghost use Rattle.irc_engine.specs.Moments.{moment_of, connection_of, lost_at};
 ghost use Rattle.irc_engine.specs.Loops.Moments.{AsksFor, HearsFrom, IsAtOneIn, IsNobodyNoted};
 ghost use Rattle.irc_engine.specs.Loops.Moments.{IsOpenAs, IsSettledIn, IsToHearIn, KeepsOrder};
 ghost use Rattle.irc_engine.specs.Loops.Moments.{KeepsTold, Spans};
-ghost use Rattle.irc_engine.specs.Loops.Faults.{is_out_of_memory};
+ghost use Rattle.irc_engine.specs.Machines.{is_never, is_out_of_memory};
 ghost use Rattle.irc_engine.specs.Loops.Connections.{KeepsMarks, KeepsNotes};
-ghost use Rattle.irc_engine.specs.Running.{AllTold, Answers, AsksOnce, Does, Flushes, PassesOn};
-ghost use Rattle.irc_engine.specs.Running.{RanOn, Reads, Starts, TellsLosses};
+ghost use Rattle.irc_engine.specs.Running.{AllTold, AnswersBy, AsksOnceBy, DoesBy, FlushesBy};
+ghost use Rattle.irc_engine.specs.Running.{IsDoneBy};
+ghost use Rattle.irc_engine.specs.Running.{PassesOnBy, RanOnBy, ReadsBy, StartsBy, TellsLossesBy};
 
 use crate::connection_table::ConnectionTable;
 use crate::connections::{Connections, take_lowest};
 use crate::kind::ConnectionKind;
+use crate::machine::Machine;
 use crate::noting::note;
 use irc_batch::Batch;
 use irc_journal::Journal;
@@ -55,51 +57,52 @@ pub struct OutboxSizes {
     pub link: usize,
 }
 
-/// One server and the wire that it runs over.
+/// One server, or a machine around one, and the wire that it runs over.
 #[derive(Drop)]
-pub struct Engine<W> {
+pub struct Engine<W, M: Machine = Server> {
     failed: bool,
     sizes: OutboxSizes,
-    pub(crate) core: Core<W>,
+    pub(crate) core: Core<W, M>,
     /// The server has just the connections that are open.
-    ghost settled: { failed ≡ false → IsSettled core.server (connection_of core.connections.table)
-        (lost_at core.connections.lost) },
+    ghost settled: { failed ≡ false → IsSettled (M.server_of core.machine)
+        (connection_of core.connections.table) (lost_at core.connections.lost) },
 }
 
 /// What an engine is made of.
 #[derive(Drop)]
-pub(crate) struct Core<W> {
-    pub server: Server,
+pub(crate) struct Core<W, M> {
+    /// What handles the events.
+    pub machine: M,
     /// What comes to light of its links.
     pub journal: Journal,
     pub connections: Connections<W>,
-    /// What the server has put out by the event at hand.
+    /// What was put out by the event at hand.
     pub out: Batch,
     /// Where bytes are read to.
     pub buffer: Vec<u8, Global>,
     pub alloc: Global,
 }
 
-impl<W: Wire + Drop> Engine<W> {
+impl<W: Wire + Drop, M: Machine + Drop> Engine<W, M> {
     ghost use Rattle.irc_engine.specs.EngineView.{engine_view};
     ghost use Rattle.irc_engine.specs.Turning.{IsNew};
 
-    /// An engine for a server that has no connection and no link, over a wire that has reported
-    /// nothing. An outbox of a client has room for `client_room` bytes, and that of a link for
-    /// `link_room`.
+    /// An engine for a machine whose server has no connection and no link, over a wire that has
+    /// reported nothing. An outbox of a client has room for `client_room` bytes, and that of a link
+    /// for `link_room`.
     ///
     /// # Errors
     /// Where memory runs out.
     pub fn new(
         alloc: Global,
-        server: Server,
+        machine: M,
         wire: W,
         client_room: usize,
         link_room: usize,
     ) -> Result<Self, AllocError>
-        requires nobody { HasNobody server }
+        requires nobody { HasNobody (M.server_of machine) }
         ensures { IfOk result
-            (λ engine. IsNew server wire client_room link_room (engine_view engine)) }
+            (λ engine. IsNew machine wire client_room link_room (engine_view engine)) }
     {
         let buffer = vec![in alloc; 0u8; READ_SIZE]?;
         Ok(Engine {
@@ -109,7 +112,7 @@ impl<W: Wire + Drop> Engine<W> {
                 link: link_room,
             },
             core: Core {
-                server,
+                machine,
                 journal: Journal::new(alloc),
                 connections: Connections {
                     wire,
@@ -125,9 +128,9 @@ impl<W: Wire + Drop> Engine<W> {
     }
 }
 
-impl<W: Wire> Engine<W> {
+impl<W: Wire, M: Machine> Engine<W, M> {
     ghost use Rattle.irc_engine.specs.EngineView.{engine_view, ChangesWireAlone};
-    ghost use Rattle.irc_engine.specs.Turning.{HasFailed, Runs, Taken, Turned};
+    ghost use Rattle.irc_engine.specs.Turning.{HasFailed, RunsBy, TakenBy, TurnedBy};
 
     /// Takes one turn: asks what is ready and does it, then writes once from each outbox that is
     /// not empty, in order of number.
@@ -138,15 +141,16 @@ impl<W: Wire> Engine<W> {
     ///   changed then.
     /// - [`EngineFault::Memory`] where memory runs out.
     pub fn turn(&mut self) -> Result<(), EngineFault>
-        ensures turned { Turned W.is_after (engine_view self.old) (engine_view self.new) result }
+        ensures turned { TurnedBy W.is_after M.server_of M.handles M.dues (engine_view self.old)
+            (engine_view self.new) result }
         ensures failed_before { HasFailed (engine_view self.old) → self.new ≡ self.old }
         ensures device { ChangesWireAlone result self.old self.new }
     {
         if self.failed {
             return Err(EngineFault::Failed);
         }
-        tell_known(&mut self.core.connections.wire, &self.core.server);
-        tell_user(&mut self.core.connections.wire, &self.core.server);
+        tell_known(&mut self.core.connections.wire, self.core.machine.server());
+        tell_user(&mut self.core.connections.wire, self.core.machine.server());
         match self.core.connections.wire.ready() {
             Ok(ready) => self.take(ready),
             Err(_) => Err(EngineFault::Device),
@@ -156,7 +160,8 @@ impl<W: Wire> Engine<W> {
     /// Does what is ready, and writes.
     fn take(&mut self, ready: Ready) -> Result<(), EngineFault>
         requires { self.old.failed ≡ false }
-        ensures { Taken W.is_after ready (engine_view self.old) (engine_view self.new) result }
+        ensures { TakenBy W.is_after M.server_of M.handles M.dues ready (engine_view self.old)
+            (engine_view self.new) result }
     {
         self.failed = true;
         match self.core.turn(ready, self.sizes) {
@@ -173,7 +178,8 @@ impl<W: Wire> Engine<W> {
     /// # Errors
     /// As [`Engine::turn`], for that turn.
     pub fn run(&mut self, turns: u64) -> Result<(), EngineFault>
-        ensures ran { Runs W.is_after (engine_view self.old) turns (engine_view self.new) result }
+        ensures ran { RunsBy W.is_after M.server_of M.handles M.dues (engine_view self.old) turns
+            (engine_view self.new) result }
         ensures failed_before { HasFailed (engine_view self.old) → self.new ≡ self.old }
     {
         for _turn in 0..turns {
@@ -183,26 +189,53 @@ impl<W: Wire> Engine<W> {
     }
 }
 
-impl<W: Wire> Core<W> {
+impl<W: Wire, M: Machine> Core<W, M> {
     ghost use Rattle.irc_engine.specs.Turning.{brings_nothing};
 
-    /// Does what is ready, and writes.
+    /// Does what is ready, and what is due, and writes.
     fn turn(&mut self, ready: Ready, sizes: OutboxSizes) -> Result<(), AllocError>
-        requires { IsSettledIn self.old }
-        ensures settled { OnOk result (IsSettledIn self.new) }
-        ensures done { OnOk result (Spans (Does W.is_after sizes ready) self.old self.new) }
-        ensures quiet { brings_nothing ready ≡ true → IsNobodyNoted self.old → result ≡ Ok tt }
+        requires { IsSettledIn M.server_of self.old }
+        ensures settled { OnOk result (IsSettledIn M.server_of self.new) }
+        ensures done { OnOk result (Spans (DoesBy W.is_after M.server_of M.handles M.dues sizes ready)
+            self.old self.new) }
+        ensures quiet { is_never M.dues ≡ true → brings_nothing ready ≡ true
+            → IsNobodyNoted self.old → result ≡ Ok tt }
     {
         self.answer(ready, sizes)?;
+        self.do_due()?;
         self.flush()
+    }
+
+    /// Does what is due now, and tells the server of each connection that was lost by this.
+    fn do_due(&mut self) -> Result<(), AllocError>
+        requires { IsAtOneIn M.server_of self.old }
+        ensures at_one { OnOk result (IsAtOneIn M.server_of self.new) }
+        ensures done { OnOk result (Spans (IsDoneBy W.is_after M.server_of M.handles M.dues)
+            self.old self.new) }
+        ensures told { OnOk result (KeepsTold self.old self.new) }
+        ensures marks { OnOk result (KeepsMarks self.old.connections self.new.connections) }
+        ensures quiet { is_never M.dues ≡ true
+            → (result ≡ Ok tt) × (self.new.connections ≡ self.old.connections) }
+    {
+        self.out.clear();
+        let moment = self.connections.wire.moment();
+        if let Err(fault) = self.machine.due(moment, &mut self.out) {
+            return Err(want_of_memory(fault));
+        }
+        if self.out.len() == 0 {
+            return Ok(());
+        }
+        self.connections.dispatch(&self.out, &mut self.journal)?;
+        self.tell_losses()
     }
 
     /// Does what is ready.
     fn answer(&mut self, ready: Ready, sizes: OutboxSizes) -> Result<(), AllocError>
-        requires at_one { IsAtOneIn self.old }
+        requires at_one { IsAtOneIn M.server_of self.old }
         requires told { AllTold (moment_of self.old) }
-        ensures at_one { OnOk result (IsAtOneIn self.new) }
-        ensures done { OnOk result (Spans (Answers W.is_after sizes ready) self.old self.new) }
+        ensures at_one { OnOk result (IsAtOneIn M.server_of self.new) }
+        ensures done { OnOk result (Spans (AnswersBy W.is_after M.server_of M.handles sizes ready)
+            self.old self.new) }
         ensures told { OnOk result (KeepsTold self.old self.new) }
         ensures notes { OnOk result (KeepsNotes self.old.connections self.new.connections) }
         ensures quiet { brings_nothing ready ≡ true → (result ≡ Ok tt) × (self.new ≡ self.old) }
@@ -218,10 +251,11 @@ impl<W: Wire> Core<W> {
     /// A client has connected, from a host. An event is half a kilobyte, which is cleared as the
     /// function that makes it begins: so each is made in one that runs for it alone.
     fn start_client(&mut self, conn: u64, host: Host, room: usize) -> Result<(), AllocError>
-        requires at_one { IsAtOneIn self.old }
+        requires at_one { IsAtOneIn M.server_of self.old }
         requires told { AllTold (moment_of self.old) }
-        ensures at_one { OnOk result (IsAtOneIn self.new) }
-        ensures done { OnOk result (Spans (Starts W.is_after ConnectionKind.Client room conn
+        ensures at_one { OnOk result (IsAtOneIn M.server_of self.new) }
+        ensures done { OnOk result (Spans (StartsBy W.is_after M.server_of M.handles
+            ConnectionKind.Client room conn
             (Event.Connect conn host)) self.old self.new) }
         ensures told { OnOk result (KeepsTold self.old self.new) }
         ensures notes { OnOk result (KeepsNotes self.old.connections self.new.connections) }
@@ -241,10 +275,11 @@ impl<W: Wire> Core<W> {
         starts: Option<ServerName>,
         room: usize,
     ) -> Result<(), AllocError>
-        requires at_one { IsAtOneIn self.old }
+        requires at_one { IsAtOneIn M.server_of self.old }
         requires told { AllTold (moment_of self.old) }
-        ensures at_one { OnOk result (IsAtOneIn self.new) }
-        ensures done { OnOk result (Spans (Starts W.is_after ConnectionKind.Link room conn
+        ensures at_one { OnOk result (IsAtOneIn M.server_of self.new) }
+        ensures done { OnOk result (Spans (StartsBy W.is_after M.server_of M.handles
+            ConnectionKind.Link room conn
             (Event.LinkUp conn starts)) self.old self.new) }
         ensures told { OnOk result (KeepsTold self.old self.new) }
         ensures notes { OnOk result (KeepsNotes self.old.connections self.new.connections) }
@@ -266,12 +301,13 @@ impl<W: Wire> Core<W> {
         room: usize,
         event: &Event,
     ) -> Result<(), AllocError>
-        requires at_one { IsAtOneIn self.old }
+        requires at_one { IsAtOneIn M.server_of self.old }
         requires told { AllTold (moment_of self.old) }
         requires arrival { IsArrival kind conn event.now }
-        ensures at_one { OnOk result (IsAtOneIn self.new) }
+        ensures at_one { OnOk result (IsAtOneIn M.server_of self.new) }
         ensures done { OnOk result
-            (Spans (Starts W.is_after kind room conn event.now) self.old self.new) }
+            (Spans (StartsBy W.is_after M.server_of M.handles kind room conn event.now) self.old
+            self.new) }
         ensures told { OnOk result (KeepsTold self.old self.new) }
         ensures notes { OnOk result (KeepsNotes self.old.connections self.new.connections) }
     {
@@ -284,9 +320,10 @@ impl<W: Wire> Core<W> {
 
     /// A connection has bytes, or has ended. One that the server has closed is read no more.
     fn read(&mut self, conn: u64) -> Result<(), AllocError>
-        requires { IsAtOneIn self.old }
-        ensures at_one { OnOk result (IsAtOneIn self.new) }
-        ensures done { OnOk result (Spans (Reads W.is_after conn) self.old self.new) }
+        requires { IsAtOneIn M.server_of self.old }
+        ensures at_one { OnOk result (IsAtOneIn M.server_of self.new) }
+        ensures done { OnOk result (Spans (ReadsBy W.is_after M.server_of M.handles conn) self.old
+            self.new) }
         ensures told { OnOk result (KeepsTold self.old self.new) }
         ensures marks { OnOk result (KeepsMarks self.old.connections self.new.connections) }
     {
@@ -306,9 +343,10 @@ impl<W: Wire> Core<W> {
     /// connection is open.
     fn take_lines(&mut self, conn: u64, count: usize) -> Result<(), AllocError>
         requires within { count ≤ length self.old.buffer.items }
-        requires at_one { IsAtOneIn self.old }
-        ensures at_one { OnOk result (IsAtOneIn self.new) }
-        ensures ran { OnOk result (HearsFrom W.is_after conn count self.old self.new) }
+        requires at_one { IsAtOneIn M.server_of self.old }
+        ensures at_one { OnOk result (IsAtOneIn M.server_of self.new) }
+        ensures ran { OnOk result (HearsFrom W.is_after M.server_of M.handles conn count self.old
+            self.new) }
         ensures told { OnOk result (KeepsTold self.old self.new) }
         ensures marks { OnOk result (KeepsMarks self.old.connections self.new.connections) }
     {
@@ -335,11 +373,12 @@ impl<W: Wire> Core<W> {
         kind: ConnectionKind,
         line: Option<Line>,
     ) -> Result<(), AllocError>
-        requires at_one { IsAtOneIn self.old }
+        requires at_one { IsAtOneIn M.server_of self.old }
         requires open { IsOpenAs conn kind self.old }
-        ensures at_one { OnOk result (IsAtOneIn self.new) }
+        ensures at_one { OnOk result (IsAtOneIn M.server_of self.new) }
         ensures ran { OnOk result
-            (AsksFor W.is_after (passed_on kind conn line) self.old self.new) }
+            (AsksFor W.is_after M.server_of M.handles (passed_on kind conn line)
+            self.old self.new) }
         ensures told { OnOk result (KeepsTold self.old self.new) }
         ensures marks { OnOk result (KeepsMarks self.old.connections self.new.connections) }
         ensures same { self.new.buffer ≡ self.old.buffer }
@@ -353,10 +392,12 @@ impl<W: Wire> Core<W> {
     /// Passes an event on to the server, and does what it puts out. Then it is told of each
     /// connection that was lost by this.
     fn pass(&mut self, event: &Event) -> Result<(), AllocError>
-        requires { IsToHearIn event.now self.old }
-        ensures at_one { OnOk result (IsAtOneIn self.new) }
-        ensures ran { OnOk result (AsksFor W.is_after (event.now ∷ []) self.old self.new) }
-        ensures in_order { OnOk result (Spans (PassesOn W.is_after event.now) self.old self.new) }
+        requires { IsToHearIn M.server_of event.now self.old }
+        ensures at_one { OnOk result (IsAtOneIn M.server_of self.new) }
+        ensures ran { OnOk result (AsksFor W.is_after M.server_of M.handles (event.now ∷ [])
+            self.old self.new) }
+        ensures in_order { OnOk result (Spans (PassesOnBy W.is_after M.server_of M.handles
+            event.now) self.old self.new) }
         ensures told { OnOk result (AllTold (moment_of self.new)) }
         ensures marks { OnOk result (KeepsMarks self.old.connections self.new.connections) }
         ensures same { self.new.buffer ≡ self.old.buffer }
@@ -368,10 +409,12 @@ impl<W: Wire> Core<W> {
     /// Tells the server of each connection that was lost, the lowest number first, until there is
     /// none.
     fn tell_losses(&mut self) -> Result<(), AllocError>
-        requires { IsAtOneIn self.old }
-        ensures at_one { OnOk result (IsAtOneIn self.new) }
-        ensures ran { OnOk result (Spans (RanOn W.is_after) self.old self.new) }
-        ensures in_order { OnOk result (Spans (TellsLosses W.is_after) self.old self.new) }
+        requires { IsAtOneIn M.server_of self.old }
+        ensures at_one { OnOk result (IsAtOneIn M.server_of self.new) }
+        ensures ran { OnOk result (Spans (RanOnBy W.is_after M.server_of M.handles) self.old
+            self.new) }
+        ensures in_order { OnOk result (Spans (TellsLossesBy W.is_after M.server_of M.handles)
+            self.old self.new) }
         ensures told { OnOk result (AllTold (moment_of self.new)) }
         ensures marks { OnOk result (KeepsMarks self.old.connections self.new.connections) }
         ensures same { self.new.buffer ≡ self.old.buffer }
@@ -384,12 +427,13 @@ impl<W: Wire> Core<W> {
 
     /// Tells the server that a connection of this kind is gone, and does what it puts out.
     fn handle_end(&mut self, conn: u64, kind: ConnectionKind) -> Result<(), AllocError>
-        requires { IsToHearIn (end_event_of kind conn) self.old }
-        ensures at_one { OnOk result (IsAtOneIn self.new) }
+        requires { IsToHearIn M.server_of (end_event_of kind conn) self.old }
+        ensures at_one { OnOk result (IsAtOneIn M.server_of self.new) }
         ensures count { OnOk result
             (count_of self.new.connections ≤ count_of self.old.connections) }
         ensures asks { OnOk result
-            (Spans (AsksOnce W.is_after (end_event_of kind conn)) self.old self.new) }
+            (Spans (AsksOnceBy W.is_after M.server_of M.handles (end_event_of kind conn)) self.old
+            self.new) }
         ensures marks { OnOk result (KeepsMarks self.old.connections self.new.connections) }
         ensures same { self.new.buffer ≡ self.old.buffer }
     {
@@ -398,19 +442,19 @@ impl<W: Wire> Core<W> {
 
     /// Passes an event on to the server, which does not refuse it, and does what it puts out.
     fn handle(&mut self, event: &Event) -> Result<(), AllocError>
-        requires { IsToHearIn event.now self.old }
-        ensures at_one { OnOk result (IsAtOneIn self.new) }
+        requires { IsToHearIn M.server_of event.now self.old }
+        ensures at_one { OnOk result (IsAtOneIn M.server_of self.new) }
         ensures count { OnOk result
             (count_of self.new.connections ≤ count_of self.old.connections) }
-        ensures asks { OnOk result (Spans (AsksOnce W.is_after event.now) self.old self.new) }
+        ensures asks { OnOk result (Spans (AsksOnceBy W.is_after M.server_of M.handles event.now)
+            self.old self.new) }
         ensures marks { OnOk result (KeepsMarks self.old.connections self.new.connections) }
         ensures same { self.new.buffer ≡ self.old.buffer }
     {
-        irc_server::laws::who_is_connected();
         self.out.clear();
-        match self.server.handle(event, &mut self.out) {
+        match self.machine.handle(event, &mut self.out) {
             Ok(()) => {
-                note(&mut self.journal, event, &self.server)?;
+                note(&mut self.journal, event, self.machine.server())?;
                 self.connections.dispatch(&self.out, &mut self.journal)
             }
             Err(fault) => Err(want_of_memory(fault)),
@@ -419,9 +463,10 @@ impl<W: Wire> Core<W> {
 
     /// Writes once from each outbox that is not empty, in order of number.
     fn flush(&mut self) -> Result<(), AllocError>
-        requires { IsAtOneIn self.old }
-        ensures at_one { OnOk result (IsAtOneIn self.new) }
-        ensures done { OnOk result (Spans (Flushes W.is_after) self.old self.new) }
+        requires { IsAtOneIn M.server_of self.old }
+        ensures at_one { OnOk result (IsAtOneIn M.server_of self.new) }
+        ensures done { OnOk result (Spans (FlushesBy W.is_after M.server_of M.handles) self.old
+            self.new) }
         ensures told { OnOk result (KeepsTold self.old self.new) }
         ensures in_order { OnOk result (KeepsOrder self.old self.new) }
         ensures quiet { IsNobodyNoted self.old → result ≡ Ok tt }

@@ -1,4 +1,5 @@
-//! An engine: it runs one server over a wire, as a program does over sockets.
+//! An engine: it runs one server, or a machine around one, over a wire, as a program does over
+//! sockets.
 #![tactic(auto)]
 
 mod boxed_framer;
@@ -7,8 +8,10 @@ mod connections;
 mod engine;
 mod kind;
 mod lent_outbox;
+mod machine;
 mod noting;
 mod outbox_pool;
 mod telling;
 
 pub use engine::{Engine, EngineFault};
+pub use machine::Machine;

@@ -3,24 +3,26 @@ ghost use Rattle.std.specs.Prelude.{◌≡◌};
 ghost use Rattle.irc_outbox.specs.Calls.{Keeps};
 ghost use Rattle.irc_journal.specs.Saying.{AreTold, TellsOne};
 ghost use Rattle.irc_engine.specs.EngineView.{engine_view};
-ghost use Rattle.irc_engine.specs.Telling.{call_told, IsNoticeSaid, RunsTelling, Tells};
-ghost use Rattle.irc_engine.specs.Telling.{TellsTurned};
+ghost use Rattle.irc_engine.specs.Telling.{call_told, IsNoticeSaid, RunsTellingBy, Tells};
+ghost use Rattle.irc_engine.specs.Telling.{TellsTurnedBy};
 
 use crate::engine::{Engine, EngineFault};
+use crate::machine::Machine;
 use irc_journal::{Journal, Outcome, Tidings, say_call, say_connections};
 use irc_moments::Moment;
 use irc_names::Host;
 use irc_outbox::{Notice, Unreached, Wire};
 use std::io::Write;
 
-impl<W: Wire> Engine<W> {
+impl<W: Wire, M: Machine> Engine<W, M> {
     /// Takes so many turns, up to the first that is not done; that one is the last. Behind each,
     /// that one too, it says what there is to tell.
     ///
     /// # Errors
     /// As [`Engine::turn`], for that turn.
     pub fn run_telling<E: Write>(&mut self, turns: u64, errors: &mut E) -> Result<(), EngineFault>
-        ensures { RunsTelling W.is_after (engine_view self.old) (E.contents errors.old) turns
+        ensures { RunsTellingBy W.is_after M.server_of M.handles M.dues (engine_view self.old) (E.contents
+            errors.old) turns
             (engine_view self.new) (E.contents errors.new) result }
     {
         for _turn in 0..turns {
@@ -31,7 +33,8 @@ impl<W: Wire> Engine<W> {
 
     /// Takes one turn, and says what there is to tell.
     fn turn_telling<E: Write>(&mut self, errors: &mut E) -> Result<(), EngineFault>
-        ensures { TellsTurned W.is_after (engine_view self.old) (engine_view self.new)
+        ensures { TellsTurnedBy W.is_after M.server_of M.handles M.dues (engine_view self.old)
+            (engine_view self.new)
             (E.contents errors.old) (E.contents errors.new) result }
     {
         let turned = self.turn();

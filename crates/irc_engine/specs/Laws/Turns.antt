@@ -16,33 +16,38 @@ use Rattle.irc_engine.specs.declared.engine.OutboxSizes.{OutboxSizes}
 use Rattle.irc_engine.specs.declared.kind.ConnectionKind.{ConnectionKind}
 use Rattle.irc_engine.specs.declared.connection_table.Connection.{Connection}
 use Rattle.irc_engine.specs.Carrying.{fresh_connection, has_some_at, is_exchange, bytes_owed, Fate}
-use Rattle.irc_engine.specs.Running.{Moment, IsInOrder, Ran, Starts, in_use, makes_connection}
-use Rattle.irc_engine.specs.Running.{Reads, not_open, read_once, Answers, Turn}
-use Rattle.irc_engine.specs.Turning.{Turned, takes_turn, device_failed, wants_memory}
-use Rattle.irc_engine.specs.EngineView.{EngineView}
-use Rattle.irc_engine.specs.Turning.{has_failed, Turns, no_turn, one_more}
+use Rattle.irc_engine.specs.Running.{MomentOf, IsInOrder, RanBy, StartsBy, in_use, makes_connection}
+use Rattle.irc_engine.specs.Running.{ReadsBy, not_open, read_once, AnswersBy, TurnBy}
+use Rattle.irc_engine.specs.Turning.{TurnedBy, takes_turn, device_failed, wants_memory}
+use Rattle.irc_engine.specs.EngineView.{EngineViewOf}
+use Rattle.irc_engine.specs.Machines.{never_due, Dues, Handles}
+use Rattle.irc_stage.specs.View.{View}
+use Rattle.irc_engine.specs.Turning.{has_failed, TurnsBy, no_turn, one_more}
 use Rattle.irc_engine.specs.Writing.{one_if}
 
-order_as : {W : Type 0} (now : Moment W) (wire : W) → IsInOrder now
+order_as : {W M : Type 0} (now : MomentOf W M) (wire : W) → IsInOrder now
     → IsInOrder (record now { wire = wire })
 order_as now wire order =
     record { all_told = order.all_told; noted = order.noted; none_done = order.none_done }
 
-module _ {W : Type 0} (is_after : W → List Call → Type 0) where
+module _ {W M : Type 0} {server_of : M → Option View} {handles : Handles M}
+    {dues : Dues M} (is_after : W → List Call → Type 0) where
   -- a turn that does not want memory leaves an engine in order
-  pub in_order_after : (old new : EngineView W) (result : Result (Unit {0}) EngineFault)
-      → Turned is_after old new result → new.failed ≡ false → IsInOrder old.now → IsInOrder new.now
+  pub in_order_after : (old new : EngineViewOf W M) (result : Result (Unit {0}) EngineFault)
+      → TurnedBy is_after server_of handles dues old new result → new.failed ≡ false
+      → IsInOrder old.now → IsInOrder new.now
   in_order_after old new result (takes_turn serves still room turn) well order =
       (turn.does.in_order (order_as old.now turn.wire order)).1
   in_order_after old new result (device_failed fault serves still room account same) well order =
-      subst (λ (now : Moment W). IsInOrder now) (sym same) (order_as old.now new.now.wire order)
+      subst (λ (now : MomentOf W M). IsInOrder now) (sym same) (order_as old.now new.now.wire order)
   in_order_after old new result (wants_memory report wire serves failed account busy) well order =
       cc (sym failed ∙ well)
   in_order_after old new result (has_failed failed same) well order =
-      cc (sym failed ∙ sym (ap (λ (e : EngineView W). e.failed) same) ∙ well)
+      cc (sym failed ∙ sym (ap (λ (e : EngineViewOf W M). e.failed) same) ∙ well)
 
-  pub in_order_after_all : (old : EngineView W) (turns : ℕ) (new : EngineView W)
-      → Turns is_after old turns new → IsInOrder old.now → IsInOrder new.now
+  pub in_order_after_all : (old : EngineViewOf W M) (turns : ℕ) (new : EngineViewOf W M)
+      → TurnsBy is_after server_of handles dues old turns new → IsInOrder old.now
+      → IsInOrder new.now
   in_order_after_all old turns new no_turn order = order
   in_order_after_all old turns new
       (one_more n between last so_far (takes_turn serves still room turn)) order =
@@ -86,9 +91,11 @@ other_connection : (old new : Option Connection) (connection : Option Connection
 other_connection old new connection true none set some = cc (sym some ∙ ap has_some_at (none refl))
 other_connection old new connection false none set some = set
 
-module _ {W : Type 0} (is_after : W → List Call → Type 0) (sizes : OutboxSizes) (conn : ℕ) where
-  ran_waits : (exchanges : List Call) (first : List Event) (came : ℕ → List ℕ) (old new : Moment W)
-      → written conn exchanges ≡ [] → Ran is_after exchanges first came old new
+module _ {W M : Type 0} (is_after : W → List Call → Type 0) (server_of : M → Option View)
+    (handles : Handles M) (sizes : OutboxSizes) (conn : ℕ) where
+  ran_waits : (exchanges : List Call) (first : List Event) (came : ℕ → List ℕ)
+      (old new : MomentOf W M)
+      → written conn exchanges ≡ [] → RanBy is_after server_of handles exchanges first came old new
       → has_some_at (old.connections conn) ≡ true → is_some (new.connections conn) ≡ true
       → has_some_at (new.connections conn) ≡ true
   ran_waits exchanges first came old new nothing ran some there =
@@ -96,8 +103,9 @@ module _ {W : Type 0} (is_after : W → List Call → Type 0) (sizes : OutboxSiz
       (ran.fates conn) (written_in conn ran.calls ∙ ap (written conn) ran.exchanged
       ∙ nothing) some there
 
-  starts_waits : (kind : ConnectionKind) (room which : ℕ) (event : Event) (old new : Moment W)
-      → Starts is_after kind room which event old new → has_some_at (old.connections conn) ≡ true
+  starts_waits : (kind : ConnectionKind) (room which : ℕ) (event : Event) (old new : MomentOf W M)
+      → StartsBy is_after server_of handles kind room which event old new
+      → has_some_at (old.connections conn) ≡ true
       → is_some (new.connections conn) ≡ true → has_some_at (new.connections conn) ≡ true
   starts_waits kind room which event old new (in_use used ran) some there =
       ran_waits [] [] _ old new refl ran some there
@@ -108,7 +116,8 @@ module _ {W : Type 0} (is_after : W → List Call → Type 0) (sizes : OutboxSiz
       (λ one. ap old.connections (sym (eqb-true which conn one)) ∙ free) (set conn) some in
       ran_waits [] _ _ between new refl ran (ap has_some_at same ∙ some) there
 
-  reads_waits : (which : ℕ) (old new : Moment W) → Reads is_after which old new
+  reads_waits : (which : ℕ) (old new : MomentOf W M) → ReadsBy is_after server_of handles which old
+      new
       → has_some_at (old.connections conn) ≡ true → is_some (new.connections conn) ≡ true
       → has_some_at (new.connections conn) ≡ true
   reads_waits which old new (not_open closed ran) some there =
@@ -116,7 +125,8 @@ module _ {W : Type 0} (is_after : W → List Call → Type 0) (sizes : OutboxSiz
   reads_waits which old new (read_once size answer bytes is_open as_large ran) some there =
       ran_waits _ [] _ old new refl ran some there
 
-  answers_wait : (report : Ready) (old new : Moment W) → Answers is_after sizes report old new
+  answers_wait : (report : Ready) (old new : MomentOf W M)
+      → AnswersBy is_after server_of handles sizes report old new
       → has_some_at (old.connections conn) ≡ true → is_some (new.connections conn) ≡ true
       → has_some_at (new.connections conn) ≡ true
   answers_wait Idle old new ran some there = ran_waits [] [] _ old new refl ran some there
@@ -129,8 +139,9 @@ module _ {W : Type 0} (is_after : W → List Call → Type 0) (sizes : OutboxSiz
       ran_waits [] [] _ old new refl ran some there
 
   -- A connection whose outbox was not empty before a turn, and which the turn does not close, is
-  -- written to once.
-  pub written_in_turn : (old new : Moment W) (turn : Turn is_after sizes old new) → IsInOrder old
+  -- written to once, where nothing is ever due.
+  pub written_in_turn : (old new : MomentOf W M)
+      (turn : TurnBy is_after server_of handles never_due sizes old new) → IsInOrder old
       → has_some_at (old.connections conn) ≡ true → is_some (new.connections conn) ≡ true
       → times_written conn turn.does.writes.exchanges ≡ 1
   written_in_turn old new turn order some there =

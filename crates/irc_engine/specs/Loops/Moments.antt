@@ -15,22 +15,28 @@ use Rattle.irc_engine.specs.declared.engine.Core.{Core}
 use Rattle.irc_engine.specs.declared.kind.ConnectionKind.{ConnectionKind}
 use Rattle.irc_engine.specs.Carrying.{open_kind_at}
 use Rattle.irc_engine.specs.Hearing.{line_event_of, nothing_of, only_of}
-use Rattle.irc_engine.specs.Running.{Moment, AllTold, IsInOrder, Ran}
+use Rattle.irc_engine.specs.Machines.{Handles}
+use Rattle.irc_engine.specs.Running.{MomentOf, AllTold, IsInOrder, RanBy}
 use Rattle.irc_engine.specs.Knowing.{IsAtOne, IsSettled, IsToHear}
 use Rattle.irc_engine.specs.Moments.{moment_of, connection_of, has, lost_at}
 
 -- from the engine's parts to what they are then, as from one moment to another
-abbrev pub Spans : {W : Type 0} → (Moment W → Moment W → Type 0) → Core W → Core W → Type 0
+abbrev pub Spans : {W M : Type 0} → (MomentOf W M → MomentOf W M → Type 0) → Core W M → Core W M
+    → Type 0
 Spans P old new = P (moment_of old) (moment_of new)
 
--- The server is asked for these events, and then for others that follow from them.
-abbrev pub AsksFor : {W : Type 0} → (W → List Call → Type 0) → List Event → Core W → Core W → Type 0
-AsksFor is_after events old new = Ran is_after [] events nothing_of (moment_of old) (moment_of new)
+module _ {W M : Type 0} (is_after : W → List Call → Type 0) (server_of : M → Option View)
+    (handles : Handles M) where
+  -- The machine is asked for these events, and then for others that follow from them.
+  abbrev pub AsksFor : List Event → Core W M → Core W M → Type 0
+  AsksFor events old new =
+      RanBy is_after server_of handles [] events nothing_of (moment_of old) (moment_of new)
 
--- So many bytes at the front of the buffer are heard, as those of one connection.
-abbrev pub HearsFrom : {W : Type 0} → (W → List Call → Type 0) → ℕ → ℕ → Core W → Core W → Type 0
-HearsFrom is_after conn count old new =
-    Ran is_after [] [] (only_of conn (take count old.buffer.items)) (moment_of old) (moment_of new)
+  -- So many bytes at the front of the buffer are heard, as those of one connection.
+  abbrev pub HearsFrom : ℕ → ℕ → Core W M → Core W M → Type 0
+  HearsFrom conn count old new =
+      RanBy is_after server_of handles [] [] (only_of conn (take count old.buffer.items))
+      (moment_of old) (moment_of new)
 
 -- whether a server knows another, by any way, or is that one; one for which memory ran out is taken
 -- for one that does
@@ -56,31 +62,31 @@ passed_on kind conn None = []
 passed_on kind conn (Some line) = line_event_of kind conn line ∷ []
 
 -- the server has been told of each connection that was lost, if it had been before
-abbrev pub KeepsTold : {W : Type 0} → Core W → Core W → Type 0
+abbrev pub KeepsTold : {W M : Type 0} → Core W M → Core W M → Type 0
 KeepsTold old new = AllTold (moment_of old) → AllTold (moment_of new)
 
 -- it is in order, if it was before
-abbrev pub KeepsOrder : {W : Type 0} → Core W → Core W → Type 0
+abbrev pub KeepsOrder : {W M : Type 0} → Core W M → Core W M → Type 0
 KeepsOrder old new = IsInOrder (moment_of old) → IsInOrder (moment_of new)
 
 -- nobody is noted as one to be written to
-abbrev pub IsNobodyNoted : {W : Type 0} → Core W → Type 0
+abbrev pub IsNobodyNoted : {W M : Type 0} → Core W M → Type 0
 IsNobodyNoted core = (conn : ℕ) → has core.connections.waiting conn ≡ false
 
 -- the engine and its server know the same of each other: between two turns, within one, and before
 -- an event
-abbrev pub IsSettledIn : {W : Type 0} → Core W → Type 0
-IsSettledIn core =
-    IsSettled core.server (connection_of core.connections.table) (lost_at core.connections.lost)
+abbrev pub IsSettledIn : {W M : Type 0} → (M → Option View) → Core W M → Type 0
+IsSettledIn server_of core = IsSettled (server_of core.machine)
+    (connection_of core.connections.table) (lost_at core.connections.lost)
 
-abbrev pub IsAtOneIn : {W : Type 0} → Core W → Type 0
-IsAtOneIn core =
-    IsAtOne core.server (connection_of core.connections.table) (lost_at core.connections.lost)
-
-abbrev pub IsToHearIn : {W : Type 0} → Event → Core W → Type 0
-IsToHearIn event core = IsToHear event core.server (connection_of core.connections.table)
+abbrev pub IsAtOneIn : {W M : Type 0} → (M → Option View) → Core W M → Type 0
+IsAtOneIn server_of core = IsAtOne (server_of core.machine) (connection_of core.connections.table)
     (lost_at core.connections.lost)
 
+abbrev pub IsToHearIn : {W M : Type 0} → (M → Option View) → Event → Core W M → Type 0
+IsToHearIn server_of event core = IsToHear event (server_of core.machine)
+    (connection_of core.connections.table) (lost_at core.connections.lost)
+
 -- a connection is open, as one of this kind
-abbrev pub IsOpenAs : {W : Type 0} → ℕ → ConnectionKind → Core W → Type 0
+abbrev pub IsOpenAs : {W M : Type 0} → ℕ → ConnectionKind → Core W M → Type 0
 IsOpenAs conn kind core = open_kind_at (connection_of core.connections.table conn) ≡ Some kind

@@ -6,6 +6,7 @@ use Rattle.irc_sockets.specs.declared.mio_wire.MioWire.{MioWire}
 use Rattle.irc_engine.specs.declared.engine.Engine.{Engine}
 use Rattle.irc_engine.specs.EngineView.{EngineView, engine_view}
 use Rattle.irc_engine.specs.Telling.{ToldTurns}
+use Rattle.irc_stage.specs.View.{View}
 use Rattle.irc_journal.specs.Saying.{AreSomeSaid}
 use Rattle.irc_endings.specs.declared.fault.Stop.{Stop}
 use Rattle.irc_endings.specs.declared.fault.Stop.TheVariants.{BadConfiguration, Failed}
@@ -13,7 +14,7 @@ use Rattle.ircd.specs.declared.setup.Setup.{Setup}
 use Rattle.ircd.specs.Serving.{IsOpened, IsUnopened, Serves}
 
 -- what was set up is open, and nothing was said; or the program failed
-abbrev pub Opens : Setup → Result (Engine (LateWire MioWire)) Stop
+abbrev pub Opens : {g : _} → Setup → Result (Engine (LateWire MioWire) (Option View) g) Stop
     → (errors errors_after : Option (List ℕ)) → Type 0
 Opens setup (Ok engine) errors errors_after =
     IsOpened setup (engine_view engine) × (errors_after ≡ errors)
@@ -29,7 +30,8 @@ TakesTurns is_after old turns new errors errors_after (Err stop) =
     (stop ≡ Failed) × AreSomeSaid errors errors_after
 
 -- how serving by an engine ends, once it is open
-abbrev pub IsRun : {W : Type 0} → (W → List Call → Type 0) → ℕ → Engine W → Engine W
+abbrev pub IsRun : {W : Type 0} {g : _} → (W → List Call → Type 0) → ℕ
+    → (old new : Engine W (Option View) g)
     → (printed printed_after errors errors_after : Option (List ℕ)) → Result (Unit {0}) Stop
     → Type 0
 IsRun is_after turns old new printed printed_after errors errors_after result =

@@ -6,7 +6,8 @@ use Rattle.irc_engine.proofs.engine.Core.handle_end.Goals as goal
 
 pub handle-requires : goal.handle-requires
 handle-requires g c =
-    subst (λ (e : Event). IsToHearIn e c.args.self.now) (sym c.end_event.ensures) c.requires
+    subst (λ (e : Event). IsToHearIn g.M.Machine.server_of e c.args.self.now) (sym
+    c.end_event.ensures) c.requires
 
 pub returns-clause-asks : goal.returns-clause-asks
 returns-clause-asks g c =

@@ -5,7 +5,7 @@ use Rattle.std.specs.Ordering.{nat_cmp}
 use Rattle.std.proofs.lemmas.Map.Keys.{le_from_not_gt}
 use Rattle.irc_engine.specs.Moments.{lost_at, moment_of, connection_of}
 use Rattle.irc_engine.specs.declared.kind.ConnectionKind.{ConnectionKind}
-use Rattle.irc_engine.specs.Running.{RanOn, TellsLosses, none_so_far, tells_lowest}
+use Rattle.irc_engine.specs.Running.{RanOnBy, TellsLossesBy, none_so_far, tells_lowest}
 use Rattle.irc_engine.proofs.TableLaws.{set_at}
 use Rattle.irc_engine.specs.Knowing.{IsAtOne}
 use Rattle.irc_engine.proofs.KnowingLaws.{hears_end}
@@ -50,19 +50,22 @@ loop-conn-preserved g c =
 
 pub returns-clause-ran : goal.returns-clause-ran
 returns-clause-ran g c =
-    subst (λ (es : List (ℕ × ConnectionKind)). RanOn g.W.Wire.is_after (moment_of c.args.self.now)
+    subst (λ (es : List (ℕ × ConnectionKind)). RanOnBy g.W.Wire.is_after g.M.Machine.server_of
+    g.M.Machine.handles (moment_of c.args.self.now)
     (record (moment_of c.loop-conn.self) { lost = λ q. lookup (is_at (nat_cmp q)) es }))
     (sym c.in_default.ensures.unchanged) c.loop-conn.invariant.ran
 
 pub returns-clause-in_order : goal.returns-clause-in_order
 returns-clause-in_order g c =
-    subst (λ (es : List (ℕ × ConnectionKind)). TellsLosses g.W.Wire.is_after
+    subst (λ (es : List (ℕ × ConnectionKind)). TellsLossesBy g.W.Wire.is_after
+    g.M.Machine.server_of g.M.Machine.handles
     (moment_of c.args.self.now)
     (record (moment_of c.loop-conn.self) { lost = λ q. lookup (is_at (nat_cmp q)) es }))
     (sym c.in_default.ensures.unchanged) c.loop-conn.invariant.in_order
 
 pub returns-clause-at_one : goal.returns-clause-at_one
 returns-clause-at_one g c =
-    subst (λ (es : List (ℕ × ConnectionKind)). IsAtOne c.loop-conn.self.server
+    subst (λ (es : List (ℕ × ConnectionKind)). IsAtOne (g.M.Machine.server_of
+    c.loop-conn.self.machine)
     (connection_of c.loop-conn.self.connections.table) (λ q. lookup (is_at (nat_cmp q)) es))
     (sym c.in_default.ensures.unchanged) c.loop-conn.invariant.at_one

@@ -1,6 +1,6 @@
 use Rattle.std.proofs.Common.{subst, arith}
 use Rattle.irc_engine.specs.EngineView.{engine_view}
-use Rattle.irc_engine.specs.Telling.{TellsTurned, ToldTurns, no_told, told_more, all_told}
+use Rattle.irc_engine.specs.Telling.{TellsTurnedBy, ToldTurnsBy, no_told, told_more, all_told}
 use Rattle.irc_engine.proofs.TellingLaws.{told_stops}
 use Rattle.irc_engine.proofs.engine.Engine.run_telling.Goals as goal
 
@@ -10,7 +10,8 @@ loop-turn-init g c = no_told
 pub loop-turn-preserved : goal.loop-turn-preserved
 loop-turn-preserved g c =
     told_more _ _ _ _ _ c.loop-turn.invariant
-    (subst (λ r. TellsTurned g.W.Wire.is_after (engine_view c.loop-turn.self)
+    (subst (λ r. TellsTurnedBy g.W.Wire.is_after g.M.Machine.server_of g.M.Machine.handles
+    g.M.Machine.dues (engine_view c.loop-turn.self)
     (engine_view c.turn_telling.new.self)
     (g.E.Write.contents c.loop-turn.errors) (g.E.Write.contents c.turn_telling.new.errors) r)
     c.in_ok-turn_telling.was c.turn_telling.ensures)
@@ -23,7 +24,8 @@ returns-in_err-turn_telling g c =
 
 pub returns : goal.returns
 returns g c =
-    all_told (subst (λ n. ToldTurns g.W.Wire.is_after (engine_view c.args.self.now)
+    all_told (subst (λ n. ToldTurnsBy g.W.Wire.is_after g.M.Machine.server_of g.M.Machine.handles
+    g.M.Machine.dues (engine_view c.args.self.now)
     (g.E.Write.contents c.args.errors.now) n (engine_view c.loop-turn.self)
     (g.E.Write.contents c.loop-turn.errors)) (omega
     (arith, c.loop-turn-test.false, c.loop-turn.auto._turn-end)) c.loop-turn.invariant)

@@ -14,15 +14,17 @@ returns-then-self-clause-turned g c = has_failed c.if-self.true refl
 pub returns-in-Ok-clause-turned : goal.returns-in-Ok-clause-turned
 returns-in-Ok-clause-turned g c =
     turned_from _ _ _ _ _ _ c.if-self.false
-    (kept_then g.W.Wire.is_after _ _ _ _ c.tell_known.ensures
-    (subst (λ r. Adds g.W.Wire.is_after c.tell_known.new.wire (asks r) c.ready.new.self) c.in-Ok.is
+    (kept_then g.W.Wire.is_after _ _ _ _ (λ calls was. c.tell_user.ensures calls
+    (c.tell_known.ensures calls was))
+    (subst (λ r. Adds g.W.Wire.is_after c.tell_user.new.wire (asks r) c.ready.new.self) c.in-Ok.is
     c.ready.ensures)) c.take.ensures
 
 pub returns-in-Err-clause-turned : goal.returns-in-Err-clause-turned
 returns-in-Err-clause-turned g c =
     device_failed c.in-Err.field-0 c.if-self.false c.if-self.false refl
-    (kept_then g.W.Wire.is_after _ _ _ _ c.tell_known.ensures
-    (subst (λ r. Adds g.W.Wire.is_after c.tell_known.new.wire (asks r) c.ready.new.self) c.in-Err.is
+    (kept_then g.W.Wire.is_after _ _ _ _ (λ calls was. c.tell_user.ensures calls
+    (c.tell_known.ensures calls was))
+    (subst (λ r. Adds g.W.Wire.is_after c.tell_user.new.wire (asks r) c.ready.new.self) c.in-Err.is
     c.ready.ensures)) refl
 
 pub returns-in-Ok-clause-device : goal.returns-in-Ok-clause-device
@@ -32,9 +34,10 @@ returns-in-Ok-clause-device g c =
 pub returns-in-Err-clause-device : goal.returns-in-Err-clause-device
 returns-in-Err-clause-device g c =
     ap (λ (settled : c.args.self.now.failed ≡ false
-    → IsSettled c.args.self.now.core.server (connection_of c.args.self.now.core.connections.table)
+    → IsSettled (g.M.Machine.server_of c.args.self.now.core.machine) (connection_of
+    c.args.self.now.core.connections.table)
     (lost_at c.args.self.now.core.connections.lost)).
     record (with_wire c.ready.new.self c.args.self.now) { settled = settled })
-    (settled_once c.args.self.now.failed c.args.self.now.core.server
+    (settled_once c.args.self.now.failed (g.M.Machine.server_of c.args.self.now.core.machine)
     (connection_of c.args.self.now.core.connections.table)
     (lost_at c.args.self.now.core.connections.lost) _ c.args.self.now.settled)
