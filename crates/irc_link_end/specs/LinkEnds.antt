@@ -6,7 +6,7 @@
 --   behind that                what is put out goes in pieces, and what comes does
 -- Of an end that was called its PASS has the word where the other's had it. Where one of the two
 -- has not, lines go one by one, each as it is.
-use Rattle.std.specs.Prelude.{ℕ, Bool, true, false, not, ◌&&◌, ◌||◌, Option, Some, None, List, []}
+use Rattle.std.specs.Prelude.{ℕ, Bool, true, false, not, ◌&&◌, ◌||◌, None, List, []}
 use Rattle.std.specs.Prelude.{◌∷◌, unwrap_or, if◌then◌else◌}
 use Rattle.irc_pieces.specs.Ends.{after_line, has_put_out, has_told, heard_line, nothing_begun}
 use Rattle.irc_pieces.specs.Pieces.{CountedEnd}

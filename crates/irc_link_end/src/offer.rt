@@ -4,8 +4,8 @@ ghost use Rattle.std.specs.Prelude.{◌≡◌};
 ghost use Rattle.std.specs.Option.{option_copied};
 ghost use Rattle.irc_link_end.specs.Offers.{is_offer, with_word, without_word};
 
-use irc_line::{Text, push_cut};
 use arrayvec::ArrayVec;
+use irc_line::{Text, push_cut};
 
 const PASS: &[u8] = b"PASS ";
 
