@@ -397,7 +397,8 @@ impl Wire for MioWire {
             return Err(IoFault::Failed);
         }
         self.round.begin_turn();
-        self.newcomers.look(self.round.began);
+        let now = self.round.began;
+        self.newcomers.look(now);
         Ok(self.report())
     }
 
