@@ -95,14 +95,17 @@ def is_same_place(theirs, ours):
 
 
 def stays(held, theirs, ours):
-    """Of two values for one place the greater stays; one that changed nothing is no value, and of two that are equal one is enough.
+    """Of two values for one place the greater stays, and one that was set on both sides is set once. A raise may always stay, where it does
+    nothing too: but not what had nothing to raise there, and would have here.
 
         a.net writes    :al TOPIC #c :one       b.net writes    :bo TOPIC #c :two
         a.net is given  :bo TOPIC #c :two       b.net is given  nothing
     """
     if is_idle(held, ours):
         return True
-    return not is_idle(held, theirs) and is_greater(theirs.value, ours.value)
+    if is_idle(held, theirs):
+        return isinstance(theirs, Raise) and not is_greater(theirs.value, ours.value)
+    return isinstance(theirs, Raise) or is_greater(theirs.value, ours.value)
 
 
 def is_idle(held, effect):
@@ -134,7 +137,7 @@ def through(base, theirs, log):
     them. The log has what we did since, each with the number of its piece."""
     room, left = base, []
     for number, ours in log:
-        theirs, behind = across(room, theirs, ours)
-        left += [(number, behind)] if behind else []
+        theirs, behind = across(room, theirs, list(ours))
+        left += [(number, tuple(behind))] if behind else []
         room = all_done(room, ours)
     return theirs, left

@@ -115,13 +115,13 @@ class Layer:
 
     def __init__(self, module, most=MOST):
         self.module, self.server, self.ends, self.most = module, module.Server(), {}, most
-        self.asked_for = None           # where it is a list, what the server was asked for is noted in it
+        self.noted = None               # where it is a list, what the server was asked for, and whether it did something
         self.deeds = 0
 
     def copied(self):
         other = object.__new__(Layer)
         other.module, other.server, other.ends, other.most = self.module, copied(self.server), dict(self.ends), self.most
-        other.asked_for, other.deeds = None, self.deeds
+        other.noted, other.deeds = None, self.deeds
         return other
 
     def up(self, link, called=None):
@@ -189,13 +189,20 @@ class Layer:
 
     def give(self, link, item):
         """The server is asked for something."""
-        if self.asked_for is not None:
-            self.asked_for.append((link, item))
+        if self.noted is not None:
+            self.note(link, item)
         if isinstance(item, Line):
             self.server.hear(link, item.text)
         else:
             self.deeds += 1
             DEEDS[type(item)](self.server, link, item)
+
+    def note(self, link, item):
+        """Notes what the server is asked for, and whether it does something by it, which is tried on a copy."""
+        trial = copied(self.server)
+        trial.hear(link, item.text)
+        does = bool(trial.taken()) or room_of(trial) != room_of(self.server)
+        self.noted.append((does, link, item.text))
 
     def taken(self, arrival, is_set):
         """What the server has put out: what goes to links is kept for their pieces."""

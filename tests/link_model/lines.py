@@ -176,7 +176,11 @@ class Reader(NamedTuple):
     def has_far(self, channel):
         """Whether a channel has a member behind the link."""
         there = self.room.channels.get(channel)
-        return there is not None and any(self.room.people[nick].home in self.behind for nick in there.members)
+        return there is not None and any(map(self.is_far, there.members))
+
+    def is_far(self, nick):
+        """Whether somebody behind the link has a nickname."""
+        return nick in self.room.people and self.room.people[nick].home in self.behind
 
     def word(self, word, effect):
         """A nickname as it came, or as it is here where its user has another one here."""
@@ -247,12 +251,16 @@ def in_asked(reader, tale, became, left):
     if tale.command == b"JOIN" and comers and joins_plainly(reader, comers[0], name, raised):
         return [Line(put_right(reader, tale, comers[0], {}))]
     server = tale.prefix if is_server(tale.prefix) else reader.peer
-    untouched = became[:-1] == [[effect] for effect in tale.effects[:-1]]
-    if tale.command == b"NJOIN" and comers and untouched and set(raised) <= {SPELLING}:
+    if tale.command == b"NJOIN" and comers and set(raised) <= {SPELLING} and brings_just(reader, tale.effects[:-1], became[:-1]):
         return [Line(tale.line)]
     for_members = members_asked(reader, server, fold(name), comers, raised.get(SPELLING))
     behind = reader._replace(room=joined_room(reader.room, comers))
     return for_members + row_asked(behind, server, fold(name), raised.get(SPELLING, name), raised)
+
+
+def brings_just(reader, effects, became):
+    """Whether an NJOIN as it came brings just those who are left: a server leaves out a nickname that nobody behind the link has."""
+    return all(left == [effect] or not left and not reader.is_far(effect.nick) for effect, left in zip(effects, became, strict=True))
 
 
 def joined_room(room, comers):

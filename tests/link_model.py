@@ -1,0 +1,161 @@
+#!/usr/bin/env python3
+"""A link is a document that two ends edit: a model of the layer that makes the two agree, tried in every order and by chance.
+
+    python3 tests/link_model.py [--what all|diamond|orders|scripts|rest] [--servers N] [--things N] [--tries N] [--seed S] [--calm] [--cuts]
+                                [--piece N] [--count-within N] [--plain] [--bound N] [--without RULE] [--show N]
+
+Not part of the gate, and of no program: a model, from which the definitions are taken. Servers are those of hostile_links/model.py, which
+know nothing of it. At each end of a link stands a layer: it keeps a log of what its server put out there and the other end has not counted as
+read, takes each line that comes as the effects that it tells, and gives the server what has become of them behind that log.
+    link_model/effects.py       what a line tells, and what that does to a room
+    link_model/crossing.py      the rules: what becomes of an effect that crossed others
+    link_model/lines.py         lines as effects, and effects as what the server is asked for
+    link_model/layer.py         the ends of a server's links, pieces and counts
+
+    diamond     two ends do something each in one room, one effect or a list: behind what both did they have one room again;
+    orders      each of five people, of whom two come, does things in turn at two or three servers in a line, and pieces are delivered one at
+                a time: *every* order of both is walked, up to a bound of states;
+    scripts     random scripts on two to five servers in a tree, where people act on each other, pieces are delivered, and links cut and made at any
+                time: at rest the servers of a part have one room, and no link was closed but for a loop;
+    rest        scripts with everything delivered in between: what a server without the layer is given, and does something by, is byte for byte
+                what one with it is given, and people see the same.
+
+Of scripts and orders it says what was tried and what went wrong: servers that differ at rest, a link that is closed, a room that is not
+the base behind the log. `--piece` is how many lines a piece has at most, `--count-within` how many pieces are read before a count
+goes out alone; `--plain` is servers without the layer. `--without RULE` takes a rule out, and `--without each` each in turn; without its RULE it names them. The
+status is 1 where something went wrong.
+"""
+
+import argparse
+import collections
+import pathlib
+import random
+import sys
+import time
+
+sys.path.insert(0, str(pathlib.Path(__file__).parent / "link_model"))
+
+import at_rest  # noqa: E402
+import diamond  # noqa: E402
+import orders   # noqa: E402
+import scripts  # noqa: E402
+import wrong    # noqa: E402
+from layer import MOST, Bare, Layer     # noqa: E402
+from net import COUNT_WITHIN    # noqa: E402
+from servers import NAMES       # noqa: E402
+
+# what a run with no words tries: servers, how long, how many, people, links cut
+SCRIPTS = [(2, 80, 250, False, 0.0, 16), (2, 80, 150, True, 0.0, 1), (3, 80, 250, False, 0.06, 1), (3, 80, 100, True, 0.06, 2),
+           (4, 80, 60, True, 0.06, 16), (5, 80, 150, False, 0.06, 1)]
+ORDERS = [(2, 4, 40, 3000), (3, 3, 25, 2000)]
+REST = [(3, 60, 80, False), (4, 60, 20, True)]
+
+
+def settings(given, most):
+    return {"make": Bare if given.plain else Layer, "most": given.piece or most, "count_within": given.count_within}
+
+
+def told(title, faults, given, began):
+    print(f"{title}: {len(faults)} wrong, {time.time() - began:.0f} s")
+    for fault in faults[:given.show]:
+        print("   ", *fault, sep="\n        ")
+    return len(faults)
+
+
+def try_diamond(given):
+    began = time.time()
+    pairs, lists, faults = diamond.tried(random.Random(given.seed), given.tries or 12, 60)
+    return told(f"diamond: {pairs} pairs of effects, {lists} of lists", faults, given, began)
+
+
+def try_orders(given):
+    chosen = [(given.servers, given.things or 4, given.tries or 40, given.bound)] if given.servers else ORDERS
+    return sum(orders_tried(given, *each) for each in chosen)
+
+
+def orders_tried(given, count, things, tries, bound):
+    began, states, found = time.time(), 0, collections.Counter()
+    faults = []
+    start, conns = orders.begun(count, settings(given, MOST))
+    for seed in range(given.seed, given.seed + tries):
+        turns = orders.by_chance(random.Random(seed), count, things)
+        more, ends = orders.ends(start, conns, count, turns, bound or 100_000)
+        states += more
+        found.update(list(ends))
+        faults += [(seed, turns, end, *path) for end, path in ends.items() if end not in ("alike", "too many")][:1]
+    title = f"orders of {things} things on {count} servers: {tries} sets, {states} states, {found['too many']} sets cut short"
+    return told(title, faults, given, began)
+
+
+def try_scripts(given):
+    chosen = [(given.servers, given.things or 80, given.tries or 300, given.calm, 0.06 if given.cuts else 0.0, MOST)] if given.servers else SCRIPTS
+    return sum(scripts_tried(given, *each) for each in chosen)
+
+
+def scripts_tried(given, count, length, tries, calm, cuts, most):
+    began, how = time.time(), settings(given, most)
+    steps, loops, found = scripts.tried(given.seed, given.seed + tries, count, length, cuts, calm, how)
+    faults = [(number, reason) for number, reason in sorted(found.items())]
+    faults = [(*fault, *shortest(count, length, cuts, calm, how, fault[0])) for fault in faults[:given.show]] + faults[given.show:]
+    title = (f"scripts on {count} servers, {'calm' if calm else 'harsh'}{', links cut' if cuts else ''}, pieces of {how['most']}: "
+             f"{tries} scripts, {steps} steps, {loops} loops")
+    return told(title, faults, given, began)
+
+
+def shortest(count, length, cuts, calm, how, number):
+    acts = scripts.script(random.Random(number), count, length, cuts, calm)
+    return scripts.shortened(NAMES[:count], acts, how)
+
+
+def try_rest(given):
+    chosen = [(given.servers, given.things or 60, given.tries or 60, given.calm)] if given.servers else REST
+    return sum(rest_tried(given, *each) for each in chosen)
+
+
+def rest_tried(given, count, length, tries, calm):
+    began, lines, faults = time.time(), 0, []
+    for number in range(given.seed, given.seed + tries):
+        more, fault = at_rest.same(number, count, length, calm)
+        lines += more
+        faults += [fault] if fault else []
+    return told(f"at rest on {count} servers: {tries} scripts, {lines} lines", faults, given, began)
+
+
+TRIES = {"diamond": try_diamond, "orders": try_orders, "scripts": try_scripts, "rest": try_rest}
+
+
+def tried(given):
+    return sum(TRIES[what](given) for what in (TRIES if given.what == "all" else [given.what]))
+
+
+def each_without(given):
+    """Each rule is taken out in turn, and something is to go wrong; answers how many times nothing does."""
+    unseen = 0
+    for rule in wrong.WRONG:
+        print(f"without {rule}")
+        with wrong.without(rule):
+            unseen += tried(given) == 0
+    return unseen
+
+
+def main():
+    ask = argparse.ArgumentParser()
+    ask.add_argument("--what", default="all", choices=["all", *TRIES])
+    for word in ("servers", "things", "tries", "piece", "bound", "show"):
+        ask.add_argument("--" + word, type=int, default=0)
+    ask.add_argument("--seed", type=int, default=1)
+    ask.add_argument("--count-within", type=int, default=COUNT_WITHIN)
+    for word in ("calm", "cuts", "plain"):
+        ask.add_argument("--" + word, action="store_true")
+    ask.add_argument("--without", choices=["each", *wrong.WRONG])
+    given = ask.parse_args()
+    if given.without == "each":
+        sys.exit(each_without(given) > 0)
+    if given.without:
+        with wrong.without(given.without):
+            sys.exit(tried(given) > 0)
+    sys.exit(tried(given) > 0)
+
+
+if __name__ == "__main__":
+    main()

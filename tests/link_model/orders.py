@@ -1,0 +1,94 @@
+"""Every order: of what people do, and of what is delivered. Five people, of whom two come, at two or three servers in a line."""
+
+from net import Fault, Net
+from scripts import FAULTS
+from servers import NAMES
+
+# at which server, and the nickname of who is there; the others come
+PEOPLE = {2: [(0, b"p"), (1, b"q"), (1, b"r"), (1, None), (0, None)],
+          3: [(0, b"p"), (2, b"q"), (1, b"r"), (2, None), (0, None)]}
+COMERS = [b"COME z", b"COME z", b"COME y", b"COME p"]
+NICKS = [b"p", b"q", b"r", b"z", b"y"]
+NAMES_TAKEN = [b"NICK z", b"NICK z", b"NICK y", b"NICK x", b"NICK p", b"QUIT :gone"]
+IN_AND_OUT = [b"JOIN #r", b"JOIN #r", b"JOIN #R", b"JOIN #s", b"JOIN #S", b"PART #r", b"PART #r", b"JOIN 0"]
+SET = [b"TOPIC #r :one", b"TOPIC #r :two", b"TOPIC #r :", b"MODE #r +k x", b"MODE #r +k y", b"MODE #r -k q", b"MODE #r +l 5", b"MODE #r -l", b"MODE #r +s",
+       b"MODE #r +p-n", b"MODE #r -s", b"MODE #r +n", b"MODE #r +b bad!*@*", b"MODE #r +b BAD!*@*", b"MODE #r -b bad!*@*", b"MODE #s +kn x"]
+
+
+def begun(count, settings):
+    """A network at rest: who is there is in one channel, all operators, and things are set."""
+    net = Net(NAMES[:count], **settings)
+    for place in range(count - 1):
+        net.link(NAMES[place], NAMES[place + 1])
+        net.settle()
+    conns = []
+    for server, nick in PEOPLE[count]:
+        conns.append(net.come(NAMES[server], nick or b"nobody"))
+        if nick is None:
+            net.say(conns[-1], b"QUIT :not yet")
+        net.settle()
+    there = [conn for conn, (_, nick) in zip(conns, PEOPLE[count], strict=True) if nick]
+    for conn, line in [(conn, b"JOIN #r") for conn in there] + [(there[0], b"MODE #r +oo q r"), (there[0], b"TOPIC #r :before")]:
+        net.say(conn, line)
+        net.settle()
+    return net, conns
+
+
+def thing(chance):
+    """What somebody may do."""
+    nick = chance.choice(NICKS)
+    own = [b"KICK #r " + nick, b"KICK #r " + nick, b"MODE #r -o " + nick, b"MODE #r +v " + nick, b"MODE #r +o " + nick,
+           b"PRIVMSG " + nick + b" :hello", b"PRIVMSG #r :hello"]
+    return chance.choice(chance.choices([NAMES_TAKEN, IN_AND_OUT, SET, own], [4, 5, 3, 4])[0])
+
+
+def by_chance(chance, count, things):
+    """So many things, in turn for each person; who comes does so first. Mostly both come, else what they would do is left out."""
+    turns = {place: [] for place in range(len(PEOPLE[count]))}
+    for place, (_, nick) in enumerate(PEOPLE[count]):
+        if nick is None and chance.random() < 0.6:
+            turns[place].append(chance.choice(COMERS))
+    while sum(map(len, turns.values())) < things:
+        place = chance.randrange(len(turns))
+        if PEOPLE[count][place][1] is not None or turns[place]:
+            turns[place].append(thing(chance))
+    return turns
+
+
+def does(net, conns, place, count, line):
+    """Somebody does the next thing. Who comes has a new connection."""
+    if line.startswith(b"COME "):
+        return (*conns[:place], net.come(NAMES[PEOPLE[count][place][0]], line[5:]), *conns[place + 1:])
+    net.say(conns[place], line)
+    return conns
+
+
+def ends(start, conns, count, turns, bound):
+    """How a set of things ends, over all orders: the states, and each end with the order that leads to it first."""
+    found, seen = {}, set()
+    work = [(start, tuple(conns), tuple(tuple(turns[place]) for place in sorted(turns)), ())]
+    while work:
+        net, conns, left, path = work.pop()
+        moves = [("does", place) for place, lines in enumerate(left) if lines] + [("reads", way) for way in net.moving()]
+        if not moves:
+            found.setdefault(net.differs() or "alike", path)
+        for kind, what in moves:
+            then, after, own = net.copied(), left, conns
+            step = (kind, what, left[what][0]) if kind == "does" else (kind, what, net.ways[what][0])
+            try:
+                if kind == "does":
+                    after = left[:what] + (left[what][1:],) + left[what + 1:]
+                    own = does(then, conns, what, count, left[what][0])
+                else:
+                    then.deliver(what)
+            except FAULTS as fault:
+                found.setdefault("closed" if isinstance(fault, Fault) else "broken", (*path, step, repr(fault)))
+                continue
+            key = (then.key(), after)
+            if hash(key) not in seen:
+                seen.add(hash(key))
+                work.append((then, own, after, (*path, step)))
+        if len(seen) > bound:
+            found.setdefault("too many", ())
+            break
+    return len(seen), found
