@@ -132,7 +132,7 @@ def each_without(given):
     """Each rule is taken out in turn, and something is to go wrong; answers how many times nothing does."""
     unseen = 0
     for rule in wrong.WRONG:
-        print(f"without {rule}")
+        print(f"\nwithout {rule}")
         with wrong.without(rule):
             unseen += tried(given) == 0
     return unseen

@@ -4,7 +4,7 @@ import random
 
 from layer import Bare, Layer
 from net import Net
-from scripts import may_link, script
+from scripts import FAULTS, may_link, script
 from servers import NAMES
 
 
@@ -28,7 +28,14 @@ def done_by(net, act, conns, place):
 
 
 def same(number, count, length, calm):
-    """A script with everything at rest in between: how many lines were given, and the first difference."""
+    """A script with everything at rest in between: how many lines were given, and the first difference or fault."""
+    try:
+        return compared(number, count, length, calm)
+    except FAULTS as fault:
+        return 0, (number, repr(fault))
+
+
+def compared(number, count, length, calm):
     nets = [Net(NAMES[:count], Bare, 1), Net(NAMES[:count], Layer, 1)]
     conns, lines = [{}, {}], 0
     for net in nets:

@@ -164,7 +164,8 @@ class Layer:
     def line(self, link, line, is_set):
         """A line that comes is given to the server as it is meant here."""
         end = self.ends[link]
-        told = tale(line, end.base, self.tokens(link), is_set)
+        writer, reader = self.reader(link, end.base), self.reader(link, end.here)
+        told = tale(line, writer, is_set)
         became, base, log = [], end.base, end.log
         for effect in told.effects:
             left, log = crossing.through(base, [effect], log)
@@ -172,7 +173,7 @@ class Layer:
             became.append(left)
         put = []
         self.ends[link] = end._replace(base=base, log=tuple(log))
-        for item in asked(self.reader(link, end.here), told, became):
+        for item in asked(writer, reader, told, became):
             self.give(link, item)
             put += self.taken(link, not isinstance(item, Line))
         if link in self.ends:
@@ -181,11 +182,13 @@ class Layer:
         return put
 
     def reader(self, link, room):
-        behind = frozenset(name for name, row in self.server.known.items() if row.link == link)
-        return Reader(room, self.server.links[link].name, behind)
+        homes = {row.token: name for name, row in self.server.known.items() if row.link == link}
+        return Reader(room, self.server.links[link].name, frozenset(homes.values()), homes)
 
-    def tokens(self, link):
-        return {row.token: name for name, row in self.server.known.items() if row.link == link}
+    def own(self, room):
+        """This server as the writer of a line."""
+        homes = {1: self.module.OWN} | {row.number: name for name, row in self.server.known.items()}
+        return Reader(room, None, frozenset(homes.values()), homes)
 
     def give(self, link, item):
         """The server is asked for something."""
@@ -207,12 +210,11 @@ class Layer:
     def taken(self, arrival, is_set):
         """What the server has put out: what goes to links is kept for their pieces."""
         put = []
-        numbers = {1: self.module.OWN} | {row.number: name for name, row in self.server.known.items()}
         for entry in self.server.taken():
             word, *rest = entry.split(" ")
             number = int(rest[0])
             if word == "link":
-                put += self.put_out(number, bytes.fromhex(rest[1]), arrival, numbers, is_set)
+                put += self.put_out(number, bytes.fromhex(rest[1]), arrival, is_set)
             elif word == "close":
                 del self.ends[number]
                 put.append((word, number, rest[1]))
@@ -220,14 +222,14 @@ class Layer:
                 put.append((word, number, rest[1:]))
         return put
 
-    def put_out(self, link, line, arrival, numbers, is_set):
+    def put_out(self, link, line, arrival, is_set):
         """The server puts out a line on a link."""
         prefix, command, _ = parse(line)
         if command == b"PASS" or command == b"SERVER" and prefix is None:
             return [("link", link, (line,))]
         if not is_echo(link, arrival, command):
             end = self.ends[link]
-            effects = tale(line, end.here, numbers, is_set).effects
+            effects = tale(line, self.own(end.here), is_set).effects
             self.ends[link] = with_line(end, line, effects, is_set, self.most)
         return []
 
@@ -270,7 +272,7 @@ class Bare(Layer):
         self.give(link, Line(lines[0]))
         return self.event_over()
 
-    def put_out(self, link, line, arrival, numbers, is_set):
+    def put_out(self, link, line, arrival, is_set):
         return [("link", link, (line,))]
 
     def flush(self):

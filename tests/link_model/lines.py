@@ -9,7 +9,7 @@ from dataclasses import dataclass
 from typing import NamedTuple
 
 from effects import (HIDDEN, KEY, LIMIT, OPERATOR, SPELLING, TOPIC, VOICE, Come, Flag, Go, In, Named, Out, Own, Person, Raise, Rename,
-                     Set, Spoken, ban, done, value_at)
+                     Room, Set, Spoken, ban, done, value_at)
 from crossing import is_idle
 from servers import Change, changes_of, changes_written, fold, is_server, parse, written
 
@@ -72,19 +72,46 @@ class Spelling:
     channel: bytes
 
 
+class Reader(NamedTuple):
+    """Who reads a line: a room, the name of the other end, the servers behind the link, and the server of each number."""
+
+    room: Room
+    peer: bytes | None
+    behind: frozenset
+    homes: dict
+
+    def is_far(self, nick):
+        """Whether somebody behind the link has a nickname."""
+        return nick in self.room.people and self.room.people[nick].home in self.behind
+
+    def has_far(self, channel):
+        """Whether a channel has a member behind the link."""
+        there = self.room.channels.get(channel)
+        return there is not None and any(map(self.is_far, there.members))
+
+    def word(self, word, effect):
+        """A nickname as it came, or as it is here where its user has another one here."""
+        return word if fold(word) == effect.nick else self.room.people[effect.nick].spelled
+
+    def name(self, channel):
+        """A channel as it is spelled here."""
+        return value_at(self.room, channel, SPELLING)
+
+
 # What a line tells.
 
 
-def tale(line, room, homes, is_set):
-    """What a line tells in a room. `homes` has the server of each number, and `is_set` says whether the line is one of a server that sets."""
+def tale(line, writer, is_set):
+    """What a line tells in the room of its writer; `is_set` says whether it is one of a server that sets."""
     prefix, command, words = parse(line)
-    return Tale(line, prefix, command, words, tuple(told(room, prefix, command, words, homes, is_set)))
+    return Tale(line, prefix, command, words, tuple(told(writer, prefix, command, words, is_set)))
 
 
-def told(room, prefix, command, words, homes, is_set):
+def told(writer, prefix, command, words, is_set):
+    room = writer.room
     match command:
         case b"NICK" if prefix is None:
-            return [Come(fold(words[0]), Person(words[0], homes[int(words[4])], words[5] == b"+i"))]
+            return [Come(fold(words[0]), Person(words[0], writer.homes[int(words[4])], words[5] == b"+i"))]
         case b"NICK":
             return [Rename(fold(prefix), fold(words[0]), words[0])]
         case b"QUIT":
@@ -103,12 +130,15 @@ def told(room, prefix, command, words, homes, is_set):
         case b"KICK":
             return [*front(prefix), Out(fold(words[1]), fold(words[0]))]
         case b"MODE" if words[0].startswith(b"#"):
-            return [*front(prefix), *changes_told(room, fold(words[0]), changes_of(words[1:]), is_server(prefix) and not is_set)]
+            raising = is_server(prefix) and not is_set
+            counts = not raising or writer.has_far(fold(words[0]))
+            return [*front(prefix), *changes_told(room, fold(words[0]), changes_of(words[1:]), raising)] if counts else []
         case b"MODE":
             return [Own(fold(prefix), words[1] == b"+i")]
         case b"TOPIC":
-            kind = Raise if is_server(prefix) and not is_set else Set
-            return [*front(prefix), kind(fold(words[0]), TOPIC, words[1] or None)]
+            raising = is_server(prefix) and not is_set
+            counts = not raising or writer.has_far(fold(words[0]))
+            return [*front(prefix), (Raise if raising else Set)(fold(words[0]), TOPIC, words[1] or None)] if counts else []
         case b"PRIVMSG" | b"NOTICE":
             return [*front(prefix), Spoken(fold(words[0])) if words[0].startswith(b"#") else Named(fold(words[0]))]
         case b"INVITE":
@@ -166,38 +196,15 @@ def hidden(held, letter, plus):
 # What a server is asked for.
 
 
-class Reader(NamedTuple):
-    """Who reads a line: its room by now, the name of the other end, and the servers behind the link."""
-
-    room: object
-    peer: bytes
-    behind: frozenset
-
-    def has_far(self, channel):
-        """Whether a channel has a member behind the link."""
-        there = self.room.channels.get(channel)
-        return there is not None and any(map(self.is_far, there.members))
-
-    def is_far(self, nick):
-        """Whether somebody behind the link has a nickname."""
-        return nick in self.room.people and self.room.people[nick].home in self.behind
-
-    def word(self, word, effect):
-        """A nickname as it came, or as it is here where its user has another one here."""
-        return word if fold(word) == effect.nick else self.room.people[effect.nick].spelled
-
-    def name(self, channel):
-        """A channel as it is spelled here."""
-        return value_at(self.room, channel, SPELLING)
-
-
-def asked(reader, tale, became):
-    """What the server is asked for, where so much has become of each effect of a line."""
+def asked(writer, reader, tale, became):
+    """What the server is asked for, where so much has become of each effect of a line. The writer has the room in which it was written."""
     if not tale.effects or tale.command == b"SQUIT":
         return [Line(tale.line)]
     left = [effect for effects in became for effect in effects]
     if not left:
         return []
+    if tale.command == b"JOIN" and joins_plainly(writer, reader, left):
+        return [Line(put_right(reader, tale, left[0], {}))]
     return ASKED[tale.command](reader, tale, became, left)
 
 
@@ -248,8 +255,6 @@ def in_asked(reader, tale, became, left):
     comers = [effect for effect in left if isinstance(effect, In)]
     raised = raises(effect for effect in left if isinstance(effect, Raise))
     name = tale.words[0].removesuffix(MARK)
-    if tale.command == b"JOIN" and comers and joins_plainly(reader, comers[0], name, raised):
-        return [Line(put_right(reader, tale, comers[0], {}))]
     server = tale.prefix if is_server(tale.prefix) else reader.peer
     if tale.command == b"NJOIN" and comers and set(raised) <= {SPELLING} and brings_just(reader, tale.effects[:-1], became[:-1]):
         return [Line(tale.line)]
@@ -269,13 +274,12 @@ def joined_room(room, comers):
     return room
 
 
-def joins_plainly(reader, comer, name, raised):
-    """Whether a JOIN does it: who comes makes the channel, or comes as no operator to one that is there and keeps its row."""
-    if comer.channel not in reader.room.channels:
-        return comer.flags == {OPERATOR} and raised == {SPELLING: name}
-    is_raised = any(not is_idle(value_at(reader.room, comer.channel, place), Raise(comer.channel, place, value))
-                    for place, value in raised.items())
-    return not comer.flags and not is_raised
+def joins_plainly(writer, reader, left):
+    """Whether a JOIN does it: the channel is there on both sides or on neither, and no row comes back. Else an operator would come without
+    being shown as one, and the spelling stay as it is."""
+    comer, *rest = left
+    was_there, is_there = (comer.channel in each.room.channels for each in (writer, reader))
+    return isinstance(comer, In) and len(rest) <= 1 and was_there == is_there
 
 
 def raises(effects):
