@@ -74,16 +74,15 @@ def try_orders(given):
 
 
 def orders_tried(given, count, things, tries, bound):
-    began, states, found = time.time(), 0, collections.Counter()
-    faults = []
+    began, states, found, faults = time.time(), 0, collections.Counter(), []
     start, conns = orders.begun(count, settings(given, MOST))
-    for seed in range(given.seed, given.seed + tries):
-        turns = orders.by_chance(random.Random(seed), count, things)
-        more, ends = orders.ends(start, conns, count, turns, bound or 100_000)
+    sets = [(str(seed), orders.by_chance(random.Random(seed), count, things)) for seed in range(given.seed, given.seed + tries)]
+    for title, turns in [*orders.RACES.items(), *sets]:
+        more, ends = orders.ends(start, conns, count, {**dict.fromkeys(range(5), ()), **turns}, bound or 100_000)
         states += more
         found.update(list(ends))
-        faults += [(seed, turns, end, *path) for end, path in ends.items() if end not in ("alike", "too many")][:1]
-    title = f"orders of {things} things on {count} servers: {tries} sets, {states} states, {found['too many']} sets cut short"
+        faults += [(title, turns, end, *path) for end, path in ends.items() if end not in ("alike", "too many")][:1]
+    title = f"orders of {things} things on {count} servers: {len(orders.RACES)} races and {tries} sets, {states} states, {found['too many']} cut short"
     return told(title, faults, given, began)
 
 

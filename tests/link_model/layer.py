@@ -119,7 +119,7 @@ class Layer:
         self.deeds = 0
 
     def copied(self):
-        other = object.__new__(Layer)
+        other = object.__new__(type(self))
         other.module, other.server, other.ends, other.most = self.module, copied(self.server), dict(self.ends), self.most
         other.noted, other.deeds = None, self.deeds
         return other
@@ -145,6 +145,7 @@ class Layer:
         if not end.greeted:
             return self.greeting(link, lines)
         piece, count = piece_read(lines, end.heard)
+        assert end.heard <= count <= end.sent
         self.ends[link] = counted(end, count)
         put = []
         for line in piece.lines:

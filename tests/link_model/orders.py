@@ -7,9 +7,9 @@ from servers import NAMES
 # at which server, and the nickname of who is there; the others come
 PEOPLE = {2: [(0, b"p"), (1, b"q"), (1, b"r"), (1, None), (0, None)],
           3: [(0, b"p"), (2, b"q"), (1, b"r"), (2, None), (0, None)]}
-COMERS = [b"COME z", b"COME z", b"COME y", b"COME p"]
+COMERS = [b"COME z", b"COME z", b"COME y"]
 NICKS = [b"p", b"q", b"r", b"z", b"y"]
-NAMES_TAKEN = [b"NICK z", b"NICK z", b"NICK y", b"NICK x", b"NICK p", b"QUIT :gone"]
+NAMES_TAKEN = [b"NICK z", b"NICK z", b"NICK y", b"NICK y", b"NICK p", b"QUIT :gone"]
 IN_AND_OUT = [b"JOIN #r", b"JOIN #r", b"JOIN #R", b"JOIN #s", b"JOIN #S", b"PART #r", b"PART #r", b"JOIN 0"]
 SET = [b"TOPIC #r :one", b"TOPIC #r :two", b"TOPIC #r :", b"MODE #r +k x", b"MODE #r +k y", b"MODE #r -k q", b"MODE #r +l 5", b"MODE #r -l", b"MODE #r +s",
        b"MODE #r +p-n", b"MODE #r -s", b"MODE #r +n", b"MODE #r +b bad!*@*", b"MODE #r +b BAD!*@*", b"MODE #r -b bad!*@*", b"MODE #s +kn x"]
@@ -34,24 +34,38 @@ def begun(count, settings):
     return net, conns
 
 
-def thing(chance):
+# by place of who does it: two at a.net, of whom the second comes, and three at b.net, or at b.net and c.net, of whom the last comes
+RACES = {
+    "a name given up is taken": {3: [b"COME z", b"NICK y", b"QUIT :gone"], 4: [b"COME z"], 0: [b"NICK y", b"PRIVMSG r :hello"], 2: [b"NICK y"]},
+    "two swap names, and one is kicked": {0: [b"KICK #r q", b"MODE #r -o r"], 1: [b"NICK x", b"NICK r"], 2: [b"NICK w", b"NICK q"]},
+    "kicked, and back": {0: [b"KICK #r q", b"MODE #r +v q"], 1: [b"PART #r", b"JOIN #r"], 2: [b"MODE #r +v q"]},
+    "two to one name, who do things": {0: [b"NICK z", b"TOPIC #r :two", b"KICK #r r"], 1: [b"NICK z", b"TOPIC #r :one", b"MODE #r +l 5"]},
+    "both come under one name, and make a channel": {3: [b"COME z", b"JOIN #s", b"MODE #s +k x"], 4: [b"COME z", b"JOIN #S"]},
+    "one thing is set twice": {0: [b"TOPIC #r :one", b"MODE #r +k x", b"MODE #r -k x"], 1: [b"TOPIC #r :two", b"MODE #r +ks y"], 2: [b"MODE #r +p"]},
+    "a channel ends, and somebody comes": {0: [b"KICK #r q", b"KICK #r r", b"PART #r"], 4: [b"COME y"], 3: [b"COME z", b"JOIN #r"]},
+    "a channel ends, and is made on both sides": {0: [b"MODE #r +k x", b"KICK #r q,r", b"PART #r", b"JOIN #R"], 2: [b"TOPIC #r :one", b"JOIN #r"]},
+}
+
+
+def thing(chance, themes):
     """What somebody may do."""
     nick = chance.choice(NICKS)
     own = [b"KICK #r " + nick, b"KICK #r " + nick, b"MODE #r -o " + nick, b"MODE #r +v " + nick, b"MODE #r +o " + nick,
            b"PRIVMSG " + nick + b" :hello", b"PRIVMSG #r :hello"]
-    return chance.choice(chance.choices([NAMES_TAKEN, IN_AND_OUT, SET, own], [4, 5, 3, 4])[0])
+    return chance.choice([NAMES_TAKEN, IN_AND_OUT, SET, own][chance.choice(themes)])
 
 
 def by_chance(chance, count, things):
-    """So many things, in turn for each person; who comes does so first. Mostly both come, else what they would do is left out."""
+    """So many things, in turn for each person; who comes does so first. They are of two kinds mostly, so that much collides."""
     turns = {place: [] for place in range(len(PEOPLE[count]))}
+    themes = [chance.randrange(4), chance.randrange(4)]
     for place, (_, nick) in enumerate(PEOPLE[count]):
         if nick is None and chance.random() < 0.6:
             turns[place].append(chance.choice(COMERS))
     while sum(map(len, turns.values())) < things:
         place = chance.randrange(len(turns))
         if PEOPLE[count][place][1] is not None or turns[place]:
-            turns[place].append(thing(chance))
+            turns[place].append(thing(chance, themes))
     return turns
 
 
