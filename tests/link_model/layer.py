@@ -53,13 +53,24 @@ NEW = End(EMPTY, (), EMPTY, (), 0, 0, 0, 0, False)
 def with_line(end, line, effects, is_set, most):
     """An end that puts out one line more, as part of the last piece or of a new one."""
     last = end.out[-1] if end.out else None
-    if last is None or is_set or last.is_set or len(last.lines) >= most:
+    is_full = last is not None and len(last.lines) >= most and not goes_on(last.lines[-1], line)
+    if last is None or is_set or last.is_set or is_full:
         out = (*end.out, Piece((line,), is_set))
     else:
         out = (*end.out[:-1], Piece((*last.lines, line), False))
     kept = tuple(effect for effect in effects if not isinstance(effect, (Named, Spoken)))
     log = with_effects(end.log, end.sent + len(out), kept) if kept else end.log
     return end._replace(out=out, log=log, here=all_done(end.here, kept))
+
+
+def goes_on(before, line):
+    """Whether a line is never cut from the one before it: servers are lost together, for none may seem to be linked to one that is lost.
+
+        b.net writes    COUNT 17 2
+                        :b.net SQUIT c.net :b.net c.net
+                        :b.net SQUIT d.net :b.net c.net         which was behind c.net
+    """
+    return parse(before)[1] == parse(line)[1] == b"SQUIT"
 
 
 def with_effects(log, number, effects):
