@@ -1,7 +1,7 @@
 #!/usr/bin/env python3
 """A link is a document that two ends edit: a model of the layer that makes the two agree, tried in every order and by chance.
 
-    python3 tests/link_model.py [--what all|diamond|orders|scripts|rest] [--servers N] [--things N] [--tries N] [--seed S] [--calm] [--cuts]
+    python3 tests/link_model.py [--what all|diamond|orders|scripts|seen|rest] [--servers N] [--things N] [--tries N] [--seed S] [--calm] [--cuts]
                                 [--piece N] [--count-within N] [--plain] [--bound N] [--without RULE] [--show N]
 
 Not part of the gate, and of no program: a model, from which the definitions are taken. Servers are those of hostile_links/model.py, which
@@ -17,6 +17,8 @@ read, takes each line that comes as the effects that it tells, and gives the ser
                 a time: *every* order of both is walked, up to a bound of states;
     scripts     random scripts on two to five servers in a tree, where people act on each other, pieces are delivered, and links cut and made at any
                 time: at rest the servers of a part have one room, and no link was closed but for a loop;
+    seen        scripts, whose clients look at what they are shown: at rest what they know from that is what their server has, and nobody is shown
+                what is out of place;
     rest        scripts with everything delivered in between: what a server without the layer is given, and does something by, is byte for byte
                 what one with it is given, and people see the same.
 
@@ -41,18 +43,20 @@ import orders   # noqa: E402
 import scripts  # noqa: E402
 import wrong    # noqa: E402
 from layer import MOST, Bare, Layer     # noqa: E402
-from net import COUNT_WITHIN    # noqa: E402
+from net import COUNT_WITHIN, Net       # noqa: E402
+from seen import Watched        # noqa: E402
 from servers import NAMES       # noqa: E402
 
 # what a run with no words tries: servers, how long, how many, people, links cut
 SCRIPTS = [(2, 80, 250, False, 0.0, 16), (2, 80, 150, True, 0.0, 1), (3, 80, 250, False, 0.06, 1), (3, 80, 100, True, 0.06, 2),
            (4, 80, 60, True, 0.06, 16), (5, 80, 150, False, 0.06, 1)]
 ORDERS = [(2, 4, 40, 3000), (3, 3, 25, 2000)]
+SEEN = [(3, 80, 100, False, 0.06, 1), (2, 80, 60, True, 0.0, 16)]
 REST = [(3, 60, 80, False), (4, 60, 20, True)]
 
 
 def settings(given, most):
-    return {"make": Bare if given.plain else Layer, "most": given.piece or most, "count_within": given.count_within}
+    return {"kind": Net, "make": Bare if given.plain else Layer, "most": given.piece or most, "count_within": given.count_within}
 
 
 def told(title, faults, given, began):
@@ -91,12 +95,17 @@ def try_scripts(given):
     return sum(scripts_tried(given, *each) for each in chosen)
 
 
-def scripts_tried(given, count, length, tries, calm, cuts, most):
-    began, how = time.time(), settings(given, most)
+def try_seen(given):
+    chosen = [(given.servers, given.things or 80, given.tries or 300, given.calm, 0.06 if given.cuts else 0.0, MOST)] if given.servers else SEEN
+    return sum(scripts_tried(given, *each, Watched) for each in chosen)
+
+
+def scripts_tried(given, count, length, tries, calm, cuts, most, kind=Net):
+    began, how = time.time(), settings(given, most) | {"kind": kind}
     steps, loops, found = scripts.tried(given.seed, given.seed + tries, count, length, cuts, calm, how)
     faults = [(number, reason) for number, reason in sorted(found.items())]
     faults = [(*fault, *shortest(count, length, cuts, calm, how, fault[0])) for fault in faults[:given.show]] + faults[given.show:]
-    title = (f"scripts on {count} servers, {'calm' if calm else 'harsh'}{', links cut' if cuts else ''}, pieces of {how['most']}: "
+    title = (f"{'seen' if kind is Watched else 'scripts'} on {count} servers, {'calm' if calm else 'harsh'}{', links cut' if cuts else ''}, pieces of {how['most']}: "
              f"{tries} scripts, {steps} steps, {loops} loops")
     return told(title, faults, given, began)
 
@@ -120,7 +129,7 @@ def rest_tried(given, count, length, tries, calm):
     return told(f"at rest on {count} servers: {tries} scripts, {lines} lines", faults, given, began)
 
 
-TRIES = {"diamond": try_diamond, "orders": try_orders, "scripts": try_scripts, "rest": try_rest}
+TRIES = {"diamond": try_diamond, "orders": try_orders, "scripts": try_scripts, "seen": try_seen, "rest": try_rest}
 
 
 def tried(given):

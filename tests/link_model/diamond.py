@@ -3,6 +3,7 @@
 from crossing import across, crossed
 from effects import (EMPTY, HIDDEN, KEY, LIMIT, OPERATOR, SPELLING, TOPIC, VOICE, Come, Flag, Go, In, Named, Out, Own, Person, Raise,
                      Rename, Set, Spoken, all_done, ban, done)
+from lost import lost, taken_back
 
 SIDES = [b"a.net", b"b.net"]
 NICKS = [b"al", b"ann", b"bo", b"bea", b"zed", b"yo", b"x"]
@@ -95,6 +96,7 @@ def tried(chance, rooms, lists):
     for _ in range(rooms):
         room = some_room(chance)
         theirs, ours = could_do(room, SIDES[1]), could_do(room, SIDES[0])
+        faults += [(room.key(), one) for one in theirs if taken_back(done(room, one), one, lost(room, one)) != room]
         for one in theirs:
             for other in ours:
                 pairs += 1

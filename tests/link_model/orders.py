@@ -17,7 +17,7 @@ SET = [b"TOPIC #r :one", b"TOPIC #r :two", b"TOPIC #r :", b"MODE #r +k x", b"MOD
 
 def begun(count, settings):
     """A network at rest: who is there is in one channel, all operators, and things are set."""
-    net = Net(NAMES[:count], **settings)
+    net = Net(NAMES[:count], settings["make"], settings["most"], settings["count_within"])
     for place in range(count - 1):
         net.link(NAMES[place], NAMES[place + 1])
         net.settle()
