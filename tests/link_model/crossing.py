@@ -2,26 +2,28 @@
 
 Two ends have the same room; each does something, and then reads what the other did. `crossed(room, theirs, ours)` is what becomes of their
 effect behind ours, so that both rooms are the same again: behind ours and what becomes of theirs, and behind theirs and what becomes of
-ours. Both were made in the same room. The examples are of the end a.net, whose people are al and ann; bo and bea are at b.net.
+ours. Both were made in the same room. Of one effect one is left, or nothing.
+
+The examples are of the end a.net, whose people are al and ann; bo and bea are at b.net.
 """
 
-from effects import (Come, Flag, Go, In, Named, Out, Raise, Rename, Room, Set, Spoken, all_done, channel_of, done, nick_of, rank,
-                     taken_by, value_at, with_nick)
+from dataclasses import replace
+
+from effects import (NOTHING, Go, Join, Named, Out, Own, Rename, Set, Spoken, channel_of, done, in_order, is_flag, raised, rank, taken_by,
+                     value_at, with_names)
 
 
 def crossed(room, theirs, ours):
-    """What becomes of an effect of the other end behind one of ours: a list of effects."""
+    """What becomes of an effect of the other end behind one of ours."""
     if two_to_one_name(theirs, ours):
         return both_go(theirs)
     if isinstance(ours, Rename):
-        return [name_followed(theirs, ours)]
-    if is_of_gone(theirs, ours) or is_done_by(theirs, ours):
-        return []
-    if ends(room, ours, channel_of(theirs)):
-        return in_ended_channel(room, theirs)
-    if is_same_place(theirs, ours):
-        return [theirs] if stays(value_at(room, theirs.channel, theirs.place), theirs, ours) else []
-    return [theirs]
+        return name_followed(theirs, ours)
+    if isinstance(ours, (Go, Out)):
+        return in_ended_channel(room, gone_dropped(theirs, ours), ours)
+    if isinstance(ours, (Join, Set)) and isinstance(theirs, (Join, Set)) and theirs.channel == ours.channel:
+        return replace(theirs, values=tuple((place, value) for place, value in theirs.values if stays(room, theirs, ours, place)))
+    return theirs
 
 
 def two_to_one_name(theirs, ours):
@@ -35,7 +37,7 @@ def two_to_one_name(theirs, ours):
 
 def both_go(theirs):
     """Who has the name here by now, and who was to take it."""
-    return [Go(taken_by(theirs))] + ([Go(theirs.nick)] if isinstance(theirs, Rename) else [])
+    return Go(frozenset({taken_by(theirs)} | ({theirs.nick} if isinstance(theirs, Rename) else set())))
 
 
 def name_followed(theirs, ours):
@@ -44,100 +46,104 @@ def name_followed(theirs, ours):
         a.net writes    :al NICK ally           b.net writes    :bo KICK #c al :out
         a.net is given  :bo KICK #c ally :out
     """
-    return with_nick(theirs, ours.new) if nick_of(theirs) == ours.nick else theirs
+    return with_names(theirs, lambda nick: ours.new if nick == ours.nick else nick)
 
 
-def is_of_gone(theirs, ours):
-    """Nothing is done to who is gone, nor by it to itself.
+def gone_dropped(theirs, ours):
+    """Nothing is done to who is gone, nor by it to itself. Who was taken out of a channel is taken out once, and given no flag there: who comes
+    back meanwhile is a new member.
 
         a.net writes    :a.net KILL bo          b.net writes    :bo JOIN #c
         a.net is given  nothing
-    """
-    return isinstance(ours, Go) and nick_of(theirs) == ours.nick
-
-
-def is_done_by(theirs, ours):
-    """Who was taken out is taken out once and given no flag, and a flag is given once: who comes back meanwhile is a new member.
 
         a.net writes    :al PART #c :bye, :al JOIN #c       b.net writes    :bo KICK #c al :out
         a.net is given  nothing
     """
-    if isinstance(ours, Out) and isinstance(theirs, (Out, Flag)):
-        return (theirs.nick, theirs.channel) == (ours.nick, ours.channel)
-    return isinstance(ours, Flag) and theirs == ours
+    match theirs:
+        case Rename(nick, _, _) | Own(nick, _) | Named(nick):
+            return NOTHING if is_out(ours, nick, None) else theirs
+        case Out(nick, channel):
+            return NOTHING if is_out(ours, nick, channel) else theirs
+        case Go(nicks):
+            return Go(frozenset(nick for nick in nicks if not is_out(ours, nick, None)))
+        case Join(channel, members, _):
+            return replace(theirs, members=tuple((nick, flags) for nick, flags in members if not is_out(ours, nick, channel)))
+        case Set(channel, values):
+            return Set(channel, tuple((place, value) for place, value in values if not (is_flag(place) and is_out(ours, place[1], channel))))
+        case _:
+            return theirs
 
 
-def ends(room, ours, channel):
-    """Whether the channel is there, and ends with ours: its only member goes or leaves."""
-    there = room.channels.get(channel)
-    return (there is not None and isinstance(ours, (Go, Out)) and channel_of(ours) in (None, channel)
-            and set(there.members) == {ours.nick})
+def is_out(ours, nick, channel):
+    """Whether ours takes somebody out of a channel, or out of all."""
+    return nick in ours.nicks if isinstance(ours, Go) else (nick, channel) == (ours.nick, ours.channel)
 
 
-def in_ended_channel(room, theirs):
-    """The channel has ended here: who comes brings it back, as it was; what is else for it is for nobody.
+def in_ended_channel(room, theirs, ours):
+    """Where the channel has ended here, who comes brings it back as it was; what else is for it is for nobody.
 
         a.net writes    :al PART #c :bye        b.net writes    :bo JOIN #c
         a.net is given  :b.net NJOIN #c :bo, :b.net MODE #c +ntk x, :b.net TOPIC #c :what it was
     """
-    if isinstance(theirs, In):
-        return [theirs, *row_back(room, theirs.channel)]
-    return [] if isinstance(theirs, (Set, Raise, Spoken)) else [theirs]
+    channel = channel_of(theirs)
+    if isinstance(theirs, Join) and theirs.members:
+        return replace(theirs, values=in_order(raised(row_back(room, ours, channel), theirs.values)))
+    is_there = channel in room.channels and not ends(room, ours, channel)
+    return NOTHING if isinstance(theirs, (Join, Set, Spoken)) and not is_there else theirs
 
 
-def row_back(room, channel):
-    return [Raise(channel, place, value) for place, value in sorted(room.channels[channel].row.items())]
+def row_back(room, ours, channel):
+    """The row of a channel that ends with ours."""
+    return room.channels[channel].row if ends(room, ours, channel) else {}
 
 
-def is_same_place(theirs, ours):
-    return (isinstance(theirs, (Set, Raise)) and isinstance(ours, (Set, Raise))
-            and (theirs.channel, theirs.place) == (ours.channel, ours.place))
+def ends(room, ours, channel):
+    """Whether a channel is there, and is not behind ours."""
+    return channel in room.channels and channel not in done(room, ours).channels
 
 
-def stays(held, theirs, ours):
-    """Of two values for one place the greater stays, and one that was set on both sides is set once. A raise may always stay, where it does
-    nothing too: but not what had nothing to raise there, and would have here.
+def stays(room, theirs, ours, place):
+    """Of two values for one place the greater stays, and one that was set on both sides is set once. What is joined may always stay, where it
+    does nothing too: but not what had nothing to raise there, and would have here.
 
         a.net writes    :al TOPIC #c :one       b.net writes    :bo TOPIC #c :two
         a.net is given  :bo TOPIC #c :two       b.net is given  nothing
     """
-    if is_idle(held, ours):
+    held, value, other = value_at(room, theirs.channel, place), dict(theirs.values)[place], dict(ours.values).get(place, NOTHING)
+    if other is NOTHING or is_idle(ours, held, other):
         return True
-    if is_idle(held, theirs):
-        return isinstance(theirs, Raise) and not is_greater(theirs.value, ours.value)
-    return isinstance(theirs, Raise) or is_greater(theirs.value, ours.value)
+    if is_idle(theirs, held, value):
+        return isinstance(theirs, Join) and not is_greater(value, other)
+    return isinstance(theirs, Join) or is_greater(value, other)
 
 
-def is_idle(held, effect):
-    """Whether it changes nothing of a place that has this value."""
-    return effect.value == held if isinstance(effect, Set) else rank(effect.value) <= rank(held)
+def is_idle(effect, held, value):
+    """Whether an effect changes nothing of a place that has this value."""
+    return value == held if isinstance(effect, Set) else rank(value) <= rank(held)
 
 
 def is_greater(value, other):
     return rank(value) > rank(other)
 
 
-def across(room, theirs, ours):
-    """Lists of effects of both ends, from one room: theirs behind ours, and ours behind theirs."""
-    if not theirs or not ours:
-        return theirs, ours
-    if len(theirs) == 1 and len(ours) == 1:
-        return crossed(room, theirs[0], ours[0]), crossed(room, ours[0], theirs[0])
-    if len(theirs) > 1:
-        first, between = across(room, theirs[:1], ours)
-        rest, behind = across(done(room, theirs[0]), theirs[1:], between)
-        return first + rest, behind
-    between, first = across(room, theirs, ours[:1])
-    behind, rest = across(done(room, ours[0]), between, ours[1:])
-    return behind, first + rest
-
-
 def through(base, theirs, log):
-    """Effects of the other end, made in the room that it has of us: what they are here behind a log of ours, and the log behind
-    them. The log has what we did since, each with the number of its piece."""
-    room, left = base, []
+    """An effect of the other end, made in the room that it had of us: what it is here behind a log of ours, and the log behind it. The log
+    has what we did since, each with the number of its piece."""
+    room, behind = base, []
     for number, ours in log:
-        theirs, behind = across(room, theirs, list(ours))
-        left += [(number, tuple(behind))] if behind else []
-        room = all_done(room, ours)
-    return theirs, left
+        behind.append((number, crossed(room, ours, theirs)))
+        theirs, room = crossed(room, theirs, ours), done(room, ours)
+    return theirs, tuple((number, ours) for number, ours in behind if does_something(ours))
+
+
+def does_something(effect):
+    """Whether anything is left of an effect."""
+    match effect:
+        case Go(nicks):
+            return bool(nicks)
+        case Join(_, members, values):
+            return bool(members or values)
+        case Set(_, values):
+            return bool(values)
+        case _:
+            return effect != NOTHING and not isinstance(effect, (Named, Spoken))

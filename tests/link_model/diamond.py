@@ -1,15 +1,16 @@
 """The diamond: two ends did something each in one room; behind what both did they have one room again. Tried of pairs of effects and of lists."""
 
-from crossing import across, crossed
-from effects import (EMPTY, HIDDEN, KEY, LIMIT, OPERATOR, SPELLING, TOPIC, VOICE, Come, Flag, Go, In, Named, Out, Own, Person, Raise,
-                     Rename, Set, Spoken, all_done, ban, done)
+from crossing import crossed, through
+from effects import (EMPTY, HIDDEN, KEY, LIMIT, NOTHING, OPERATOR, SPELLING, TOPIC, VOICE, Come, Go, Join, Named, Out, Own, Person,
+                     Rename, Set, Spoken, all_done, ban, done, flag, in_order)
 from lost import lost, taken_back
 
 SIDES = [b"a.net", b"b.net"]
 NICKS = [b"al", b"ann", b"bo", b"bea", b"zed", b"yo", b"x"]
 CHANNELS = [b"#c", b"#d"]
-VALUES = {SPELLING: [b"#C", b"#c"], HIDDEN: [None, b"p", b"s"], KEY: [None, b"x", b"y", b"z"], LIMIT: [None, 3, 9], "n": [None, b"+"],
+VALUES = {HIDDEN: [None, b"p", b"s"], KEY: [None, b"x", b"y", b"z"], LIMIT: [None, 3, 9], ("n",): [None, b"+"],
           ban(b"zz"): [None, b"ZZ", b"zz"], TOPIC: [None, b"one", b"two"]}
+BOTH = [{OPERATOR: True, VOICE: True}, {OPERATOR: False}]
 
 
 def could_do(room, side):
@@ -19,19 +20,30 @@ def could_do(room, side):
     effects = [Come(nick, Person(nick, side, False)) for nick in free]
     effects += [Rename(nick, new, new) for nick in own for new in free]
     effects += [Rename(nick, nick, nick.upper()) for nick in own if room.people[nick].spelled != nick.upper()]
-    effects += [Own(nick, not room.people[nick].invisible) for nick in own]
-    effects += [In(nick, name, frozenset(flags)) for nick in own for name in CHANNELS for flags in ([], [OPERATOR])
-                if nick not in members(room, name)]
-    effects += [kind(nick) for nick in sorted(room.people) for kind in (Go, Named)]
+    effects += [Own(nick, not room.people[nick].invisible) for nick in own] + [Named(nick) for nick in sorted(room.people)]
+    effects += [Go(frozenset({nick})) for nick in sorted(room.people)] + ([Go(frozenset(own))] if len(own) > 1 else [])
+    effects += [join for name in CHANNELS for join in joins(room, own, name)]
     return effects + [effect for name in sorted(room.channels) for effect in of_channel(room, name)]
 
 
+def joins(room, own, name):
+    """Who may come to a channel, one or two, with a spelling; and values that come alone, where it is there."""
+    comers = [nick for nick in own if nick not in members(room, name)]
+    groups = [[(nick, frozenset(flags))] for nick in comers for flags in ([], [OPERATOR])]
+    groups += [[(nick, frozenset({VOICE})) for nick in comers[:2]]] * (len(comers) > 1)
+    effects = [Join(name, tuple(group), ((SPELLING, spelled),)) for group in groups for spelled in (name, name.upper())]
+    if name in room.channels:
+        effects += [Join(name, (), ((place, value),)) for place, values in VALUES.items() for value in values if value is not None]
+        effects += [Join(name, (), in_order({KEY: b"y", LIMIT: 5, HIDDEN: b"p"}))]
+    return effects
+
+
 def of_channel(room, name):
-    row, there = room.channels[name].row, members(room, name)
+    there = members(room, name)
     effects = [Spoken(name)] + [Out(nick, name) for nick in sorted(there)]
-    effects += [Flag(nick, name, letter, letter not in there[nick]) for nick in sorted(there) for letter in (OPERATOR, VOICE)]
-    effects += [Set(name, place, value) for place, values in VALUES.items() for value in values if place != SPELLING]
-    return effects + [Raise(name, place, value) for place, values in VALUES.items() for value in values if value is not None]
+    effects += [Set(name, ((flag(letter, nick), letter not in there[nick]),)) for nick in sorted(there) for letter in (OPERATOR, VOICE)]
+    effects += [Set(name, in_order({KEY: b"y", LIMIT: None} | {flag(OPERATOR, nick): OPERATOR not in there[nick] for nick in there}))]
+    return effects + [Set(name, ((place, value),)) for place, values in VALUES.items() for value in values]
 
 
 def members(room, name):
@@ -45,14 +57,19 @@ def is_possible(room, effect):
             return nick not in room.people
         case Rename(nick, new, _):
             return nick in room.people and (new == nick or new not in room.people)
-        case Go(nick) | Own(nick, _) | Named(nick):
+        case Go(nicks):
+            return all(nick in room.people for nick in nicks)
+        case Own(nick, _) | Named(nick):
             return nick in room.people
-        case In(nick, channel, _):
-            return nick in room.people and nick not in members(room, channel)
-        case Out(nick, channel) | Flag(nick, channel, _, _):
+        case Join(channel, comers, values):
+            return all(nick in room.people and nick not in members(room, channel) for nick, _ in comers) and bool(
+                comers or not values or channel in room.channels)
+        case Out(nick, channel):
             return nick in members(room, channel)
+        case Set(channel, values):
+            return channel in room.channels and all(place[1] in members(room, channel) for place, _ in values if place[0] in "ov")
         case _:
-            return effect.channel in room.channels
+            return effect == NOTHING or effect.channel in room.channels
 
 
 def all_possible(room, effects):
@@ -61,6 +78,16 @@ def all_possible(room, effects):
             return False
         room = done(room, effect)
     return True
+
+
+def crossed_all(room, theirs, ours):
+    """Lists of both ends: theirs behind ours, and ours behind theirs."""
+    log, behind = tuple(enumerate(ours)), []
+    for effect in theirs:
+        left, log = through(room, effect, log)
+        room = done(room, effect)
+        behind.append(left)
+    return behind, [effect for _, effect in log]
 
 
 def meet(room, theirs, ours, theirs_behind, ours_behind):
@@ -82,7 +109,7 @@ def some_doing(chance, room, side, count, going):
     effects = []
     for _ in range(count):
         could = [effect for effect in could_do(room, side) if not isinstance(effect, Go) or chance.random() < going]
-        could = [effect for effect in could if isinstance(effect, (In, Out)) or chance.random() < 0.3] or could
+        could = [effect for effect in could if isinstance(effect, Out) or isinstance(effect, Join) and effect.members or chance.random() < 0.3] or could
         if could:
             effects.append(chance.choice(could))
             room = done(room, effects[-1])
@@ -100,11 +127,11 @@ def tried(chance, rooms, lists):
         for one in theirs:
             for other in ours:
                 pairs += 1
-                if not meet(room, [one], [other], crossed(room, one, other), crossed(room, other, one)):
+                if not meet(room, [one], [other], [crossed(room, one, other)], [crossed(room, other, one)]):
                     faults.append((room.key(), one, other))
         for _ in range(lists):
             pairs_of_lists += 1
             one, other = (some_doing(chance, room, side, chance.randrange(1, 8), 0.3) for side in reversed(SIDES))
-            if not meet(room, one, other, *across(room, one, other)):
+            if not meet(room, one, other, *crossed_all(room, one, other)):
                 faults.append((room.key(), one, other))
     return pairs, pairs_of_lists, faults

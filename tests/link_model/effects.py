@@ -1,20 +1,29 @@
-"""What a line of a link tells, as effects, and what each does to a room.
+"""What a line of a link tells, as an effect, and what each does to a room.
 
-A room is a value: nothing here changes one, and a new one shares what stays. People and channels are named by the folds of their names. Of a
-channel's row each thing that can be set is a place of its own: the spelling of its name, the flags i m n t, what is hidden (p or s), the
-key, the limit, each ban by its fold, the topic. A place that is not in the row is not set, and that is less than any value.
+A room is a value: nothing here changes one, and a new one shares what stays. People and channels are named by the folds of their names. What can
+be set of a channel stands in places: the spelling of its name, the flags i m n t, what is hidden (p or s), the key, the limit, each ban by
+its fold, the topic; and o and v of a member. A place of the row that is not there is not set, and that is less than any value.
 """
 
 from dataclasses import dataclass, replace
 from typing import NamedTuple
 
-SPELLING, HIDDEN, KEY, LIMIT, TOPIC = "spelling", "hidden", "key", "limit", "topic"
+SPELLING, HIDDEN, KEY, LIMIT, TOPIC = ("spelling",), ("hidden",), ("key",), ("limit",), ("topic",)
 OPERATOR, VOICE = "o", "v"
 
 
 def ban(folded):
     """The place of a ban."""
-    return "ban " + folded.decode("latin-1")
+    return "ban", folded
+
+
+def flag(letter, nick):
+    """The place of a member's flag."""
+    return letter, nick
+
+
+def is_flag(place):
+    return place[0] in (OPERATOR, VOICE)
 
 
 class Person(NamedTuple):
@@ -26,6 +35,9 @@ class Person(NamedTuple):
 class Channel(NamedTuple):
     row: dict               # a place: its value
     members: dict           # a nickname: the flags o and v that the member has
+
+
+NO_CHANNEL = Channel({}, {})
 
 
 class Room:
@@ -73,18 +85,19 @@ class Rename:
 
 @dataclass(frozen=True, slots=True)
 class Go:
-    """A user is gone: :al QUIT :bye, and :b.net KILL al :Nick collision"""
+    """Users are gone: :al QUIT :bye, :b.net KILL al :Nick collision, and :b.net SQUIT c.net :lost"""
 
-    nick: bytes
+    nicks: frozenset
 
 
 @dataclass(frozen=True, slots=True)
-class In:
-    """A user becomes a member; where the channel is not there, it is made: :al JOIN #c, and :a.net NJOIN #c :@al"""
+class Join:
+    """Members are joined to a channel, and values to its places: each has the greater of its value and this one. Where the channel is not there,
+    members make it. :al JOIN #c, :a.net NJOIN #c :@al, :a.net MODE #c +k x, :a.net TOPIC #c :x"""
 
-    nick: bytes
     channel: bytes
-    flags: frozenset
+    members: tuple          # nicknames with their flags, in order
+    values: tuple           # places with values, in order
 
 
 @dataclass(frozen=True, slots=True)
@@ -97,30 +110,10 @@ class Out:
 
 @dataclass(frozen=True, slots=True)
 class Set:
-    """A place of a channel's row has this value, whatever it had: :al MODE #c +k x, and :al TOPIC #c :x"""
+    """Places have these values, whatever they had: :al MODE #c +ko x bo, and :al TOPIC #c :x"""
 
     channel: bytes
-    place: str
-    value: object
-
-
-@dataclass(frozen=True, slots=True)
-class Raise:
-    """A place has the greater of its value and this one: :a.net MODE #c +k x, and the spelling in a JOIN"""
-
-    channel: bytes
-    place: str
-    value: object
-
-
-@dataclass(frozen=True, slots=True)
-class Flag:
-    """A member is given a flag or loses it: :al MODE #c +o bo"""
-
-    nick: bytes
-    channel: bytes
-    letter: str
-    value: bool
+    values: tuple           # places with values, in order
 
 
 @dataclass(frozen=True, slots=True)
@@ -145,15 +138,30 @@ class Spoken:
     channel: bytes
 
 
+@dataclass(frozen=True, slots=True)
+class Nothing:
+    """Nothing is left of an effect."""
+
+
+NOTHING = Nothing()
+
+
+def in_order(values):
+    """A dictionary as it stands in an effect."""
+    return tuple(sorted(values.items(), key=lambda each: each[0]))
+
+
 def rank(value):
     """Values of a place in order, least first."""
     return (0,) if value is None else (1, value)
 
 
 def value_at(room, channel, place):
-    """What a place has, or None where it is not set, or the channel not there."""
-    there = room.channels.get(channel)
-    return there.row.get(place) if there is not None else None
+    """What a place has; None where it is not set, or the channel not there."""
+    there = room.channels.get(channel, NO_CHANNEL)
+    if is_flag(place):
+        return place[0] in there.members.get(place[1], ())
+    return there.row.get(place)
 
 
 def with_channel(room, name, channel):
@@ -190,44 +198,52 @@ def renamed(room, nick, new, spelled):
     return Room(people, channels)
 
 
-def gone(room, nick):
-    for name, channel in room.channels.items():
-        if nick in channel.members:
-            room = left(room, nick, name)
-    return with_person(room, nick, None)
+def gone(room, nicks):
+    for nick in nicks:
+        for name, channel in room.channels.items():
+            if nick in channel.members:
+                room = left(room, nick, name)
+        room = with_person(room, nick, None)
+    return room
 
 
-def joined(room, nick, name, flags):
-    there = room.channels.get(name, Channel({}, {}))
-    if nick not in room.people or nick in there.members:
-        return room
-    return with_channel(room, name, Channel(there.row, {**there.members, nick: flags}))
+def joined(room, name, members, values):
+    there = room.channels.get(name, NO_CHANNEL)
+    comers = {nick: flags for nick, flags in members if nick in room.people and nick not in there.members}
+    row = raised(there.row, values)
+    return with_channel(room, name, Channel(row, {**there.members, **comers}))
+
+
+def raised(row, values):
+    """A row with each value joined to it."""
+    return row | {place: value for place, value in values if rank(value) > rank(row.get(place))}
 
 
 def left(room, nick, name):
-    there = room.channels.get(name)
-    if there is None or nick not in there.members:
+    there = room.channels.get(name, NO_CHANNEL)
+    if nick not in there.members:
         return room
     members = {member: flags for member, flags in there.members.items() if member != nick}
     return with_channel(room, name, Channel(there.row, members))
 
 
-def put(room, name, place, value):
-    there = room.channels.get(name)
-    if there is None:
-        return room
-    row = {each: held for each, held in there.row.items() if each != place}
-    if value is not None:
-        row[place] = value
-    return with_channel(room, name, Channel(row, there.members))
+def put(room, name, values):
+    for place, value in values:
+        if name in room.channels:
+            room = with_channel(room, name, with_value(room.channels[name], place, value))
+    return room
 
 
-def flagged(room, nick, name, letter, value):
-    there = room.channels.get(name)
-    if there is None or nick not in there.members:
-        return room
-    flags = there.members[nick] | {letter} if value else there.members[nick] - {letter}
-    return with_channel(room, name, Channel(there.row, {**there.members, nick: flags}))
+def with_value(channel, place, value):
+    """A channel with a place set; a flag is a member's."""
+    if is_flag(place):
+        letter, nick = place
+        if nick not in channel.members:
+            return channel
+        flags = channel.members[nick] | {letter} if value else channel.members[nick] - {letter}
+        return Channel(channel.row, {**channel.members, nick: flags})
+    row = {each: held for each, held in channel.row.items() if each != place}
+    return Channel(row if value is None else row | {place: value}, channel.members)
 
 
 def turned(room, nick, invisible):
@@ -242,18 +258,14 @@ def done(room, effect):
             return came(room, nick, person)
         case Rename(nick, new, spelled):
             return renamed(room, nick, new, spelled)
-        case Go(nick):
-            return gone(room, nick)
-        case In(nick, channel, flags):
-            return joined(room, nick, channel, flags)
+        case Go(nicks):
+            return gone(room, nicks)
+        case Join(channel, members, values):
+            return joined(room, channel, members, values)
         case Out(nick, channel):
             return left(room, nick, channel)
-        case Set(channel, place, value):
-            return put(room, channel, place, value)
-        case Raise(channel, place, value):
-            return put(room, channel, place, max(value_at(room, channel, place), value, key=rank))
-        case Flag(nick, channel, letter, value):
-            return flagged(room, nick, channel, letter, value)
+        case Set(channel, values):
+            return put(room, channel, values)
         case Own(nick, invisible):
             return turned(room, nick, invisible)
         case _:
@@ -266,18 +278,9 @@ def all_done(room, effects):
     return room
 
 
-def nick_of(effect):
-    """Whom an effect is of, or None."""
-    return None if isinstance(effect, (Set, Raise, Spoken)) else effect.nick
-
-
 def channel_of(effect):
     """Of which channel an effect is, or None."""
-    return effect.channel if isinstance(effect, (In, Out, Set, Raise, Flag, Spoken)) else None
-
-
-def with_nick(effect, nick):
-    return replace(effect, nick=nick)
+    return effect.channel if isinstance(effect, (Join, Out, Set, Spoken)) else None
 
 
 def taken_by(effect):
@@ -285,3 +288,19 @@ def taken_by(effect):
     if isinstance(effect, Come):
         return effect.nick
     return effect.new if isinstance(effect, Rename) and effect.new != effect.nick else None
+
+
+def with_names(effect, name):
+    """An effect whose people have other nicknames: `name` says which."""
+    match effect:
+        case Rename(nick, _, _) | Out(nick, _) | Own(nick, _) | Named(nick):
+            return replace(effect, nick=name(nick))
+        case Go(nicks):
+            return Go(frozenset(map(name, nicks)))
+        case Join(_, members, _):
+            return replace(effect, members=in_order({name(nick): flags for nick, flags in members}))
+        case Set(_, values):
+            return replace(effect, values=in_order({flag(place[0], name(place[1])) if is_flag(place) else place: value
+                                                    for place, value in values}))
+        case _:
+            return effect

@@ -17,7 +17,8 @@ A piece without lines tells the count alone, and is not counted itself.
 from typing import NamedTuple
 
 import crossing
-from effects import EMPTY, Named, Room, Spoken, all_done, done
+from crossing import does_something
+from effects import EMPTY, Room, all_done, done
 from lines import Kick, Line, Modes, Spelling, Topic, asked, Reader, tale
 from servers import (copied, kicked_by_server, modes_by_server, parse, room_of, spelled_by_server, topic_by_server)
 
@@ -37,7 +38,7 @@ class End(NamedTuple):
     """What one end of a link keeps of it."""
 
     base: Room              # the room that the other end had when it wrote what came last
-    log: tuple              # what was put out and not counted as read: a piece's number, and its effects
+    log: tuple              # what was put out and not counted as read: numbers of pieces, and effects
     here: Room              # the server's own room: the base behind the log
     out: tuple              # pieces of this event
     sent: int               # pieces put out
@@ -58,8 +59,8 @@ def with_line(end, line, effects, is_set, most):
         out = (*end.out, Piece((line,), is_set))
     else:
         out = (*end.out[:-1], Piece((*last.lines, line), False))
-    kept = tuple(effect for effect in effects if not isinstance(effect, (Named, Spoken)))
-    log = with_effects(end.log, end.sent + len(out), kept) if kept else end.log
+    kept = [effect for effect in effects if does_something(effect)]
+    log = (*end.log, *((end.sent + len(out), effect) for effect in kept))
     return end._replace(out=out, log=log, here=all_done(end.here, kept))
 
 
@@ -73,17 +74,11 @@ def goes_on(before, line):
     return parse(before)[1] == parse(line)[1] == b"SQUIT"
 
 
-def with_effects(log, number, effects):
-    if log and log[-1][0] == number:
-        return (*log[:-1], (number, (*log[-1][1], *effects)))
-    return (*log, (number, effects))
-
-
 def counted(end, count):
     """An end whose other end has read so many pieces: what they did it has done."""
     base, log = end.base, end.log
     while log and log[0][0] <= count:
-        base, log = all_done(base, log[0][1]), log[1:]
+        base, log = done(base, log[0][1]), log[1:]
     return end._replace(base=base, log=log, heard=count)
 
 
@@ -180,16 +175,16 @@ class Layer:
         told = tale(line, writer, is_set)
         became, base, log = [], end.base, end.log
         for effect in told.effects:
-            left, log = crossing.through(base, [effect], log)
+            left, log = crossing.through(base, effect, log)
             base = done(base, effect)
             became.append(left)
         put = []
-        self.ends[link] = end._replace(base=base, log=tuple(log))
+        self.ends[link] = end._replace(base=base, log=log)
         for item in asked(writer, reader, told, became):
             self.give(link, item)
             put += self.taken(link, not isinstance(item, Line))
         if link in self.ends:
-            here = all_done(end.here, [effect for effects in became for effect in effects])
+            here = all_done(end.here, became)
             self.ends[link] = self.ends[link]._replace(here=here)
         return put
 
@@ -268,7 +263,7 @@ class Layer:
         """What is wrong inside: the base behind the log is to be the server's room."""
         room = room_of(self.server)
         return [link for link, end in sorted(self.ends.items()) if end.greeted and
-                not (end.here == room and all_done(end.base, [each for _, effects in end.log for each in effects]) == room)]
+                not (end.here == room and all_done(end.base, [effect for _, effect in end.log]) == room)]
 
 
 

@@ -5,28 +5,40 @@ What a log has to hold of each effect: with it the room that the other end had c
 
 from typing import NamedTuple
 
-from effects import (Channel, Come, Flag, Go, In, Out, Own, Person, Raise, Rename, Set, channel_of, left, nick_of, put, renamed, value_at,
-                     with_channel, with_person)
+from effects import (Channel, Come, Go, Join, Out, Own, Rename, Set, left, put, renamed, value_at, with_channel,
+                     with_person)
 
 
 class Lost(NamedTuple):
-    """What an effect has taken from a room: who is gone, the flags of who left or was changed, rows of channels that ended, and the value of
-    a place. Of all that an effect adds nothing need be kept."""
+    """Who is gone or has changed; the flags of who left a channel; rows of channels that ended; values of places that were set."""
 
-    person: Person | None
-    flags: dict             # a channel: the flags that the member had
-    rows: dict              # a channel that ended: its row
-    value: object
+    people: tuple
+    flags: tuple            # nickname, channel, flags
+    rows: tuple             # channel, row
+    values: tuple
 
 
 def lost(room, effect):
     """What this effect takes away."""
-    nick = nick_of(effect)
-    there = {name: channel for name, channel in room.channels.items() if nick in channel.members and channel_of(effect) in (None, name)}
-    rows = {name: channel.row for name, channel in there.items() if set(channel.members) == {nick} and isinstance(effect, (Go, Out))}
-    flags = {name: channel.members[nick] for name, channel in there.items() if isinstance(effect, (Go, Out, Flag))}
-    value = value_at(room, effect.channel, effect.place) if isinstance(effect, (Set, Raise)) else None
-    return Lost(room.people.get(nick) if isinstance(effect, (Go, Rename, Own)) else None, flags, rows, value)
+    match effect:
+        case Go(nicks):
+            return lost_with(room, sorted(nicks), sorted(room.channels))
+        case Out(nick, channel):
+            return lost_with(room, [nick], [channel])._replace(people=())
+        case Rename(nick, _, _) | Own(nick, _):
+            return Lost(((nick, room.people[nick]),), (), (), ())
+        case Join(channel, _, values) | Set(channel, values):
+            return Lost((), (), (), tuple((place, value_at(room, channel, place)) for place, _ in values))
+        case _:
+            return Lost((), (), (), ())
+
+
+def lost_with(room, nicks, names):
+    """What goes with some people, in some channels."""
+    people = tuple((nick, room.people[nick]) for nick in nicks)
+    flags = tuple((nick, name, room.channels[name].members[nick]) for name in names for nick in nicks if nick in room.channels[name].members)
+    rows = tuple((name, room.channels[name].row) for name in names if set(room.channels[name].members) <= set(nicks))
+    return Lost(people, flags, rows, ())
 
 
 def taken_back(room, effect, kept):
@@ -35,21 +47,24 @@ def taken_back(room, effect, kept):
         case Come(nick, _):
             return with_person(room, nick, None)
         case Rename(nick, new, _):
-            return renamed(room, new, nick, kept.person.spelled)
-        case Own(nick, _):
-            return with_person(room, nick, kept.person)
-        case In(nick, channel, _):
-            return left(room, nick, channel)
-        case Go(nick) | Out(nick, _) | Flag(nick, _, _, _):
-            return put_back(with_person(room, nick, kept.person) if kept.person else room, nick, kept)
-        case Set(channel, place, _) | Raise(channel, place, _):
-            return put(room, channel, place, kept.value)
+            return renamed(room, new, nick, kept.people[0][1].spelled)
+        case Go(_) | Out(_, _) | Own(_, _):
+            return put_back(room, kept)
+        case Join(channel, members, _):
+            for nick, _ in members:
+                room = left(room, nick, channel)
+            return put(room, channel, kept.values)
+        case Set(channel, _):
+            return put(room, channel, kept.values)
         case _:
             return room
 
 
-def put_back(room, nick, kept):
-    for name, flags in kept.flags.items():
-        row, members = room.channels.get(name, Channel(kept.rows.get(name, {}), {}))
+def put_back(room, kept):
+    rows = dict(kept.rows)
+    for nick, person in kept.people:
+        room = with_person(room, nick, person)
+    for nick, name, flags in kept.flags:
+        row, members = room.channels.get(name, Channel(rows.get(name, {}), {}))
         room = with_channel(room, name, Channel(row, {**members, nick: flags}))
     return room

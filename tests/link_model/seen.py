@@ -1,12 +1,9 @@
 """What people know of their channels from the lines that they are shown: at rest it is what their server has, and no line was out of place."""
 
-from effects import EMPTY, SPELLING, TOPIC, Channel, Flag, Out, Set, all_done, done, with_channel
-from lines import changes_told
+from effects import EMPTY, NO_CHANNEL, SPELLING, TOPIC, Channel, Out, Set, done, in_order, is_flag, with_channel
+from lines import change_told
 from net import Net
 from servers import changes_of, fold, parse, room_of
-
-NONE = Channel({}, {})
-
 
 class Viewer:
     """A client, and what it knows of the channels that it is in. Of one that it comes to it is told all, as its server has it then."""
@@ -44,9 +41,11 @@ class Viewer:
         if command == b"JOIN":
             self.room = with_channel(self.room, name, Channel(there.row, {**there.members, nick: frozenset()}))
             return nick not in there.members
-        effects = [Set(name, TOPIC, words[1] or None)] if command == b"TOPIC" else changes_told(self.room, name, changes_of(words[1:]), False)
-        self.room = all_done(self.room, effects)
-        return all(effect.nick in there.members for effect in effects if isinstance(effect, Flag))
+        values = {TOPIC: words[1] or None} if command == b"TOPIC" else {}
+        for change in changes_of(words[1:]) if command == b"MODE" else []:
+            values |= [change_told(self.room, name, values, change)]
+        self.room = done(self.room, Set(name, in_order(values)))
+        return all(place[1] in there.members for place in values if is_flag(place))
 
     def takes_everywhere(self, command, nick, words):
         shared = [name for name, channel in self.room.channels.items() if nick in channel.members]
@@ -61,7 +60,7 @@ class Viewer:
     def takes_out(self, nick, name):
         if name not in self.room.channels or nick not in self.room.channels[name].members:
             return False
-        self.room = with_channel(self.room, name, NONE) if nick == self.nick else done(self.room, Out(nick, name))
+        self.room = with_channel(self.room, name, NO_CHANNEL) if nick == self.nick else done(self.room, Out(nick, name))
         return True
 
     def fault(self, room):

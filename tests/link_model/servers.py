@@ -37,7 +37,7 @@ def room_of(server):
 
 def row_of(channel):
     row = {SPELLING: channel.name, HIDDEN: channel.hidden, KEY: channel.key, LIMIT: channel.limit, TOPIC: channel.topic or None}
-    row |= {flag.decode(): b"+" for flag in channel.flags}
+    row |= {(letter.decode(),): b"+" for letter in channel.flags}
     row |= {ban(fold(mask)): mask for mask in channel.bans}
     return {place: value for place, value in row.items() if value is not None}
 

@@ -4,7 +4,7 @@ import contextlib
 
 import crossing
 import layer
-from effects import Go, rank
+from effects import Go, Out, rank
 
 
 def followed_but_by_kill(theirs, ours):
@@ -20,17 +20,18 @@ def lagging(end, count):
 WRONG = {
     "names followed": (crossing, "name_followed", lambda theirs, ours: theirs),
     "names followed by KILL": (crossing, "name_followed", followed_but_by_kill),
-    "gone dropped": (crossing, "is_of_gone", lambda theirs, ours: False),
     "two to one name": (crossing, "two_to_one_name", lambda theirs, ours: False),
-    "one of two to one name": (crossing, "both_go", lambda theirs: [Go(theirs.nick)]),
-    "members once": (crossing, "is_done_by", lambda theirs, ours: False),
+    "both go": (crossing, "both_go", lambda theirs: Go(frozenset({theirs.nick}))),
+    "gone dropped": (crossing, "is_out", lambda ours, nick, channel: isinstance(ours, Out) and RIGHT["is_out"](ours, nick, channel)),
+    "taken out once": (crossing, "is_out", lambda ours, nick, channel: isinstance(ours, Go) and RIGHT["is_out"](ours, nick, channel)),
     "greater of two": (crossing, "is_greater", lambda value, other: True),
     "greater, not lesser": (crossing, "is_greater", lambda value, other: rank(value) < rank(other)),
+    "idle": (crossing, "is_idle", lambda effect, held, value: False),
     "ended channel": (crossing, "ends", lambda room, ours, channel: False),
-    "ended channel's row": (crossing, "row_back", lambda room, channel: []),
-    "idle": (crossing, "is_idle", lambda held, effect: False),
+    "ended channel's row": (crossing, "row_back", lambda room, ours, channel: {}),
     "echo": (layer, "is_echo", lambda link, arrival, command: False),
     "count": (layer, "counted", lagging),
+    "lost together": (layer, "goes_on", lambda before, line: False),
 }
 RIGHT = {name: getattr(module, name) for module, name, _ in WRONG.values()}
 
