@@ -10,7 +10,8 @@ read, takes each line that comes as the effects that it tells, and gives the ser
     link_model/effects.py       what a line tells, and what that does to a room
     link_model/crossing.py      the rules: what becomes of an effect that crossed others
     link_model/lines.py         lines as effects, and effects as what the server is asked for
-    link_model/layer.py         the ends of a server's links, pieces and counts
+    link_model/ends.py          one end of a link: its log, pieces and counts
+    link_model/layer.py         the ends of all links of a server, around it
 
     diamond     two ends do something each in one room, one effect or a list: behind what both did they have one room again;
     orders      each of five people, of whom two come, does things in turn at two or three servers in a line, and pieces are delivered one at
@@ -42,7 +43,8 @@ import diamond  # noqa: E402
 import orders   # noqa: E402
 import scripts  # noqa: E402
 import wrong    # noqa: E402
-from layer import MOST, Bare, Layer     # noqa: E402
+from ends import MOST   # noqa: E402
+from layer import Bare, Layer   # noqa: E402
 from net import COUNT_WITHIN, Net       # noqa: E402
 from seen import Watched        # noqa: E402
 from servers import NAMES       # noqa: E402

@@ -1,119 +1,12 @@
-"""The layer at the ends of a server's links: around a server that does not know of it.
+"""The layer: an event machine around a server that does not know of it. It sees what comes by a link before the server does, and what the server puts
+out on links behind it; of the server it reads who the other end of a link is, and the numbers and links of servers."""
 
-A piece is what a server puts out on one link in one event, at most so many lines; in front of it may stand
+from ends import MOST, NEW, counted, flushed, is_echo, meant, piece_read, with_line
+from effects import all_done
+from lines import Kick, Line, Modes, Reader, Side, Spelling, Topic, tale
+from servers import copied, kicked_by_server, modes_by_server, parse, room_of, spelled_by_server, topic_by_server
 
-    COUNT <read> <lines> [set]
-
-which tells how many pieces of the other end had been read, and how many lines follow. It is left out where the count has not moved and the
-piece is one line without a mark. `set` marks a line of a server that is done as it is, where `:a.net MODE` and `:a.net TOPIC` raise without it.
-A piece without lines tells the count alone, and is not counted itself.
-
-    b.net writes    COUNT 17 2                  it has read seventeen pieces
-                    :bo NICK zed
-                    :zed JOIN #c
-                    :zed PRIVMSG #c :hello      a piece of its own
-"""
-
-from typing import NamedTuple
-
-import crossing
-from crossing import does_something
-from effects import EMPTY, Room, all_done, done
-from lines import Kick, Line, Modes, Spelling, Topic, asked, Reader, tale
-from servers import (copied, kicked_by_server, modes_by_server, parse, room_of, spelled_by_server, topic_by_server)
-
-MOST = 16                   # lines of a piece
-SET = b"set"
 DEEDS = {Kick: kicked_by_server, Modes: modes_by_server, Topic: topic_by_server, Spelling: spelled_by_server}
-
-
-class Piece(NamedTuple):
-    """Lines that are read in one go, and whether they are of a server that sets."""
-
-    lines: tuple
-    is_set: bool
-
-
-class End(NamedTuple):
-    """What one end of a link keeps of it."""
-
-    base: Room              # the room that the other end had when it wrote what came last
-    log: tuple              # what was put out and not counted as read: numbers of pieces, and effects
-    here: Room              # the server's own room: the base behind the log
-    out: tuple              # pieces of this event
-    sent: int               # pieces put out
-    told: int               # the count that was put out last
-    read: int               # pieces of the other end that were read
-    heard: int              # the count that came last
-    greeted: bool           # the other end has named itself: from here on there are pieces
-
-
-NEW = End(EMPTY, (), EMPTY, (), 0, 0, 0, 0, False)
-
-
-def with_line(end, line, effects, is_set, most):
-    """An end that puts out one line more, as part of the last piece or of a new one."""
-    last = end.out[-1] if end.out else None
-    is_full = last is not None and len(last.lines) >= most and not goes_on(last.lines[-1], line)
-    if last is None or is_set or last.is_set or is_full:
-        out = (*end.out, Piece((line,), is_set))
-    else:
-        out = (*end.out[:-1], Piece((*last.lines, line), False))
-    kept = [effect for effect in effects if does_something(effect)]
-    log = (*end.log, *((end.sent + len(out), effect) for effect in kept))
-    return end._replace(out=out, log=log, here=all_done(end.here, kept))
-
-
-def goes_on(before, line):
-    """Whether a line is never cut from the one before it: servers are lost together, for none may seem to be linked to one that is lost.
-
-        b.net writes    COUNT 17 2
-                        :b.net SQUIT c.net :b.net c.net
-                        :b.net SQUIT d.net :b.net c.net         which was behind c.net
-    """
-    return parse(before)[1] == parse(line)[1] == b"SQUIT"
-
-
-def counted(end, count):
-    """An end whose other end has read so many pieces: what they did it has done."""
-    base, log = end.base, end.log
-    while log and log[0][0] <= count:
-        base, log = done(base, log[0][1]), log[1:]
-    return end._replace(base=base, log=log, heard=count)
-
-
-def flushed(end):
-    """The pieces of an event as lines, and the end behind them."""
-    told, groups = end.told, []
-    for piece in end.out:
-        groups.append(piece_lines(piece, end.read, told))
-        told = end.read if len(groups[-1]) > len(piece.lines) else told
-    return groups, end._replace(out=(), sent=end.sent + len(end.out), told=told)
-
-
-def piece_lines(piece, read, told):
-    if read == told and len(piece.lines) == 1 and not piece.is_set:
-        return piece.lines
-    words = [b"COUNT", b"%d" % read, b"%d" % len(piece.lines)] + ([SET] if piece.is_set else [])
-    return (b" ".join(words), *piece.lines)
-
-
-def piece_read(lines, heard):
-    """A piece and its count, out of its lines."""
-    words = lines[0].split(b" ")
-    if words[0] != b"COUNT":
-        return Piece(lines, False), heard
-    assert int(words[2]) == len(lines) - 1
-    return Piece(lines[1:], words[3:] == [SET]), int(words[1])
-
-
-def is_echo(link, arrival, command):
-    """Whether a line answers a collision on the link by which it came: the other end kills them too, as it reads our NICK.
-
-        a.net writes    :al NICK zed            b.net writes    :bo NICK zed
-        a.net's server  :a.net KILL bo, :a.net KILL zed     on all links; to b.net they are not put out
-    """
-    return link == arrival and command == b"KILL"
 
 
 class Layer:
@@ -169,33 +62,21 @@ class Layer:
         return put + self.flush()
 
     def line(self, link, line, is_set):
-        """A line that comes is given to the server as it is meant here."""
-        end = self.ends[link]
-        writer, reader = self.reader(link, end.base), self.reader(link, end.here)
-        told = tale(line, writer, is_set)
-        became, base, log = [], end.base, end.log
-        for effect in told.effects:
-            left, log = crossing.through(base, effect, log)
-            base = done(base, effect)
-            became.append(left)
+        """The server is asked for what a line means here."""
+        items, self.ends[link] = meant(self.ends[link], self.side(link), line, is_set)
         put = []
-        self.ends[link] = end._replace(base=base, log=log)
-        for item in asked(writer, reader, told, became):
+        for item in items:
             self.give(link, item)
             put += self.taken(link, not isinstance(item, Line))
-        if link in self.ends:
-            here = all_done(end.here, became)
-            self.ends[link] = self.ends[link]._replace(here=here)
         return put
 
-    def reader(self, link, room):
+    def side(self, link):
         homes = {row.token: name for name, row in self.server.known.items() if row.link == link}
-        return Reader(room, self.server.links[link].name, frozenset(homes.values()), homes)
+        return Side(self.server.links[link].name, homes)
 
-    def own(self, room):
-        """This server as the writer of a line."""
-        homes = {1: self.module.OWN} | {row.number: name for name, row in self.server.known.items()}
-        return Reader(room, None, frozenset(homes.values()), homes)
+    def own(self):
+        """What is told on a link is told by this server, with its own numbers of servers."""
+        return Side(self.module.OWN, {1: self.module.OWN} | {row.number: name for name, row in self.server.known.items()})
 
     def give(self, link, item):
         """The server is asked for something."""
@@ -236,7 +117,7 @@ class Layer:
             return [("link", link, (line,))]
         if not is_echo(link, arrival, command):
             end = self.ends[link]
-            effects = tale(line, self.own(end.here), is_set).effects
+            effects = tale(line, Reader(end.here, self.own()), is_set).effects
             self.ends[link] = with_line(end, line, effects, is_set, self.most)
         return []
 
@@ -264,7 +145,6 @@ class Layer:
         room = room_of(self.server)
         return [link for link, end in sorted(self.ends.items()) if end.greeted and
                 not (end.here == room and all_done(end.base, [effect for _, effect in end.log]) == room)]
-
 
 
 class Bare(Layer):

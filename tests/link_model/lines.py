@@ -72,17 +72,22 @@ class Spelling:
     channel: bytes
 
 
+class Side(NamedTuple):
+    """What a server knows of the other end of a link: its name, and the server of each number that it gives."""
+
+    peer: bytes
+    homes: dict
+
+
 class Reader(NamedTuple):
-    """Who reads a line: a room, the name of the other end, the servers behind the link, and the server of each number."""
+    """Who reads a line, or writes one: a room, and what is behind the link."""
 
     room: Room
-    peer: bytes | None
-    behind: frozenset
-    homes: dict
+    side: Side
 
     def is_far(self, nick):
         """Whether somebody behind the link has a nickname."""
-        return nick in self.room.people and self.room.people[nick].home in self.behind
+        return nick in self.room.people and self.room.people[nick].home in self.side.homes.values()
 
     def has_far(self, channel):
         """Whether a channel has a member behind the link."""
@@ -110,7 +115,7 @@ def tale(line, writer, is_set):
 def told(writer, prefix, command, words, is_set):
     match command:
         case b"NICK" if prefix is None:
-            return [Come(fold(words[0]), Person(words[0], writer.homes[int(words[4])], words[5] == b"+i"))]
+            return [Come(fold(words[0]), Person(words[0], writer.side.homes[int(words[4])], words[5] == b"+i"))]
         case b"NICK":
             return [Rename(fold(prefix), fold(words[0]), words[0])]
         case b"QUIT":
@@ -239,7 +244,7 @@ def gone_by(effect):
 
 
 def kills(reader, effect):
-    return [Line(written(reader.peer, b"KILL", [reader.room.people[nick].spelled], COLLISION)) for nick in sorted(gone_by(effect))]
+    return [Line(written(reader.side.peer, b"KILL", [reader.room.people[nick].spelled], COLLISION)) for nick in sorted(gone_by(effect))]
 
 
 def go_asked(writer, reader, tale, became):
@@ -267,7 +272,7 @@ def out_asked(writer, reader, tale, became):
 
 def doer(reader, tale):
     """The server that does what somebody did who is gone here."""
-    return tale.prefix if is_server(tale.prefix) else reader.peer
+    return tale.prefix if is_server(tale.prefix) else reader.side.peer
 
 
 def text_asked(writer, reader, tale, became):
@@ -328,7 +333,7 @@ def join_asked(writer, reader, tale, became):
     if tale.command == b"NJOIN" and join.members and join.values == tale.effects[0].values and brings_just(reader, tale, join):
         return [Line(tale.line)]
     members = replace(join, values=((SPELLING, dict(join.values)[SPELLING]),))
-    return members_asked(reader, server, join) + row_asked(reader._replace(room=done(reader.room, members)), server, join)
+    return members_asked(reader, server, join) + row_asked(Reader(done(reader.room, members), reader.side), server, join)
 
 
 def raise_asked(writer, reader, tale, join):
@@ -350,8 +355,10 @@ def raise_asked(writer, reader, tale, join):
 def joins_plainly(writer, reader, tale, join):
     """Whether a JOIN does it: the channel is there on both sides or on neither, and no row comes back. Else an operator would come without
     being shown as one, and the spelling stay as it is."""
-    was_there, is_there = (join.channel in each.room.channels for each in (writer, reader))
-    return bool(join.members) and join.values == tale.effects[0].values and was_there == is_there
+    name = dict(join.values)[SPELLING]
+    (was_there, did_raise), (is_there, does_raise) = (
+        (join.channel in each.room.channels, each.raises(join.channel, SPELLING, name)) for each in (writer, reader))
+    return bool(join.members) and join.values == tale.effects[0].values and (was_there, did_raise) == (is_there, does_raise)
 
 
 def brings_just(reader, tale, join):

@@ -11,8 +11,8 @@ COMERS = [b"COME z", b"COME z", b"COME y"]
 NICKS = [b"p", b"q", b"r", b"z", b"y"]
 NAMES_TAKEN = [b"NICK z", b"NICK z", b"NICK y", b"NICK y", b"NICK p", b"QUIT :gone"]
 IN_AND_OUT = [b"JOIN #r", b"JOIN #r", b"JOIN #R", b"JOIN #s", b"JOIN #S", b"PART #r", b"PART #r", b"JOIN 0"]
-SET = [b"TOPIC #r :one", b"TOPIC #r :two", b"TOPIC #r :", b"MODE #r +k x", b"MODE #r +k y", b"MODE #r -k q", b"MODE #r +l 5", b"MODE #r -l", b"MODE #r +s",
-       b"MODE #r +p-n", b"MODE #r -s", b"MODE #r +n", b"MODE #r +b bad!*@*", b"MODE #r +b BAD!*@*", b"MODE #r -b bad!*@*", b"MODE #s +kn x"]
+SET = [b"TOPIC #r :one", b"TOPIC #r :two", b"TOPIC #r :", b"MODE #r +k x", b"MODE #r +k y", b"MODE #r -k q", b"MODE #r +l 5", b"MODE #r -l",
+       b"MODE #r +s", b"MODE #r +p-n", b"MODE #r -s", b"MODE #r +n", b"MODE #r +b bad!*@*", b"MODE #r +b BAD!*@*", b"MODE #r -b bad!*@*", b"MODE #s +kn x"]
 
 
 def begun(count, settings):

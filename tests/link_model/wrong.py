@@ -3,6 +3,7 @@
 import contextlib
 
 import crossing
+import ends
 import layer
 from effects import Go, Out, rank
 
@@ -31,7 +32,7 @@ WRONG = {
     "ended channel's row": (crossing, "row_back", lambda room, ours, channel: {}),
     "echo": (layer, "is_echo", lambda link, arrival, command: False),
     "count": (layer, "counted", lagging),
-    "lost together": (layer, "goes_on", lambda before, line: False),
+    "lost together": (ends, "goes_on", lambda before, line: False),
 }
 RIGHT = {name: getattr(module, name) for module, name, _ in WRONG.values()}
 
