@@ -25,8 +25,8 @@ read, takes each line that comes as the effects that it tells, and gives the ser
 
 Of scripts and orders it says what was tried and what went wrong: servers that differ at rest, a link that is closed, a room that is not
 the base behind the log. `--piece` is how many lines a piece has at most, `--count-within` how many pieces are read before a count
-goes out alone; `--plain` is servers without the layer. `--without RULE` takes a rule out, and `--without each` each in turn; without its RULE it names them. The
-status is 1 where something went wrong.
+goes out alone; `--plain` is servers without the layer. `--without RULE` takes a rule out, and `--without each` each in turn. The status
+is 1 where something went wrong; with `--without each`, where some rule is not missed.
 """
 
 import argparse
@@ -52,7 +52,7 @@ from servers import NAMES       # noqa: E402
 # what a run with no words tries: servers, how long, how many, people, links cut
 SCRIPTS = [(2, 80, 250, False, 0.0, 16), (2, 80, 150, True, 0.0, 1), (3, 80, 250, False, 0.06, 1), (3, 80, 100, True, 0.06, 2),
            (4, 80, 60, True, 0.06, 16), (5, 80, 150, False, 0.06, 1)]
-ORDERS = [(2, 4, 40, 3000), (3, 3, 25, 2000)]
+ORDERS = [(2, 4, 40, 1500), (3, 3, 20, 900)]
 SEEN = [(3, 80, 100, False, 0.06, 1), (2, 80, 60, True, 0.0, 16)]
 REST = [(3, 60, 80, False), (4, 60, 20, True)]
 
@@ -70,7 +70,7 @@ def told(title, faults, given, began):
 
 def try_diamond(given):
     began = time.time()
-    pairs, lists, faults = diamond.tried(random.Random(given.seed), given.tries or 12, 60)
+    pairs, lists, faults = diamond.tried(random.Random(given.seed), given.tries or 8, 60)
     return told(f"diamond: {pairs} pairs of effects, {lists} of lists", faults, given, began)
 
 
@@ -88,18 +88,23 @@ def orders_tried(given, count, things, tries, bound):
         states += more
         found.update(list(ends))
         faults += [(title, turns, end, *path) for end, path in ends.items() if end not in ("alike", "too many")][:1]
-    title = f"orders of {things} things on {count} servers: {len(orders.RACES)} races and {tries} sets, {states} states, {found['too many']} cut short"
+    title = f"orders of {things} things on {count} servers: {len(sets)} sets and {len(orders.RACES)} races, {states} states"
+    title += f", {found['too many']} cut short"
     return told(title, faults, given, began)
 
 
 def try_scripts(given):
-    chosen = [(given.servers, given.things or 80, given.tries or 300, given.calm, 0.06 if given.cuts else 0.0, MOST)] if given.servers else SCRIPTS
-    return sum(scripts_tried(given, *each) for each in chosen)
+    return sum(scripts_tried(given, *each) for each in chosen_scripts(given, SCRIPTS))
 
 
 def try_seen(given):
-    chosen = [(given.servers, given.things or 80, given.tries or 300, given.calm, 0.06 if given.cuts else 0.0, MOST)] if given.servers else SEEN
-    return sum(scripts_tried(given, *each, Watched) for each in chosen)
+    return sum(scripts_tried(given, *each, Watched) for each in chosen_scripts(given, SEEN))
+
+
+def chosen_scripts(given, usual):
+    if not given.servers:
+        return usual
+    return [(given.servers, given.things or 80, given.tries or 300, given.calm, 0.06 if given.cuts else 0.0, MOST)]
 
 
 def scripts_tried(given, count, length, tries, calm, cuts, most, kind=Net):
@@ -107,8 +112,8 @@ def scripts_tried(given, count, length, tries, calm, cuts, most, kind=Net):
     steps, loops, found = scripts.tried(given.seed, given.seed + tries, count, length, cuts, calm, how)
     faults = [(number, reason) for number, reason in sorted(found.items())]
     faults = [(*fault, *shortest(count, length, cuts, calm, how, fault[0])) for fault in faults[:given.show]] + faults[given.show:]
-    title = (f"{'seen' if kind is Watched else 'scripts'} on {count} servers, {'calm' if calm else 'harsh'}{', links cut' if cuts else ''}, pieces of {how['most']}: "
-             f"{tries} scripts, {steps} steps, {loops} loops")
+    title = f"{'seen' if kind is Watched else 'scripts'} on {count} servers, {'calm' if calm else 'harsh'}{', links cut' if cuts else ''}"
+    title += f", pieces of {how['most']}: {tries} scripts, {steps} steps, {loops} loops"
     return told(title, faults, given, began)
 
 

@@ -109,11 +109,15 @@ def some_doing(chance, room, side, count, going):
     effects = []
     for _ in range(count):
         could = [effect for effect in could_do(room, side) if not isinstance(effect, Go) or chance.random() < going]
-        could = [effect for effect in could if isinstance(effect, Out) or isinstance(effect, Join) and effect.members or chance.random() < 0.3] or could
+        could = [effect for effect in could if comes_or_leaves(effect) or chance.random() < 0.3] or could
         if could:
             effects.append(chance.choice(could))
             room = done(room, effects[-1])
     return effects
+
+
+def comes_or_leaves(effect):
+    return isinstance(effect, Out) or isinstance(effect, Join) and bool(effect.members)
 
 
 def tried(chance, rooms, lists):

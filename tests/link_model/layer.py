@@ -1,8 +1,11 @@
-"""The layer: an event machine around a server that does not know of it. It sees what comes by a link before the server does, and what the server puts
-out on links behind it; of the server it reads who the other end of a link is, and the numbers and links of servers."""
+"""The layer: an event machine around a server that does not know of it.
 
-from ends import MOST, NEW, counted, flushed, is_echo, meant, piece_read, with_line
+It sees what comes by a link before the server does, and what the server puts out on links behind it. Of the server it reads who the other end of
+a link is, and the numbers of servers and the links that they are behind; its room it has from the ends of its links.
+"""
+
 from effects import all_done
+from ends import MOST, NEW, counted, flushed, is_echo, meant, piece_read, with_line
 from lines import Kick, Line, Modes, Reader, Side, Spelling, Topic, tale
 from servers import copied, kicked_by_server, modes_by_server, parse, room_of, spelled_by_server, topic_by_server
 

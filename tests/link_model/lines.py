@@ -9,7 +9,7 @@ from dataclasses import dataclass, replace
 from typing import NamedTuple
 
 from effects import (HIDDEN, KEY, LIMIT, NOTHING, OPERATOR, SPELLING, TOPIC, VOICE, Come, Go, Join, Named, Out, Own, Person, Rename,
-                     Room, Set, Spoken, ban, done, flag, in_order, is_flag, rank, value_at)
+                     Room, Set, Spoken, ban, done, flag, in_order, rank, value_at)
 from servers import Change, changes_of, changes_written, fold, is_server, parse, written
 
 MARK = b"\x07o"             # behind the channel in a JOIN that makes an operator
@@ -113,6 +113,8 @@ def tale(line, writer, is_set):
 
 
 def told(writer, prefix, command, words, is_set):
+    if words and words[0].startswith(b"#"):
+        return told_of_channel(writer, prefix, command, words, is_set)
     match command:
         case b"NICK" if prefix is None:
             return [Come(fold(words[0]), Person(words[0], writer.side.homes[int(words[4])], words[5] == b"+i"))]
@@ -124,6 +126,16 @@ def told(writer, prefix, command, words, is_set):
             return [Go(frozenset({fold(words[0])}))]
         case b"SQUIT":
             return [Go(frozenset(nick for nick, person in writer.room.people.items() if person.home == words[0]))]
+        case b"MODE":
+            return [Own(fold(prefix), words[1] == b"+i")]
+        case b"PRIVMSG" | b"NOTICE" | b"INVITE":
+            return [Named(fold(words[0])), *front(prefix)]
+        case _:
+            return []
+
+
+def told_of_channel(writer, prefix, command, words, is_set):
+    match command:
         case b"JOIN":
             flags = frozenset({OPERATOR} if words[0].endswith(MARK) else ())
             return came_in({fold(prefix): flags}, words[0].removesuffix(MARK))
@@ -133,16 +145,12 @@ def told(writer, prefix, command, words, is_set):
             return [Out(fold(prefix), fold(words[0]))]
         case b"KICK":
             return [Out(fold(words[1]), fold(words[0])), *front(prefix)]
-        case b"MODE" if words[0].startswith(b"#"):
-            return modes_told(writer, prefix, words, is_set)
         case b"MODE":
-            return [Own(fold(prefix), words[1] == b"+i")]
+            return modes_told(writer, prefix, words, is_set)
         case b"TOPIC":
             return channel_told(writer, prefix, fold(words[0]), {TOPIC: words[1] or None}, is_set)
         case b"PRIVMSG" | b"NOTICE":
-            return [Spoken(fold(words[0])) if words[0].startswith(b"#") else Named(fold(words[0])), *front(prefix)]
-        case b"INVITE":
-            return [Named(fold(words[0])), *front(prefix)]
+            return [Spoken(fold(words[0])), *front(prefix)]
         case _:
             return []
 
@@ -284,7 +292,11 @@ def text_asked(writer, reader, tale, became):
 
 
 def set_asked(writer, reader, tale, became):
-    """MODE and TOPIC that set: of a user who is there as a line, else as a deed."""
+    """MODE and TOPIC that set: of a user who is there as a line, else as a deed, for who is gone has done it before that was known.
+
+        a.net writes    :a.net KILL bo          b.net writes    :bo MODE #c +i-l
+        a.net does      what :b.net MODE #c +i-l says, and puts that out on its other links behind COUNT 17 1 set
+    """
     values = dict(became[0].values) if became[0] != NOTHING else {}
     if not values:
         return []
@@ -354,7 +366,11 @@ def raise_asked(writer, reader, tale, join):
 
 def joins_plainly(writer, reader, tale, join):
     """Whether a JOIN does it: the channel is there on both sides or on neither, and no row comes back. Else an operator would come without
-    being shown as one, and the spelling stay as it is."""
+    being shown as one, and the spelling stay as it is.
+
+        a.net writes    :al JOIN #c\\7o         b.net writes    :bo JOIN #C\\7o
+        a.net is given  :b.net NJOIN #C :@bo
+    """
     name = dict(join.values)[SPELLING]
     (was_there, did_raise), (is_there, does_raise) = (
         (join.channel in each.room.channels, each.raises(join.channel, SPELLING, name)) for each in (writer, reader))

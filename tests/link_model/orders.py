@@ -12,7 +12,8 @@ NICKS = [b"p", b"q", b"r", b"z", b"y"]
 NAMES_TAKEN = [b"NICK z", b"NICK z", b"NICK y", b"NICK y", b"NICK p", b"QUIT :gone"]
 IN_AND_OUT = [b"JOIN #r", b"JOIN #r", b"JOIN #R", b"JOIN #s", b"JOIN #S", b"PART #r", b"PART #r", b"JOIN 0"]
 SET = [b"TOPIC #r :one", b"TOPIC #r :two", b"TOPIC #r :", b"MODE #r +k x", b"MODE #r +k y", b"MODE #r -k q", b"MODE #r +l 5", b"MODE #r -l",
-       b"MODE #r +s", b"MODE #r +p-n", b"MODE #r -s", b"MODE #r +n", b"MODE #r +b bad!*@*", b"MODE #r +b BAD!*@*", b"MODE #r -b bad!*@*", b"MODE #s +kn x"]
+       b"MODE #r +s", b"MODE #r +p-n", b"MODE #r -s", b"MODE #r +n", b"MODE #r +b bad!*@*", b"MODE #r +b BAD!*@*", b"MODE #r -b bad!*@*",
+       b"MODE #s +kn x"]
 
 
 def begun(count, settings):
@@ -41,7 +42,8 @@ RACES = {
     "kicked, and back": {0: [b"KICK #r q", b"MODE #r +v q"], 1: [b"PART #r", b"JOIN #r"], 2: [b"MODE #r +v q"]},
     "two to one name, who do things": {0: [b"NICK z", b"TOPIC #r :two", b"KICK #r r"], 1: [b"NICK z", b"TOPIC #r :one", b"MODE #r +l 5"]},
     "both come under one name, and make a channel": {3: [b"COME z", b"JOIN #s", b"MODE #s +k x"], 4: [b"COME z", b"JOIN #S"]},
-    "one thing is set twice": {0: [b"TOPIC #r :one", b"MODE #r +k x", b"MODE #r -k x"], 1: [b"TOPIC #r :two", b"MODE #r +ks y"], 2: [b"MODE #r +p"]},
+    "one thing is set twice": {0: [b"TOPIC #r :one", b"MODE #r +k x", b"MODE #r -k x"], 1: [b"TOPIC #r :two", b"MODE #r +ks y"],
+                               2: [b"MODE #r +p"]},
     "a channel ends, and somebody comes": {0: [b"KICK #r q", b"KICK #r r", b"PART #r"], 4: [b"COME y"], 3: [b"COME z", b"JOIN #r"]},
     "a channel ends, and is made on both sides": {0: [b"MODE #r +k x", b"KICK #r q,r", b"PART #r", b"JOIN #R"], 2: [b"TOPIC #r :one", b"JOIN #r"]},
 }
