@@ -1,8 +1,8 @@
 #!/usr/bin/env python3
 """A link is a document that two ends edit: a model of the layer that makes the two agree, tried in every order and by chance.
 
-    python3 tests/link_model.py [--what all|diamond|orders|scripts|seen|rest] [--servers N] [--things N] [--tries N] [--seed S] [--calm] [--cuts]
-                                [--piece N] [--count-within N] [--plain] [--bound N] [--without RULE] [--show N]
+    python3 tests/link_model.py [--what all|diamond|orders|scripts|seen|rest|unchanged] [--servers N] [--things N] [--tries N] [--seed S]
+                                [--calm] [--cuts] [--piece N] [--count-within N] [--plain] [--bound N] [--without RULE] [--show N]
 
 Not part of the gate, and of no program: a model, from which the definitions are taken. Servers are those of hostile_links/model.py, which
 know nothing of it. At each end of a link stands a layer: it keeps a log of what its server put out there and the other end has not counted as
@@ -21,7 +21,8 @@ read, takes each line that comes as the effects that it tells, and gives the ser
     seen        scripts, whose clients look at what they are shown: at rest what they know from that is what their server has, and nobody is shown
                 what is out of place;
     rest        scripts with everything delivered in between: what a server without the layer is given, and does something by, is byte for byte
-                what one with it is given, and people see the same.
+                what one with it is given, and people see the same;
+    unchanged   any line that comes where the log is empty is given as it came.
 
 Of scripts and orders it says what was tried and what went wrong: servers that differ at rest, a link that is closed, a room that is not
 the base behind the log. `--piece` is how many lines a piece has at most, `--count-within` how many pieces are read before a count
@@ -50,9 +51,9 @@ from seen import Watched        # noqa: E402
 from servers import NAMES       # noqa: E402
 
 # what a run with no words tries: servers, how long, how many, people, links cut
-SCRIPTS = [(2, 80, 250, False, 0.0, 16), (2, 80, 150, True, 0.0, 1), (3, 80, 250, False, 0.06, 1), (3, 80, 100, True, 0.06, 2),
-           (4, 80, 60, True, 0.06, 16), (5, 80, 150, False, 0.06, 1)]
-ORDERS = [(2, 4, 40, 1500), (3, 3, 20, 900)]
+SCRIPTS = [(2, 80, 250, False, 0.0, 16), (2, 80, 100, True, 0.0, 1), (3, 80, 250, False, 0.06, 1), (3, 80, 60, True, 0.06, 2),
+           (4, 80, 40, True, 0.06, 16), (5, 80, 150, False, 0.06, 1)]
+ORDERS = [(2, 4, 25, 1200), (3, 3, 12, 600)]
 SEEN = [(3, 80, 100, False, 0.06, 1), (2, 80, 60, True, 0.0, 16)]
 REST = [(3, 60, 80, False), (4, 60, 20, True)]
 
@@ -70,7 +71,7 @@ def told(title, faults, given, began):
 
 def try_diamond(given):
     began = time.time()
-    pairs, lists, faults = diamond.tried(random.Random(given.seed), given.tries or 8, 60)
+    pairs, lists, faults = diamond.tried(random.Random(given.seed), given.tries or 5, 60)
     return told(f"diamond: {pairs} pairs of effects, {lists} of lists", faults, given, began)
 
 
@@ -127,6 +128,14 @@ def try_rest(given):
     return sum(rest_tried(given, *each) for each in chosen)
 
 
+def try_unchanged(given):
+    began, lines, faults = time.time(), 0, []
+    for number in range(given.seed, given.seed + (given.tries or 20)):
+        more, found = at_rest.unchanged(number, given.servers or 3, given.things or 60, 100)
+        lines, faults = lines + more, faults + found
+    return told(f"any line behind an empty log: {lines} lines", faults, given, began)
+
+
 def rest_tried(given, count, length, tries, calm):
     began, lines, faults = time.time(), 0, []
     for number in range(given.seed, given.seed + tries):
@@ -136,7 +145,7 @@ def rest_tried(given, count, length, tries, calm):
     return told(f"at rest on {count} servers: {tries} scripts, {lines} lines", faults, given, began)
 
 
-TRIES = {"diamond": try_diamond, "orders": try_orders, "scripts": try_scripts, "seen": try_seen, "rest": try_rest}
+TRIES = {"diamond": try_diamond, "orders": try_orders, "scripts": try_scripts, "seen": try_seen, "rest": try_rest, "unchanged": try_unchanged}
 
 
 def tried(given):

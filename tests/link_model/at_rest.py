@@ -1,10 +1,13 @@
-"""Where nothing overlaps: servers with a layer are given the lines that servers without one are given, byte for byte, and people see the same."""
+"""Where nothing overlaps: servers with a layer are given the lines that servers without one are given, byte for byte, and people see the same; and
+where a log is empty, any line is given as it came, be it one that no server writes."""
 
 import random
 
+from ends import meant
 from layer import Bare, Layer
+from lines import Line
 from net import Net
-from scripts import FAULTS, may_link, script
+from scripts import CHANNELS, FAULTS, MANY, MODES, may_link, played, script
 from servers import NAMES
 
 
@@ -59,3 +62,29 @@ def compared(number, count, length, calm):
 
 def doing(noted):
     return [(link, text) for does, link, text in noted if does]
+
+
+def any_line(chance):
+    """A line of a right form, whoever is in front of it."""
+    nick, channel, server = chance.choice([*MANY, b"N1", b"nobody"]), chance.choice([*CHANNELS, b"#q"]), chance.choice(NAMES)
+    member = b",".join(chance.choice([b"", b"@", b"@+"]) + each for each in chance.sample(MANY, 2))
+    front = chance.choice([*MANY, server])
+    return b":" + front + b" " + chance.choice([
+        b"NICK " + nick, b"QUIT :x", b"JOIN " + channel, b"JOIN " + channel + b"\x07o", b"PART " + channel + b" :x",
+        b"KICK " + channel + b" " + nick + b" :x", b"MODE " + channel + b" " + chance.choice([*MODES, b"+o " + nick, b"-v " + nick]),
+        b"TOPIC " + channel + b" :" + chance.choice([b"", b"t1"]), b"PRIVMSG " + chance.choice([nick, channel]) + b" :x",
+        b"INVITE " + nick + b" " + channel, b"KILL " + nick + b" :Nick collision", b"NJOIN " + channel + b" :" + member,
+        b"MODE " + front + b" +i", b"SQUIT " + server + b" :x"])
+
+
+def unchanged(number, count, length, lines):
+    """So many lines at each end with an empty log, at the end of a script: how many there were, and those that are not given as they came."""
+    chance, faults, tries = random.Random(number), [], 0
+    net = played(NAMES[:count], script(chance, count, length, 0.03, True), {"kind": Net, "make": Layer, "most": 16, "count_within": 1})
+    for layer in net.layers.values():
+        for link, end in sorted(layer.ends.items()):
+            for line in [any_line(chance) for _ in range(lines if end.greeted else 0)]:
+                tries += 1
+                if meant(end, layer.side(link), line, False)[0] != [Line(line)]:
+                    faults.append((number, line))
+    return tries, faults

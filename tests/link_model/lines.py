@@ -109,7 +109,17 @@ class Reader(NamedTuple):
 def tale(line, writer, is_set):
     """What a line tells in the room of its writer; `is_set` says whether it is one of a server that sets."""
     prefix, command, words = parse(line)
-    return Tale(line, prefix, command, words, tuple(told(writer, prefix, command, words, is_set)))
+    effects = told(writer, prefix, command, words, is_set) if is_written(prefix, command, words, is_set) else []
+    return Tale(line, prefix, command, words, tuple(effects))
+
+
+def is_written(prefix, command, words, is_set):
+    """Whether a server writes such a line: not what users alone do, with a server in front. What none writes is given as it came."""
+    if prefix is None or not is_server(prefix) or is_set:
+        return True
+    if command == b"MODE" and words[0].startswith(b"#"):
+        return all(change.sign == b"+" and change.letter not in b"ov" for change in changes_of(words[1:]))
+    return command in (b"SERVER", b"SQUIT", b"KILL", b"NJOIN", b"TOPIC")
 
 
 def told(writer, prefix, command, words, is_set):
