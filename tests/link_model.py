@@ -53,7 +53,7 @@ from servers import NAMES       # noqa: E402
 # what a run with no words tries: servers, how long, how many, people, links cut
 SCRIPTS = [(2, 80, 250, False, 0.0, 16), (2, 80, 100, True, 0.0, 1), (3, 80, 250, False, 0.06, 1), (3, 80, 60, True, 0.06, 2),
            (4, 80, 40, True, 0.06, 16), (5, 80, 150, False, 0.06, 1)]
-ORDERS = [(2, 4, 25, 1200), (3, 3, 12, 600)]
+ORDERS = [(2, 4, 25, 800), (3, 3, 12, 400)]
 SEEN = [(3, 80, 100, False, 0.06, 1), (2, 80, 60, True, 0.0, 16)]
 REST = [(3, 60, 80, False), (4, 60, 20, True)]
 
