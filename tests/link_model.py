@@ -14,8 +14,8 @@ read, takes each line that comes as the effects that it tells, and gives the ser
     link_model/layer.py         the ends of all links of a server, around it
 
     diamond     two ends do something each in one room, one effect or a list: behind what both did they have one room again;
-    orders      each of five people, of whom two come, does things in turn at two or three servers in a line, and pieces are delivered one at
-                a time: *every* order of both is walked, up to a bound of states;
+    orders      each of five people, of whom two come, does things in turn at two or three servers in a line, or while two servers are linked,
+                and pieces are delivered one at a time: *every* order of both is walked, up to a bound of states;
     scripts     random scripts on two to five servers in a tree, where people act on each other, pieces are delivered, and links cut and made at any
                 time: at rest the servers of a part have one room, and no link was closed but for a loop;
     seen        scripts, whose clients look at what they are shown: at rest what they know from that is what their server has, and nobody is shown
@@ -77,7 +77,21 @@ def try_diamond(given):
 
 def try_orders(given):
     chosen = [(given.servers, given.things or 4, given.tries or 40, given.bound)] if given.servers else ORDERS
-    return sum(orders_tried(given, *each) for each in chosen)
+    met = sum(meetings_tried(given, most, 300) for most in ([given.piece] if given.piece else [1, MOST])) if given.servers in (0, 2) else 0
+    return met + sum(orders_tried(given, *each) for each in chosen)
+
+
+def meetings_tried(given, most, bound):
+    """Every order of what people do and of two bursts that cross."""
+    began, states, found, faults = time.time(), 0, collections.Counter(), []
+    start, conns = orders.meeting(settings(given, most))
+    for title, turns in orders.MEETINGS.items():
+        more, ends = orders.ends(start, conns, 2, {**dict.fromkeys(range(5), ()), **turns}, given.bound or bound)
+        states += more
+        found.update(list(ends))
+        faults += [(title, turns, end, *path) for end, path in ends.items() if end not in ("alike", "too many")][:1]
+    title = f"orders of bursts, pieces of {most}: {len(orders.MEETINGS)} sets, {states} states, {found['too many']} cut short"
+    return told(title, faults, given, began)
 
 
 def orders_tried(given, count, things, tries, bound):

@@ -49,6 +49,26 @@ RACES = {
 }
 
 
+# what people do while a link is made, and the bursts of both sides cross
+MEETINGS = {
+    "things are set": {0: [b"MODE #r -k x", b"TOPIC #r :three"], 1: [b"MODE #r +b bad!*@*"]},
+    "people take names of the other side": {0: [b"NICK r"], 2: [b"NICK p", b"NICK w"]},
+    "who have one name do things": {3: [b"MODE #s +l 5", b"PART #r"], 4: [b"KICK #r p", b"NICK w"]},
+    "channels end and begin": {0: [b"PART #r"], 4: [b"PART #r", b"JOIN #r"], 1: [b"JOIN #t"]},
+}
+
+
+def meeting(settings):
+    """Two servers whose link has just come up. Both have a channel with things set, and somebody of one name, who has made another one."""
+    net = Net(NAMES[:2], settings["make"], settings["most"], settings["count_within"])
+    conns = [net.come(NAMES[server], nick) for server, nick in [(0, b"p"), (1, b"q"), (1, b"r"), (1, b"z"), (0, b"z")]]
+    for place, line in [(0, b"JOIN #r"), (4, b"JOIN #r"), (0, b"MODE #r +ok z x"), (0, b"TOPIC #r :one"), (1, b"JOIN #R"), (2, b"JOIN #r"),
+                        (3, b"JOIN #r"), (1, b"MODE #r +ki y"), (1, b"TOPIC #r :two"), (3, b"JOIN #s"), (4, b"JOIN #S")]:
+        net.say(conns[place], line)
+    net.link(NAMES[0], NAMES[1])
+    return net, conns
+
+
 def thing(chance, themes):
     """What somebody may do."""
     nick = chance.choice(NICKS)
