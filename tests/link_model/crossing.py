@@ -10,8 +10,8 @@ The examples are of the end a.net, whose people are al and ann; bo and bea are a
 
 from dataclasses import replace
 
-from effects import (NOTHING, Go, Join, Named, Out, Own, Rename, Set, Spoken, channel_of, done, in_order, is_flag, raised, rank, taken_by,
-                     value_at, with_names)
+from effects import (NOTHING, Come, Go, Join, Named, Out, Own, Rename, Set, Spoken, channel_of, done, in_order, is_flag, raised, rank,
+                     taken_by, value_at, with_names)
 
 
 def crossed(room, theirs, ours):
@@ -135,6 +135,13 @@ def through(base, theirs, log):
         behind.append((number, crossed(room, ours, theirs)))
         theirs, room = crossed(room, theirs, ours), done(room, ours)
     return theirs, tuple((number, ours) for number, ours in behind if does_something(ours))
+
+
+def related(theirs, log):
+    """The part of a log that matters to an effect: who has which nickname, and what is of its channel. Behind the rest of it the same becomes
+    of it, so that a line need not be taken past all that is on its way."""
+    return tuple((number, ours) for number, ours in log
+                 if isinstance(ours, (Come, Rename, Go)) or channel_of(theirs) is not None and channel_of(ours) == channel_of(theirs))
 
 
 def does_something(effect):

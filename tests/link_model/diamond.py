@@ -1,6 +1,6 @@
 """The diamond: two ends did something each in one room; behind what both did they have one room again. Tried of pairs of effects and of lists."""
 
-from crossing import crossed, through
+from crossing import crossed, related, through
 from effects import (EMPTY, HIDDEN, KEY, LIMIT, NOTHING, OPERATOR, SPELLING, TOPIC, VOICE, Come, Go, Join, Named, Out, Own, Person,
                      Rename, Set, Spoken, all_done, ban, done, flag, in_order)
 from lost import lost, taken_back
@@ -90,6 +90,17 @@ def crossed_all(room, theirs, ours):
     return behind, [effect for _, effect in log]
 
 
+def needs_what_is_related(room, theirs, ours):
+    """Whether the same becomes of each effect behind the part of the log that is related to it."""
+    log = tuple(enumerate(ours))
+    for effect in theirs:
+        left, behind = through(room, effect, log)
+        if through(room, effect, related(effect, log))[0] != left:
+            return False
+        log, room = behind, done(room, effect)
+    return True
+
+
 def meet(room, theirs, ours, theirs_behind, ours_behind):
     """Whether both ways come to one room, by effects that are possible there."""
     one, other = all_done(room, ours), all_done(room, theirs)
@@ -136,6 +147,6 @@ def tried(chance, rooms, lists):
         for _ in range(lists):
             pairs_of_lists += 1
             one, other = (some_doing(chance, room, side, chance.randrange(1, 8), 0.3) for side in reversed(SIDES))
-            if not meet(room, one, other, *crossed_all(room, one, other)):
+            if not meet(room, one, other, *crossed_all(room, one, other)) or not needs_what_is_related(room, one, other):
                 faults.append((room.key(), one, other))
     return pairs, pairs_of_lists, faults
