@@ -2,8 +2,9 @@
 
 Two ends have the same room; each does something, and then reads what the other did. `crossed(room, theirs, ours)` is what becomes of their
 effect behind ours, so that both rooms are the same again: behind ours and what becomes of theirs, and behind theirs and what becomes of
-ours. Both were made in the same room. Of one effect one is left, or nothing. Of the room there is read what a place has, who is in a channel
-that somebody leaves, and its row.
+ours. Both were made in the same room, and what is a user's own to do comes from one side: no two NICK of one user cross, and no two JOIN of one
+user to one channel. Of one effect one is left, or nothing. Of the room there is read what a place has, who is in a channel that somebody
+leaves, and its row.
 
 The examples are of the end a.net, whose people are al and ann; bo and bea are at b.net.
 """

@@ -5,6 +5,7 @@ from lines import change_told
 from net import Net
 from servers import changes_of, fold, parse, room_of
 
+
 class Viewer:
     """A client, and what it knows of the channels that it is in. Of one that it comes to it is told all, as its server has it then."""
 
