@@ -109,7 +109,14 @@ def orders_tried(given, count, things, tries, bound):
 
 
 def try_scripts(given):
-    return sum(scripts_tried(given, *each) for each in chosen_scripts(given, SCRIPTS))
+    return lost_apart(given) + sum(scripts_tried(given, *each) for each in chosen_scripts(given, SCRIPTS))
+
+
+def lost_apart(given):
+    """The script in which a cut between servers that are lost together closes a link."""
+    began, (count, acts) = time.time(), scripts.LOST_APART
+    fault = scripts.fault_of(NAMES[:count], acts, settings(given, 1))
+    return told("script of servers that are lost together", [(fault,)] if fault else [], given, began)
 
 
 def try_seen(given):
