@@ -170,7 +170,20 @@ TRIES = {"diamond": try_diamond, "orders": try_orders, "scripts": try_scripts, "
 
 
 def tried(given):
-    return sum(TRIES[what](given) for what in (TRIES if given.what == "all" else [given.what]))
+    return sum(one_tried(given, what) for what in chosen(given))
+
+
+def chosen(given):
+    return TRIES if given.what == "all" else [given.what]
+
+
+def one_tried(given, what):
+    """How often something went wrong; where it does before anything is tried, that is once."""
+    began = time.time()
+    try:
+        return TRIES[what](given)
+    except scripts.FAULTS as fault:
+        return told(what, [(repr(fault),)], given, began)
 
 
 def each_without(given):
@@ -179,7 +192,7 @@ def each_without(given):
     for rule in wrong.WRONG:
         print(f"\nwithout {rule}")
         with wrong.without(rule):
-            missed += any(TRIES[what](given) > 0 for what in (TRIES if given.what == "all" else [given.what]))
+            missed += any(one_tried(given, what) > 0 for what in chosen(given))
     return len(wrong.WRONG) - missed
 
 
