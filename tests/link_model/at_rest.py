@@ -1,0 +1,90 @@
+"""Where nothing overlaps: servers with a layer are given the lines that servers without one are given, byte for byte, and people see the same; and
+where a log is empty, any line is given as it came, be it one that no server writes."""
+
+import random
+
+from ends import meant
+from layer import Bare, Layer
+from lines import Line
+from net import Net
+from scripts import CHANNELS, FAULTS, MANY, MODES, may_link, played, script
+from servers import NAMES
+
+
+def settled(net, from_last):
+    while net.moving():
+        net.deliver(net.moving()[-1 if from_last else 0])
+
+
+def done_by(net, act, conns, place):
+    """One act of a script. Connections have the same numbers in all networks."""
+    what, *how = act
+    if what == "link" and may_link(net, *how):
+        net.link(*how)
+    elif what == "come":
+        conns[place] = net.come(*how)
+    elif what in ("say", "gone") and conns:
+        conn = conns[sorted(conns)[how[0] % len(conns)]]
+        net.say(conn, how[1]) if what == "say" else net.gone(conn)
+    elif what == "cut" and net.ends_of:
+        net.cut(sorted(net.ends_of)[how[0] % len(net.ends_of)], (0, 0))
+
+
+def same(number, count, length, calm):
+    """A script with everything at rest in between: how many lines were given, and the first difference or fault."""
+    try:
+        return compared(number, count, length, calm)
+    except FAULTS as fault:
+        return 0, (number, repr(fault))
+
+
+def compared(number, count, length, calm):
+    nets = [Net(NAMES[:count], Bare, 1), Net(NAMES[:count], Layer, 1)]
+    conns, lines = [{}, {}], 0
+    for net in nets:
+        for layer in net.layers.values():
+            layer.noted = []
+    for place, act in enumerate(script(random.Random(number), count, length, 0.08, calm)):
+        for net, own in zip(nets, conns, strict=True):
+            done_by(net, act, own, place)
+            settled(net, place % 2)
+        for name in NAMES[:count]:
+            noted = [net.layers[name].noted for net in nets]
+            lines += len(noted[1])
+            if doing(noted[0]) != doing(noted[1]):
+                return lines, (number, act, name, noted)
+            for net in nets:
+                net.layers[name].noted = []
+        if nets[0].shown != nets[1].shown:
+            return lines, (number, act, nets[0].shown[-3:], nets[1].shown[-3:])
+    return lines, None
+
+
+def doing(noted):
+    return [(link, text) for does, link, text in noted if does]
+
+
+def any_line(chance):
+    """A line of a right form, whoever is in front of it."""
+    nick, channel, server = chance.choice([*MANY, b"N1", b"nobody"]), chance.choice([*CHANNELS, b"#q"]), chance.choice(NAMES)
+    member = b",".join(chance.choice([b"", b"@", b"@+"]) + each for each in chance.sample(MANY, 2))
+    front = chance.choice([*MANY, server])
+    return b":" + front + b" " + chance.choice([
+        b"NICK " + nick, b"QUIT :x", b"JOIN " + channel, b"JOIN " + channel + b"\x07o", b"PART " + channel + b" :x",
+        b"KICK " + channel + b" " + nick + b" :x", b"MODE " + channel + b" " + chance.choice([*MODES, b"+o " + nick, b"-v " + nick]),
+        b"TOPIC " + channel + b" :" + chance.choice([b"", b"t1"]), b"PRIVMSG " + chance.choice([nick, channel]) + b" :x",
+        b"INVITE " + nick + b" " + channel, b"KILL " + nick + b" :Nick collision", b"NJOIN " + channel + b" :" + member,
+        b"MODE " + front + b" +i", b"SQUIT " + server + b" :x"])
+
+
+def unchanged(number, count, length, lines):
+    """So many lines at each end with an empty log, at the end of a script: how many there were, and those that are not given as they came."""
+    chance, faults, tries = random.Random(number), [], 0
+    net = played(NAMES[:count], script(chance, count, length, 0.03, True), {"kind": Net, "make": Layer, "most": 16, "count_within": 1})
+    for layer in net.layers.values():
+        for link, end in sorted(layer.ends.items()):
+            for line in [any_line(chance) for _ in range(lines if end.greeted else 0)]:
+                tries += 1
+                if meant(end, layer.side(link), line, False)[0] != [Line(line)]:
+                    faults.append((number, line))
+    return tries, faults

@@ -1,0 +1,48 @@
+"""Wrong bodies: a rule each is taken out, which the tries are to find."""
+
+import contextlib
+
+import crossing
+import ends
+import layer
+from effects import Go, Out, rank
+
+
+def followed_but_by_kill(theirs, ours):
+    """A KILL hits whoever has the nickname now."""
+    return theirs if isinstance(theirs, Go) else RIGHT["name_followed"](theirs, ours)
+
+
+def lagging(end, count):
+    """A count is taken for one less."""
+    return RIGHT["counted"](end, count - 1)._replace(heard=count)
+
+
+WRONG = {
+    "names followed": (crossing, "name_followed", lambda theirs, ours: theirs),
+    "names followed by KILL": (crossing, "name_followed", followed_but_by_kill),
+    "two to one name": (crossing, "two_to_one_name", lambda theirs, ours: False),
+    "both go": (crossing, "both_go", lambda theirs: Go(frozenset({theirs.nick}))),
+    "gone dropped": (crossing, "is_out", lambda ours, nick, channel: isinstance(ours, Out) and RIGHT["is_out"](ours, nick, channel)),
+    "taken out once": (crossing, "is_out", lambda ours, nick, channel: isinstance(ours, Go) and RIGHT["is_out"](ours, nick, channel)),
+    "greater of two": (crossing, "is_greater", lambda value, other: True),
+    "greater, not lesser": (crossing, "is_greater", lambda value, other: rank(value) < rank(other)),
+    "idle": (crossing, "is_idle", lambda effect, held, value: False),
+    "ended channel": (crossing, "ends", lambda room, ours, channel: False),
+    "ended channel's row": (crossing, "row_back", lambda room, ours, channel: {}),
+    "echo": (layer, "is_echo", lambda link, arrival, command: False),
+    "count": (layer, "counted", lagging),
+    "lost together": (ends, "goes_on", lambda before, line: False),
+}
+RIGHT = {name: getattr(module, name) for module, name, _ in WRONG.values()}
+
+
+@contextlib.contextmanager
+def without(rule):
+    """With a rule taken out."""
+    module, name, body = WRONG[rule]
+    setattr(module, name, body)
+    try:
+        yield
+    finally:
+        setattr(module, name, RIGHT[name])
