@@ -1,0 +1,23 @@
+-- A document that two ends edit, and what becomes of operations that cross.
+--
+-- A register in which the greater of two writes stays: in 0 one end writes 3, and the other 5. The
+-- first then hears of the 5, which still stands there: 3, then 5. The second hears of the 3, which
+-- has become nothing: 5, then 5. Both have 5.
+use Rattle.std.specs.Prelude.{◌≡◌}
+
+-- documents, with the blank one, and operations: the document after an operation, whether an
+-- operation can be made in a document, and what becomes of their operation behind ours
+-- (crossed s theirs ours), where both were made in s
+pub record Editing (Doc Op : Type 0) : Type 1 where
+  pub blank : Doc
+  pub done : Doc → Op → Doc
+  pub may : Doc → Op → Type 0
+  pub crossed : Doc → Op → Op → Op
+
+-- the diamond: of two operations that can be made in one document it plays no part which is done
+-- first, and what becomes of the other can be made behind it
+pub record HasDiamond {Doc Op : Type 0} (e : Editing Doc Op) : Type 0 where
+  pub same : (s : Doc) (a b : Op) → e.may s a → e.may s b
+      → e.done (e.done s a) (e.crossed s b a) ≡ e.done (e.done s b) (e.crossed s a b)
+  pub may_behind : (s : Doc) (a b : Op) → e.may s a → e.may s b
+      → e.may (e.done s a) (e.crossed s b a)

@@ -1,0 +1,62 @@
+-- One end of a link: what it keeps, what it writes, and what it makes of what it reads.
+--
+-- The register is 0 at both ends, one writes 3 and the other 5, and each message says that nothing
+-- was read so far. The first reads the 5, which goes through its log, the 3: it does 5, and its log
+-- is now nothing, an operation that does nothing, behind the 5. It writes 8, in a message that says
+-- that one was read: the other then takes the 5 out of its log, and the 8 is made where it stands.
+use Rattle.std.specs.Prelude.{ℕ, suc, ◌-◌, List, [], ◌∷◌, ◌++◌, take, drop}
+use Rattle.irc_documents.specs.Editing.{Editing}
+use Rattle.irc_documents.specs.Lists.{all_done, through, behind}
+
+-- an operation as it was made at its writer, and how many its writer had read by then
+pub record Message (Op : Type 0) : Type 0 where
+  pub count : ℕ
+  pub op : Op
+
+-- The log is the end's own operations that the other end has not counted as read, as they are now:
+-- behind all that this end has read. It begins in the document base, which the other end had as
+-- well. So many of its own are counted as read, and so many of the other's it has read.
+pub record End (Doc Op : Type 0) : Type 0 where
+  pub base : Doc
+  pub log : List Op
+  pub counted : ℕ
+  pub read : ℕ
+
+-- with operations behind its log
+abbrev pub with_more : {Doc Op : Type 0} → End Doc Op → List Op → End Doc Op
+with_more end more = record end { log = end.log ++ more }
+
+-- an operation of its own, as it is written
+abbrev pub written : {Doc Op : Type 0} → End Doc Op → Op → Message Op
+written end op = record { count = end.read; op = op }
+
+module _ {Doc Op : Type 0} (e : Editing Doc Op) where
+  -- what the other end says that it has read leaves the log's front
+  abbrev pub counted_off : End Doc Op → ℕ → End Doc Op
+  counted_off end count = record {
+    base = all_done e end.base (take (count - end.counted) end.log);
+    log = drop (count - end.counted) end.log;
+    counted = count;
+    read = end.read;
+  }
+
+  -- what becomes of the operation in a message, which is what the server does
+  abbrev pub became : End Doc Op → Message Op → Op
+  became end message =
+      through e (counted_off end message.count).base message.op (counted_off end message.count).log
+
+  -- and the end once it has read it
+  abbrev pub after_message : End Doc Op → Message Op → End Doc Op
+  after_message end message = record {
+    base = e.done (counted_off end message.count).base message.op;
+    log = behind e (counted_off end message.count).base (counted_off end message.count).log
+        message.op;
+    counted = message.count;
+    read = suc end.read;
+  }
+
+  -- what becomes of the operations in all these messages
+  abbrev pub all_became : End Doc Op → List (Message Op) → List Op
+  all_became end [] = []
+  all_became end (message ∷ queue) =
+      became end message ∷ all_became (after_message end message) queue

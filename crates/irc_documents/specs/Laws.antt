@@ -1,0 +1,55 @@
+-- The laws of documents that two ends edit. Each is the contract of a public function of this crate.
+use Rattle.std.specs.Prelude.{◌≡◌, List, [], ◌∷◌}
+use Rattle.irc_relay.specs.Links.{Name, AreLinked, AreJoined, IsForest}
+use Rattle.irc_documents.specs.Editing.{Editing, HasDiamond}
+use Rattle.irc_documents.specs.Lists.{AllMay, ListsCross}
+use Rattle.irc_documents.specs.Ends.{Message, became}
+use Rattle.irc_documents.specs.Flight.{IsInFlight}
+use Rattle.irc_documents.specs.Networks.{Net, Step, side, AllMayBe, after_all}
+
+module _ {Doc Op : Type 0} (e : Editing Doc Op) where
+  -- lists cross as single operations do
+  abbrev pub ListsMeet : Type 0
+  ListsMeet = (s : Doc) (ours theirs : List Op) → HasDiamond e → AllMay e s ours
+      → AllMay e s theirs → ListsCross e s ours theirs
+
+  -- the links are a forest, and each is in flight
+  pub record IsSound (net : Net Doc Op) : Type 0 where
+    pub forest : IsForest net.links
+    pub in_flight : (s t : Name) → AreLinked net.links s t
+        → IsInFlight e (side net s t) (side net t s)
+
+  -- whatever happens, from any network without links
+  abbrev pub OfAnyRun : (Net Doc Op → Type 0) → Type 0
+  OfAnyRun Fact = (start : Net Doc Op) (steps : List (Step Op)) → HasDiamond e
+      → start.links ≡ [] → AllMayBe e start steps → Fact (after_all e start steps)
+
+  -- each link is in flight at every moment
+  abbrev pub LinksAreInFlight : Type 0
+  LinksAreInFlight = OfAnyRun IsSound
+
+  -- nothing is on its way between s and t
+  pub record IsQuiet (net : Net Doc Op) (s t : Name) : Type 0 where
+    pub forth : net.queue s t ≡ []
+    pub back : net.queue t s ≡ []
+
+  -- both ends of a link on which nothing is on its way have one document
+  abbrev pub EndsRestAlike : Type 0
+  EndsRestAlike = OfAnyRun (λ net. (s t : Name) → AreLinked net.links s t → IsQuiet net s t
+      → net.doc s ≡ net.doc t)
+
+  -- nothing is on its way in the part of s
+  abbrev pub IsQuietPart : Net Doc Op → Name → Type 0
+  IsQuietPart net s = (x y : Name) → AreJoined net.links s x → AreLinked net.links x y
+      → IsQuiet net x y
+
+  -- so all servers of a part in which nothing is on its way have one document
+  abbrev pub PartsRestAlike : Type 0
+  PartsRestAlike = OfAnyRun (λ net. (s t : Name) → AreJoined net.links s t → IsQuietPart net s
+      → net.doc s ≡ net.doc t)
+
+  -- what a server is asked to do by the first message from a neighbour may be made there
+  abbrev pub AskedMayBeMade : Type 0
+  AskedMayBeMade = OfAnyRun (λ net. (s t : Name) (message : Message Op)
+      (queue : List (Message Op)) → AreLinked net.links s t → net.queue s t ≡ message ∷ queue
+      → e.may (net.doc t) (became e (net.end t s) message))

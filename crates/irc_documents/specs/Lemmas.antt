@@ -1,0 +1,2 @@
+pub mod CrossingLists
+pub mod LinksInFlight

@@ -1,0 +1,83 @@
+-- Lists of operations that cross.
+use Rattle.std.proofs.Common.{◌≡◌, List, [], ◌∷◌, ◌++◌, length, suc, refl, sym, ap, subst, ◌∙◌}
+use Rattle.irc_documents.specs.Editing.{Editing, HasDiamond}
+use Rattle.irc_documents.specs.Lists.{all_done, AllMay, through, behind, all_through, behind_all}
+use Rattle.irc_documents.specs.Lists.{ListsCross}
+use Rattle.irc_documents.specs.Laws.{ListsMeet}
+
+module _ {Doc Op : Type 0} (e : Editing Doc Op) where
+  pub done_behind : (s : Doc) (xs ys : List Op)
+      → all_done e s (xs ++ ys) ≡ all_done e (all_done e s xs) ys
+  done_behind s [] ys = refl
+  done_behind s (x ∷ xs) ys = done_behind (e.done s x) xs ys
+
+  pub may_join : (s : Doc) (xs ys : List Op) → AllMay e s xs → AllMay e (all_done e s xs) ys
+      → AllMay e s (xs ++ ys)
+  may_join s [] ys m n = n
+  may_join s (x ∷ xs) ys m n = (m.0, may_join (e.done s x) xs ys m.1 n)
+
+  pub may_front : (s : Doc) (xs ys : List Op) → AllMay e s (xs ++ ys) → AllMay e s xs
+  may_front s [] ys m = tt
+  may_front s (x ∷ xs) ys m = (m.0, may_front (e.done s x) xs ys m.1)
+
+  pub may_rest : (s : Doc) (xs ys : List Op) → AllMay e s (xs ++ ys)
+      → AllMay e (all_done e s xs) ys
+  may_rest s [] ys m = m
+  may_rest s (x ∷ xs) ys m = may_rest (e.done s x) xs ys m.1
+
+  pub through_both : (s : Doc) (b : Op) (xs ys : List Op)
+      → through e s b (xs ++ ys) ≡ through e (all_done e s xs) (through e s b xs) ys
+  through_both s b [] ys = refl
+  through_both s b (x ∷ xs) ys = through_both (e.done s x) (e.crossed s b x) xs ys
+
+  pub both_behind : (s : Doc) (xs ys : List Op) (b : Op)
+      → behind e s (xs ++ ys) b
+      ≡ behind e s xs b ++ behind e (all_done e s xs) ys (through e s b xs)
+  both_behind s [] ys b = refl
+  both_behind s (x ∷ xs) ys b =
+      ap (λ more. e.crossed s x b ∷ more) (both_behind (e.done s x) xs ys (e.crossed s b x))
+
+  pub as_many_behind : (s : Doc) (xs : List Op) (b : Op) → length (behind e s xs b) ≡ length xs
+  as_many_behind s [] b = refl
+  as_many_behind s (x ∷ xs) b = ap suc (as_many_behind (e.done s x) xs (e.crossed s b x))
+
+  -- one operation and a log
+  pub record Crosses (s : Doc) (log : List Op) (b : Op) : Type 0 where
+    pub same : all_done e (e.done s b) (behind e s log b)
+        ≡ e.done (all_done e s log) (through e s b log)
+    pub through_may : e.may (all_done e s log) (through e s b log)
+    pub behind_may : AllMay e (e.done s b) (behind e s log b)
+
+  pub crosses : HasDiamond e → (s : Doc) (log : List Op) (b : Op) → AllMay e s log → e.may s b
+      → Crosses s log b
+  crosses d s [] b m n = record { same = refl; through_may = n; behind_may = tt }
+  crosses d s (a ∷ log) b m n =
+      let one = d.same s a b m.0 n in
+      let rest = crosses d (e.done s a) log (e.crossed s b a) m.1 (d.may_behind s a b m.0 n) in
+      record {
+        same = ap (λ t. all_done e t (behind e (e.done s a) log (e.crossed s b a))) (sym one)
+            ∙ rest.same;
+        through_may = rest.through_may;
+        behind_may = (
+          d.may_behind s b a n m.0,
+          subst (λ t. AllMay e t (behind e (e.done s a) log (e.crossed s b a))) one
+              rest.behind_may,
+        );
+      }
+
+pub lists_meet : {Doc Op : Type 0} (e : Editing Doc Op) → ListsMeet e
+lists_meet e s ours [] d m n = record { same = refl; theirs_may = tt; ours_may = m }
+lists_meet e s ours (b ∷ theirs) d m n =
+    let one = crosses e d s ours b m n.0 in
+    let rest = lists_meet e (e.done s b) (behind e s ours b) theirs d one.behind_may n.1 in
+    record {
+      same = ap (λ t. all_done e t (all_through e (e.done s b) theirs (behind e s ours b)))
+          (sym one.same)
+          ∙ rest.same;
+      theirs_may = (
+        one.through_may,
+        subst (λ t. AllMay e t (all_through e (e.done s b) theirs (behind e s ours b))) one.same
+            rest.theirs_may,
+      );
+      ours_may = rest.ours_may;
+    }

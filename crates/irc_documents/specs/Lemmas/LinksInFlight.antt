@@ -1,0 +1,368 @@
+-- A link stays in flight.
+use Rattle.std.proofs.Common.{◌≡◌, ℕ, ◌+◌, ◌-◌, ◌≤◌, suc, List, [], ◌∷◌, ◌++◌, length, take, drop}
+use Rattle.std.proofs.Common.{refl, sym, ap, subst, ◌∙◌, append_assoc, arith}
+use Rattle.irc_documents.specs.Editing.{Editing, HasDiamond}
+use Rattle.irc_documents.specs.Lists.{all_done, AllMay, through, behind}
+use Rattle.irc_documents.specs.Ends.{Message, End, with_more, written, counted_off, became}
+use Rattle.irc_documents.specs.Ends.{after_message, all_became}
+use Rattle.irc_documents.specs.Flight.{Side, IsGood, AreGood, IsOnTheWay, IsInFlight}
+use Rattle.irc_documents.specs.Lemmas.CrossingLists.{done_behind, may_join, may_front, may_rest}
+use Rattle.irc_documents.specs.Lemmas.CrossingLists.{through_both, both_behind, as_many_behind}
+use Rattle.irc_documents.specs.Lemmas.CrossingLists.{Crosses, crosses}
+use Rattle.std.proofs.lemmas.List.{take-append-drop, take-append-le, drop-append-le, length-drop, length-append}
+
+-- what is left of a log once a count is taken off
+left_over : {A : Type 0} (counted count : ℕ) (log : List A) → counted ≤ count
+    → count ≤ counted + length log
+    → count + length (drop (count - counted) log) ≡ counted + length log
+left_over counted count log least most =
+    let e = length-drop (count - counted) log in omega arith
+
+within : (counted count n : ℕ) → count ≤ counted + n → count - counted ≤ n
+within counted count n most = omega arith
+
+all_taken : {A : Type 0} (log : List A) → take (length log) log ≡ log
+all_taken [] = refl
+all_taken (a ∷ log) = ap (λ more. a ∷ more) (all_taken log)
+
+none_left : {A : Type 0} (log : List A) → drop (length log) log ≡ []
+none_left [] = refl
+none_left (a ∷ log) = none_left log
+
+with_more_of : {Doc Op : Type 0} (end : End Doc Op) (xs ys : List Op)
+    → with_more (with_more end xs) ys ≡ with_more end (xs ++ ys)
+with_more_of end xs ys = ap (λ log. record end { log = log }) (append_assoc end.log xs ys)
+
+module _ {Doc Op : Type 0} (e : Editing Doc Op) where
+  -- where an end's log leads
+  abbrev reached : End Doc Op → Doc
+  reached end = all_done e end.base end.log
+
+  -- ---- one message, read by an end with operations behind its log
+
+  -- so many fewer, and still the operations behind it
+  off_more : (end : End Doc Op) (more : List Op) (count : ℕ) → count ≤ end.counted + length end.log
+      → counted_off e (with_more end more) count ≡ with_more (counted_off e end count) more
+  off_more end more count most =
+      let n = count - end.counted in
+      let few = within end.counted count (length end.log) most in
+      ap (λ front. record {
+        base = all_done e end.base front;
+        log = drop n (end.log ++ more);
+        counted = count;
+        read = end.read;
+      }) (take-append-le n end.log more few)
+      ∙ ap (λ log. record {
+        base = all_done e end.base (take n end.log);
+        log = log;
+        counted = count;
+        read = end.read;
+      }) (drop-append-le n end.log more few)
+
+  off_reaches : (end : End Doc Op) (count : ℕ)
+      → reached (counted_off e end count) ≡ reached end
+  off_reaches end count =
+      let n = count - end.counted in
+      sym (done_behind e end.base (take n end.log) (drop n end.log))
+      ∙ ap (all_done e end.base) (take-append-drop n end.log)
+
+  off_may : (end : End Doc Op) (count : ℕ) → AllMay e end.base end.log
+      → AllMay e (counted_off e end count).base (counted_off e end count).log
+  off_may end count may =
+      let n = count - end.counted in
+      may_rest e end.base (take n end.log) (drop n end.log)
+      (subst (AllMay e end.base) (sym (take-append-drop n end.log)) may)
+
+  -- an end from which nothing more is counted off
+  abbrev through_end : End Doc Op → Op → Op
+  through_end off op = through e off.base op off.log
+
+  abbrev read_by : End Doc Op → Op → End Doc Op
+  read_by off op = record {
+    base = e.done off.base op;
+    log = behind e off.base off.log op;
+    counted = off.counted;
+    read = suc off.read;
+  }
+
+  became_more : (end : End Doc Op) (more : List Op) (message : Message Op) → IsGood e end message
+      → became e (with_more end more) message
+      ≡ through e (reached end) (became e end message) more
+  became_more end more message good =
+      let off = counted_off e end message.count in
+      ap (λ f. through_end f message.op) (off_more end more message.count good.most)
+      ∙ through_both e off.base message.op off.log more
+      ∙ ap (λ s. through e s (became e end message) more) (off_reaches end message.count)
+
+  after_more : (end : End Doc Op) (more : List Op) (message : Message Op) → IsGood e end message
+      → after_message e (with_more end more) message
+      ≡ with_more (after_message e end message)
+      (behind e (reached end) more (became e end message))
+  after_more end more message good =
+      let off = counted_off e end message.count in
+      ap (λ f. read_by f message.op) (off_more end more message.count good.most)
+      ∙ ap (λ log. record {
+        base = e.done off.base message.op;
+        log = log;
+        counted = message.count;
+        read = suc end.read;
+      }) (both_behind e off.base off.log more message.op
+      ∙ ap (λ s. behind e off.base off.log message.op
+      ++ behind e s more (became e end message)) (off_reaches end message.count))
+
+  -- ---- one message, read
+
+  record Reads (end : End Doc Op) (message : Message Op) : Type 0 where
+    leads : reached (after_message e end message) ≡ e.done (reached end) (became e end message)
+    became_may : e.may (reached end) (became e end message)
+    log_may : AllMay e (after_message e end message).base (after_message e end message).log
+    counts : (after_message e end message).counted
+        + length (after_message e end message).log ≡ end.counted + length end.log
+
+  reads : HasDiamond e → (end : End Doc Op) (message : Message Op) → AllMay e end.base end.log
+      → IsGood e end message → Reads end message
+  reads d end message may good =
+      let off = counted_off e end message.count in
+      let one = crosses e d off.base off.log message.op (off_may end message.count may) good.may in
+      let here = off_reaches end message.count in
+      record {
+        leads = one.same ∙ ap (λ s. e.done s (became e end message)) here;
+        became_may = subst (λ s. e.may s (became e end message)) here one.through_may;
+        log_may = one.behind_may;
+        counts = ap (λ n. message.count + n) (as_many_behind e off.base off.log message.op)
+            ∙ left_over end.counted message.count end.log good.least good.most;
+      }
+
+  -- ---- the reader, while its writer writes
+
+  record Written (end : End Doc Op) (queue : List (Message Op)) (message : Message Op) : Type 0
+    where
+      good : AreGood e end (queue ++ message ∷ [])
+      made : all_became e end (queue ++ message ∷ []) ≡ all_became e end queue ++ message.op ∷ []
+
+  write_more : HasDiamond e → (end : End Doc Op) (queue : List (Message Op)) (message : Message Op)
+      → AllMay e end.base end.log → AreGood e end queue
+      → end.counted + length end.log ≡ message.count
+      → e.may (all_done e (reached end) (all_became e end queue)) message.op
+      → Written end queue message
+  write_more d end [] message log_may good count may =
+      let n : message.count - end.counted ≡ length end.log = omega arith in
+      let all = ap (λ k. take k end.log) n ∙ all_taken end.log in
+      let none = ap (λ k. drop k end.log) n ∙ none_left end.log in
+      record {
+        good = (
+          record {
+            least = omega arith;
+            most = omega arith;
+            may = subst (λ front. e.may (all_done e end.base front) message.op) (sym all) may;
+          },
+          tt,
+        );
+        made = ap (λ log. through e (counted_off e end message.count).base message.op log ∷ [])
+            none;
+      }
+  write_more d end (first ∷ queue) message log_may good count may =
+      let one = reads d end first log_may good.0 in
+      let rest = write_more d (after_message e end first) queue message one.log_may good.1
+      (one.counts ∙ count)
+      (subst (λ s. e.may (all_done e s (all_became e (after_message e end first) queue))
+      message.op) (sym one.leads) may) in
+      record {
+        good = (good.0, rest.good);
+        made = ap (λ more. became e end first ∷ more) rest.made;
+      }
+
+  -- ---- an end behind whose log one more is read
+
+  record Longer (end : End Doc Op) (queue : List (Message Op)) (op : Op) : Type 0 where
+    good : AreGood e (with_more end (op ∷ [])) queue
+    made : all_became e (with_more end (op ∷ [])) queue
+        ≡ behind e (reached end) (all_became e end queue) op
+
+  good_more : (end : End Doc Op) (more : List Op) (message : Message Op) → IsGood e end message
+      → IsGood e (with_more end more) message
+  good_more end more message good = record {
+    least = good.least;
+    most = let e = length-append end.log more in let most = good.most in omega arith;
+    may =
+        subst (λ front. e.may (all_done e end.base front) message.op)
+        (sym (take-append-le (message.count - end.counted) end.log more
+        (within end.counted message.count (length end.log) good.most)))
+        good.may;
+  }
+
+  lengthen : HasDiamond e → (end : End Doc Op) (queue : List (Message Op)) (op : Op)
+      → AllMay e end.base end.log → e.may (reached end) op → AreGood e end queue
+      → Longer end queue op
+  lengthen d end [] op log_may may good = record { good = tt; made = refl }
+  lengthen d end (first ∷ queue) op log_may may good =
+      let one = reads d end first log_may good.0 in
+      let b = became e end first in
+      let s = reached end in
+      let next = after_message e end first in
+      let a = e.crossed s op b in
+      let longer = lengthen d next queue a one.log_may
+      (subst (λ t. e.may t a) (sym one.leads) (d.may_behind s b op one.became_may may)) good.1 in
+      let same = after_more end (op ∷ []) first good.0 in
+      record {
+        good = (
+          good_more end (op ∷ []) first good.0,
+          subst (λ f. AreGood e f queue) (sym same) longer.good,
+        );
+        made =
+            ap (λ x. x ∷ all_became e (after_message e (with_more end (op ∷ [])) first) queue)
+            (became_more end (op ∷ []) first good.0)
+            ∙ ap (λ f. e.crossed s b op ∷ all_became e f queue) same
+            ∙ ap (λ more. e.crossed s b op ∷ more) longer.made
+            ∙ ap (λ t. e.crossed s b op ∷ behind e t (all_became e next queue) a) one.leads;
+      }
+
+  -- ---- what an end does to a link
+
+  record Half (common : Doc) (writer reader : End Doc Op) (unread : List Op) : Type 0 where
+    log_may : AllMay e writer.base writer.log
+    unread_may : AllMay e common unread
+
+  half : (common : Doc) (writer reader : End Doc Op) (queue : List (Message Op))
+      (unread : List Op) → IsOnTheWay e common writer reader queue unread
+      → Half common writer reader unread
+  half common writer reader queue unread way = record {
+    log_may = may_front e writer.base writer.log unread way.may;
+    unread_may =
+        subst (λ s. AllMay e s unread) way.common_is
+        (may_rest e writer.base writer.log unread way.may);
+  }
+
+  -- the side once its server has done an operation, and given it to this link
+  abbrev pub told : Op → Side Doc Op → Side Doc Op
+  told op side = record {
+    doc = e.done side.doc op;
+    end = with_more side.end (op ∷ []);
+    queue = side.queue ++ written side.end op ∷ [];
+  }
+
+  pub stays_told : HasDiamond e → (near far : Side Doc Op) (op : Op) → IsInFlight e near far
+      → e.may near.doc op → IsInFlight e (told op near) far
+  stays_told d near far op link may =
+      let near_half = half link.common link.near_end link.far_end near.queue link.near_unread
+      link.forth in
+      let far_half = half link.common link.far_end link.near_end far.queue link.far_unread
+      link.back in
+      let unread = link.near_unread in
+      let here : e.may (all_done e link.common unread) op =
+      subst (λ s. e.may s op) link.near_reached may in
+      let read = ap (λ end. end.read) link.near_is in
+      let message = written near.end op in
+      let more = write_more d link.far_end near.queue message far_half.log_may link.forth.good
+      (link.back.counts ∙ sym read) (subst
+      (λ s. e.may (all_done e s (all_became e link.far_end near.queue)) op)
+      (sym link.back.common_is)
+      (subst (λ ops. e.may (all_done e link.common ops) op) link.forth.unread_is here)) in
+      let w = link.near_end in
+      let there = done_behind e w.base w.log unread
+      ∙ ap (λ s. all_done e s unread) link.forth.common_is in
+      record {
+        common = link.common;
+        near_end = link.near_end;
+        far_end = link.far_end;
+        near_unread = unread ++ op ∷ [];
+        far_unread = link.far_unread;
+        near_is = ap (λ end. with_more end (op ∷ [])) link.near_is
+            ∙ with_more_of link.near_end unread (op ∷ []);
+        far_is = link.far_is;
+        near_reached = ap (λ s. e.done s op) link.near_reached
+            ∙ sym (done_behind e link.common unread (op ∷ []));
+        far_reached = link.far_reached;
+        forth = record {
+          common_is = link.forth.common_is;
+          counts = link.forth.counts;
+          may = subst (AllMay e w.base) (append_assoc w.log unread (op ∷ []))
+              (may_join e w.base (w.log ++ unread) (op ∷ []) link.forth.may
+              (subst (λ s. e.may s op) (sym there) here, tt));
+          unread_is = ap (λ ops. ops ++ op ∷ []) link.forth.unread_is ∙ sym more.made;
+          good = more.good;
+        };
+        back = link.back;
+      }
+
+  -- the first of two sides has read this message from the other
+  abbrev pub reader_after : Message Op → Side Doc Op → Side Doc Op
+  reader_after message side = record {
+    doc = e.done side.doc (became e side.end message);
+    end = after_message e side.end message;
+    queue = side.queue;
+  }
+
+  abbrev pub writer_after : List (Message Op) → Side Doc Op → Side Doc Op
+  writer_after queue side = record side { queue = queue }
+
+  pub record IsRead (near far : Side Doc Op) (message : Message Op) (queue : List (Message Op))
+      : Type 0 where
+    pub may : e.may far.doc (became e far.end message)
+    pub stays : IsInFlight e (writer_after queue near) (reader_after message far)
+
+  pub stays_read : HasDiamond e → (near far : Side Doc Op) (message : Message Op)
+      (queue : List (Message Op)) → near.queue ≡ message ∷ queue → IsInFlight e near far
+      → IsRead near far message queue
+  stays_read d near far message queue first link =
+      let w = link.near_end in
+      let r = link.far_end in
+      let c = link.common in
+      let beta = link.far_unread in
+      let a = became e r message in
+      let r2 = after_message e r message in
+      let near_half = half c w r near.queue link.near_unread link.forth in
+      let far_half = half c r w far.queue beta link.back in
+      let good = subst (AreGood e r) first link.forth.good in
+      let unread : link.near_unread ≡ a ∷ all_became e r2 queue =
+      link.forth.unread_is ∙ ap (all_became e r) first in
+      let one = reads d r message far_half.log_may good.0 in
+      let a_may : e.may c a = subst (λ s. e.may s a) link.back.common_is one.became_may in
+      let cross = crosses e d c beta a far_half.unread_may a_may in
+      let b_is : became e far.end message ≡ through e c a beta =
+      ap (λ end. became e end message) link.far_is ∙ became_more r beta message good.0
+      ∙ ap (λ s. through e s a beta) link.back.common_is in
+      let longer = lengthen d w far.queue a near_half.log_may
+      (subst (λ s. e.may s a) (sym link.forth.common_is) a_may) link.back.good in
+      let leads = one.leads ∙ ap (λ s. e.done s a) link.back.common_is in
+      let long = length-append w.log (a ∷ []) in
+      let counts = link.forth.counts in
+      record {
+        may = subst (e.may far.doc) (sym b_is)
+            (subst (λ s. e.may s (through e c a beta)) (sym link.far_reached) cross.through_may);
+        stays = record {
+          common = e.done c a;
+          near_end = with_more w (a ∷ []);
+          far_end = r2;
+          near_unread = all_became e r2 queue;
+          far_unread = behind e c beta a;
+          near_is = link.near_is ∙ ap (with_more w) unread
+              ∙ sym (with_more_of w (a ∷ []) (all_became e r2 queue));
+          far_is = ap (λ end. after_message e end message) link.far_is
+              ∙ after_more r beta message good.0
+              ∙ ap (λ s. with_more r2 (behind e s beta a)) link.back.common_is;
+          near_reached = link.near_reached ∙ ap (all_done e c) unread;
+          far_reached = ap (λ s. e.done s (became e far.end message)) link.far_reached
+              ∙ ap (e.done (all_done e c beta)) b_is ∙ sym cross.same;
+          forth = record {
+            common_is = done_behind e w.base w.log (a ∷ [])
+                ∙ ap (λ s. e.done s a) link.forth.common_is;
+            counts = omega arith;
+            may = subst (AllMay e w.base)
+                (sym (append_assoc w.log (a ∷ []) (all_became e r2 queue)))
+                (subst (λ ops. AllMay e w.base (w.log ++ ops)) unread link.forth.may);
+            unread_is = refl;
+            good = good.1;
+          };
+          back = record {
+            common_is = leads;
+            counts = one.counts ∙ link.back.counts;
+            may = may_join e r2.base r2.log (behind e c beta a) one.log_may
+                (subst (λ s. AllMay e s (behind e c beta a)) (sym leads) cross.behind_may);
+            unread_is = ap (λ ops. behind e c ops a) link.back.unread_is
+                ∙ ap (λ s. behind e s (all_became e w far.queue) a) (sym link.forth.common_is)
+                ∙ sym longer.made;
+            good = longer.good;
+          };
+        };
+      }
