@@ -1,2 +1,3 @@
 pub mod CrossingLists
 pub mod LinksInFlight
+pub mod NetworksRun

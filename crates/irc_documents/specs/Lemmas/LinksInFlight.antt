@@ -6,6 +6,7 @@ use Rattle.irc_documents.specs.Lists.{all_done, AllMay, through, behind}
 use Rattle.irc_documents.specs.Ends.{Message, End, with_more, written, counted_off, became}
 use Rattle.irc_documents.specs.Ends.{after_message, all_became}
 use Rattle.irc_documents.specs.Flight.{Side, IsGood, AreGood, IsOnTheWay, IsInFlight}
+use Rattle.irc_documents.specs.Networks.{begun, sent, Makes}
 use Rattle.irc_documents.specs.Lemmas.CrossingLists.{done_behind, may_join, may_front, may_rest}
 use Rattle.irc_documents.specs.Lemmas.CrossingLists.{through_both, both_behind, as_many_behind}
 use Rattle.irc_documents.specs.Lemmas.CrossingLists.{Crosses, crosses}
@@ -366,3 +367,79 @@ module _ {Doc Op : Type 0} (e : Editing Doc Op) where
           };
         };
       }
+
+  -- ---- a link seen from its other end, begun, and at rest
+
+  pub turned : (near far : Side Doc Op) → IsInFlight e near far → IsInFlight e far near
+  turned near far link = record {
+    common = link.common;
+    near_end = link.far_end;
+    far_end = link.near_end;
+    near_unread = link.far_unread;
+    far_unread = link.near_unread;
+    near_is = link.far_is;
+    far_is = link.near_is;
+    near_reached = link.far_reached;
+    far_reached = link.near_reached;
+    forth = link.back;
+    back = link.forth;
+  }
+
+  record Begins (s : Doc) (n : ℕ) (ops : List Op) : Type 0 where
+    all : ops ≡ all_became e (record { base = s; log = []; counted = 0; read = n }) (sent e ops)
+    good : AreGood e (record { base = s; log = []; counted = 0; read = n }) (sent e ops)
+
+  begins : (s : Doc) (n : ℕ) (ops : List Op) → AllMay e s ops → Begins s n ops
+  begins s n [] may = record { all = refl; good = tt }
+  begins s n (op ∷ ops) may =
+      let rest = begins (e.done s op) (suc n) ops may.1 in
+      record {
+        all = ap (λ more. op ∷ more) rest.all;
+        good = (
+          record { least = omega arith; most = omega arith; may = may.0 },
+          rest.good,
+        );
+      }
+
+  -- one side of a link that begins
+  abbrev pub begun_side : Doc → List Op → Side Doc Op
+  begun_side s ops = record { doc = s; end = begun e ops; queue = sent e ops }
+
+  pub starts : (s t : Doc) (here there : List Op) → Makes e here s → Makes e there t
+      → IsInFlight e (begun_side s here) (begun_side t there)
+  starts s t here there near far =
+      let one = begins e.blank 0 here near.may in
+      let other = begins e.blank 0 there far.may in
+      record {
+        common = e.blank;
+        near_end = begun e [];
+        far_end = begun e [];
+        near_unread = here;
+        far_unread = there;
+        near_is = refl;
+        far_is = refl;
+        near_reached = sym near.made;
+        far_reached = sym far.made;
+        forth = record {
+          common_is = refl;
+          counts = refl;
+          may = near.may;
+          unread_is = one.all;
+          good = one.good;
+        };
+        back = record {
+          common_is = refl;
+          counts = refl;
+          may = far.may;
+          unread_is = other.all;
+          good = other.good;
+        };
+      }
+
+  pub rests : (near far : Side Doc Op) → IsInFlight e near far → near.queue ≡ [] → far.queue ≡ []
+      → near.doc ≡ far.doc
+  rests near far link none nil =
+      link.near_reached
+      ∙ ap (all_done e link.common) (link.forth.unread_is ∙ ap (all_became e link.far_end) none)
+      ∙ sym (link.far_reached
+      ∙ ap (all_done e link.common) (link.back.unread_is ∙ ap (all_became e link.near_end) nil))

@@ -1,0 +1,362 @@
+-- A network stays sound, whatever happens.
+use Rattle.std.proofs.Common.{◌≡◌, ◌≢◌, Bool, true, false, not, ◌&&◌, if◌then◌else◌}
+use Rattle.std.proofs.Common.{List, [], ◌∷◌, ◌++◌, inl, inr, refl, sym, ap, subst, ◌∙◌}
+use Rattle.irc_relay.specs.Links.{Name, same, Link, HasEnds, AreLinked, AreJoined, IsForest, IsWalk}
+use Rattle.irc_relay.specs.Links.{part, linked, links_without, has_ends, way}
+use Rattle.irc_relay.specs.Laws.{TheWayIsAWalk}
+use Rattle.irc_relay.specs.Lemmas.TellingNames.{alike, unlike, tell, same_when, same_unless}
+use Rattle.irc_relay.specs.Lemmas.NextHops.{linked_joined, linked_other, linked_back}
+use Rattle.irc_relay.specs.Lemmas.LinkTakenOut.{linked_tells, taken_out}
+use Rattle.irc_documents.specs.Editing.{Editing, HasDiamond}
+use Rattle.irc_documents.specs.Ends.{Message, End, with_more, written, became, after_message}
+use Rattle.irc_documents.specs.Flight.{Side, IsInFlight}
+use Rattle.irc_documents.specs.Networks.{Net, Step, given, read_from, made, lost, side, is_from}
+use Rattle.irc_documents.specs.Networks.{done_at, taken, read_as, begun, sent, anew, after, after_all}
+use Rattle.irc_documents.specs.Networks.{Makes, MayBeMade, MayBe, AllMayBe}
+use Rattle.irc_documents.specs.Laws.{IsSound, OfAnyRun, LinksAreInFlight, IsQuiet, EndsRestAlike}
+use Rattle.irc_documents.specs.Laws.{IsQuietPart, PartsRestAlike, AskedMayBeMade}
+use Rattle.irc_documents.specs.Lemmas.LinksInFlight.{told, stays_told, reader_after, writer_after}
+use Rattle.irc_documents.specs.Lemmas.LinksInFlight.{IsRead, stays_read, turned, begun_side, starts}
+use Rattle.irc_documents.specs.Lemmas.LinksInFlight.{rests}
+
+-- ---- who is who
+
+first_false : (a b : Bool) → a ≡ false → (a && b) ≡ false
+first_false a b e = ap (λ a. a && b) e
+
+second_false : (a b : Bool) → b ≡ false → (a && b) ≡ false
+second_false true b e = e
+second_false false b e = refl
+
+is_from_itself : (s t : Name) → is_from s t s t ≡ true
+is_from_itself s t = ap (λ b. b && same t t) (same_when s s refl) ∙ same_when t t refl
+
+is_from_others : (s t x y : Name) → (x ≡ s → y ≡ t → ⊥) → is_from s t x y ≡ false
+is_from_others s t x y n = elim (tell x s) [
+  | unlike f _ ↦ first_false (same x s) (same y t) f
+  | alike _ e ↦ second_false (same x s) (same y t) (same_unless y t (n e))
+]
+
+-- ---- links that are left
+
+left_linked : (ls : List Link) (s t x y : Name) → AreLinked (links_without ls s t) x y
+    → AreLinked ls x y
+unfolding links_without
+left_linked [] s t x y h = h
+left_linked (l ∷ ls) s t x y h = go (has_ends l s t) (left_linked ls s t x y) h
+  where
+    go : (b : Bool) → (AreLinked (links_without ls s t) x y → AreLinked ls x y)
+        → AreLinked (if b then ls else l ∷ links_without ls s t) x y → AreLinked (l ∷ ls) x y
+    go true fewer h = inr h
+    go false fewer (inl h) = inl h
+    go false fewer (inr h) = inr (fewer h)
+
+module _ {Doc Op : Type 0} (e : Editing Doc Op) where
+  of_sides : (a b c d : Side Doc Op) → a ≡ c → b ≡ d → IsInFlight e c d → IsInFlight e a b
+  of_sides a b c d p q link =
+      subst (λ side. IsInFlight e side b) (sym p)
+      (subst (λ side. IsInFlight e c side) (sym q) link)
+
+  -- ---- an operation that a server does
+
+  -- a side, if it is that server's (mine), and if this link is told
+  abbrev changed : Bool → Bool → Op → Side Doc Op → Side Doc Op
+  changed mine hears op side = record {
+    doc = if mine then e.done side.doc op else side.doc;
+    end = if mine && hears then with_more side.end (op ∷ []) else side.end;
+    queue = if mine && hears then side.queue ++ written side.end op ∷ [] else side.queue;
+  }
+
+  is_told : (mine hears : Bool) (op : Op) (side : Side Doc Op) → mine ≡ true → hears ≡ true
+      → changed mine hears op side ≡ told e op side
+  is_told mine hears op side m h =
+      ap (λ b. changed b hears op side) m ∙ ap (λ b. changed true b op side) h
+
+  is_other : (mine hears : Bool) (op : Op) (side : Side Doc Op) → mine ≡ false
+      → changed mine hears op side ≡ side
+  is_other mine hears op side m = ap (λ b. changed b hears op side) m
+
+  given_keeps : HasDiamond e → (net : Net Doc Op) (s : Name) (op : Op) → e.may (net.doc s) op
+      → IsSound e net → IsSound e (after e net (given s op))
+  given_keeps d net s op may sound = record {
+    forest = sound.forest;
+    in_flight = λ x y h. go x y h;
+  }
+    where
+      new : Net Doc Op
+      new = after e net (given s op)
+
+      at : (x y : Name) → x ≡ s → AreLinked net.links x y
+          → IsInFlight e (side new x y) (side new y x)
+      at x y f h =
+          let other = linked_other net.links x y sound.forest h in
+          of_sides (side new x y) (side new y x) (told e op (side net x y)) (side net y x)
+          (is_told (same x s) (linked net.links s y) op (side net x y) (same_when x s f)
+          ((linked_tells net.links s y).1 (subst (λ v. AreLinked net.links v y) f h)))
+          (is_other (same y s) (linked net.links s x) op (side net y x)
+          (same_unless y s (λ g. other (f ∙ sym g))))
+          (stays_told e d (side net x y) (side net y x) op (sound.in_flight x y h)
+          (subst (λ v. e.may (net.doc v) op) (sym f) may))
+
+      go : (x y : Name) → AreLinked net.links x y → IsInFlight e (side new x y) (side new y x)
+      go x y h = elim (tell x s) [
+        | alike _ f ↦ at x y f h
+        | unlike f _ ↦ elim (tell y s) [
+          | alike _ g ↦ turned e (side new y x) (side new x y)
+              (at y x g (linked_back net.links x y h))
+          | unlike g _ ↦
+              of_sides (side new x y) (side new y x) (side net x y) (side net y x)
+              (is_other (same x s) (linked net.links s y) op (side net x y) f)
+              (is_other (same y s) (linked net.links s x) op (side net y x) g)
+              (sound.in_flight x y h)
+        ]
+      ]
+
+  -- ---- a message that is read
+
+  -- a side, if it is the reader's, of a link to the writer, where the reader has a link, or the
+  -- writer's of its link to the reader
+  abbrev read_side : Bool → Bool → Bool → Bool → Op → Message Op → List (Message Op)
+      → Side Doc Op → Side Doc Op
+  read_side mine toward hears theirs op message queue side =
+      changed mine (hears && not toward) op (record {
+        doc = side.doc;
+        end = if mine && toward then after_message e side.end message else side.end;
+        queue = if theirs then queue else side.queue;
+      })
+
+  module _ (d : HasDiamond e) (net : Net Doc Op) (s t : Name) (message : Message Op)
+      (queue : List (Message Op)) (first : net.queue s t ≡ message ∷ queue)
+      (linked_here : AreLinked net.links s t) (sound : IsSound e net)
+    where
+      abbrev op : Op
+      op = became e (net.end t s) message
+
+      abbrev new : Net Doc Op
+      new = read_as e (message ∷ queue) net s t
+
+      is_read : IsRead e (side net s t) (side net t s) message queue
+      is_read = stays_read e d (side net s t) (side net t s) message queue first
+          (sound.in_flight s t linked_here)
+
+      -- two servers are two
+      s_not_t : s ≢ t
+      s_not_t = linked_other net.links s t sound.forest linked_here
+
+      untouched : (x y : Name) → x ≢ t → (x ≡ s → y ≡ t → ⊥) → side new x y ≡ side net x y
+      untouched x y m n =
+          ap (λ b. read_side b (same y s) (linked net.links t y) (is_from s t x y) op message queue
+          (side net x y)) (same_unless x t m)
+          ∙ ap (λ b. read_side false (same y s) (linked net.links t y) b op message queue
+          (side net x y)) (is_from_others s t x y n)
+
+      at_reader : side new t s ≡ reader_after e message (side net t s)
+      at_reader =
+          ap (λ b. read_side b (same s s) (linked net.links t s) (is_from s t t s) op message queue
+          (side net t s)) (same_when t t refl)
+          ∙ ap (λ b. read_side true b (linked net.links t s) (is_from s t t s) op message queue
+          (side net t s)) (same_when s s refl)
+          ∙ ap (λ b. read_side true true b (is_from s t t s) op message queue (side net t s))
+          ((linked_tells net.links t s).1 (linked_back net.links s t linked_here))
+          ∙ ap (λ b. read_side true true true b op message queue (side net t s))
+          (is_from_others s t t s (λ f g. s_not_t g))
+
+      at_writer : side new s t ≡ writer_after e queue (side net s t)
+      at_writer =
+          ap (λ b. read_side b (same t s) (linked net.links t t) (is_from s t s t) op message queue
+          (side net s t)) (same_unless s t s_not_t)
+          ∙ ap (λ b. read_side false (same t s) (linked net.links t t) b op message queue
+          (side net s t)) (is_from_itself s t)
+
+      at_told : (y : Name) → y ≢ s → AreLinked net.links t y
+          → side new t y ≡ told e op (side net t y)
+      at_told y n h =
+          ap (λ b. read_side b (same y s) (linked net.links t y) (is_from s t t y) op message queue
+          (side net t y)) (same_when t t refl)
+          ∙ ap (λ b. read_side true b (linked net.links t y) (is_from s t t y) op message queue
+          (side net t y)) (same_unless y s n)
+          ∙ ap (λ b. read_side true false b (is_from s t t y) op message queue (side net t y))
+          ((linked_tells net.links t y).1 h)
+          ∙ ap (λ b. read_side true false true b op message queue (side net t y))
+          (is_from_others s t t y (λ f g. s_not_t (sym f)))
+
+      between : IsInFlight e (side new s t) (side new t s)
+      between = of_sides (side new s t) (side new t s) (writer_after e queue (side net s t))
+          (reader_after e message (side net t s)) at_writer at_reader is_read.stays
+
+      onward : (y : Name) → y ≢ s → AreLinked net.links t y
+          → IsInFlight e (side new t y) (side new y t)
+      onward y n h =
+          let other = linked_other net.links t y sound.forest h in
+          of_sides (side new t y) (side new y t) (told e op (side net t y)) (side net y t)
+          (at_told y n h) (untouched y t (λ f. other (sym f)) (λ f g. n f))
+          (stays_told e d (side net t y) (side net y t) op (sound.in_flight t y h) is_read.may)
+
+      from_reader : (x y : Name) → x ≡ t → AreLinked net.links x y
+          → IsInFlight e (side new x y) (side new y x)
+      from_reader x y f h = subst (λ v. IsInFlight e (side new v y) (side new y v)) (sym f)
+          (elim (tell y s) [
+            | alike _ g ↦ subst (λ v. IsInFlight e (side new t v) (side new v t)) (sym g)
+                (turned e (side new s t) (side new t s) between)
+            | unlike _ n ↦ onward y n (subst (λ v. AreLinked net.links v y) f h)
+          ])
+
+      read_keeps : IsSound e new
+      read_keeps = record {
+        forest = sound.forest;
+        in_flight = λ x y h. elim (tell x t) [
+          | alike _ f ↦ from_reader x y f h
+          | unlike _ m ↦ elim (tell y t) [
+            | alike _ g ↦ turned e (side new y x) (side new x y)
+                (from_reader y x g (linked_back net.links x y h))
+            | unlike _ n ↦
+                of_sides (side new x y) (side new y x) (side net x y) (side net y x)
+                (untouched x y m (λ f g. n g)) (untouched y x n (λ f g. m g))
+                (sound.in_flight x y h)
+          ]
+        ];
+      }
+
+  -- ---- a link that begins anew, or is lost
+
+  -- a side, if it is of the link's one end, or of its other
+  abbrev anew_side : Bool → Bool → List Op → List Op → Side Doc Op → Side Doc Op
+  anew_side one other here there side = record {
+    doc = side.doc;
+    end = if one then begun e here else if other then begun e there else side.end;
+    queue = if one then sent e here else if other then sent e there else side.queue;
+  }
+
+  module _ (net : Net Doc Op) (links : List Link) (s t : Name) (here there : List Op) where
+    abbrev fresh : Net Doc Op
+    fresh = anew e net links s t here there
+
+    as_before : (x y : Name) → (x ≡ s → y ≡ t → ⊥) → (x ≡ t → y ≡ s → ⊥)
+        → side fresh x y ≡ side net x y
+    as_before x y m n =
+        ap (λ b. anew_side b (is_from t s x y) here there (side net x y))
+        (is_from_others s t x y m)
+        ∙ ap (λ b. anew_side false b here there (side net x y)) (is_from_others t s x y n)
+
+    at_one : side fresh s t ≡ begun_side e (net.doc s) here
+    at_one = ap (λ b. anew_side b (is_from t s s t) here there (side net s t)) (is_from_itself s t)
+
+    at_other : s ≢ t → side fresh t s ≡ begun_side e (net.doc t) there
+    at_other n =
+        ap (λ b. anew_side b (is_from t s t s) here there (side net t s))
+        (is_from_others s t t s (λ f g. n g))
+        ∙ ap (λ b. anew_side false b here there (side net t s)) (is_from_itself t s)
+
+  made_keeps : (net : Net Doc Op) (l : Link) (near far : List Op) → MayBeMade e net l near far
+      → IsSound e net → IsSound e (after e net (made l near far))
+  made_keeps net l near far may sound = record {
+    forest = (may.apart, sound.forest);
+    in_flight = λ x y h. go x y h;
+  }
+    where
+      new : Net Doc Op
+      new = after e net (made l near far)
+
+      two : l.near ≢ l.far
+      two f = may.apart (ap (part net.links) f)
+
+      ends : IsInFlight e (side new l.near l.far) (side new l.far l.near)
+      ends = of_sides (side new l.near l.far) (side new l.far l.near)
+          (begun_side e (net.doc l.near) near) (begun_side e (net.doc l.far) far)
+          (at_one net (l ∷ net.links) l.near l.far near far)
+          (at_other net (l ∷ net.links) l.near l.far near far two)
+          (starts e (net.doc l.near) (net.doc l.far) near far may.near_makes may.far_makes)
+
+      before : (x y : Name) → AreLinked net.links x y → side new x y ≡ side net x y
+      before x y h =
+          let j = linked_joined net.links x y h in
+          as_before net (l ∷ net.links) l.near l.far near far x y
+          (λ f g. may.apart (sym (ap (part net.links) f) ∙ j ∙ ap (part net.links) g))
+          (λ f g. may.apart (sym (ap (part net.links) g) ∙ sym j ∙ ap (part net.links) f))
+
+      go : (x y : Name) → AreLinked (l ∷ net.links) x y
+          → IsInFlight e (side new x y) (side new y x)
+      go x y (inl (inl (f, g))) =
+          subst (λ v. IsInFlight e (side new v y) (side new y v)) f
+          (subst (λ v. IsInFlight e (side new l.near v) (side new v l.near)) g ends)
+      go x y (inl (inr (f, g))) =
+          subst (λ v. IsInFlight e (side new v y) (side new y v)) g
+          (subst (λ v. IsInFlight e (side new l.far v) (side new v l.far)) f
+          (turned e (side new l.near l.far) (side new l.far l.near) ends))
+      go x y (inr h) =
+          of_sides (side new x y) (side new y x) (side net x y) (side net y x) (before x y h)
+          (before y x (linked_back net.links x y h)) (sound.in_flight x y h)
+
+  lost_keeps : (net : Net Doc Op) (s t : Name) → AreLinked net.links s t → IsSound e net
+      → IsSound e (after e net (lost s t))
+  lost_keeps net s t between sound =
+      let left = links_without net.links s t in
+      let is_left = taken_out net.links s t sound.forest between in
+      let before : (x y : Name) → AreLinked left x y
+          → side (after e net (lost s t)) x y ≡ side net x y =
+      λ x y h. as_before net left s t [] [] x y
+      (λ f g. is_left.parted (sym (ap (part left) f) ∙ linked_joined left x y h
+      ∙ ap (part left) g))
+      (λ f g. is_left.parted (sym (ap (part left) g) ∙ sym (linked_joined left x y h)
+      ∙ ap (part left) f)) in
+      record {
+        forest = is_left.forest;
+        in_flight = λ x y h.
+            of_sides (side (after e net (lost s t)) x y) (side (after e net (lost s t)) y x)
+            (side net x y) (side net y x) (before x y h) (before y x (linked_back left x y h))
+            (sound.in_flight x y (left_linked net.links s t x y h));
+      }
+
+  -- ---- whatever happens
+
+  step_keeps : HasDiamond e → (net : Net Doc Op) (step : Step Op) → MayBe e net step
+      → IsSound e net → IsSound e (after e net step)
+  step_keeps d net (given s op) may sound = given_keeps d net s op may sound
+  step_keeps d net (read_from s t) may sound = go (net.queue s t) refl
+    where
+      go : (queue : List (Message Op)) → net.queue s t ≡ queue → IsSound e (read_as e queue net s t)
+      go [] first = sound
+      go (message ∷ queue) first = read_keeps d net s t message queue first may sound
+  step_keeps d net (made l near far) may sound = made_keeps net l near far may sound
+  step_keeps d net (lost s t) may sound = lost_keeps net s t may sound
+
+  all_keep : HasDiamond e → (net : Net Doc Op) (steps : List (Step Op)) → AllMayBe e net steps
+      → IsSound e net → IsSound e (after_all e net steps)
+  all_keep d net [] may sound = sound
+  all_keep d net (step ∷ steps) may sound =
+      all_keep d (after e net step) steps may.1 (step_keeps d net step may.0 sound)
+
+  pub links_are_in_flight : LinksAreInFlight e
+  links_are_in_flight start steps d none may = all_keep d start steps may (record {
+    forest = subst IsForest (sym none) tt;
+    in_flight = λ s t h. absurd (subst (λ ls. AreLinked ls s t) none h);
+  })
+
+  pub ends_rest_alike : EndsRestAlike e
+  ends_rest_alike start steps d none may s t h quiet =
+      let net = after_all e start steps in
+      rests e (side net s t) (side net t s)
+      ((links_are_in_flight start steps d none may).in_flight s t h) quiet.forth quiet.back
+
+  -- along a walk
+  walk_alike : (net : Net Doc Op) (s : Name) (path : List Name) (t : Name) → IsSound e net
+      → IsWalk net.links s path t → IsQuietPart e net s → net.doc s ≡ net.doc t
+  walk_alike net s [] t sound walk quiet = ap net.doc walk
+  walk_alike net s (next ∷ path) t sound walk quiet =
+      let here = quiet s next refl walk.0 in
+      rests e (side net s next) (side net next s) (sound.in_flight s next walk.0) here.forth
+      here.back
+      ∙ walk_alike net next path t sound walk.1
+      (λ x y j. quiet x y (linked_joined net.links s next walk.0 ∙ j))
+
+  pub parts_rest_alike : TheWayIsAWalk → PartsRestAlike e
+  parts_rest_alike is_a_walk start steps d none may s t j quiet =
+      let net = after_all e start steps in
+      let sound = links_are_in_flight start steps d none may in
+      walk_alike net s (way net.links s t) t sound (is_a_walk net.links s t sound.forest j).0 quiet
+
+  pub asked_may_be_made : AskedMayBeMade e
+  asked_may_be_made start steps d none may s t message queue h first =
+      let net = after_all e start steps in
+      (stays_read e d (side net s t) (side net t s) message queue first
+      ((links_are_in_flight start steps d none may).in_flight s t h)).may
