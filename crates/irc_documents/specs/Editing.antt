@@ -3,16 +3,19 @@
 -- A register in which the greater of two writes stays: in 0 one end writes 3, and the other 5. The
 -- first then hears of the 5, which still stands there: 3, then 5. The second hears of the 3, which
 -- has become nothing: 5, then 5. Both have 5.
-use Rattle.std.specs.Prelude.{◌≡◌}
+use Rattle.std.specs.Prelude.{◌≡◌, Bool, true}
 
 -- documents, with the blank one, and operations: the document after an operation, whether an
 -- operation can be made in a document, and what becomes of their operation behind ours
--- (crossed s theirs ours), where both were made in s
+-- (crossed s theirs ours), where both were made in s. One that is nothing is not passed on: it
+-- changes no document
 pub record Editing (Doc Op : Type 0) : Type 1 where
   pub blank : Doc
   pub done : Doc → Op → Doc
   pub may : Doc → Op → Type 0
   pub crossed : Doc → Op → Op → Op
+  pub is_nothing : Op → Bool
+  pub nothing_stays : (s : Doc) (op : Op) → is_nothing op ≡ true → done s op ≡ s
 
 -- the diamond: of two operations that can be made in one document it plays no part which is done
 -- first, and what becomes of the other can be made behind it

@@ -8,10 +8,11 @@ use Rattle.std.specs.Prelude.{ℕ, suc, ◌-◌, List, [], ◌∷◌, ◌++◌, 
 use Rattle.irc_documents.specs.Editing.{Editing}
 use Rattle.irc_documents.specs.Lists.{all_done, through, behind}
 
--- an operation as it was made at its writer, and how many its writer had read by then
-pub record Message (Op : Type 0) : Type 0 where
-  pub count : ℕ
-  pub op : Op
+-- An operation as it was made at its writer, with how many its writer had read by then; or that
+-- count alone.
+pub data Message (Op : Type 0) : Type 0 where
+  told : (count : ℕ) (op : Op) → Message Op
+  only_count : (count : ℕ) → Message Op
 
 -- The log is the end's own operations that the other end has not counted as read, as they are now:
 -- behind all that this end has read. It begins in the document base, which the other end had as
@@ -28,7 +29,7 @@ with_more end more = record end { log = end.log ++ more }
 
 -- an operation of its own, as it is written
 abbrev pub written : {Doc Op : Type 0} → End Doc Op → Op → Message Op
-written end op = record { count = end.read; op = op }
+written end op = told end.read op
 
 module _ {Doc Op : Type 0} (e : Editing Doc Op) where
   -- what the other end says that it has read leaves the log's front
@@ -40,23 +41,27 @@ module _ {Doc Op : Type 0} (e : Editing Doc Op) where
     read = end.read;
   }
 
-  -- what becomes of the operation in a message, which is what the server does
-  abbrev pub became : End Doc Op → Message Op → Op
-  became end message =
-      through e (counted_off end message.count).base message.op (counted_off end message.count).log
+  -- what becomes of an operation that comes with this count, which is what the server does
+  abbrev pub became : End Doc Op → ℕ → Op → Op
+  became end count op =
+      through e (counted_off end count).base op (counted_off end count).log
 
   -- and the end once it has read it
-  abbrev pub after_message : End Doc Op → Message Op → End Doc Op
-  after_message end message = record {
-    base = e.done (counted_off end message.count).base message.op;
-    log = behind e (counted_off end message.count).base (counted_off end message.count).log
-        message.op;
-    counted = message.count;
+  abbrev pub after_told : End Doc Op → ℕ → Op → End Doc Op
+  after_told end count op = record {
+    base = e.done (counted_off end count).base op;
+    log = behind e (counted_off end count).base (counted_off end count).log op;
+    counted = count;
     read = suc end.read;
   }
+
+  abbrev pub after_message : End Doc Op → Message Op → End Doc Op
+  after_message end (told count op) = after_told end count op
+  after_message end (only_count count) = counted_off end count
 
   -- what becomes of the operations in all these messages
   abbrev pub all_became : End Doc Op → List (Message Op) → List Op
   all_became end [] = []
-  all_became end (message ∷ queue) =
-      became end message ∷ all_became (after_message end message) queue
+  all_became end (told count op ∷ queue) =
+      became end count op ∷ all_became (after_told end count op) queue
+  all_became end (only_count count ∷ queue) = all_became (counted_off end count) queue

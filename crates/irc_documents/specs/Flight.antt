@@ -8,8 +8,8 @@
 use Rattle.std.specs.Prelude.{◌≡◌, ℕ, ◌+◌, ◌≤◌, List, [], ◌∷◌, ◌++◌, length}
 use Rattle.irc_documents.specs.Editing.{Editing}
 use Rattle.irc_documents.specs.Lists.{all_done, AllMay}
-use Rattle.irc_documents.specs.Ends.{Message, End, with_more, counted_off, became, after_message}
-use Rattle.irc_documents.specs.Ends.{all_became}
+use Rattle.irc_documents.specs.Ends.{Message, told, only_count, End, with_more, counted_off}
+use Rattle.irc_documents.specs.Ends.{after_message, all_became}
 
 -- one side of a link: the server's document, its end, and the messages that are on their way from it
 pub record Side (Doc Op : Type 0) : Type 0 where
@@ -18,12 +18,15 @@ pub record Side (Doc Op : Type 0) : Type 0 where
   pub queue : List (Message Op)
 
 module _ {Doc Op : Type 0} (e : Editing Doc Op) where
-  -- a message that an end can read: its count is of operations that stand in the log, and its
-  -- operation can be made in the document in which it then stands
-  pub record IsGood (end : End Doc Op) (message : Message Op) : Type 0 where
-    pub least : end.counted ≤ message.count
-    pub most : message.count ≤ end.counted + length end.log
-    pub may : e.may (counted_off e end message.count).base message.op
+  -- a count that an end can read: it is of operations that stand in the log
+  pub record IsCount (end : End Doc Op) (count : ℕ) : Type 0 where
+    pub least : end.counted ≤ count
+    pub most : count ≤ end.counted + length end.log
+
+  -- a message that it can read: the operation can be made in the document in which it then stands
+  abbrev pub IsGood : End Doc Op → Message Op → Type 0
+  IsGood end (told count op) = IsCount end count × e.may (counted_off e end count).base op
+  IsGood end (only_count count) = IsCount end count
 
   abbrev pub AreGood : End Doc Op → List (Message Op) → Type 0
   AreGood end [] = Unit

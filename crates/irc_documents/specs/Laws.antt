@@ -1,9 +1,9 @@
 -- The laws of documents that two ends edit. Each is the contract of a public function of this crate.
-use Rattle.std.specs.Prelude.{◌≡◌, List, [], ◌∷◌}
+use Rattle.std.specs.Prelude.{◌≡◌, ℕ, List, [], ◌∷◌}
 use Rattle.irc_relay.specs.Links.{Name, AreLinked, AreJoined, IsForest}
 use Rattle.irc_documents.specs.Editing.{Editing, HasDiamond}
 use Rattle.irc_documents.specs.Lists.{AllMay, ListsCross}
-use Rattle.irc_documents.specs.Ends.{Message, became}
+use Rattle.irc_documents.specs.Ends.{Message, told, became}
 use Rattle.irc_documents.specs.Flight.{IsInFlight}
 use Rattle.irc_documents.specs.Networks.{Net, Step, side, AllMayBe, after_all}
 
@@ -50,6 +50,7 @@ module _ {Doc Op : Type 0} (e : Editing Doc Op) where
 
   -- what a server is asked to do by the first message from a neighbour may be made there
   abbrev pub AskedMayBeMade : Type 0
-  AskedMayBeMade = OfAnyRun (λ net. (s t : Name) (message : Message Op)
-      (queue : List (Message Op)) → AreLinked net.links s t → net.queue s t ≡ message ∷ queue
-      → e.may (net.doc t) (became e (net.end t s) message))
+  AskedMayBeMade = OfAnyRun (λ net. (s t : Name) (count : ℕ) (op : Op)
+      (queue : List (Message Op)) → AreLinked net.links s t
+      → net.queue s t ≡ told count op ∷ queue
+      → e.may (net.doc t) (became e (net.end t s) count op))

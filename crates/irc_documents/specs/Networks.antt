@@ -7,7 +7,8 @@ use Rattle.std.specs.Prelude.{map}
 use Rattle.irc_relay.specs.Links.{Name, same, Link, part, linked, AreLinked, links_without}
 use Rattle.irc_documents.specs.Editing.{Editing}
 use Rattle.irc_documents.specs.Lists.{all_done, AllMay}
-use Rattle.irc_documents.specs.Ends.{Message, End, with_more, written, became, after_message}
+use Rattle.irc_documents.specs.Ends.{Message, told, only_count, End, with_more, written}
+use Rattle.irc_documents.specs.Ends.{became, after_message}
 use Rattle.irc_documents.specs.Flight.{Side}
 
 -- each server's document; the end that s has of its link to t; what is on its way from s to t,
@@ -27,23 +28,36 @@ abbrev pub is_from : Name → Name → Name → Name → Bool
 is_from s t x y = same x s && same y t
 
 -- What happens: a server is given an operation, which clients ask for, or which it does by itself;
--- a server reads the first message from another; a link is made, for which each end has operations
--- that make its document out of the blank one; a link is lost.
+-- s tells t how many it has read; t reads the first message from s; a link is made, for which each
+-- end has operations that make its document out of the blank one; a link is lost.
 pub data Step (Op : Type 0) : Type 0 where
   given : (s : Name) (op : Op) → Step Op
+  counts_to : (s t : Name) → Step Op
   read_from : (s t : Name) → Step Op
   made : (l : Link) (near far : List Op) → Step Op
   lost : (s t : Name) → Step Op
 
 module _ {Doc Op : Type 0} (e : Editing Doc Op) where
-  -- the server s does an operation, and gives it to those whom hears tells, as its own
+  -- the server s does an operation, and gives it to those whom hears tells, as its own, unless it
+  -- is nothing
   abbrev pub done_at : Net Doc Op → Name → (Name → Bool) → Op → Net Doc Op
   done_at net s hears op = record {
     links = net.links;
     doc = λ x. if same x s then e.done (net.doc x) op else net.doc x;
-    end = λ x y. if same x s && hears y then with_more (net.end x y) (op ∷ []) else net.end x y;
+    end = λ x y.
+        if same x s && hears y && not (e.is_nothing op) then with_more (net.end x y) (op ∷ [])
+        else net.end x y;
     queue = λ x y.
-        if same x s && hears y then net.queue x y ++ written (net.end x y) op ∷ []
+        if same x s && hears y && not (e.is_nothing op) then
+        net.queue x y ++ written (net.end x y) op ∷ []
+        else net.queue x y;
+  }
+
+  -- s puts a count alone on its way to t
+  abbrev pub counted_at : Net Doc Op → Name → Name → Net Doc Op
+  counted_at net s t = record net {
+    queue = λ x y.
+        if is_from s t x y then net.queue x y ++ only_count (net.end x y).read ∷ []
         else net.queue x y;
   }
 
@@ -57,19 +71,20 @@ module _ {Doc Op : Type 0} (e : Editing Doc Op) where
     queue = λ x y. if is_from s t x y then queue else net.queue x y;
   }
 
-  -- t does what became of it, and gives that to each of its other neighbours
+  -- t does what became of an operation, and gives that to each of its other neighbours
   abbrev pub read_as : List (Message Op) → Net Doc Op → Name → Name → Net Doc Op
   read_as [] net s t = net
-  read_as (message ∷ queue) net s t =
-      done_at (taken net s t message queue) t (λ u. linked net.links t u && not (same u s))
-      (became e (net.end t s) message)
+  read_as (told count op ∷ queue) net s t =
+      done_at (taken net s t (told count op) queue) t
+      (λ u. linked net.links t u && not (same u s)) (became e (net.end t s) count op)
+  read_as (only_count count ∷ queue) net s t = taken net s t (only_count count) queue
 
   -- an end whose log these are, and nothing was read or counted
   abbrev pub begun : List Op → End Doc Op
   begun ops = record { base = e.blank; log = ops; counted = 0; read = 0 }
 
   abbrev pub sent : List Op → List (Message Op)
-  sent ops = map (λ op. record { count = 0; op = op }) ops
+  sent ops = map (λ op. told 0 op) ops
 
   -- the link between s and t begins anew, from these operations at s and those at t
   abbrev pub anew : Net Doc Op → List Link → Name → Name → List Op → List Op → Net Doc Op
@@ -88,6 +103,7 @@ module _ {Doc Op : Type 0} (e : Editing Doc Op) where
 
   abbrev pub after : Net Doc Op → Step Op → Net Doc Op
   after net (given s op) = done_at net s (linked net.links s) op
+  after net (counts_to s t) = counted_at net s t
   after net (read_from s t) = read_as (net.queue s t) net s t
   after net (made l near far) = anew net (l ∷ net.links) l.near l.far near far
   after net (lost s t) = anew net (links_without net.links s t) s t [] []
@@ -110,6 +126,7 @@ module _ {Doc Op : Type 0} (e : Editing Doc Op) where
   -- a step that can happen. What is read is not asked for anything
   abbrev pub MayBe : Net Doc Op → Step Op → Type 0
   MayBe net (given s op) = e.may (net.doc s) op
+  MayBe net (counts_to s t) = AreLinked net.links s t
   MayBe net (read_from s t) = AreLinked net.links s t
   MayBe net (made l near far) = MayBeMade net l near far
   MayBe net (lost s t) = AreLinked net.links s t

@@ -1,15 +1,15 @@
 -- A link stays in flight.
-use Rattle.std.proofs.Common.{◌≡◌, ℕ, ◌+◌, ◌-◌, ◌≤◌, suc, List, [], ◌∷◌, ◌++◌, length, take, drop}
+use Rattle.std.proofs.Common.{◌≡◌, ℕ, ◌+◌, ◌-◌, ◌≤◌, suc, Bool, true, false, not, if◌then◌else◌, List, [], ◌∷◌, ◌++◌, length, take, drop}
 use Rattle.std.proofs.Common.{refl, sym, ap, subst, ◌∙◌, append_assoc, arith}
 use Rattle.irc_documents.specs.Editing.{Editing, HasDiamond}
 use Rattle.irc_documents.specs.Lists.{all_done, AllMay, through, behind}
-use Rattle.irc_documents.specs.Ends.{Message, End, with_more, written, counted_off, became}
-use Rattle.irc_documents.specs.Ends.{after_message, all_became}
-use Rattle.irc_documents.specs.Flight.{Side, IsGood, AreGood, IsOnTheWay, IsInFlight}
+use Rattle.irc_documents.specs.Ends.{Message, told, only_count, End, with_more, written}
+use Rattle.irc_documents.specs.Ends.{counted_off, became, after_told, after_message, all_became}
+use Rattle.irc_documents.specs.Flight.{Side, IsCount, IsGood, AreGood, IsOnTheWay, IsInFlight}
 use Rattle.irc_documents.specs.Networks.{begun, sent, Makes}
 use Rattle.irc_documents.specs.Lemmas.CrossingLists.{done_behind, may_join, may_front, may_rest}
 use Rattle.irc_documents.specs.Lemmas.CrossingLists.{through_both, both_behind, as_many_behind}
-use Rattle.irc_documents.specs.Lemmas.CrossingLists.{Crosses, crosses}
+use Rattle.irc_documents.specs.Lemmas.CrossingLists.{crosses}
 use Rattle.std.proofs.lemmas.List.{take-append-drop, take-append-le, drop-append-le, length-drop, length-append}
 
 -- what is left of a log once a count is taken off
@@ -86,92 +86,129 @@ module _ {Doc Op : Type 0} (e : Editing Doc Op) where
     read = suc off.read;
   }
 
-  became_more : (end : End Doc Op) (more : List Op) (message : Message Op) → IsGood e end message
-      → became e (with_more end more) message
-      ≡ through e (reached end) (became e end message) more
-  became_more end more message good =
-      let off = counted_off e end message.count in
-      ap (λ f. through_end f message.op) (off_more end more message.count good.most)
-      ∙ through_both e off.base message.op off.log more
-      ∙ ap (λ s. through e s (became e end message) more) (off_reaches end message.count)
+  became_more : (end : End Doc Op) (more : List Op) (count : ℕ) (op : Op)
+      → IsCount e end count → became e (with_more end more) count op
+      ≡ through e (reached end) (became e end count op) more
+  became_more end more count op good =
+      let off = counted_off e end count in
+      ap (λ f. through_end f op) (off_more end more count good.most)
+      ∙ through_both e off.base op off.log more
+      ∙ ap (λ s. through e s (became e end count op) more) (off_reaches end count)
 
-  after_more : (end : End Doc Op) (more : List Op) (message : Message Op) → IsGood e end message
-      → after_message e (with_more end more) message
-      ≡ with_more (after_message e end message)
-      (behind e (reached end) more (became e end message))
-  after_more end more message good =
-      let off = counted_off e end message.count in
-      ap (λ f. read_by f message.op) (off_more end more message.count good.most)
+  after_more : (end : End Doc Op) (more : List Op) (count : ℕ) (op : Op)
+      → IsCount e end count → after_told e (with_more end more) count op
+      ≡ with_more (after_told e end count op)
+      (behind e (reached end) more (became e end count op))
+  after_more end more count op good =
+      let off = counted_off e end count in
+      ap (λ f. read_by f op) (off_more end more count good.most)
       ∙ ap (λ log. record {
-        base = e.done off.base message.op;
+        base = e.done off.base op;
         log = log;
-        counted = message.count;
+        counted = count;
         read = suc end.read;
-      }) (both_behind e off.base off.log more message.op
-      ∙ ap (λ s. behind e off.base off.log message.op
-      ++ behind e s more (became e end message)) (off_reaches end message.count))
+      }) (both_behind e off.base off.log more op
+      ∙ ap (λ s. behind e off.base off.log op ++ behind e s more (became e end count op))
+      (off_reaches end count))
 
-  -- ---- one message, read
+  -- ---- one operation, read
 
-  record Reads (end : End Doc Op) (message : Message Op) : Type 0 where
-    leads : reached (after_message e end message) ≡ e.done (reached end) (became e end message)
-    became_may : e.may (reached end) (became e end message)
-    log_may : AllMay e (after_message e end message).base (after_message e end message).log
-    counts : (after_message e end message).counted
-        + length (after_message e end message).log ≡ end.counted + length end.log
+  record Reads (end : End Doc Op) (count : ℕ) (op : Op) : Type 0 where
+    leads : reached (after_told e end count op) ≡ e.done (reached end) (became e end count op)
+    became_may : e.may (reached end) (became e end count op)
+    log_may : AllMay e (after_told e end count op).base (after_told e end count op).log
+    counts : count + length (after_told e end count op).log ≡ end.counted + length end.log
 
-  reads : HasDiamond e → (end : End Doc Op) (message : Message Op) → AllMay e end.base end.log
-      → IsGood e end message → Reads end message
-  reads d end message may good =
-      let off = counted_off e end message.count in
-      let one = crosses e d off.base off.log message.op (off_may end message.count may) good.may in
-      let here = off_reaches end message.count in
+  reads : HasDiamond e → (end : End Doc Op) (count : ℕ) (op : Op) → AllMay e end.base end.log
+      → IsGood e end (told count op) → Reads end count op
+  reads d end count op may good =
+      let off = counted_off e end count in
+      let one = crosses e d off.base off.log op (off_may end count may) good.1 in
+      let here = off_reaches end count in
       record {
-        leads = one.same ∙ ap (λ s. e.done s (became e end message)) here;
-        became_may = subst (λ s. e.may s (became e end message)) here one.through_may;
+        leads = one.same ∙ ap (λ s. e.done s (became e end count op)) here;
+        became_may = subst (λ s. e.may s (became e end count op)) here one.through_may;
         log_may = one.behind_may;
-        counts = ap (λ n. message.count + n) (as_many_behind e off.base off.log message.op)
-            ∙ left_over end.counted message.count end.log good.least good.most;
+        counts = ap (λ n. count + n) (as_many_behind e off.base off.log op)
+            ∙ left_over end.counted count end.log good.0.least good.0.most;
       }
 
   -- ---- the reader, while its writer writes
 
-  record Written (end : End Doc Op) (queue : List (Message Op)) (message : Message Op) : Type 0
-    where
-      good : AreGood e end (queue ++ message ∷ [])
-      made : all_became e end (queue ++ message ∷ []) ≡ all_became e end queue ++ message.op ∷ []
+  -- the count that says that all of the log was read
+  count_of_all : (end : End Doc Op) (count : ℕ) → end.counted + length end.log ≡ count
+      → IsCount e end count
+  count_of_all end count all = record { least = omega arith; most = omega arith }
 
-  write_more : HasDiamond e → (end : End Doc Op) (queue : List (Message Op)) (message : Message Op)
+  module _ (end : End Doc Op) (count : ℕ) (all : end.counted + length end.log ≡ count) where
+    long : count - end.counted ≡ length end.log
+    long = omega arith
+
+    all_off : take (count - end.counted) end.log ≡ end.log
+    all_off = ap (λ k. take k end.log) long ∙ all_taken end.log
+
+    none_stays : drop (count - end.counted) end.log ≡ []
+    none_stays = ap (λ k. drop k end.log) long ∙ none_left end.log
+
+  record Written (end : End Doc Op) (queue : List (Message Op)) (count : ℕ) (op : Op) : Type 0
+    where
+      good : AreGood e end (queue ++ told count op ∷ [])
+      made : all_became e end (queue ++ told count op ∷ []) ≡ all_became e end queue ++ op ∷ []
+
+  write_more : HasDiamond e → (end : End Doc Op) (queue : List (Message Op)) (count : ℕ) (op : Op)
       → AllMay e end.base end.log → AreGood e end queue
-      → end.counted + length end.log ≡ message.count
-      → e.may (all_done e (reached end) (all_became e end queue)) message.op
-      → Written end queue message
-  write_more d end [] message log_may good count may =
-      let n : message.count - end.counted ≡ length end.log = omega arith in
-      let all = ap (λ k. take k end.log) n ∙ all_taken end.log in
-      let none = ap (λ k. drop k end.log) n ∙ none_left end.log in
-      record {
-        good = (
-          record {
-            least = omega arith;
-            most = omega arith;
-            may = subst (λ front. e.may (all_done e end.base front) message.op) (sym all) may;
-          },
-          tt,
-        );
-        made = ap (λ log. through e (counted_off e end message.count).base message.op log ∷ [])
-            none;
-      }
-  write_more d end (first ∷ queue) message log_may good count may =
-      let one = reads d end first log_may good.0 in
-      let rest = write_more d (after_message e end first) queue message one.log_may good.1
-      (one.counts ∙ count)
-      (subst (λ s. e.may (all_done e s (all_became e (after_message e end first) queue))
-      message.op) (sym one.leads) may) in
+      → end.counted + length end.log ≡ count
+      → e.may (all_done e (reached end) (all_became e end queue)) op
+      → Written end queue count op
+  write_more d end [] count op log_may good all may = record {
+    good = (
+      (
+        count_of_all end count all,
+        subst (λ front. e.may (all_done e end.base front) op) (sym (all_off end count all)) may,
+      ),
+      tt,
+    );
+    made = ap (λ log. through e (counted_off e end count).base op log ∷ [])
+        (none_stays end count all);
+  }
+  write_more d end (told n first ∷ queue) count op log_may good all may =
+      let one = reads d end n first log_may good.0 in
+      let next = after_told e end n first in
+      let rest = write_more d next queue count op one.log_may good.1 (one.counts ∙ all)
+      (subst (λ s. e.may (all_done e s (all_became e next queue)) op) (sym one.leads) may) in
       record {
         good = (good.0, rest.good);
-        made = ap (λ more. became e end first ∷ more) rest.made;
+        made = ap (λ more. became e end n first ∷ more) rest.made;
       }
+  write_more d end (only_count n ∷ queue) count op log_may good all may =
+      let off = counted_off e end n in
+      let rest = write_more d off queue count op (off_may end n log_may) good.1
+      (left_over end.counted n end.log good.0.least good.0.most ∙ all)
+      (subst (λ s. e.may (all_done e s (all_became e off queue)) op) (sym (off_reaches end n))
+      may) in
+      record { good = (good.0, rest.good); made = rest.made }
+
+  record Counted (end : End Doc Op) (queue : List (Message Op)) (count : ℕ) : Type 0 where
+    good : AreGood e end (queue ++ only_count count ∷ [])
+    made : all_became e end (queue ++ only_count count ∷ []) ≡ all_became e end queue
+
+  count_more : (end : End Doc Op) (queue : List (Message Op)) (count : ℕ)
+      → AreGood e end queue → end.counted + length end.log ≡ count → Counted end queue count
+  count_more end [] count good all =
+      record { good = (count_of_all end count all, tt); made = refl }
+  count_more end (told n first ∷ queue) count good all =
+      let off = counted_off e end n in
+      let rest = count_more (after_told e end n first) queue count good.1
+      (ap (λ k. n + k) (as_many_behind e off.base off.log first)
+      ∙ left_over end.counted n end.log good.0.0.least good.0.0.most ∙ all) in
+      record {
+        good = (good.0, rest.good);
+        made = ap (λ more. became e end n first ∷ more) rest.made;
+      }
+  count_more end (only_count n ∷ queue) count good all =
+      let rest = count_more (counted_off e end n) queue count good.1
+      (left_over end.counted n end.log good.0.least good.0.most ∙ all) in
+      record { good = (good.0, rest.good); made = rest.made }
 
   -- ---- an end behind whose log one more is read
 
@@ -180,42 +217,61 @@ module _ {Doc Op : Type 0} (e : Editing Doc Op) where
     made : all_became e (with_more end (op ∷ [])) queue
         ≡ behind e (reached end) (all_became e end queue) op
 
-  good_more : (end : End Doc Op) (more : List Op) (message : Message Op) → IsGood e end message
-      → IsGood e (with_more end more) message
-  good_more end more message good = record {
+  count_longer : (end : End Doc Op) (more : List Op) (count : ℕ) → IsCount e end count
+      → IsCount e (with_more end more) count
+  count_longer end more count good = record {
     least = good.least;
     most = let e = length-append end.log more in let most = good.most in omega arith;
-    may =
-        subst (λ front. e.may (all_done e end.base front) message.op)
-        (sym (take-append-le (message.count - end.counted) end.log more
-        (within end.counted message.count (length end.log) good.most)))
-        good.may;
   }
+
+  good_more : (end : End Doc Op) (more : List Op) (count : ℕ) (op : Op)
+      → IsGood e end (told count op) → IsGood e (with_more end more) (told count op)
+  good_more end more count op good = (
+    count_longer end more count good.0,
+    subst (λ front. e.may (all_done e end.base front) op)
+        (sym (take-append-le (count - end.counted) end.log more
+        (within end.counted count (length end.log) good.0.most)))
+        good.1,
+  )
 
   lengthen : HasDiamond e → (end : End Doc Op) (queue : List (Message Op)) (op : Op)
       → AllMay e end.base end.log → e.may (reached end) op → AreGood e end queue
       → Longer end queue op
   lengthen d end [] op log_may may good = record { good = tt; made = refl }
-  lengthen d end (first ∷ queue) op log_may may good =
-      let one = reads d end first log_may good.0 in
-      let b = became e end first in
+  lengthen d end (told n first ∷ queue) op log_may may good =
+      let one = reads d end n first log_may good.0 in
+      let b = became e end n first in
       let s = reached end in
-      let next = after_message e end first in
+      let next = after_told e end n first in
       let a = e.crossed s op b in
       let longer = lengthen d next queue a one.log_may
       (subst (λ t. e.may t a) (sym one.leads) (d.may_behind s b op one.became_may may)) good.1 in
-      let same = after_more end (op ∷ []) first good.0 in
+      let same = after_more end (op ∷ []) n first good.0.0 in
       record {
         good = (
-          good_more end (op ∷ []) first good.0,
+          good_more end (op ∷ []) n first good.0,
           subst (λ f. AreGood e f queue) (sym same) longer.good,
         );
         made =
-            ap (λ x. x ∷ all_became e (after_message e (with_more end (op ∷ [])) first) queue)
-            (became_more end (op ∷ []) first good.0)
+            ap (λ x. x ∷ all_became e (after_told e (with_more end (op ∷ [])) n first) queue)
+            (became_more end (op ∷ []) n first good.0.0)
             ∙ ap (λ f. e.crossed s b op ∷ all_became e f queue) same
             ∙ ap (λ more. e.crossed s b op ∷ more) longer.made
             ∙ ap (λ t. e.crossed s b op ∷ behind e t (all_became e next queue) a) one.leads;
+      }
+  lengthen d end (only_count n ∷ queue) op log_may may good =
+      let off = counted_off e end n in
+      let leads = off_reaches end n in
+      let longer = lengthen d off queue op (off_may end n log_may)
+      (subst (λ t. e.may t op) (sym leads) may) good.1 in
+      let same = off_more end (op ∷ []) n good.0.most in
+      record {
+        good = (
+          count_longer end (op ∷ []) n good.0,
+          subst (λ f. AreGood e f queue) (sym same) longer.good,
+        );
+        made = ap (λ f. all_became e f queue) same ∙ longer.made
+            ∙ ap (λ t. behind e t (all_became e off queue) op) leads;
       }
 
   -- ---- what an end does to a link
@@ -235,15 +291,15 @@ module _ {Doc Op : Type 0} (e : Editing Doc Op) where
   }
 
   -- the side once its server has done an operation, and given it to this link
-  abbrev pub told : Op → Side Doc Op → Side Doc Op
-  told op side = record {
+  abbrev pub telling : Op → Side Doc Op → Side Doc Op
+  telling op side = record {
     doc = e.done side.doc op;
     end = with_more side.end (op ∷ []);
     queue = side.queue ++ written side.end op ∷ [];
   }
 
   pub stays_told : HasDiamond e → (near far : Side Doc Op) (op : Op) → IsInFlight e near far
-      → e.may near.doc op → IsInFlight e (told op near) far
+      → e.may near.doc op → IsInFlight e (telling op near) far
   stays_told d near far op link may =
       let near_half = half link.common link.near_end link.far_end near.queue link.near_unread
       link.forth in
@@ -253,8 +309,8 @@ module _ {Doc Op : Type 0} (e : Editing Doc Op) where
       let here : e.may (all_done e link.common unread) op =
       subst (λ s. e.may s op) link.near_reached may in
       let read = ap (λ end. end.read) link.near_is in
-      let message = written near.end op in
-      let more = write_more d link.far_end near.queue message far_half.log_may link.forth.good
+      let more = write_more d link.far_end near.queue near.end.read op far_half.log_may
+      link.forth.good
       (link.back.counts ∙ sym read) (subst
       (λ s. e.may (all_done e s (all_became e link.far_end near.queue)) op)
       (sym link.back.common_is)
@@ -286,42 +342,96 @@ module _ {Doc Op : Type 0} (e : Editing Doc Op) where
         back = link.back;
       }
 
-  -- the first of two sides has read this message from the other
-  abbrev pub reader_after : Message Op → Side Doc Op → Side Doc Op
-  reader_after message side = record {
-    doc = e.done side.doc (became e side.end message);
-    end = after_message e side.end message;
-    queue = side.queue;
+  -- it has done it, and given it to this link unless it is nothing
+  abbrev pub changing : Op → Side Doc Op → Side Doc Op
+  changing op side = record {
+    doc = e.done side.doc op;
+    end = if not (e.is_nothing op) then with_more side.end (op ∷ []) else side.end;
+    queue = if not (e.is_nothing op) then side.queue ++ written side.end op ∷ [] else side.queue;
   }
 
+  pub stays_changing : HasDiamond e → (near far : Side Doc Op) (op : Op) → IsInFlight e near far
+      → e.may near.doc op → IsInFlight e (changing op near) far
+  stays_changing d near far op link may = go (e.is_nothing op) refl
+    where
+      as_told : Bool → Side Doc Op
+      as_told b = record {
+        doc = e.done near.doc op;
+        end = if not b then with_more near.end (op ∷ []) else near.end;
+        queue = if not b then near.queue ++ written near.end op ∷ [] else near.queue;
+      }
+
+      go : (b : Bool) → e.is_nothing op ≡ b → IsInFlight e (as_told b) far
+      go false _ = stays_told d near far op link may
+      go true none = subst (λ s. IsInFlight e (record near { doc = s }) far)
+          (sym (e.nothing_stays near.doc op none)) link
+
+  -- it tells how many it has read
+  abbrev pub counting : Side Doc Op → Side Doc Op
+  counting side = record side { queue = side.queue ++ only_count side.end.read ∷ [] }
+
+  pub stays_counting : (near far : Side Doc Op) → IsInFlight e near far
+      → IsInFlight e (counting near) far
+  stays_counting near far link =
+      let more = count_more link.far_end near.queue near.end.read link.forth.good
+      (link.back.counts ∙ sym (ap (λ end. end.read) link.near_is)) in
+      record {
+        common = link.common;
+        near_end = link.near_end;
+        far_end = link.far_end;
+        near_unread = link.near_unread;
+        far_unread = link.far_unread;
+        near_is = link.near_is;
+        far_is = link.far_is;
+        near_reached = link.near_reached;
+        far_reached = link.far_reached;
+        forth = record {
+          common_is = link.forth.common_is;
+          counts = link.forth.counts;
+          may = link.forth.may;
+          unread_is = link.forth.unread_is ∙ sym more.made;
+          good = more.good;
+        };
+        back = link.back;
+      }
+
+  -- the one side is the same, with these on their way from it
   abbrev pub writer_after : List (Message Op) → Side Doc Op → Side Doc Op
   writer_after queue side = record side { queue = queue }
 
-  pub record IsRead (near far : Side Doc Op) (message : Message Op) (queue : List (Message Op))
-      : Type 0 where
-    pub may : e.may far.doc (became e far.end message)
-    pub stays : IsInFlight e (writer_after queue near) (reader_after message far)
+  -- the other has read an operation
+  abbrev pub reader_after : ℕ → Op → Side Doc Op → Side Doc Op
+  reader_after count op side = record {
+    doc = e.done side.doc (became e side.end count op);
+    end = after_told e side.end count op;
+    queue = side.queue;
+  }
 
-  pub stays_read : HasDiamond e → (near far : Side Doc Op) (message : Message Op)
-      (queue : List (Message Op)) → near.queue ≡ message ∷ queue → IsInFlight e near far
-      → IsRead near far message queue
-  stays_read d near far message queue first link =
+  pub record IsRead (near far : Side Doc Op) (count : ℕ) (op : Op) (queue : List (Message Op))
+      : Type 0 where
+    pub may : e.may far.doc (became e far.end count op)
+    pub stays : IsInFlight e (writer_after queue near) (reader_after count op far)
+
+  pub stays_read : HasDiamond e → (near far : Side Doc Op) (count : ℕ) (op : Op)
+      (queue : List (Message Op)) → near.queue ≡ told count op ∷ queue → IsInFlight e near far
+      → IsRead near far count op queue
+  stays_read d near far count op queue first link =
       let w = link.near_end in
       let r = link.far_end in
       let c = link.common in
       let beta = link.far_unread in
-      let a = became e r message in
-      let r2 = after_message e r message in
+      let a = became e r count op in
+      let r2 = after_told e r count op in
       let near_half = half c w r near.queue link.near_unread link.forth in
       let far_half = half c r w far.queue beta link.back in
       let good = subst (AreGood e r) first link.forth.good in
       let unread : link.near_unread ≡ a ∷ all_became e r2 queue =
       link.forth.unread_is ∙ ap (all_became e r) first in
-      let one = reads d r message far_half.log_may good.0 in
+      let one = reads d r count op far_half.log_may good.0 in
       let a_may : e.may c a = subst (λ s. e.may s a) link.back.common_is one.became_may in
       let cross = crosses e d c beta a far_half.unread_may a_may in
-      let b_is : became e far.end message ≡ through e c a beta =
-      ap (λ end. became e end message) link.far_is ∙ became_more r beta message good.0
+      let b_is : became e far.end count op ≡ through e c a beta =
+      ap (λ end. became e end count op) link.far_is ∙ became_more r beta count op good.0.0
       ∙ ap (λ s. through e s a beta) link.back.common_is in
       let longer = lengthen d w far.queue a near_half.log_may
       (subst (λ s. e.may s a) (sym link.forth.common_is) a_may) link.back.good in
@@ -339,11 +449,11 @@ module _ {Doc Op : Type 0} (e : Editing Doc Op) where
           far_unread = behind e c beta a;
           near_is = link.near_is ∙ ap (with_more w) unread
               ∙ sym (with_more_of w (a ∷ []) (all_became e r2 queue));
-          far_is = ap (λ end. after_message e end message) link.far_is
-              ∙ after_more r beta message good.0
+          far_is = ap (λ end. after_told e end count op) link.far_is
+              ∙ after_more r beta count op good.0.0
               ∙ ap (λ s. with_more r2 (behind e s beta a)) link.back.common_is;
           near_reached = link.near_reached ∙ ap (all_done e c) unread;
-          far_reached = ap (λ s. e.done s (became e far.end message)) link.far_reached
+          far_reached = ap (λ s. e.done s (became e far.end count op)) link.far_reached
               ∙ ap (e.done (all_done e c beta)) b_is ∙ sym cross.same;
           forth = record {
             common_is = done_behind e w.base w.log (a ∷ [])
@@ -365,6 +475,48 @@ module _ {Doc Op : Type 0} (e : Editing Doc Op) where
                 ∙ sym longer.made;
             good = longer.good;
           };
+        };
+      }
+
+  -- the other has read a count alone
+  abbrev pub counter_after : ℕ → Side Doc Op → Side Doc Op
+  counter_after count side = record side { end = counted_off e side.end count }
+
+  pub stays_counted : (near far : Side Doc Op) (count : ℕ) (queue : List (Message Op))
+      → near.queue ≡ only_count count ∷ queue → IsInFlight e near far
+      → IsInFlight e (writer_after queue near) (counter_after count far)
+  stays_counted near far count queue first link =
+      let r = link.far_end in
+      let off = counted_off e r count in
+      let good = subst (AreGood e r) first link.forth.good in
+      let leads = off_reaches r count in
+      let far_half = half link.common r link.near_end far.queue link.far_unread link.back in
+      record {
+        common = link.common;
+        near_end = link.near_end;
+        far_end = off;
+        near_unread = link.near_unread;
+        far_unread = link.far_unread;
+        near_is = link.near_is;
+        far_is = ap (λ end. counted_off e end count) link.far_is
+            ∙ off_more r link.far_unread count good.0.most;
+        near_reached = link.near_reached;
+        far_reached = link.far_reached;
+        forth = record {
+          common_is = link.forth.common_is;
+          counts = link.forth.counts;
+          may = link.forth.may;
+          unread_is = link.forth.unread_is ∙ ap (all_became e r) first;
+          good = good.1;
+        };
+        back = record {
+          common_is = leads ∙ link.back.common_is;
+          counts = left_over r.counted count r.log good.0.least good.0.most ∙ link.back.counts;
+          may = may_join e off.base off.log link.far_unread (off_may r count far_half.log_may)
+              (subst (λ s. AllMay e s link.far_unread) (sym (leads ∙ link.back.common_is))
+              far_half.unread_may);
+          unread_is = link.back.unread_is;
+          good = link.back.good;
         };
       }
 
@@ -396,7 +548,7 @@ module _ {Doc Op : Type 0} (e : Editing Doc Op) where
       record {
         all = ap (λ more. op ∷ more) rest.all;
         good = (
-          record { least = omega arith; most = omega arith; may = may.0 },
+          (record { least = omega arith; most = omega arith }, may.0),
           rest.good,
         );
       }

@@ -1,22 +1,25 @@
 -- A network stays sound, whatever happens.
-use Rattle.std.proofs.Common.{◌≡◌, ◌≢◌, Bool, true, false, not, ◌&&◌, if◌then◌else◌}
+use Rattle.std.proofs.Common.{◌≡◌, ◌≢◌, ℕ, Bool, true, false, not, ◌&&◌, if◌then◌else◌}
 use Rattle.std.proofs.Common.{List, [], ◌∷◌, ◌++◌, inl, inr, refl, sym, ap, subst, ◌∙◌}
 use Rattle.irc_relay.specs.Links.{Name, same, Link, HasEnds, AreLinked, AreJoined, IsForest, IsWalk}
 use Rattle.irc_relay.specs.Links.{part, linked, links_without, has_ends, way}
 use Rattle.irc_relay.specs.Laws.{TheWayIsAWalk}
-use Rattle.irc_relay.specs.Lemmas.TellingNames.{alike, unlike, tell, same_when, same_unless}
+use Rattle.irc_relay.specs.Lemmas.TellingNames.{Telling, alike, unlike, tell, same_when, same_unless}
 use Rattle.irc_relay.specs.Lemmas.NextHops.{linked_joined, linked_other, linked_back}
 use Rattle.irc_relay.specs.Lemmas.LinkTakenOut.{linked_tells, taken_out}
 use Rattle.irc_documents.specs.Editing.{Editing, HasDiamond}
-use Rattle.irc_documents.specs.Ends.{Message, End, with_more, written, became, after_message}
+use Rattle.irc_documents.specs.Ends.{Message, told, only_count, with_more, written, became}
+use Rattle.irc_documents.specs.Ends.{after_message}
 use Rattle.irc_documents.specs.Flight.{Side, IsInFlight}
-use Rattle.irc_documents.specs.Networks.{Net, Step, given, read_from, made, lost, side, is_from}
-use Rattle.irc_documents.specs.Networks.{done_at, taken, read_as, begun, sent, anew, after, after_all}
+use Rattle.irc_documents.specs.Networks.{Net, Step, given, counts_to, read_from, made, lost}
+use Rattle.irc_documents.specs.Networks.{side, is_from, read_as, taken, begun, sent, anew, after, after_all}
 use Rattle.irc_documents.specs.Networks.{Makes, MayBeMade, MayBe, AllMayBe}
 use Rattle.irc_documents.specs.Laws.{IsSound, OfAnyRun, LinksAreInFlight, IsQuiet, EndsRestAlike}
 use Rattle.irc_documents.specs.Laws.{IsQuietPart, PartsRestAlike, AskedMayBeMade}
-use Rattle.irc_documents.specs.Lemmas.LinksInFlight.{told, stays_told, reader_after, writer_after}
-use Rattle.irc_documents.specs.Lemmas.LinksInFlight.{IsRead, stays_read, turned, begun_side, starts}
+use Rattle.irc_documents.specs.Lemmas.LinksInFlight.{changing, stays_changing, counting}
+use Rattle.irc_documents.specs.Lemmas.LinksInFlight.{stays_counting, writer_after, reader_after}
+use Rattle.irc_documents.specs.Lemmas.LinksInFlight.{IsRead, stays_read, counter_after}
+use Rattle.irc_documents.specs.Lemmas.LinksInFlight.{stays_counted, turned, begun_side, starts}
 use Rattle.irc_documents.specs.Lemmas.LinksInFlight.{rests}
 
 -- ---- who is who
@@ -63,12 +66,14 @@ module _ {Doc Op : Type 0} (e : Editing Doc Op) where
   abbrev changed : Bool → Bool → Op → Side Doc Op → Side Doc Op
   changed mine hears op side = record {
     doc = if mine then e.done side.doc op else side.doc;
-    end = if mine && hears then with_more side.end (op ∷ []) else side.end;
-    queue = if mine && hears then side.queue ++ written side.end op ∷ [] else side.queue;
+    end = if mine && hears && not (e.is_nothing op) then with_more side.end (op ∷ []) else side.end;
+    queue =
+        if mine && hears && not (e.is_nothing op) then side.queue ++ written side.end op ∷ []
+        else side.queue;
   }
 
   is_told : (mine hears : Bool) (op : Op) (side : Side Doc Op) → mine ≡ true → hears ≡ true
-      → changed mine hears op side ≡ told e op side
+      → changed mine hears op side ≡ changing e op side
   is_told mine hears op side m h =
       ap (λ b. changed b hears op side) m ∙ ap (λ b. changed true b op side) h
 
@@ -90,12 +95,12 @@ module _ {Doc Op : Type 0} (e : Editing Doc Op) where
           → IsInFlight e (side new x y) (side new y x)
       at x y f h =
           let other = linked_other net.links x y sound.forest h in
-          of_sides (side new x y) (side new y x) (told e op (side net x y)) (side net y x)
+          of_sides (side new x y) (side new y x) (changing e op (side net x y)) (side net y x)
           (is_told (same x s) (linked net.links s y) op (side net x y) (same_when x s f)
           ((linked_tells net.links s y).1 (subst (λ v. AreLinked net.links v y) f h)))
           (is_other (same y s) (linked net.links s x) op (side net y x)
           (same_unless y s (λ g. other (f ∙ sym g))))
-          (stays_told e d (side net x y) (side net y x) op (sound.in_flight x y h)
+          (stays_changing e d (side net x y) (side net y x) op (sound.in_flight x y h)
           (subst (λ v. e.may (net.doc v) op) (sym f) may))
 
       go : (x y : Name) → AreLinked net.links x y → IsInFlight e (side new x y) (side new y x)
@@ -112,110 +117,211 @@ module _ {Doc Op : Type 0} (e : Editing Doc Op) where
         ]
       ]
 
+  -- ---- a link of two servers, one of which tells or reads
+
+  -- what holds of a link between s and t, if it holds of it from s, and of all others
+  by_ends : (net new : Net Doc Op) (s t : Name) → IsSound e net
+      → IsInFlight e (side new s t) (side new t s)
+      → ((x y : Name) → (x ≡ s → y ≡ t → ⊥) → (x ≡ t → y ≡ s → ⊥)
+      → AreLinked net.links x y → IsInFlight e (side new x y) (side new y x))
+      → (x y : Name) → AreLinked net.links x y → IsInFlight e (side new x y) (side new y x)
+  by_ends net new s t sound here others x y h = go (tell x s) (tell y t) (tell x t) (tell y s)
+    where
+      go : Telling x s → Telling y t → Telling x t → Telling y s
+          → IsInFlight e (side new x y) (side new y x)
+      go (alike _ f) (alike _ g) _ _ =
+          subst (λ v. IsInFlight e (side new v y) (side new y v)) (sym f)
+          (subst (λ v. IsInFlight e (side new s v) (side new v s)) (sym g) here)
+      go (unlike _ m) _ (alike _ f) (alike _ g) =
+          subst (λ v. IsInFlight e (side new v y) (side new y v)) (sym f)
+          (subst (λ v. IsInFlight e (side new t v) (side new v t)) (sym g)
+          (turned e (side new s t) (side new t s) here))
+      go (alike _ _) (unlike _ n) (alike _ f) (alike _ g) =
+          subst (λ v. IsInFlight e (side new v y) (side new y v)) (sym f)
+          (subst (λ v. IsInFlight e (side new t v) (side new v t)) (sym g)
+          (turned e (side new s t) (side new t s) here))
+      go (unlike _ m) _ (unlike _ k) _ = others x y (λ f g. m f) (λ f g. k f) h
+      go (unlike _ m) _ (alike _ _) (unlike _ k) = others x y (λ f g. m f) (λ f g. k g) h
+      go (alike _ _) (unlike _ n) (unlike _ k) _ = others x y (λ f g. n g) (λ f g. k f) h
+      go (alike _ _) (unlike _ n) (alike _ _) (unlike _ k) =
+          others x y (λ f g. n g) (λ f g. k g) h
+
+  -- ---- a count alone
+
+  -- a side, if it is the one that tells
+  abbrev counted_side : Bool → Side Doc Op → Side Doc Op
+  counted_side tells side = record {
+    doc = side.doc;
+    end = side.end;
+    queue = if tells then side.queue ++ only_count side.end.read ∷ [] else side.queue;
+  }
+
+  counts_keep : (net : Net Doc Op) (s t : Name) → AreLinked net.links s t → IsSound e net
+      → IsSound e (after e net (counts_to s t))
+  counts_keep net s t linked_here sound = record {
+    forest = sound.forest;
+    in_flight = by_ends net new s t sound
+        (of_sides (side new s t) (side new t s) (counting e (side net s t)) (side net t s)
+        (ap (λ b. counted_side b (side net s t)) (is_from_itself s t))
+        (silent t s (λ f g. other g))
+        (stays_counting e (side net s t) (side net t s) (sound.in_flight s t linked_here)))
+        (λ x y m n h. of_sides (side new x y) (side new y x) (side net x y) (side net y x)
+        (silent x y m) (silent y x (λ f g. n g f)) (sound.in_flight x y h));
+  }
+    where
+      new : Net Doc Op
+      new = after e net (counts_to s t)
+
+      other : s ≢ t
+      other = linked_other net.links s t sound.forest linked_here
+
+      silent : (x y : Name) → (x ≡ s → y ≡ t → ⊥) → side new x y ≡ side net x y
+      silent x y m = ap (λ b. counted_side b (side net x y)) (is_from_others s t x y m)
+
   -- ---- a message that is read
 
   -- a side, if it is the reader's, of a link to the writer, where the reader has a link, or the
   -- writer's of its link to the reader
+  abbrev taken_side : Bool → Bool → Message Op → List (Message Op) → Side Doc Op → Side Doc Op
+  taken_side reads theirs message queue side = record {
+    doc = side.doc;
+    end = if reads then after_message e side.end message else side.end;
+    queue = if theirs then queue else side.queue;
+  }
+
   abbrev read_side : Bool → Bool → Bool → Bool → Op → Message Op → List (Message Op)
       → Side Doc Op → Side Doc Op
   read_side mine toward hears theirs op message queue side =
-      changed mine (hears && not toward) op (record {
-        doc = side.doc;
-        end = if mine && toward then after_message e side.end message else side.end;
-        queue = if theirs then queue else side.queue;
-      })
+      changed mine (hears && not toward) op
+      (taken_side (mine && toward) theirs message queue side)
 
-  module _ (d : HasDiamond e) (net : Net Doc Op) (s t : Name) (message : Message Op)
-      (queue : List (Message Op)) (first : net.queue s t ≡ message ∷ queue)
+  module _ (d : HasDiamond e) (net : Net Doc Op) (s t : Name) (queue : List (Message Op))
       (linked_here : AreLinked net.links s t) (sound : IsSound e net)
     where
-      abbrev op : Op
-      op = became e (net.end t s) message
-
-      abbrev new : Net Doc Op
-      new = read_as e (message ∷ queue) net s t
-
-      is_read : IsRead e (side net s t) (side net t s) message queue
-      is_read = stays_read e d (side net s t) (side net t s) message queue first
-          (sound.in_flight s t linked_here)
-
       -- two servers are two
       s_not_t : s ≢ t
       s_not_t = linked_other net.links s t sound.forest linked_here
 
-      untouched : (x y : Name) → x ≢ t → (x ≡ s → y ≡ t → ⊥) → side new x y ≡ side net x y
-      untouched x y m n =
-          ap (λ b. read_side b (same y s) (linked net.links t y) (is_from s t x y) op message queue
-          (side net x y)) (same_unless x t m)
-          ∙ ap (λ b. read_side false (same y s) (linked net.links t y) b op message queue
-          (side net x y)) (is_from_others s t x y n)
-
-      at_reader : side new t s ≡ reader_after e message (side net t s)
-      at_reader =
-          ap (λ b. read_side b (same s s) (linked net.links t s) (is_from s t t s) op message queue
-          (side net t s)) (same_when t t refl)
-          ∙ ap (λ b. read_side true b (linked net.links t s) (is_from s t t s) op message queue
-          (side net t s)) (same_when s s refl)
-          ∙ ap (λ b. read_side true true b (is_from s t t s) op message queue (side net t s))
-          ((linked_tells net.links t s).1 (linked_back net.links s t linked_here))
-          ∙ ap (λ b. read_side true true true b op message queue (side net t s))
-          (is_from_others s t t s (λ f g. s_not_t g))
-
-      at_writer : side new s t ≡ writer_after e queue (side net s t)
-      at_writer =
-          ap (λ b. read_side b (same t s) (linked net.links t t) (is_from s t s t) op message queue
-          (side net s t)) (same_unless s t s_not_t)
-          ∙ ap (λ b. read_side false (same t s) (linked net.links t t) b op message queue
-          (side net s t)) (is_from_itself s t)
-
-      at_told : (y : Name) → y ≢ s → AreLinked net.links t y
-          → side new t y ≡ told e op (side net t y)
-      at_told y n h =
-          ap (λ b. read_side b (same y s) (linked net.links t y) (is_from s t t y) op message queue
-          (side net t y)) (same_when t t refl)
-          ∙ ap (λ b. read_side true b (linked net.links t y) (is_from s t t y) op message queue
-          (side net t y)) (same_unless y s n)
-          ∙ ap (λ b. read_side true false b (is_from s t t y) op message queue (side net t y))
-          ((linked_tells net.links t y).1 h)
-          ∙ ap (λ b. read_side true false true b op message queue (side net t y))
-          (is_from_others s t t y (λ f g. s_not_t (sym f)))
-
-      between : IsInFlight e (side new s t) (side new t s)
-      between = of_sides (side new s t) (side new t s) (writer_after e queue (side net s t))
-          (reader_after e message (side net t s)) at_writer at_reader is_read.stays
-
-      onward : (y : Name) → y ≢ s → AreLinked net.links t y
-          → IsInFlight e (side new t y) (side new y t)
-      onward y n h =
-          let other = linked_other net.links t y sound.forest h in
-          of_sides (side new t y) (side new y t) (told e op (side net t y)) (side net y t)
-          (at_told y n h) (untouched y t (λ f. other (sym f)) (λ f g. n f))
-          (stays_told e d (side net t y) (side net y t) op (sound.in_flight t y h) is_read.may)
-
-      from_reader : (x y : Name) → x ≡ t → AreLinked net.links x y
-          → IsInFlight e (side new x y) (side new y x)
-      from_reader x y f h = subst (λ v. IsInFlight e (side new v y) (side new y v)) (sym f)
-          (elim (tell y s) [
-            | alike _ g ↦ subst (λ v. IsInFlight e (side new t v) (side new v t)) (sym g)
-                (turned e (side new s t) (side new t s) between)
-            | unlike _ n ↦ onward y n (subst (λ v. AreLinked net.links v y) f h)
-          ])
-
-      read_keeps : IsSound e new
-      read_keeps = record {
+      count_keeps : (count : ℕ) → net.queue s t ≡ only_count count ∷ queue
+          → IsSound e (read_as e (only_count count ∷ queue) net s t)
+      count_keeps count first = record {
         forest = sound.forest;
-        in_flight = λ x y h. elim (tell x t) [
-          | alike _ f ↦ from_reader x y f h
-          | unlike _ m ↦ elim (tell y t) [
-            | alike _ g ↦ turned e (side new y x) (side new x y)
-                (from_reader y x g (linked_back net.links x y h))
-            | unlike _ n ↦
-                of_sides (side new x y) (side new y x) (side net x y) (side net y x)
-                (untouched x y m (λ f g. n g)) (untouched y x n (λ f g. m g))
-                (sound.in_flight x y h)
-          ]
-        ];
+        in_flight = by_ends net new s t sound
+            (of_sides (side new s t) (side new t s) (writer_after e queue (side net s t))
+            (counter_after e count (side net t s))
+            (ap (λ b. taken_side b (is_from s t s t) (only_count count) queue (side net s t))
+            (is_from_others t s s t (λ f g. s_not_t f))
+            ∙ ap (λ b. taken_side false b (only_count count) queue (side net s t))
+            (is_from_itself s t))
+            (ap (λ b. taken_side b (is_from s t t s) (only_count count) queue (side net t s))
+            (is_from_itself t s)
+            ∙ ap (λ b. taken_side true b (only_count count) queue (side net t s))
+            (is_from_others s t t s (λ f g. s_not_t g)))
+            (stays_counted e (side net s t) (side net t s) count queue first
+            (sound.in_flight s t linked_here)))
+            (λ x y m n h. of_sides (side new x y) (side new y x) (side net x y) (side net y x)
+            (as_before x y m n) (as_before y x (λ f g. n g f) (λ f g. m g f))
+            (sound.in_flight x y h));
       }
+        where
+          new : Net Doc Op
+          new = read_as e (only_count count ∷ queue) net s t
+
+          as_before : (x y : Name) → (x ≡ s → y ≡ t → ⊥) → (x ≡ t → y ≡ s → ⊥)
+              → side new x y ≡ side net x y
+          as_before x y m n =
+              ap (λ b. taken_side b (is_from s t x y) (only_count count) queue (side net x y))
+              (is_from_others t s x y n)
+              ∙ ap (λ b. taken_side false b (only_count count) queue (side net x y))
+              (is_from_others s t x y m)
+
+      module _ (count : ℕ) (first : Op) (waits : net.queue s t ≡ told count first ∷ queue) where
+        abbrev message : Message Op
+        message = told count first
+
+        abbrev op : Op
+        op = became e (net.end t s) count first
+
+        abbrev new : Net Doc Op
+        new = read_as e (message ∷ queue) net s t
+
+        is_read : IsRead e (side net s t) (side net t s) count first queue
+        is_read = stays_read e d (side net s t) (side net t s) count first queue waits
+            (sound.in_flight s t linked_here)
+
+        untouched : (x y : Name) → x ≢ t → (x ≡ s → y ≡ t → ⊥) → side new x y ≡ side net x y
+        untouched x y m n =
+            ap (λ b. read_side b (same y s) (linked net.links t y) (is_from s t x y) op message
+            queue (side net x y)) (same_unless x t m)
+            ∙ ap (λ b. read_side false (same y s) (linked net.links t y) b op message queue
+            (side net x y)) (is_from_others s t x y n)
+
+        at_reader : side new t s ≡ reader_after e count first (side net t s)
+        at_reader =
+            ap (λ b. read_side b (same s s) (linked net.links t s) (is_from s t t s) op message
+            queue (side net t s)) (same_when t t refl)
+            ∙ ap (λ b. read_side true b (linked net.links t s) (is_from s t t s) op message queue
+            (side net t s)) (same_when s s refl)
+            ∙ ap (λ b. read_side true true b (is_from s t t s) op message queue (side net t s))
+            ((linked_tells net.links t s).1 (linked_back net.links s t linked_here))
+            ∙ ap (λ b. read_side true true true b op message queue (side net t s))
+            (is_from_others s t t s (λ f g. s_not_t g))
+
+        at_writer : side new s t ≡ writer_after e queue (side net s t)
+        at_writer =
+            ap (λ b. read_side b (same t s) (linked net.links t t) (is_from s t s t) op message
+            queue (side net s t)) (same_unless s t s_not_t)
+            ∙ ap (λ b. read_side false (same t s) (linked net.links t t) b op message queue
+            (side net s t)) (is_from_itself s t)
+
+        at_told : (y : Name) → y ≢ s → AreLinked net.links t y
+            → side new t y ≡ changing e op (side net t y)
+        at_told y n h =
+            ap (λ b. read_side b (same y s) (linked net.links t y) (is_from s t t y) op message
+            queue (side net t y)) (same_when t t refl)
+            ∙ ap (λ b. read_side true b (linked net.links t y) (is_from s t t y) op message queue
+            (side net t y)) (same_unless y s n)
+            ∙ ap (λ b. read_side true false b (is_from s t t y) op message queue (side net t y))
+            ((linked_tells net.links t y).1 h)
+            ∙ ap (λ b. read_side true false true b op message queue (side net t y))
+            (is_from_others s t t y (λ f g. s_not_t (sym f)))
+
+        onward : (y : Name) → y ≢ s → AreLinked net.links t y
+            → IsInFlight e (side new t y) (side new y t)
+        onward y n h =
+            let other = linked_other net.links t y sound.forest h in
+            of_sides (side new t y) (side new y t) (changing e op (side net t y)) (side net y t)
+            (at_told y n h) (untouched y t (λ f. other (sym f)) (λ f g. n f))
+            (stays_changing e d (side net t y) (side net y t) op (sound.in_flight t y h)
+            is_read.may)
+
+        from_reader : (x y : Name) → x ≡ t → y ≢ s → AreLinked net.links x y
+            → IsInFlight e (side new x y) (side new y x)
+        from_reader x y f n h =
+            subst (λ v. IsInFlight e (side new v y) (side new y v)) (sym f)
+            (onward y n (subst (λ v. AreLinked net.links v y) f h))
+
+        elsewhere : (x y : Name) → (x ≡ s → y ≡ t → ⊥) → (x ≡ t → y ≡ s → ⊥)
+            → AreLinked net.links x y → IsInFlight e (side new x y) (side new y x)
+        elsewhere x y m n h = elim (tell x t) [
+          | alike _ f ↦ from_reader x y f (n f) h
+          | unlike _ k ↦ elim (tell y t) [
+            | alike _ g ↦ turned e (side new y x) (side new x y)
+                (from_reader y x g (λ f. m f g) (linked_back net.links x y h))
+            | unlike _ l ↦
+                of_sides (side new x y) (side new y x) (side net x y) (side net y x)
+                (untouched x y k m) (untouched y x l (λ f g. n g f)) (sound.in_flight x y h)
+          ]
+        ]
+
+        read_keeps : IsSound e new
+        read_keeps = record {
+          forest = sound.forest;
+          in_flight = by_ends net new s t sound
+              (of_sides (side new s t) (side new t s) (writer_after e queue (side net s t))
+              (reader_after e count first (side net t s)) at_writer at_reader is_read.stays)
+              elsewhere;
+        }
 
   -- ---- a link that begins anew, or is lost
 
@@ -312,11 +418,13 @@ module _ {Doc Op : Type 0} (e : Editing Doc Op) where
   step_keeps : HasDiamond e → (net : Net Doc Op) (step : Step Op) → MayBe e net step
       → IsSound e net → IsSound e (after e net step)
   step_keeps d net (given s op) may sound = given_keeps d net s op may sound
+  step_keeps d net (counts_to s t) may sound = counts_keep net s t may sound
   step_keeps d net (read_from s t) may sound = go (net.queue s t) refl
     where
       go : (queue : List (Message Op)) → net.queue s t ≡ queue → IsSound e (read_as e queue net s t)
       go [] first = sound
-      go (message ∷ queue) first = read_keeps d net s t message queue first may sound
+      go (told count op ∷ queue) first = read_keeps d net s t queue may sound count op first
+      go (only_count count ∷ queue) first = count_keeps d net s t queue may sound count first
   step_keeps d net (made l near far) may sound = made_keeps net l near far may sound
   step_keeps d net (lost s t) may sound = lost_keeps net s t may sound
 
@@ -356,7 +464,7 @@ module _ {Doc Op : Type 0} (e : Editing Doc Op) where
       walk_alike net s (way net.links s t) t sound (is_a_walk net.links s t sound.forest j).0 quiet
 
   pub asked_may_be_made : AskedMayBeMade e
-  asked_may_be_made start steps d none may s t message queue h first =
+  asked_may_be_made start steps d none may s t count op queue h first =
       let net = after_all e start steps in
-      (stays_read e d (side net s t) (side net t s) message queue first
+      (stays_read e d (side net s t) (side net t s) count op queue first
       ((links_are_in_flight start steps d none may).in_flight s t h)).may
