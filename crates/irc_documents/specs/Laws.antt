@@ -2,7 +2,8 @@
 use Rattle.std.specs.Prelude.{◌≡◌, ℕ, List, [], ◌∷◌}
 use Rattle.irc_relay.specs.Links.{Name, AreLinked, AreJoined, IsForest}
 use Rattle.irc_documents.specs.Editing.{Editing, HasDiamond}
-use Rattle.irc_documents.specs.Lists.{AllMay, ListsCross}
+use Rattle.irc_documents.specs.Lists.{AllMay, ListsCross, all_through, behind_all}
+use Rattle.irc_documents.specs.Pieces.{in_pieces}
 use Rattle.irc_documents.specs.Ends.{Message, told, became}
 use Rattle.irc_documents.specs.Flight.{IsInFlight}
 use Rattle.irc_documents.specs.Networks.{Net, Step, side, AllMayBe, after_all}
@@ -12,6 +13,15 @@ module _ {Doc Op : Type 0} (e : Editing Doc Op) where
   abbrev pub ListsMeet : Type 0
   ListsMeet = (s : Doc) (ours theirs : List Op) → HasDiamond e → AllMay e s ours
       → AllMay e s theirs → ListsCross e s ours theirs
+
+  -- each list behind the other is found by going along either
+  abbrev pub GridTurns : Type 0
+  GridTurns = (s : Doc) (ours theirs : List Op) → HasDiamond e → AllMay e s ours
+      → AllMay e s theirs → behind_all e s ours theirs ≡ all_through e s ours theirs
+
+  -- so pieces have the diamond, and all laws below are of pieces as well
+  abbrev pub PiecesHaveDiamond : Type 0
+  PiecesHaveDiamond = HasDiamond e → HasDiamond (in_pieces e)
 
   -- the links are a forest, and each is in flight
   pub record IsSound (net : Net Doc Op) : Type 0 where

@@ -1,19 +1,68 @@
-//! Laws.
+//! The laws of documents that two ends edit, and of networks of such links, and examples that are
+//! computed.
+//!
+//! A law of any documents and operations is one of a type that tells them by [`Edited`]; whoever has
+//! them in `specs/` alone takes the lemma of `specs/Lemmas` that proves it.
 
-ghost use Rattle.irc_documents.specs.Laws.{ListsMeet, LinksAreInFlight};
 ghost use Rattle.irc_documents.specs.Editing.{Editing};
+ghost use Rattle.irc_documents.specs.Examples.{LineRests, WritesCross};
+ghost use Rattle.irc_documents.specs.Laws.{AskedMayBeMade, EndsRestAlike, GridTurns};
+ghost use Rattle.irc_documents.specs.Laws.{LinksAreInFlight, ListsMeet, PartsRestAlike};
+ghost use Rattle.irc_documents.specs.Laws.{PiecesHaveDiamond};
 
-/// Documents with the operations on them.
+use irc_relay::laws_of_forests;
+
+/// Documents that are edited by these operations.
 pub trait Edited<Op> {
     ghost editing: { Editing Self Op };
 }
 
-/// The diamond of lists.
+/// Two lists of operations that were made in one document: each behind the other leads to the same
+/// document, and may be made there.
 pub fn lists_meet<Doc: Edited<Op>, Op>()
     ensures { ListsMeet Doc.editing }
 {}
 
-/// Each link is in flight.
+/// What becomes of a list behind another is the same, whichever of the two is gone along.
+pub fn grid_turns<Doc: Edited<Op>, Op>()
+    ensures { GridTurns Doc.editing }
+{}
+
+/// Pieces of operations have the diamond if single ones have it.
+pub fn pieces_have_diamond<Doc: Edited<Op>, Op>()
+    ensures { PiecesHaveDiamond Doc.editing }
+{}
+
+/// Whatever happens, from any network without links: the links are a forest, and from each link's
+/// common document each end's is reached by what the other has not read.
 pub fn links_are_in_flight<Doc: Edited<Op>, Op>()
     ensures { LinksAreInFlight Doc.editing }
+{}
+
+/// So both ends of a link on which nothing is on its way have one document.
+pub fn ends_rest_alike<Doc: Edited<Op>, Op>()
+    ensures { EndsRestAlike Doc.editing }
+{}
+
+/// So have all servers of a part in which nothing is on its way.
+pub fn parts_rest_alike<Doc: Edited<Op>, Op>()
+    ensures { PartsRestAlike Doc.editing }
+{
+    laws_of_forests::the_way_is_a_walk();
+}
+
+/// What a server is asked to do by the message that it reads next may be made there.
+pub fn asked_may_be_made<Doc: Edited<Op>, Op>()
+    ensures { AskedMayBeMade Doc.editing }
+{}
+
+/// Writes to a register, of which the greater stays: the diamond holds, and 3 and 5 cross, and lists
+/// of such.
+pub fn writes_cross()
+    ensures { WritesCross }
+{}
+
+/// In a line of three a 7 and a 5 cross: all three have 7, and 3 once that is written over it.
+pub fn line_rests()
+    ensures { LineRests }
 {}

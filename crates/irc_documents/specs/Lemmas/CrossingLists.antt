@@ -3,7 +3,7 @@ use Rattle.std.proofs.Common.{◌≡◌, List, [], ◌∷◌, ◌++◌, length, 
 use Rattle.irc_documents.specs.Editing.{Editing, HasDiamond}
 use Rattle.irc_documents.specs.Lists.{all_done, AllMay, through, behind, all_through, behind_all}
 use Rattle.irc_documents.specs.Lists.{ListsCross}
-use Rattle.irc_documents.specs.Laws.{ListsMeet}
+use Rattle.irc_documents.specs.Laws.{ListsMeet, GridTurns, PiecesHaveDiamond}
 
 module _ {Doc Op : Type 0} (e : Editing Doc Op) where
   pub done_behind : (s : Doc) (xs ys : List Op)
@@ -65,19 +65,50 @@ module _ {Doc Op : Type 0} (e : Editing Doc Op) where
         );
       }
 
-pub lists_meet : {Doc Op : Type 0} (e : Editing Doc Op) → ListsMeet e
-lists_meet e s ours [] d m n = record { same = refl; theirs_may = tt; ours_may = m }
-lists_meet e s ours (b ∷ theirs) d m n =
-    let one = crosses e d s ours b m n.0 in
-    let rest = lists_meet e (e.done s b) (behind e s ours b) theirs d one.behind_may n.1 in
-    record {
-      same = ap (λ t. all_done e t (all_through e (e.done s b) theirs (behind e s ours b)))
-          (sym one.same)
-          ∙ rest.same;
-      theirs_may = (
-        one.through_may,
-        subst (λ t. AllMay e t (all_through e (e.done s b) theirs (behind e s ours b))) one.same
-            rest.theirs_may,
-      );
-      ours_may = rest.ours_may;
-    }
+  pub lists_meet : ListsMeet e
+  lists_meet s ours [] d m n = record { same = refl; theirs_may = tt; ours_may = m }
+  lists_meet s ours (b ∷ theirs) d m n =
+      let one = crosses d s ours b m n.0 in
+      let rest = lists_meet (e.done s b) (behind e s ours b) theirs d one.behind_may n.1 in
+      record {
+        same = ap (λ t. all_done e t (all_through e (e.done s b) theirs (behind e s ours b)))
+            (sym one.same)
+            ∙ rest.same;
+        theirs_may = (
+          one.through_may,
+          subst (λ t. AllMay e t (all_through e (e.done s b) theirs (behind e s ours b))) one.same
+              rest.theirs_may,
+        );
+        ours_may = rest.ours_may;
+      }
+
+  -- ---- the grid, gone along the other way
+
+  none_behind : (s : Doc) (theirs : List Op) → behind_all e s [] theirs ≡ []
+  none_behind s [] = refl
+  none_behind s (b ∷ theirs) = none_behind (e.done s b) theirs
+
+  first_behind : HasDiamond e → (s : Doc) (a : Op) (ours theirs : List Op) → e.may s a
+      → AllMay e s theirs → behind_all e s (a ∷ ours) theirs
+      ≡ through e s a theirs ∷ behind_all e (e.done s a) ours (behind e s theirs a)
+  first_behind d s a ours [] m n = refl
+  first_behind d s a ours (b ∷ theirs) m n =
+      let more = behind e (e.done s a) ours (e.crossed s b a) in
+      let rest = behind e (e.done s b) theirs (e.crossed s a b) in
+      first_behind d (e.done s b) (e.crossed s a b) more theirs (d.may_behind s b a n.0 m) n.1
+      ∙ ap (λ t. through e s a (b ∷ theirs) ∷ behind_all e t more rest) (sym (d.same s a b m n.0))
+
+  pub grid_turns : GridTurns e
+  grid_turns s [] theirs d m n = none_behind s theirs
+  grid_turns s (a ∷ ours) theirs d m n =
+      first_behind d s a ours theirs m.0 n
+      ∙ ap (λ more. through e s a theirs ∷ more)
+      (grid_turns (e.done s a) ours (behind e s theirs a) d m.1
+      (crosses d s theirs a n m.0).behind_may)
+
+  pub pieces_have_diamond : PiecesHaveDiamond e
+  pieces_have_diamond d = record {
+    same = λ s a b m n. (lists_meet s a b d m n).same
+        ∙ ap (all_done e (all_done e s b)) (grid_turns s a b d m n);
+    may_behind = λ s a b m n. (lists_meet s a b d m n).theirs_may;
+  }
