@@ -7,7 +7,7 @@
 -- the same, and b's is reached from it by the 5.
 use Rattle.std.specs.Prelude.{◌≡◌, ℕ, ◌+◌, ◌≤◌, List, [], ◌∷◌, ◌++◌, length}
 use Rattle.irc_documents.specs.Editing.{Editing}
-use Rattle.irc_documents.specs.Lists.{all_done, AllMay}
+use Rattle.irc_documents.specs.Lists.{all_done, AllMay, Meets}
 use Rattle.irc_documents.specs.Ends.{Message, told, only_count, End, with_more, counted_off}
 use Rattle.irc_documents.specs.Ends.{after_message, all_became}
 
@@ -23,11 +23,18 @@ module _ {Doc Op : Type 0} (e : Editing Doc Op) where
     pub least : end.counted ≤ count
     pub most : count ≤ end.counted + length end.log
 
-  -- a message that it can read: the operation can be made in the document in which it then stands
+  -- an operation that it can read: it can be made in the document in which it then stands, and has
+  -- the diamond with each of the log that is left
+  pub record IsOperation (end : End Doc Op) (count : ℕ) (op : Op) : Type 0 where
+    pub counts : IsCount end count
+    pub may : e.may (counted_off e end count).base op
+    pub meets : Meets e (counted_off e end count).base (counted_off e end count).log op
+
   abbrev pub IsGood : End Doc Op → Message Op → Type 0
-  IsGood end (told count op) = IsCount end count × e.may (counted_off e end count).base op
+  IsGood end (told count op) = IsOperation end count op
   IsGood end (only_count count) = IsCount end count
 
+  -- messages that it can read, one after another
   abbrev pub AreGood : End Doc Op → List (Message Op) → Type 0
   AreGood end [] = Unit
   AreGood end (message ∷ queue) =

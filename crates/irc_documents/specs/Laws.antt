@@ -6,7 +6,8 @@ use Rattle.irc_documents.specs.Lists.{AllMay, ListsCross, all_through, behind_al
 use Rattle.irc_documents.specs.Pieces.{in_pieces}
 use Rattle.irc_documents.specs.Ends.{Message, told, became}
 use Rattle.irc_documents.specs.Flight.{IsInFlight}
-use Rattle.irc_documents.specs.Networks.{Net, Step, side, AllMayBe, after_all}
+use Rattle.irc_documents.specs.Networks.{Net, Step, side, after_all, AllMayBe, IsMet}
+use Rattle.irc_documents.specs.Networks.{AllMeet}
 
 module _ {Doc Op : Type 0} (e : Editing Doc Op) where
   -- lists cross as single operations do
@@ -23,44 +24,77 @@ module _ {Doc Op : Type 0} (e : Editing Doc Op) where
   abbrev pub PiecesHaveDiamond : Type 0
   PiecesHaveDiamond = HasDiamond e → HasDiamond (in_pieces e)
 
+  -- ---- networks
+
   -- the links are a forest, and each is in flight
   pub record IsSound (net : Net Doc Op) : Type 0 where
     pub forest : IsForest net.links
     pub in_flight : (s t : Name) → AreLinked net.links s t
         → IsInFlight e (side net s t) (side net t s)
 
-  -- whatever happens, from any network without links
-  abbrev pub OfAnyRun : (Net Doc Op → Type 0) → Type 0
-  OfAnyRun Fact = (start : Net Doc Op) (steps : List (Step Op)) → HasDiamond e
-      → start.links ≡ [] → AllMayBe e start steps → Fact (after_all e start steps)
-
-  -- each link is in flight at every moment
-  abbrev pub LinksAreInFlight : Type 0
-  LinksAreInFlight = OfAnyRun IsSound
-
   -- nothing is on its way between s and t
   pub record IsQuiet (net : Net Doc Op) (s t : Name) : Type 0 where
     pub forth : net.queue s t ≡ []
     pub back : net.queue t s ≡ []
 
-  -- both ends of a link on which nothing is on its way have one document
-  abbrev pub EndsRestAlike : Type 0
-  EndsRestAlike = OfAnyRun (λ net. (s t : Name) → AreLinked net.links s t → IsQuiet net s t
-      → net.doc s ≡ net.doc t)
-
-  -- nothing is on its way in the part of s
+  -- nor in the part of s
   abbrev pub IsQuietPart : Net Doc Op → Name → Type 0
   IsQuietPart net s = (x y : Name) → AreJoined net.links s x → AreLinked net.links x y
       → IsQuiet net x y
 
-  -- so all servers of a part in which nothing is on its way have one document
-  abbrev pub PartsRestAlike : Type 0
-  PartsRestAlike = OfAnyRun (λ net. (s t : Name) → AreJoined net.links s t → IsQuietPart net s
-      → net.doc s ≡ net.doc t)
+  -- both ends of a link on which nothing is on its way have one document
+  abbrev pub EndsAreAlike : Net Doc Op → Type 0
+  EndsAreAlike net = (s t : Name) → AreLinked net.links s t → IsQuiet net s t
+      → net.doc s ≡ net.doc t
 
-  -- what a server is asked to do by the first message from a neighbour may be made there
+  -- so have all servers of a part in which nothing is on its way
+  abbrev pub PartsAreAlike : Net Doc Op → Type 0
+  PartsAreAlike net = (s t : Name) → AreJoined net.links s t → IsQuietPart net s
+      → net.doc s ≡ net.doc t
+
+  -- what t is asked to do by the message from s that it reads next may be made there
+  abbrev pub MayBeAsked : Net Doc Op → Type 0
+  MayBeAsked net =
+      (s t : Name) (count : ℕ) (op : Op) (queue : List (Message Op)) → AreLinked net.links s t
+      → net.queue s t ≡ told count op ∷ queue → e.may (net.doc t) (became e (net.end t s) count op)
+
+  -- where it has the diamond with what it crosses
+  abbrev pub MayBeAskedIfMet : Net Doc Op → Type 0
+  MayBeAskedIfMet net =
+      (s t : Name) (count : ℕ) (op : Op) (queue : List (Message Op)) → AreLinked net.links s t
+      → net.queue s t ≡ told count op ∷ queue → IsMet e (net.end t s) (net.queue s t)
+      → e.may (net.doc t) (became e (net.end t s) count op)
+
+  -- a fact of every network that comes of one without links, whatever happens, if each two that
+  -- cross on the way have the diamond
+  abbrev pub OfMetRuns : (Net Doc Op → Type 0) → Type 0
+  OfMetRuns Fact = (start : Net Doc Op) (steps : List (Step Op)) → start.links ≡ []
+      → AllMayBe e start steps → AllMeet e start steps → Fact (after_all e start steps)
+
+  abbrev pub LinksAreInFlight : Type 0
+  LinksAreInFlight = OfMetRuns IsSound
+
+  abbrev pub EndsRestAlike : Type 0
+  EndsRestAlike = OfMetRuns EndsAreAlike
+
+  abbrev pub PartsRestAlike : Type 0
+  PartsRestAlike = OfMetRuns PartsAreAlike
+
   abbrev pub AskedMayBeMade : Type 0
-  AskedMayBeMade = OfAnyRun (λ net. (s t : Name) (count : ℕ) (op : Op)
-      (queue : List (Message Op)) → AreLinked net.links s t
-      → net.queue s t ≡ told count op ∷ queue
-      → e.may (net.doc t) (became e (net.end t s) count op))
+  AskedMayBeMade = OfMetRuns MayBeAskedIfMet
+
+  -- each two that cross have it, if each two have it that can be made in one document
+  abbrev pub AllMeetByDiamond : Type 0
+  AllMeetByDiamond = HasDiamond e → (start : Net Doc Op) (steps : List (Step Op))
+      → start.links ≡ [] → AllMayBe e start steps → AllMeet e start steps
+
+  -- so then all of it holds, with no further premise
+  pub record GoesWell (net : Net Doc Op) : Type 0 where
+    pub sound : IsSound net
+    pub ends : EndsAreAlike net
+    pub parts : PartsAreAlike net
+    pub asked : MayBeAsked net
+
+  abbrev pub AllGoesWell : Type 0
+  AllGoesWell = HasDiamond e → (start : Net Doc Op) (steps : List (Step Op)) → start.links ≡ []
+      → AllMayBe e start steps → GoesWell (after_all e start steps)

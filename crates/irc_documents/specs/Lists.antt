@@ -3,7 +3,7 @@
 -- In the register 0 one end writes 3 and then 7 (its log), and the other 5. The 5 through the log is
 -- 5 behind 3, and nothing behind 7; the log behind the 5 is nothing, and then 7. Both have 7.
 use Rattle.std.specs.Prelude.{◌≡◌, List, [], ◌∷◌}
-use Rattle.irc_documents.specs.Editing.{Editing}
+use Rattle.irc_documents.specs.Editing.{Editing, Meet}
 
 module _ {Doc Op : Type 0} (e : Editing Doc Op) where
   -- a document after operations, one behind another
@@ -26,7 +26,12 @@ module _ {Doc Op : Type 0} (e : Editing Doc Op) where
   behind s [] b = []
   behind s (a ∷ log) b = e.crossed s a b ∷ behind (e.done s a) log (e.crossed s b a)
 
-  -- the same of a list of operations: the list behind the log, and the log behind the list
+  -- the diamond of b with each of a log, as it comes to it
+  abbrev pub Meets : Doc → List Op → Op → Type 0
+  Meets s [] b = Unit
+  Meets s (a ∷ log) b = Meet e s a b × Meets (e.done s a) log (e.crossed s b a)
+
+  -- what becomes of a list of operations behind the log, and of the log behind the list
   abbrev pub all_through : Doc → List Op → List Op → List Op
   all_through s [] log = []
   all_through s (b ∷ more) log =

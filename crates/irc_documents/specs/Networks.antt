@@ -6,9 +6,9 @@ use Rattle.std.specs.Prelude.{◌≡◌, ◌≢◌, Bool, not, ◌&&◌, ◌||�
 use Rattle.std.specs.Prelude.{map}
 use Rattle.irc_relay.specs.Links.{Name, same, Link, part, linked, AreLinked, links_without}
 use Rattle.irc_documents.specs.Editing.{Editing}
-use Rattle.irc_documents.specs.Lists.{all_done, AllMay}
+use Rattle.irc_documents.specs.Lists.{all_done, AllMay, Meets}
 use Rattle.irc_documents.specs.Ends.{Message, told, only_count, End, with_more, written}
-use Rattle.irc_documents.specs.Ends.{became, after_message}
+use Rattle.irc_documents.specs.Ends.{counted_off, became, after_message}
 use Rattle.irc_documents.specs.Flight.{Side}
 
 -- each server's document; the end that s has of its link to t; what is on its way from s to t,
@@ -134,3 +134,19 @@ module _ {Doc Op : Type 0} (e : Editing Doc Op) where
   abbrev pub AllMayBe : Net Doc Op → List (Step Op) → Type 0
   AllMayBe net [] = Unit
   AllMayBe net (step ∷ steps) = MayBe net step × AllMayBe (after net step) steps
+
+  -- the operation that an end reads, if it is one, has the diamond with each of the end's log
+  abbrev pub IsMet : End Doc Op → List (Message Op) → Type 0
+  IsMet end [] = Unit
+  IsMet end (told count op ∷ queue) =
+      Meets e (counted_off e end count).base (counted_off e end count).log op
+  IsMet end (only_count count ∷ queue) = Unit
+
+  abbrev pub Meeting : Net Doc Op → Step Op → Type 0
+  Meeting net (read_from s t) = IsMet (net.end t s) (net.queue s t)
+  Meeting net _ = Unit
+
+  -- so it is of all that cross in these steps
+  abbrev pub AllMeet : Net Doc Op → List (Step Op) → Type 0
+  AllMeet net [] = Unit
+  AllMeet net (step ∷ steps) = Meeting net step × AllMeet (after net step) steps

@@ -6,9 +6,9 @@
 
 ghost use Rattle.irc_documents.specs.Editing.{Editing};
 ghost use Rattle.irc_documents.specs.Examples.{LineRests, WritesCross};
-ghost use Rattle.irc_documents.specs.Laws.{AskedMayBeMade, EndsRestAlike, GridTurns};
-ghost use Rattle.irc_documents.specs.Laws.{LinksAreInFlight, ListsMeet, PartsRestAlike};
-ghost use Rattle.irc_documents.specs.Laws.{PiecesHaveDiamond};
+ghost use Rattle.irc_documents.specs.Laws.{AllGoesWell, AllMeetByDiamond, AskedMayBeMade};
+ghost use Rattle.irc_documents.specs.Laws.{EndsRestAlike, GridTurns, LinksAreInFlight, ListsMeet};
+ghost use Rattle.irc_documents.specs.Laws.{PartsRestAlike, PiecesHaveDiamond};
 
 use irc_relay::laws_of_forests;
 
@@ -33,8 +33,9 @@ pub fn pieces_have_diamond<Doc: Edited<Op>, Op>()
     ensures { PiecesHaveDiamond Doc.editing }
 {}
 
-/// Whatever happens, from any network without links: the links are a forest, and from each link's
-/// common document each end's is reached by what the other has not read.
+/// Whatever happens, from any network without links, if each two that cross have the diamond: the
+/// links are a forest, and from each link's common document each end's is reached by what the other
+/// has not read.
 pub fn links_are_in_flight<Doc: Edited<Op>, Op>()
     ensures { LinksAreInFlight Doc.editing }
 {}
@@ -55,6 +56,20 @@ pub fn parts_rest_alike<Doc: Edited<Op>, Op>()
 pub fn asked_may_be_made<Doc: Edited<Op>, Op>()
     ensures { AskedMayBeMade Doc.editing }
 {}
+
+/// If each two operations that can be made in one document have the diamond, so have each two that
+/// cross.
+pub fn all_meet_by_diamond<Doc: Edited<Op>, Op>()
+    ensures { AllMeetByDiamond Doc.editing }
+{}
+
+/// So then, whatever happens, from any network without links: all servers of a part in which nothing
+/// is on its way have one document, and whatever a server is asked to do may be made there.
+pub fn all_goes_well<Doc: Edited<Op>, Op>()
+    ensures { AllGoesWell Doc.editing }
+{
+    laws_of_forests::the_way_is_a_walk();
+}
 
 /// Writes to a register, of which the greater stays: the diamond holds, and 3 and 5 cross, and lists
 /// of such.

@@ -1,8 +1,8 @@
 -- Lists of operations that cross.
 use Rattle.std.proofs.Common.{◌≡◌, List, [], ◌∷◌, ◌++◌, length, suc, refl, sym, ap, subst, ◌∙◌}
-use Rattle.irc_documents.specs.Editing.{Editing, HasDiamond}
-use Rattle.irc_documents.specs.Lists.{all_done, AllMay, through, behind, all_through, behind_all}
-use Rattle.irc_documents.specs.Lists.{ListsCross}
+use Rattle.irc_documents.specs.Editing.{Editing, Meet, HasDiamond}
+use Rattle.irc_documents.specs.Lists.{all_done, AllMay, through, behind, Meets}
+use Rattle.irc_documents.specs.Lists.{all_through, behind_all, ListsCross}
 use Rattle.irc_documents.specs.Laws.{ListsMeet, GridTurns, PiecesHaveDiamond}
 
 module _ {Doc Op : Type 0} (e : Editing Doc Op) where
@@ -41,34 +41,63 @@ module _ {Doc Op : Type 0} (e : Editing Doc Op) where
   as_many_behind s [] b = refl
   as_many_behind s (x ∷ xs) b = ap suc (as_many_behind (e.done s x) xs (e.crossed s b x))
 
-  -- one operation and a log
+  -- ---- one operation and a log
+
+  pub turn : (s : Doc) (a b : Op) → Meet e s a b → Meet e s b a
+  turn s a b m = record { same = sym m.same; b_may = m.a_may; a_may = m.b_may }
+
+  pub meets_all : HasDiamond e → (s : Doc) (log : List Op) (b : Op) → AllMay e s log → e.may s b
+      → Meets e s log b
+  meets_all d s [] b m n = tt
+  meets_all d s (a ∷ log) b m n = (
+    record {
+      same = d.same s a b m.0 n;
+      b_may = d.may_behind s a b m.0 n;
+      a_may = d.may_behind s b a n m.0;
+    },
+    meets_all d (e.done s a) log (e.crossed s b a) m.1 (d.may_behind s a b m.0 n),
+  )
+
+  pub meets_join : (s : Doc) (xs ys : List Op) (b : Op) → Meets e s xs b
+      → Meets e (all_done e s xs) ys (through e s b xs) → Meets e s (xs ++ ys) b
+  meets_join s [] ys b m n = n
+  meets_join s (x ∷ xs) ys b m n =
+      (m.0, meets_join (e.done s x) xs ys (e.crossed s b x) m.1 n)
+
+  pub meets_rest : (s : Doc) (xs ys : List Op) (b : Op) → Meets e s (xs ++ ys) b
+      → Meets e (all_done e s xs) ys (through e s b xs)
+  meets_rest s [] ys b m = m
+  meets_rest s (x ∷ xs) ys b m = meets_rest (e.done s x) xs ys (e.crossed s b x) m.1
+
   pub record Crosses (s : Doc) (log : List Op) (b : Op) : Type 0 where
     pub same : all_done e (e.done s b) (behind e s log b)
         ≡ e.done (all_done e s log) (through e s b log)
     pub through_may : e.may (all_done e s log) (through e s b log)
     pub behind_may : AllMay e (e.done s b) (behind e s log b)
 
-  pub crosses : HasDiamond e → (s : Doc) (log : List Op) (b : Op) → AllMay e s log → e.may s b
+  pub crosses : (s : Doc) (log : List Op) (b : Op) → e.may s b → Meets e s log b
       → Crosses s log b
-  crosses d s [] b m n = record { same = refl; through_may = n; behind_may = tt }
-  crosses d s (a ∷ log) b m n =
-      let one = d.same s a b m.0 n in
-      let rest = crosses d (e.done s a) log (e.crossed s b a) m.1 (d.may_behind s a b m.0 n) in
+  crosses s [] b n m = record { same = refl; through_may = n; behind_may = tt }
+  crosses s (a ∷ log) b n m =
+      let one = m.0 in
+      let rest = crosses (e.done s a) log (e.crossed s b a) one.b_may m.1 in
       record {
-        same = ap (λ t. all_done e t (behind e (e.done s a) log (e.crossed s b a))) (sym one)
+        same = ap (λ t. all_done e t (behind e (e.done s a) log (e.crossed s b a))) (sym one.same)
             ∙ rest.same;
         through_may = rest.through_may;
         behind_may = (
-          d.may_behind s b a n m.0,
-          subst (λ t. AllMay e t (behind e (e.done s a) log (e.crossed s b a))) one
+          one.a_may,
+          subst (λ t. AllMay e t (behind e (e.done s a) log (e.crossed s b a))) one.same
               rest.behind_may,
         );
       }
 
+  -- ---- two lists
+
   pub lists_meet : ListsMeet e
   lists_meet s ours [] d m n = record { same = refl; theirs_may = tt; ours_may = m }
   lists_meet s ours (b ∷ theirs) d m n =
-      let one = crosses d s ours b m n.0 in
+      let one = crosses s ours b n.0 (meets_all d s ours b m n.0) in
       let rest = lists_meet (e.done s b) (behind e s ours b) theirs d one.behind_may n.1 in
       record {
         same = ap (λ t. all_done e t (all_through e (e.done s b) theirs (behind e s ours b)))
@@ -104,7 +133,7 @@ module _ {Doc Op : Type 0} (e : Editing Doc Op) where
       first_behind d s a ours theirs m.0 n
       ∙ ap (λ more. through e s a theirs ∷ more)
       (grid_turns (e.done s a) ours (behind e s theirs a) d m.1
-      (crosses d s theirs a n m.0).behind_may)
+      (crosses s theirs a m.0 (meets_all d s theirs a n m.0)).behind_may)
 
   pub pieces_have_diamond : PiecesHaveDiamond e
   pieces_have_diamond d = record {

@@ -1,15 +1,15 @@
 -- A link stays in flight.
 use Rattle.std.proofs.Common.{◌≡◌, ℕ, ◌+◌, ◌-◌, ◌≤◌, suc, Bool, true, false, not, if◌then◌else◌, List, [], ◌∷◌, ◌++◌, length, take, drop}
 use Rattle.std.proofs.Common.{refl, sym, ap, subst, ◌∙◌, append_assoc, arith}
-use Rattle.irc_documents.specs.Editing.{Editing, HasDiamond}
-use Rattle.irc_documents.specs.Lists.{all_done, AllMay, through, behind}
+use Rattle.irc_documents.specs.Editing.{Editing, Meet, HasDiamond}
+use Rattle.irc_documents.specs.Lists.{all_done, AllMay, through, behind, Meets}
 use Rattle.irc_documents.specs.Ends.{Message, told, only_count, End, with_more, written}
 use Rattle.irc_documents.specs.Ends.{counted_off, became, after_told, after_message, all_became}
-use Rattle.irc_documents.specs.Flight.{Side, IsCount, IsGood, AreGood, IsOnTheWay, IsInFlight}
+use Rattle.irc_documents.specs.Flight.{Side, IsCount, IsOperation, IsGood, AreGood, IsOnTheWay, IsInFlight}
 use Rattle.irc_documents.specs.Networks.{begun, sent, Makes}
 use Rattle.irc_documents.specs.Lemmas.CrossingLists.{done_behind, may_join, may_front, may_rest}
 use Rattle.irc_documents.specs.Lemmas.CrossingLists.{through_both, both_behind, as_many_behind}
-use Rattle.irc_documents.specs.Lemmas.CrossingLists.{crosses}
+use Rattle.irc_documents.specs.Lemmas.CrossingLists.{crosses, turn, meets_all, meets_join, meets_rest}
 use Rattle.std.proofs.lemmas.List.{take-append-drop, take-append-le, drop-append-le, length-drop, length-append}
 
 -- what is left of a log once a count is taken off
@@ -119,18 +119,18 @@ module _ {Doc Op : Type 0} (e : Editing Doc Op) where
     log_may : AllMay e (after_told e end count op).base (after_told e end count op).log
     counts : count + length (after_told e end count op).log ≡ end.counted + length end.log
 
-  reads : HasDiamond e → (end : End Doc Op) (count : ℕ) (op : Op) → AllMay e end.base end.log
-      → IsGood e end (told count op) → Reads end count op
-  reads d end count op may good =
+  reads : (end : End Doc Op) (count : ℕ) (op : Op) → IsOperation e end count op
+      → Reads end count op
+  reads end count op good =
       let off = counted_off e end count in
-      let one = crosses e d off.base off.log op (off_may end count may) good.1 in
+      let one = crosses e off.base off.log op good.may good.meets in
       let here = off_reaches end count in
       record {
         leads = one.same ∙ ap (λ s. e.done s (became e end count op)) here;
         became_may = subst (λ s. e.may s (became e end count op)) here one.through_may;
         log_may = one.behind_may;
         counts = ap (λ n. count + n) (as_many_behind e off.base off.log op)
-            ∙ left_over end.counted count end.log good.0.least good.0.most;
+            ∙ left_over end.counted count end.log good.counts.least good.counts.most;
       }
 
   -- ---- the reader, while its writer writes
@@ -155,34 +155,36 @@ module _ {Doc Op : Type 0} (e : Editing Doc Op) where
       good : AreGood e end (queue ++ told count op ∷ [])
       made : all_became e end (queue ++ told count op ∷ []) ≡ all_became e end queue ++ op ∷ []
 
-  write_more : HasDiamond e → (end : End Doc Op) (queue : List (Message Op)) (count : ℕ) (op : Op)
-      → AllMay e end.base end.log → AreGood e end queue
-      → end.counted + length end.log ≡ count
+  write_more : (end : End Doc Op) (queue : List (Message Op)) (count : ℕ) (op : Op)
+      → AreGood e end queue → end.counted + length end.log ≡ count
       → e.may (all_done e (reached end) (all_became e end queue)) op
       → Written end queue count op
-  write_more d end [] count op log_may good all may = record {
+  write_more end [] count op good all may = record {
     good = (
-      (
-        count_of_all end count all,
-        subst (λ front. e.may (all_done e end.base front) op) (sym (all_off end count all)) may,
-      ),
+      record {
+        counts = count_of_all end count all;
+        may = subst (λ front. e.may (all_done e end.base front) op) (sym (all_off end count all))
+            may;
+        meets = subst (λ log. Meets e (counted_off e end count).base log op)
+            (sym (none_stays end count all)) tt;
+      },
       tt,
     );
     made = ap (λ log. through e (counted_off e end count).base op log ∷ [])
         (none_stays end count all);
   }
-  write_more d end (told n first ∷ queue) count op log_may good all may =
-      let one = reads d end n first log_may good.0 in
+  write_more end (told n first ∷ queue) count op good all may =
+      let one = reads end n first good.0 in
       let next = after_told e end n first in
-      let rest = write_more d next queue count op one.log_may good.1 (one.counts ∙ all)
+      let rest = write_more next queue count op good.1 (one.counts ∙ all)
       (subst (λ s. e.may (all_done e s (all_became e next queue)) op) (sym one.leads) may) in
       record {
         good = (good.0, rest.good);
         made = ap (λ more. became e end n first ∷ more) rest.made;
       }
-  write_more d end (only_count n ∷ queue) count op log_may good all may =
+  write_more end (only_count n ∷ queue) count op good all may =
       let off = counted_off e end n in
-      let rest = write_more d off queue count op (off_may end n log_may) good.1
+      let rest = write_more off queue count op good.1
       (left_over end.counted n end.log good.0.least good.0.most ∙ all)
       (subst (λ s. e.may (all_done e s (all_became e off queue)) op) (sym (off_reaches end n))
       may) in
@@ -200,7 +202,7 @@ module _ {Doc Op : Type 0} (e : Editing Doc Op) where
       let off = counted_off e end n in
       let rest = count_more (after_told e end n first) queue count good.1
       (ap (λ k. n + k) (as_many_behind e off.base off.log first)
-      ∙ left_over end.counted n end.log good.0.0.least good.0.0.most ∙ all) in
+      ∙ left_over end.counted n end.log good.0.counts.least good.0.counts.most ∙ all) in
       record {
         good = (good.0, rest.good);
         made = ap (λ more. became e end n first ∷ more) rest.made;
@@ -224,46 +226,55 @@ module _ {Doc Op : Type 0} (e : Editing Doc Op) where
     most = let e = length-append end.log more in let most = good.most in omega arith;
   }
 
-  good_more : (end : End Doc Op) (more : List Op) (count : ℕ) (op : Op)
-      → IsGood e end (told count op) → IsGood e (with_more end more) (told count op)
-  good_more end more count op good = (
-    count_longer end more count good.0,
-    subst (λ front. e.may (all_done e end.base front) op)
-        (sym (take-append-le (count - end.counted) end.log more
-        (within end.counted count (length end.log) good.0.most)))
-        good.1,
-  )
+  good_more : (end : End Doc Op) (count : ℕ) (first op : Op) → IsOperation e end count first
+      → Meet e (reached end) (became e end count first) op
+      → IsOperation e (with_more end (op ∷ [])) count first
+  good_more end count first op good meet =
+      let off = counted_off e end count in
+      let b = became e end count first in
+      record {
+        counts = count_longer end (op ∷ []) count good.counts;
+        may =
+            subst (λ front. e.may (all_done e end.base front) first)
+            (sym (take-append-le (count - end.counted) end.log (op ∷ [])
+            (within end.counted count (length end.log) good.counts.most)))
+            good.may;
+        meets = subst (λ f. Meets e f.base f.log first)
+            (sym (off_more end (op ∷ []) count good.counts.most))
+            (meets_join e off.base off.log (op ∷ []) first good.meets
+            (subst (λ s. Meet e s op b) (sym (off_reaches end count))
+            (turn e (reached end) b op meet), tt));
+      }
 
-  lengthen : HasDiamond e → (end : End Doc Op) (queue : List (Message Op)) (op : Op)
-      → AllMay e end.base end.log → e.may (reached end) op → AreGood e end queue
-      → Longer end queue op
-  lengthen d end [] op log_may may good = record { good = tt; made = refl }
-  lengthen d end (told n first ∷ queue) op log_may may good =
-      let one = reads d end n first log_may good.0 in
+  lengthen : (end : End Doc Op) (queue : List (Message Op)) (op : Op) → AreGood e end queue
+      → Meets e (reached end) (all_became e end queue) op → Longer end queue op
+  lengthen end [] op good meets = record { good = tt; made = refl }
+  lengthen end (told n first ∷ queue) op good meets =
+      let one = reads end n first good.0 in
       let b = became e end n first in
       let s = reached end in
       let next = after_told e end n first in
       let a = e.crossed s op b in
-      let longer = lengthen d next queue a one.log_may
-      (subst (λ t. e.may t a) (sym one.leads) (d.may_behind s b op one.became_may may)) good.1 in
-      let same = after_more end (op ∷ []) n first good.0.0 in
+      let longer = lengthen next queue a good.1
+      (subst (λ t. Meets e t (all_became e next queue) a) (sym one.leads) meets.1) in
+      let same = after_more end (op ∷ []) n first good.0.counts in
       record {
         good = (
-          good_more end (op ∷ []) n first good.0,
+          good_more end n first op good.0 meets.0,
           subst (λ f. AreGood e f queue) (sym same) longer.good,
         );
         made =
             ap (λ x. x ∷ all_became e (after_told e (with_more end (op ∷ [])) n first) queue)
-            (became_more end (op ∷ []) n first good.0.0)
+            (became_more end (op ∷ []) n first good.0.counts)
             ∙ ap (λ f. e.crossed s b op ∷ all_became e f queue) same
             ∙ ap (λ more. e.crossed s b op ∷ more) longer.made
             ∙ ap (λ t. e.crossed s b op ∷ behind e t (all_became e next queue) a) one.leads;
       }
-  lengthen d end (only_count n ∷ queue) op log_may may good =
+  lengthen end (only_count n ∷ queue) op good meets =
       let off = counted_off e end n in
       let leads = off_reaches end n in
-      let longer = lengthen d off queue op (off_may end n log_may)
-      (subst (λ t. e.may t op) (sym leads) may) good.1 in
+      let longer = lengthen off queue op good.1
+      (subst (λ t. Meets e t (all_became e off queue) op) (sym leads) meets) in
       let same = off_more end (op ∷ []) n good.0.most in
       record {
         good = (
@@ -298,19 +309,14 @@ module _ {Doc Op : Type 0} (e : Editing Doc Op) where
     queue = side.queue ++ written side.end op ∷ [];
   }
 
-  pub stays_told : HasDiamond e → (near far : Side Doc Op) (op : Op) → IsInFlight e near far
+  pub stays_told : (near far : Side Doc Op) (op : Op) → IsInFlight e near far
       → e.may near.doc op → IsInFlight e (telling op near) far
-  stays_told d near far op link may =
-      let near_half = half link.common link.near_end link.far_end near.queue link.near_unread
-      link.forth in
-      let far_half = half link.common link.far_end link.near_end far.queue link.far_unread
-      link.back in
+  stays_told near far op link may =
       let unread = link.near_unread in
       let here : e.may (all_done e link.common unread) op =
       subst (λ s. e.may s op) link.near_reached may in
       let read = ap (λ end. end.read) link.near_is in
-      let more = write_more d link.far_end near.queue near.end.read op far_half.log_may
-      link.forth.good
+      let more = write_more link.far_end near.queue near.end.read op link.forth.good
       (link.back.counts ∙ sym read) (subst
       (λ s. e.may (all_done e s (all_became e link.far_end near.queue)) op)
       (sym link.back.common_is)
@@ -350,9 +356,9 @@ module _ {Doc Op : Type 0} (e : Editing Doc Op) where
     queue = if not (e.is_nothing op) then side.queue ++ written side.end op ∷ [] else side.queue;
   }
 
-  pub stays_changing : HasDiamond e → (near far : Side Doc Op) (op : Op) → IsInFlight e near far
+  pub stays_changing : (near far : Side Doc Op) (op : Op) → IsInFlight e near far
       → e.may near.doc op → IsInFlight e (changing op near) far
-  stays_changing d near far op link may = go (e.is_nothing op) refl
+  stays_changing near far op link may = go (e.is_nothing op) refl
     where
       as_told : Bool → Side Doc Op
       as_told b = record {
@@ -362,7 +368,7 @@ module _ {Doc Op : Type 0} (e : Editing Doc Op) where
       }
 
       go : (b : Bool) → e.is_nothing op ≡ b → IsInFlight e (as_told b) far
-      go false _ = stays_told d near far op link may
+      go false _ = stays_told near far op link may
       go true none = subst (λ s. IsInFlight e (record near { doc = s }) far)
           (sym (e.nothing_stays near.doc op none)) link
 
@@ -412,29 +418,56 @@ module _ {Doc Op : Type 0} (e : Editing Doc Op) where
     pub may : e.may far.doc (became e far.end count op)
     pub stays : IsInFlight e (writer_after queue near) (reader_after count op far)
 
-  pub stays_read : HasDiamond e → (near far : Side Doc Op) (count : ℕ) (op : Op)
+  -- what comes first on its way to the far side, and what the diamond says of it there
+  abbrev pub FarMeets : Side Doc Op → ℕ → Op → Type 0
+  FarMeets far count op =
+      Meets e (counted_off e far.end count).base (counted_off e far.end count).log op
+
+  pub meets_far : HasDiamond e → (near far : Side Doc Op) (count : ℕ) (op : Op)
       (queue : List (Message Op)) → near.queue ≡ told count op ∷ queue → IsInFlight e near far
+      → FarMeets far count op
+  meets_far d near far count op queue first link =
+      let r = link.far_end in
+      let more = link.far_unread in
+      let good = subst (AreGood e r) first link.forth.good in
+      subst (λ end. Meets e (counted_off e end count).base (counted_off e end count).log op)
+      (sym link.far_is)
+      (meets_all e d (counted_off e (with_more r more) count).base
+      (counted_off e (with_more r more) count).log op
+      (off_may (with_more r more) count link.back.may)
+      (subst (λ off. e.may off.base op) (sym (off_more r more count good.0.counts.most))
+      good.0.may))
+
+  pub stays_read : (near far : Side Doc Op) (count : ℕ) (op : Op) (queue : List (Message Op))
+      → near.queue ≡ told count op ∷ queue → FarMeets far count op → IsInFlight e near far
       → IsRead near far count op queue
-  stays_read d near far count op queue first link =
+  stays_read near far count op queue first meets link =
       let w = link.near_end in
       let r = link.far_end in
       let c = link.common in
       let beta = link.far_unread in
       let a = became e r count op in
       let r2 = after_told e r count op in
-      let near_half = half c w r near.queue link.near_unread link.forth in
       let far_half = half c r w far.queue beta link.back in
       let good = subst (AreGood e r) first link.forth.good in
       let unread : link.near_unread ≡ a ∷ all_became e r2 queue =
       link.forth.unread_is ∙ ap (all_became e r) first in
-      let one = reads d r count op far_half.log_may good.0 in
+      let off = counted_off e r count in
+      let one = reads r count op good.0 in
       let a_may : e.may c a = subst (λ s. e.may s a) link.back.common_is one.became_may in
-      let cross = crosses e d c beta a far_half.unread_may a_may in
+      let here : Meets e c beta a =
+      subst (λ s. Meets e s beta a) (off_reaches r count ∙ link.back.common_is)
+      (meets_rest e off.base off.log beta op
+      (subst (λ f. Meets e f.base f.log op)
+      (ap (λ end. counted_off e end count) link.far_is
+      ∙ off_more r beta count good.0.counts.most) meets)) in
+      let cross = crosses e c beta a a_may here in
       let b_is : became e far.end count op ≡ through e c a beta =
-      ap (λ end. became e end count op) link.far_is ∙ became_more r beta count op good.0.0
+      ap (λ end. became e end count op) link.far_is ∙ became_more r beta count op good.0.counts
       ∙ ap (λ s. through e s a beta) link.back.common_is in
-      let longer = lengthen d w far.queue a near_half.log_may
-      (subst (λ s. e.may s a) (sym link.forth.common_is) a_may) link.back.good in
+      let longer = lengthen w far.queue a link.back.good
+      (subst (λ s. Meets e s (all_became e w far.queue) a) (sym link.forth.common_is)
+      (subst (λ ops. Meets e c ops a) link.back.unread_is here)) in
       let leads = one.leads ∙ ap (λ s. e.done s a) link.back.common_is in
       let long = length-append w.log (a ∷ []) in
       let counts = link.forth.counts in
@@ -450,7 +483,7 @@ module _ {Doc Op : Type 0} (e : Editing Doc Op) where
           near_is = link.near_is ∙ ap (with_more w) unread
               ∙ sym (with_more_of w (a ∷ []) (all_became e r2 queue));
           far_is = ap (λ end. after_told e end count op) link.far_is
-              ∙ after_more r beta count op good.0.0
+              ∙ after_more r beta count op good.0.counts
               ∙ ap (λ s. with_more r2 (behind e s beta a)) link.back.common_is;
           near_reached = link.near_reached ∙ ap (all_done e c) unread;
           far_reached = ap (λ s. e.done s (became e far.end count op)) link.far_reached
@@ -548,7 +581,11 @@ module _ {Doc Op : Type 0} (e : Editing Doc Op) where
       record {
         all = ap (λ more. op ∷ more) rest.all;
         good = (
-          (record { least = omega arith; most = omega arith }, may.0),
+          record {
+            counts = record { least = omega arith; most = omega arith };
+            may = may.0;
+            meets = tt;
+          },
           rest.good,
         );
       }

@@ -13,14 +13,15 @@ use Rattle.irc_documents.specs.Ends.{after_message}
 use Rattle.irc_documents.specs.Flight.{Side, IsInFlight}
 use Rattle.irc_documents.specs.Networks.{Net, Step, given, counts_to, read_from, made, lost}
 use Rattle.irc_documents.specs.Networks.{side, is_from, read_as, taken, begun, sent, anew, after, after_all}
-use Rattle.irc_documents.specs.Networks.{Makes, MayBeMade, MayBe, AllMayBe}
-use Rattle.irc_documents.specs.Laws.{IsSound, OfAnyRun, LinksAreInFlight, IsQuiet, EndsRestAlike}
-use Rattle.irc_documents.specs.Laws.{IsQuietPart, PartsRestAlike, AskedMayBeMade}
+use Rattle.irc_documents.specs.Networks.{MayBeMade, MayBe, AllMayBe, IsMet, Meeting, AllMeet}
+use Rattle.irc_documents.specs.Laws.{IsSound, IsQuietPart, EndsAreAlike, PartsAreAlike}
+use Rattle.irc_documents.specs.Laws.{LinksAreInFlight, EndsRestAlike, PartsRestAlike}
+use Rattle.irc_documents.specs.Laws.{AskedMayBeMade, AllMeetByDiamond, AllGoesWell}
 use Rattle.irc_documents.specs.Lemmas.LinksInFlight.{changing, stays_changing, counting}
 use Rattle.irc_documents.specs.Lemmas.LinksInFlight.{stays_counting, writer_after, reader_after}
-use Rattle.irc_documents.specs.Lemmas.LinksInFlight.{IsRead, stays_read, counter_after}
-use Rattle.irc_documents.specs.Lemmas.LinksInFlight.{stays_counted, turned, begun_side, starts}
-use Rattle.irc_documents.specs.Lemmas.LinksInFlight.{rests}
+use Rattle.irc_documents.specs.Lemmas.LinksInFlight.{FarMeets, meets_far, IsRead, stays_read}
+use Rattle.irc_documents.specs.Lemmas.LinksInFlight.{counter_after, stays_counted, turned, begun_side}
+use Rattle.irc_documents.specs.Lemmas.LinksInFlight.{starts, rests}
 
 -- ---- who is who
 
@@ -81,9 +82,9 @@ module _ {Doc Op : Type 0} (e : Editing Doc Op) where
       → changed mine hears op side ≡ side
   is_other mine hears op side m = ap (λ b. changed b hears op side) m
 
-  given_keeps : HasDiamond e → (net : Net Doc Op) (s : Name) (op : Op) → e.may (net.doc s) op
+  given_keeps : (net : Net Doc Op) (s : Name) (op : Op) → e.may (net.doc s) op
       → IsSound e net → IsSound e (after e net (given s op))
-  given_keeps d net s op may sound = record {
+  given_keeps net s op may sound = record {
     forest = sound.forest;
     in_flight = λ x y h. go x y h;
   }
@@ -100,7 +101,7 @@ module _ {Doc Op : Type 0} (e : Editing Doc Op) where
           ((linked_tells net.links s y).1 (subst (λ v. AreLinked net.links v y) f h)))
           (is_other (same y s) (linked net.links s x) op (side net y x)
           (same_unless y s (λ g. other (f ∙ sym g))))
-          (stays_changing e d (side net x y) (side net y x) op (sound.in_flight x y h)
+          (stays_changing e (side net x y) (side net y x) op (sound.in_flight x y h)
           (subst (λ v. e.may (net.doc v) op) (sym f) may))
 
       go : (x y : Name) → AreLinked net.links x y → IsInFlight e (side new x y) (side new y x)
@@ -195,7 +196,7 @@ module _ {Doc Op : Type 0} (e : Editing Doc Op) where
       changed mine (hears && not toward) op
       (taken_side (mine && toward) theirs message queue side)
 
-  module _ (d : HasDiamond e) (net : Net Doc Op) (s t : Name) (queue : List (Message Op))
+  module _ (net : Net Doc Op) (s t : Name) (queue : List (Message Op))
       (linked_here : AreLinked net.links s t) (sound : IsSound e net)
     where
       -- two servers are two
@@ -235,7 +236,9 @@ module _ {Doc Op : Type 0} (e : Editing Doc Op) where
               ∙ ap (λ b. taken_side false b (only_count count) queue (side net x y))
               (is_from_others s t x y m)
 
-      module _ (count : ℕ) (first : Op) (waits : net.queue s t ≡ told count first ∷ queue) where
+      module _ (count : ℕ) (first : Op) (waits : net.queue s t ≡ told count first ∷ queue)
+          (meets : FarMeets e (side net t s) count first)
+        where
         abbrev message : Message Op
         message = told count first
 
@@ -246,7 +249,7 @@ module _ {Doc Op : Type 0} (e : Editing Doc Op) where
         new = read_as e (message ∷ queue) net s t
 
         is_read : IsRead e (side net s t) (side net t s) count first queue
-        is_read = stays_read e d (side net s t) (side net t s) count first queue waits
+        is_read = stays_read e (side net s t) (side net t s) count first queue waits meets
             (sound.in_flight s t linked_here)
 
         untouched : (x y : Name) → x ≢ t → (x ≡ s → y ≡ t → ⊥) → side new x y ≡ side net x y
@@ -292,7 +295,7 @@ module _ {Doc Op : Type 0} (e : Editing Doc Op) where
             let other = linked_other net.links t y sound.forest h in
             of_sides (side new t y) (side new y t) (changing e op (side net t y)) (side net y t)
             (at_told y n h) (untouched y t (λ f. other (sym f)) (λ f g. n f))
-            (stays_changing e d (side net t y) (side net y t) op (sound.in_flight t y h)
+            (stays_changing e (side net t y) (side net y t) op (sound.in_flight t y h)
             is_read.may)
 
         from_reader : (x y : Name) → x ≡ t → y ≢ s → AreLinked net.links x y
@@ -415,56 +418,113 @@ module _ {Doc Op : Type 0} (e : Editing Doc Op) where
 
   -- ---- whatever happens
 
-  step_keeps : HasDiamond e → (net : Net Doc Op) (step : Step Op) → MayBe e net step
+  step_keeps : (net : Net Doc Op) (step : Step Op) → MayBe e net step → Meeting e net step
       → IsSound e net → IsSound e (after e net step)
-  step_keeps d net (given s op) may sound = given_keeps d net s op may sound
-  step_keeps d net (counts_to s t) may sound = counts_keep net s t may sound
-  step_keeps d net (read_from s t) may sound = go (net.queue s t) refl
+  step_keeps net (given s op) may meets sound = given_keeps net s op may sound
+  step_keeps net (counts_to s t) may meets sound = counts_keep net s t may sound
+  step_keeps net (read_from s t) may meets sound = go (net.queue s t) refl meets
     where
-      go : (queue : List (Message Op)) → net.queue s t ≡ queue → IsSound e (read_as e queue net s t)
-      go [] first = sound
-      go (told count op ∷ queue) first = read_keeps d net s t queue may sound count op first
-      go (only_count count ∷ queue) first = count_keeps d net s t queue may sound count first
-  step_keeps d net (made l near far) may sound = made_keeps net l near far may sound
-  step_keeps d net (lost s t) may sound = lost_keeps net s t may sound
+      go : (queue : List (Message Op)) → net.queue s t ≡ queue → IsMet e (net.end t s) queue
+          → IsSound e (read_as e queue net s t)
+      go [] first met = sound
+      go (told count op ∷ queue) first met =
+          read_keeps net s t queue may sound count op first met
+      go (only_count count ∷ queue) first met = count_keeps net s t queue may sound count first
+  step_keeps net (made l near far) may meets sound = made_keeps net l near far may sound
+  step_keeps net (lost s t) may meets sound = lost_keeps net s t may sound
 
-  all_keep : HasDiamond e → (net : Net Doc Op) (steps : List (Step Op)) → AllMayBe e net steps
-      → IsSound e net → IsSound e (after_all e net steps)
-  all_keep d net [] may sound = sound
-  all_keep d net (step ∷ steps) may sound =
-      all_keep d (after e net step) steps may.1 (step_keeps d net step may.0 sound)
+  all_keep : (net : Net Doc Op) (steps : List (Step Op)) → AllMayBe e net steps
+      → AllMeet e net steps → IsSound e net → IsSound e (after_all e net steps)
+  all_keep net [] may meets sound = sound
+  all_keep net (step ∷ steps) may meets sound =
+      all_keep (after e net step) steps may.1 meets.1 (step_keeps net step may.0 meets.0 sound)
 
-  pub links_are_in_flight : LinksAreInFlight e
-  links_are_in_flight start steps d none may = all_keep d start steps may (record {
+  without_links : (start : Net Doc Op) → start.links ≡ [] → IsSound e start
+  without_links start none = record {
     forest = subst IsForest (sym none) tt;
     in_flight = λ s t h. absurd (subst (λ ls. AreLinked ls s t) none h);
-  })
+  }
 
-  pub ends_rest_alike : EndsRestAlike e
-  ends_rest_alike start steps d none may s t h quiet =
-      let net = after_all e start steps in
-      rests e (side net s t) (side net t s)
-      ((links_are_in_flight start steps d none may).in_flight s t h) quiet.forth quiet.back
+  pub links_are_in_flight : LinksAreInFlight e
+  links_are_in_flight start steps none may meets =
+      all_keep start steps may meets (without_links start none)
+
+  -- ---- at rest
+
+  ends_are_alike : (net : Net Doc Op) → IsSound e net → EndsAreAlike e net
+  ends_are_alike net sound s t h quiet =
+      rests e (side net s t) (side net t s) (sound.in_flight s t h) quiet.forth quiet.back
 
   -- along a walk
   walk_alike : (net : Net Doc Op) (s : Name) (path : List Name) (t : Name) → IsSound e net
       → IsWalk net.links s path t → IsQuietPart e net s → net.doc s ≡ net.doc t
   walk_alike net s [] t sound walk quiet = ap net.doc walk
   walk_alike net s (next ∷ path) t sound walk quiet =
-      let here = quiet s next refl walk.0 in
-      rests e (side net s next) (side net next s) (sound.in_flight s next walk.0) here.forth
-      here.back
+      ends_are_alike net sound s next walk.0 (quiet s next refl walk.0)
       ∙ walk_alike net next path t sound walk.1
       (λ x y j. quiet x y (linked_joined net.links s next walk.0 ∙ j))
 
-  pub parts_rest_alike : TheWayIsAWalk → PartsRestAlike e
-  parts_rest_alike is_a_walk start steps d none may s t j quiet =
-      let net = after_all e start steps in
-      let sound = links_are_in_flight start steps d none may in
+  parts_are_alike : TheWayIsAWalk → (net : Net Doc Op) → IsSound e net → PartsAreAlike e net
+  parts_are_alike is_a_walk net sound s t j quiet =
       walk_alike net s (way net.links s t) t sound (is_a_walk net.links s t sound.forest j).0 quiet
 
+  pub ends_rest_alike : EndsRestAlike e
+  ends_rest_alike start steps none may meets =
+      ends_are_alike (after_all e start steps) (links_are_in_flight start steps none may meets)
+
+  pub parts_rest_alike : TheWayIsAWalk → PartsRestAlike e
+  parts_rest_alike is_a_walk start steps none may meets =
+      parts_are_alike is_a_walk (after_all e start steps)
+      (links_are_in_flight start steps none may meets)
+
   pub asked_may_be_made : AskedMayBeMade e
-  asked_may_be_made start steps d none may s t count op queue h first =
+  asked_may_be_made start steps none may meets s t count op queue h first met =
       let net = after_all e start steps in
-      (stays_read e d (side net s t) (side net t s) count op queue first
-      ((links_are_in_flight start steps d none may).in_flight s t h)).may
+      (stays_read e (side net s t) (side net t s) count op queue first
+      (subst (IsMet e (net.end t s)) first met)
+      ((links_are_in_flight start steps none may meets).in_flight s t h)).may
+
+  -- ---- where the diamond holds of all
+
+  meets_next : HasDiamond e → (net : Net Doc Op) (s t : Name) → AreLinked net.links s t
+      → IsSound e net → (queue : List (Message Op)) → net.queue s t ≡ queue
+      → IsMet e (net.end t s) queue
+  meets_next d net s t h sound [] first = tt
+  meets_next d net s t h sound (told count op ∷ queue) first =
+      meets_far e d (side net s t) (side net t s) count op queue first (sound.in_flight s t h)
+  meets_next d net s t h sound (only_count count ∷ queue) first = tt
+
+  meeting : HasDiamond e → (net : Net Doc Op) (step : Step Op) → MayBe e net step
+      → IsSound e net → Meeting e net step
+  meeting d net (read_from s t) may sound =
+      meets_next d net s t may sound (net.queue s t) refl
+  meeting d net (given s op) may sound = tt
+  meeting d net (counts_to s t) may sound = tt
+  meeting d net (made l near far) may sound = tt
+  meeting d net (lost s t) may sound = tt
+
+  all_meeting : HasDiamond e → (net : Net Doc Op) (steps : List (Step Op)) → AllMayBe e net steps
+      → IsSound e net → AllMeet e net steps
+  all_meeting d net [] may sound = tt
+  all_meeting d net (step ∷ steps) may sound =
+      let met = meeting d net step may.0 sound in
+      (met, all_meeting d (after e net step) steps may.1 (step_keeps net step may.0 met sound))
+
+  pub all_meet_by_diamond : AllMeetByDiamond e
+  all_meet_by_diamond d start steps none may =
+      all_meeting d start steps may (without_links start none)
+
+  pub all_goes_well : TheWayIsAWalk → AllGoesWell e
+  all_goes_well is_a_walk d start steps none may =
+      let net = after_all e start steps in
+      let met = all_meet_by_diamond d start steps none may in
+      let sound = links_are_in_flight start steps none may met in
+      record {
+        sound = sound;
+        ends = ends_are_alike net sound;
+        parts = parts_are_alike is_a_walk net sound;
+        asked = λ s t count op queue h first.
+            (stays_read e (side net s t) (side net t s) count op queue first
+            (meets_far e d (side net s t) (side net t s) count op queue first
+            (sound.in_flight s t h)) (sound.in_flight s t h)).may;
+      }
