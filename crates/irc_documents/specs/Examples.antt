@@ -4,8 +4,8 @@ use Rattle.std.specs.Prelude.{List, [], ◌∷◌, ◌++◌, length, map}
 use Rattle.std.proofs.Common.{refl, subst}
 use Rattle.irc_relay.specs.Links.{Name, same, Link}
 use Rattle.irc_documents.specs.Editing.{Editing, HasDiamond}
-use Rattle.irc_documents.specs.Lists.{all_done, through, behind, all_through, behind_all}
-use Rattle.irc_documents.specs.Networks.{Net, Step, given, counts_to, read_from, made, lost, begun}
+use Rattle.irc_documents.specs.Lists.{through, behind, all_through, behind_all}
+use Rattle.irc_documents.specs.Networks.{Net, Step, given, counts_to, read_from, made, begun}
 use Rattle.irc_documents.specs.Networks.{after_all, AllMayBe}
 
 -- ---- the register

@@ -1,26 +1,30 @@
 -- The laws of documents that two ends edit. Each is the contract of a public function of this crate.
 use Rattle.std.specs.Prelude.{◌≡◌, ℕ, List, [], ◌∷◌}
 use Rattle.irc_relay.specs.Links.{Name, AreLinked, AreJoined, IsForest}
-use Rattle.irc_documents.specs.Editing.{Editing, HasDiamond}
-use Rattle.irc_documents.specs.Lists.{AllMay, ListsCross, all_through, behind_all}
+use Rattle.irc_documents.specs.Editing.{Editing, Meet, HasDiamond}
+use Rattle.irc_documents.specs.Lists.{AllMay, all_through, behind_all, AllMeet, ListsCross}
 use Rattle.irc_documents.specs.Pieces.{in_pieces}
 use Rattle.irc_documents.specs.Ends.{Message, told, became}
 use Rattle.irc_documents.specs.Flight.{IsInFlight}
 use Rattle.irc_documents.specs.Networks.{Net, Step, side, after_all, AllMayBe, IsMet}
-use Rattle.irc_documents.specs.Networks.{AllMeet}
+use Rattle.irc_documents.specs.Networks.{StepsMeet}
 
 module _ {Doc Op : Type 0} (e : Editing Doc Op) where
-  -- lists cross as single operations do
+  -- lists of which each two operations have the diamond cross as single operations do
   abbrev pub ListsMeet : Type 0
-  ListsMeet = (s : Doc) (ours theirs : List Op) → HasDiamond e → AllMay e s ours
-      → AllMay e s theirs → ListsCross e s ours theirs
+  ListsMeet = (s : Doc) (ours theirs : List Op) → AllMay e s ours → AllMay e s theirs
+      → AllMeet e s ours theirs → ListsCross e s ours theirs
 
-  -- each list behind the other is found by going along either
+  -- what becomes of a list behind another is the same, whichever of the two is gone along
   abbrev pub GridTurns : Type 0
-  GridTurns = (s : Doc) (ours theirs : List Op) → HasDiamond e → AllMay e s ours
-      → AllMay e s theirs → behind_all e s ours theirs ≡ all_through e s ours theirs
+  GridTurns = (s : Doc) (ours theirs : List Op) → AllMeet e s ours theirs
+      → behind_all e s ours theirs ≡ all_through e s ours theirs
 
-  -- so pieces have the diamond, and all laws below are of pieces as well
+  -- so pieces have the diamond if each two of theirs have it, and all laws below are of pieces too
+  abbrev pub PiecesMeet : Type 0
+  PiecesMeet = (s : Doc) (ours theirs : List Op) → AllMay e s ours → AllMay e s theirs
+      → AllMeet e s ours theirs → Meet (in_pieces e) s ours theirs
+
   abbrev pub PiecesHaveDiamond : Type 0
   PiecesHaveDiamond = HasDiamond e → HasDiamond (in_pieces e)
 
@@ -69,7 +73,7 @@ module _ {Doc Op : Type 0} (e : Editing Doc Op) where
   -- cross on the way have the diamond
   abbrev pub OfMetRuns : (Net Doc Op → Type 0) → Type 0
   OfMetRuns Fact = (start : Net Doc Op) (steps : List (Step Op)) → start.links ≡ []
-      → AllMayBe e start steps → AllMeet e start steps → Fact (after_all e start steps)
+      → AllMayBe e start steps → StepsMeet e start steps → Fact (after_all e start steps)
 
   abbrev pub LinksAreInFlight : Type 0
   LinksAreInFlight = OfMetRuns IsSound
@@ -84,9 +88,9 @@ module _ {Doc Op : Type 0} (e : Editing Doc Op) where
   AskedMayBeMade = OfMetRuns MayBeAskedIfMet
 
   -- each two that cross have it, if each two have it that can be made in one document
-  abbrev pub AllMeetByDiamond : Type 0
-  AllMeetByDiamond = HasDiamond e → (start : Net Doc Op) (steps : List (Step Op))
-      → start.links ≡ [] → AllMayBe e start steps → AllMeet e start steps
+  abbrev pub StepsMeetByDiamond : Type 0
+  StepsMeetByDiamond = HasDiamond e → (start : Net Doc Op) (steps : List (Step Op))
+      → start.links ≡ [] → AllMayBe e start steps → StepsMeet e start steps
 
   -- so then all of it holds, with no further premise
   pub record GoesWell (net : Net Doc Op) : Type 0 where

@@ -41,6 +41,11 @@ module _ {Doc Op : Type 0} (e : Editing Doc Op) where
   behind_all s log [] = log
   behind_all s log (b ∷ more) = behind_all (e.done s b) (behind s log b) more
 
+  -- the diamond of each two of two lists, as they come to each other
+  abbrev pub AllMeet : Doc → List Op → List Op → Type 0
+  AllMeet s log [] = Unit
+  AllMeet s log (b ∷ more) = Meets s log b × AllMeet (e.done s b) (behind s log b) more
+
   -- ours and theirs, both made in s: each list behind the other leads to the same document, and can
   -- be made there
   pub record ListsCross (s : Doc) (ours theirs : List Op) : Type 0 where

@@ -2,7 +2,7 @@
 --
 -- a - b - c, all registers with 0: a writes 3 and c writes 5, both told to b. When b has read the 3
 -- and then the 5, it has given the 3 to c, where it becomes nothing, and the 5 to a. All have 5.
-use Rattle.std.specs.Prelude.{◌≡◌, ◌≢◌, Bool, not, ◌&&◌, ◌||◌, if◌then◌else◌, List, [], ◌∷◌, ◌++◌}
+use Rattle.std.specs.Prelude.{◌≡◌, ◌≢◌, Bool, not, ◌&&◌, if◌then◌else◌, List, [], ◌∷◌, ◌++◌}
 use Rattle.std.specs.Prelude.{map}
 use Rattle.irc_relay.specs.Links.{Name, same, Link, part, linked, AreLinked, links_without}
 use Rattle.irc_documents.specs.Editing.{Editing}
@@ -147,6 +147,6 @@ module _ {Doc Op : Type 0} (e : Editing Doc Op) where
   Meeting net _ = Unit
 
   -- so it is of all that cross in these steps
-  abbrev pub AllMeet : Net Doc Op → List (Step Op) → Type 0
-  AllMeet net [] = Unit
-  AllMeet net (step ∷ steps) = Meeting net step × AllMeet (after net step) steps
+  abbrev pub StepsMeet : Net Doc Op → List (Step Op) → Type 0
+  StepsMeet net [] = Unit
+  StepsMeet net (step ∷ steps) = Meeting net step × StepsMeet (after net step) steps

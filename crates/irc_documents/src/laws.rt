@@ -6,9 +6,9 @@
 
 ghost use Rattle.irc_documents.specs.Editing.{Editing};
 ghost use Rattle.irc_documents.specs.Examples.{LineRests, WritesCross};
-ghost use Rattle.irc_documents.specs.Laws.{AllGoesWell, AllMeetByDiamond, AskedMayBeMade};
-ghost use Rattle.irc_documents.specs.Laws.{EndsRestAlike, GridTurns, LinksAreInFlight, ListsMeet};
-ghost use Rattle.irc_documents.specs.Laws.{PartsRestAlike, PiecesHaveDiamond};
+ghost use Rattle.irc_documents.specs.Laws.{AllGoesWell, AskedMayBeMade, EndsRestAlike, GridTurns};
+ghost use Rattle.irc_documents.specs.Laws.{LinksAreInFlight, ListsMeet, PartsRestAlike};
+ghost use Rattle.irc_documents.specs.Laws.{PiecesHaveDiamond, PiecesMeet, StepsMeetByDiamond};
 
 use irc_relay::laws_of_forests;
 
@@ -17,8 +17,8 @@ pub trait Edited<Op> {
     ghost editing: { Editing Self Op };
 }
 
-/// Two lists of operations that were made in one document: each behind the other leads to the same
-/// document, and may be made there.
+/// Two lists of operations that were made in one document, each two of which have the diamond: each
+/// behind the other leads to the same document, and may be made there.
 pub fn lists_meet<Doc: Edited<Op>, Op>()
     ensures { ListsMeet Doc.editing }
 {}
@@ -28,7 +28,12 @@ pub fn grid_turns<Doc: Edited<Op>, Op>()
     ensures { GridTurns Doc.editing }
 {}
 
-/// Pieces of operations have the diamond if single ones have it.
+/// Two pieces have the diamond if each two of their operations have it.
+pub fn pieces_meet<Doc: Edited<Op>, Op>()
+    ensures { PiecesMeet Doc.editing }
+{}
+
+/// So all pieces have it, if all operations have it.
 pub fn pieces_have_diamond<Doc: Edited<Op>, Op>()
     ensures { PiecesHaveDiamond Doc.editing }
 {}
@@ -59,8 +64,8 @@ pub fn asked_may_be_made<Doc: Edited<Op>, Op>()
 
 /// If each two operations that can be made in one document have the diamond, so have each two that
 /// cross.
-pub fn all_meet_by_diamond<Doc: Edited<Op>, Op>()
-    ensures { AllMeetByDiamond Doc.editing }
+pub fn steps_meet_by_diamond<Doc: Edited<Op>, Op>()
+    ensures { StepsMeetByDiamond Doc.editing }
 {}
 
 /// So then, whatever happens, from any network without links: all servers of a part in which nothing

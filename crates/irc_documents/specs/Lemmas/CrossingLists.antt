@@ -2,8 +2,8 @@
 use Rattle.std.proofs.Common.{◌≡◌, List, [], ◌∷◌, ◌++◌, length, suc, refl, sym, ap, subst, ◌∙◌}
 use Rattle.irc_documents.specs.Editing.{Editing, Meet, HasDiamond}
 use Rattle.irc_documents.specs.Lists.{all_done, AllMay, through, behind, Meets}
-use Rattle.irc_documents.specs.Lists.{all_through, behind_all, ListsCross}
-use Rattle.irc_documents.specs.Laws.{ListsMeet, GridTurns, PiecesHaveDiamond}
+use Rattle.irc_documents.specs.Lists.{all_through, behind_all, AllMeet}
+use Rattle.irc_documents.specs.Laws.{ListsMeet, GridTurns, PiecesMeet, PiecesHaveDiamond}
 
 module _ {Doc Op : Type 0} (e : Editing Doc Op) where
   pub done_behind : (s : Doc) (xs ys : List Op)
@@ -95,10 +95,10 @@ module _ {Doc Op : Type 0} (e : Editing Doc Op) where
   -- ---- two lists
 
   pub lists_meet : ListsMeet e
-  lists_meet s ours [] d m n = record { same = refl; theirs_may = tt; ours_may = m }
-  lists_meet s ours (b ∷ theirs) d m n =
-      let one = crosses s ours b n.0 (meets_all d s ours b m n.0) in
-      let rest = lists_meet (e.done s b) (behind e s ours b) theirs d one.behind_may n.1 in
+  lists_meet s ours [] m n met = record { same = refl; theirs_may = tt; ours_may = m }
+  lists_meet s ours (b ∷ theirs) m n met =
+      let one = crosses s ours b n.0 met.0 in
+      let rest = lists_meet (e.done s b) (behind e s ours b) theirs one.behind_may n.1 met.1 in
       record {
         same = ap (λ t. all_done e t (all_through e (e.done s b) theirs (behind e s ours b)))
             (sym one.same)
@@ -111,33 +111,63 @@ module _ {Doc Op : Type 0} (e : Editing Doc Op) where
         ours_may = rest.ours_may;
       }
 
+  pub all_meet : HasDiamond e → (s : Doc) (ours theirs : List Op) → AllMay e s ours
+      → AllMay e s theirs → AllMeet e s ours theirs
+  all_meet d s ours [] m n = tt
+  all_meet d s ours (b ∷ theirs) m n =
+      let met = meets_all d s ours b m n.0 in (
+        met,
+        all_meet d (e.done s b) (behind e s ours b) theirs (crosses s ours b n.0 met).behind_may
+            n.1,
+      )
+
   -- ---- the grid, gone along the other way
 
   none_behind : (s : Doc) (theirs : List Op) → behind_all e s [] theirs ≡ []
   none_behind s [] = refl
   none_behind s (b ∷ theirs) = none_behind (e.done s b) theirs
 
-  first_behind : HasDiamond e → (s : Doc) (a : Op) (ours theirs : List Op) → e.may s a
-      → AllMay e s theirs → behind_all e s (a ∷ ours) theirs
+  first_behind : (s : Doc) (a : Op) (ours theirs : List Op) → AllMeet e s (a ∷ ours) theirs
+      → behind_all e s (a ∷ ours) theirs
       ≡ through e s a theirs ∷ behind_all e (e.done s a) ours (behind e s theirs a)
-  first_behind d s a ours [] m n = refl
-  first_behind d s a ours (b ∷ theirs) m n =
+  first_behind s a ours [] met = refl
+  first_behind s a ours (b ∷ theirs) met =
       let more = behind e (e.done s a) ours (e.crossed s b a) in
       let rest = behind e (e.done s b) theirs (e.crossed s a b) in
-      first_behind d (e.done s b) (e.crossed s a b) more theirs (d.may_behind s b a n.0 m) n.1
-      ∙ ap (λ t. through e s a (b ∷ theirs) ∷ behind_all e t more rest) (sym (d.same s a b m n.0))
+      first_behind (e.done s b) (e.crossed s a b) more theirs met.1
+      ∙ ap (λ t. through e s a (b ∷ theirs) ∷ behind_all e t more rest) (sym met.0.0.same)
+
+  -- without the first of ours
+  others_meet : (s : Doc) (a : Op) (ours theirs : List Op) → AllMeet e s (a ∷ ours) theirs
+      → AllMeet e (e.done s a) ours (behind e s theirs a)
+  others_meet s a ours [] met = tt
+  others_meet s a ours (b ∷ theirs) met =
+      let more = behind e (e.done s a) ours (e.crossed s b a) in
+      let rest = behind e (e.done s b) theirs (e.crossed s a b) in (
+        met.0.1,
+        subst (λ t. AllMeet e t more rest) (sym met.0.0.same)
+            (others_meet (e.done s b) (e.crossed s a b) more theirs met.1),
+      )
 
   pub grid_turns : GridTurns e
-  grid_turns s [] theirs d m n = none_behind s theirs
-  grid_turns s (a ∷ ours) theirs d m n =
-      first_behind d s a ours theirs m.0 n
+  grid_turns s [] theirs met = none_behind s theirs
+  grid_turns s (a ∷ ours) theirs met =
+      first_behind s a ours theirs met
       ∙ ap (λ more. through e s a theirs ∷ more)
-      (grid_turns (e.done s a) ours (behind e s theirs a) d m.1
-      (crosses s theirs a m.0 (meets_all d s theirs a n m.0)).behind_may)
+      (grid_turns (e.done s a) ours (behind e s theirs a) (others_meet s a ours theirs met))
+
+  pub pieces_meet : PiecesMeet e
+  pieces_meet s ours theirs m n met =
+      let cross = lists_meet s ours theirs m n met in
+      let turned = grid_turns s ours theirs met in
+      record {
+        same = cross.same ∙ ap (all_done e (all_done e s theirs)) turned;
+        b_may = cross.theirs_may;
+        a_may = subst (AllMay e (all_done e s theirs)) turned cross.ours_may;
+      }
 
   pub pieces_have_diamond : PiecesHaveDiamond e
   pieces_have_diamond d = record {
-    same = λ s a b m n. (lists_meet s a b d m n).same
-        ∙ ap (all_done e (all_done e s b)) (grid_turns s a b d m n);
-    may_behind = λ s a b m n. (lists_meet s a b d m n).theirs_may;
+    same = λ s a b m n. (pieces_meet s a b m n (all_meet d s a b m n)).same;
+    may_behind = λ s a b m n. (pieces_meet s a b m n (all_meet d s a b m n)).b_may;
   }

@@ -4,8 +4,8 @@ use Rattle.std.proofs.Common.{refl, sym, ap, subst, ◌∙◌, append_assoc, ari
 use Rattle.irc_documents.specs.Editing.{Editing, Meet, HasDiamond}
 use Rattle.irc_documents.specs.Lists.{all_done, AllMay, through, behind, Meets}
 use Rattle.irc_documents.specs.Ends.{Message, told, only_count, End, with_more, written}
-use Rattle.irc_documents.specs.Ends.{counted_off, became, after_told, after_message, all_became}
-use Rattle.irc_documents.specs.Flight.{Side, IsCount, IsOperation, IsGood, AreGood, IsOnTheWay, IsInFlight}
+use Rattle.irc_documents.specs.Ends.{counted_off, became, after_told, all_became}
+use Rattle.irc_documents.specs.Flight.{Side, IsCount, IsOperation, AreGood, IsOnTheWay, IsInFlight}
 use Rattle.irc_documents.specs.Networks.{begun, sent, Makes}
 use Rattle.irc_documents.specs.Lemmas.CrossingLists.{done_behind, may_join, may_front, may_rest}
 use Rattle.irc_documents.specs.Lemmas.CrossingLists.{through_both, both_behind, as_many_behind}
@@ -241,9 +241,11 @@ module _ {Doc Op : Type 0} (e : Editing Doc Op) where
             good.may;
         meets = subst (λ f. Meets e f.base f.log first)
             (sym (off_more end (op ∷ []) count good.counts.most))
-            (meets_join e off.base off.log (op ∷ []) first good.meets
-            (subst (λ s. Meet e s op b) (sym (off_reaches end count))
-            (turn e (reached end) b op meet), tt));
+            (meets_join e off.base off.log (op ∷ []) first good.meets (
+              subst (λ s. Meet e s op b) (sym (off_reaches end count))
+                  (turn e (reached end) b op meet),
+              tt,
+            ));
       }
 
   lengthen : (end : End Doc Op) (queue : List (Message Op)) (op : Op) → AreGood e end queue

@@ -1,7 +1,7 @@
 -- A network stays sound, whatever happens.
 use Rattle.std.proofs.Common.{◌≡◌, ◌≢◌, ℕ, Bool, true, false, not, ◌&&◌, if◌then◌else◌}
 use Rattle.std.proofs.Common.{List, [], ◌∷◌, ◌++◌, inl, inr, refl, sym, ap, subst, ◌∙◌}
-use Rattle.irc_relay.specs.Links.{Name, same, Link, HasEnds, AreLinked, AreJoined, IsForest, IsWalk}
+use Rattle.irc_relay.specs.Links.{Name, same, Link, AreLinked, IsForest, IsWalk}
 use Rattle.irc_relay.specs.Links.{part, linked, links_without, has_ends, way}
 use Rattle.irc_relay.specs.Laws.{TheWayIsAWalk}
 use Rattle.irc_relay.specs.Lemmas.TellingNames.{Telling, alike, unlike, tell, same_when, same_unless}
@@ -12,11 +12,11 @@ use Rattle.irc_documents.specs.Ends.{Message, told, only_count, with_more, writt
 use Rattle.irc_documents.specs.Ends.{after_message}
 use Rattle.irc_documents.specs.Flight.{Side, IsInFlight}
 use Rattle.irc_documents.specs.Networks.{Net, Step, given, counts_to, read_from, made, lost}
-use Rattle.irc_documents.specs.Networks.{side, is_from, read_as, taken, begun, sent, anew, after, after_all}
-use Rattle.irc_documents.specs.Networks.{MayBeMade, MayBe, AllMayBe, IsMet, Meeting, AllMeet}
+use Rattle.irc_documents.specs.Networks.{side, is_from, read_as, begun, sent, anew, after, after_all}
+use Rattle.irc_documents.specs.Networks.{MayBeMade, MayBe, AllMayBe, IsMet, Meeting, StepsMeet}
 use Rattle.irc_documents.specs.Laws.{IsSound, IsQuietPart, EndsAreAlike, PartsAreAlike}
 use Rattle.irc_documents.specs.Laws.{LinksAreInFlight, EndsRestAlike, PartsRestAlike}
-use Rattle.irc_documents.specs.Laws.{AskedMayBeMade, AllMeetByDiamond, AllGoesWell}
+use Rattle.irc_documents.specs.Laws.{AskedMayBeMade, StepsMeetByDiamond, AllGoesWell}
 use Rattle.irc_documents.specs.Lemmas.LinksInFlight.{changing, stays_changing, counting}
 use Rattle.irc_documents.specs.Lemmas.LinksInFlight.{stays_counting, writer_after, reader_after}
 use Rattle.irc_documents.specs.Lemmas.LinksInFlight.{FarMeets, meets_far, IsRead, stays_read}
@@ -239,92 +239,92 @@ module _ {Doc Op : Type 0} (e : Editing Doc Op) where
       module _ (count : ℕ) (first : Op) (waits : net.queue s t ≡ told count first ∷ queue)
           (meets : FarMeets e (side net t s) count first)
         where
-        abbrev message : Message Op
-        message = told count first
+          abbrev message : Message Op
+          message = told count first
 
-        abbrev op : Op
-        op = became e (net.end t s) count first
+          abbrev outcome : Op
+          outcome = became e (net.end t s) count first
 
-        abbrev new : Net Doc Op
-        new = read_as e (message ∷ queue) net s t
+          abbrev new : Net Doc Op
+          new = read_as e (message ∷ queue) net s t
 
-        is_read : IsRead e (side net s t) (side net t s) count first queue
-        is_read = stays_read e (side net s t) (side net t s) count first queue waits meets
-            (sound.in_flight s t linked_here)
+          is_read : IsRead e (side net s t) (side net t s) count first queue
+          is_read = stays_read e (side net s t) (side net t s) count first queue waits meets
+              (sound.in_flight s t linked_here)
 
-        untouched : (x y : Name) → x ≢ t → (x ≡ s → y ≡ t → ⊥) → side new x y ≡ side net x y
-        untouched x y m n =
-            ap (λ b. read_side b (same y s) (linked net.links t y) (is_from s t x y) op message
-            queue (side net x y)) (same_unless x t m)
-            ∙ ap (λ b. read_side false (same y s) (linked net.links t y) b op message queue
-            (side net x y)) (is_from_others s t x y n)
+          untouched : (x y : Name) → x ≢ t → (x ≡ s → y ≡ t → ⊥) → side new x y ≡ side net x y
+          untouched x y m n =
+              ap (λ b. read_side b (same y s) (linked net.links t y) (is_from s t x y) outcome message
+              queue (side net x y)) (same_unless x t m)
+              ∙ ap (λ b. read_side false (same y s) (linked net.links t y) b outcome message queue
+              (side net x y)) (is_from_others s t x y n)
 
-        at_reader : side new t s ≡ reader_after e count first (side net t s)
-        at_reader =
-            ap (λ b. read_side b (same s s) (linked net.links t s) (is_from s t t s) op message
-            queue (side net t s)) (same_when t t refl)
-            ∙ ap (λ b. read_side true b (linked net.links t s) (is_from s t t s) op message queue
-            (side net t s)) (same_when s s refl)
-            ∙ ap (λ b. read_side true true b (is_from s t t s) op message queue (side net t s))
-            ((linked_tells net.links t s).1 (linked_back net.links s t linked_here))
-            ∙ ap (λ b. read_side true true true b op message queue (side net t s))
-            (is_from_others s t t s (λ f g. s_not_t g))
+          at_reader : side new t s ≡ reader_after e count first (side net t s)
+          at_reader =
+              ap (λ b. read_side b (same s s) (linked net.links t s) (is_from s t t s) outcome message
+              queue (side net t s)) (same_when t t refl)
+              ∙ ap (λ b. read_side true b (linked net.links t s) (is_from s t t s) outcome message queue
+              (side net t s)) (same_when s s refl)
+              ∙ ap (λ b. read_side true true b (is_from s t t s) outcome message queue (side net t s))
+              ((linked_tells net.links t s).1 (linked_back net.links s t linked_here))
+              ∙ ap (λ b. read_side true true true b outcome message queue (side net t s))
+              (is_from_others s t t s (λ f g. s_not_t g))
 
-        at_writer : side new s t ≡ writer_after e queue (side net s t)
-        at_writer =
-            ap (λ b. read_side b (same t s) (linked net.links t t) (is_from s t s t) op message
-            queue (side net s t)) (same_unless s t s_not_t)
-            ∙ ap (λ b. read_side false (same t s) (linked net.links t t) b op message queue
-            (side net s t)) (is_from_itself s t)
+          at_writer : side new s t ≡ writer_after e queue (side net s t)
+          at_writer =
+              ap (λ b. read_side b (same t s) (linked net.links t t) (is_from s t s t) outcome message
+              queue (side net s t)) (same_unless s t s_not_t)
+              ∙ ap (λ b. read_side false (same t s) (linked net.links t t) b outcome message queue
+              (side net s t)) (is_from_itself s t)
 
-        at_told : (y : Name) → y ≢ s → AreLinked net.links t y
-            → side new t y ≡ changing e op (side net t y)
-        at_told y n h =
-            ap (λ b. read_side b (same y s) (linked net.links t y) (is_from s t t y) op message
-            queue (side net t y)) (same_when t t refl)
-            ∙ ap (λ b. read_side true b (linked net.links t y) (is_from s t t y) op message queue
-            (side net t y)) (same_unless y s n)
-            ∙ ap (λ b. read_side true false b (is_from s t t y) op message queue (side net t y))
-            ((linked_tells net.links t y).1 h)
-            ∙ ap (λ b. read_side true false true b op message queue (side net t y))
-            (is_from_others s t t y (λ f g. s_not_t (sym f)))
+          at_told : (y : Name) → y ≢ s → AreLinked net.links t y
+              → side new t y ≡ changing e outcome (side net t y)
+          at_told y n h =
+              ap (λ b. read_side b (same y s) (linked net.links t y) (is_from s t t y) outcome message
+              queue (side net t y)) (same_when t t refl)
+              ∙ ap (λ b. read_side true b (linked net.links t y) (is_from s t t y) outcome message queue
+              (side net t y)) (same_unless y s n)
+              ∙ ap (λ b. read_side true false b (is_from s t t y) outcome message queue (side net t y))
+              ((linked_tells net.links t y).1 h)
+              ∙ ap (λ b. read_side true false true b outcome message queue (side net t y))
+              (is_from_others s t t y (λ f g. s_not_t (sym f)))
 
-        onward : (y : Name) → y ≢ s → AreLinked net.links t y
-            → IsInFlight e (side new t y) (side new y t)
-        onward y n h =
-            let other = linked_other net.links t y sound.forest h in
-            of_sides (side new t y) (side new y t) (changing e op (side net t y)) (side net y t)
-            (at_told y n h) (untouched y t (λ f. other (sym f)) (λ f g. n f))
-            (stays_changing e (side net t y) (side net y t) op (sound.in_flight t y h)
-            is_read.may)
+          onward : (y : Name) → y ≢ s → AreLinked net.links t y
+              → IsInFlight e (side new t y) (side new y t)
+          onward y n h =
+              let other = linked_other net.links t y sound.forest h in
+              of_sides (side new t y) (side new y t) (changing e outcome (side net t y)) (side net y t)
+              (at_told y n h) (untouched y t (λ f. other (sym f)) (λ f g. n f))
+              (stays_changing e (side net t y) (side net y t) outcome (sound.in_flight t y h)
+              is_read.may)
 
-        from_reader : (x y : Name) → x ≡ t → y ≢ s → AreLinked net.links x y
-            → IsInFlight e (side new x y) (side new y x)
-        from_reader x y f n h =
-            subst (λ v. IsInFlight e (side new v y) (side new y v)) (sym f)
-            (onward y n (subst (λ v. AreLinked net.links v y) f h))
+          from_reader : (x y : Name) → x ≡ t → y ≢ s → AreLinked net.links x y
+              → IsInFlight e (side new x y) (side new y x)
+          from_reader x y f n h =
+              subst (λ v. IsInFlight e (side new v y) (side new y v)) (sym f)
+              (onward y n (subst (λ v. AreLinked net.links v y) f h))
 
-        elsewhere : (x y : Name) → (x ≡ s → y ≡ t → ⊥) → (x ≡ t → y ≡ s → ⊥)
-            → AreLinked net.links x y → IsInFlight e (side new x y) (side new y x)
-        elsewhere x y m n h = elim (tell x t) [
-          | alike _ f ↦ from_reader x y f (n f) h
-          | unlike _ k ↦ elim (tell y t) [
-            | alike _ g ↦ turned e (side new y x) (side new x y)
-                (from_reader y x g (λ f. m f g) (linked_back net.links x y h))
-            | unlike _ l ↦
-                of_sides (side new x y) (side new y x) (side net x y) (side net y x)
-                (untouched x y k m) (untouched y x l (λ f g. n g f)) (sound.in_flight x y h)
+          elsewhere : (x y : Name) → (x ≡ s → y ≡ t → ⊥) → (x ≡ t → y ≡ s → ⊥)
+              → AreLinked net.links x y → IsInFlight e (side new x y) (side new y x)
+          elsewhere x y m n h = elim (tell x t) [
+            | alike _ f ↦ from_reader x y f (n f) h
+            | unlike _ k ↦ elim (tell y t) [
+              | alike _ g ↦ turned e (side new y x) (side new x y)
+                  (from_reader y x g (λ f. m f g) (linked_back net.links x y h))
+              | unlike _ l ↦
+                  of_sides (side new x y) (side new y x) (side net x y) (side net y x)
+                  (untouched x y k m) (untouched y x l (λ f g. n g f)) (sound.in_flight x y h)
+            ]
           ]
-        ]
 
-        read_keeps : IsSound e new
-        read_keeps = record {
-          forest = sound.forest;
-          in_flight = by_ends net new s t sound
-              (of_sides (side new s t) (side new t s) (writer_after e queue (side net s t))
-              (reader_after e count first (side net t s)) at_writer at_reader is_read.stays)
-              elsewhere;
-        }
+          read_keeps : IsSound e new
+          read_keeps = record {
+            forest = sound.forest;
+            in_flight = by_ends net new s t sound
+                (of_sides (side new s t) (side new t s) (writer_after e queue (side net s t))
+                (reader_after e count first (side net t s)) at_writer at_reader is_read.stays)
+                elsewhere;
+          }
 
   -- ---- a link that begins anew, or is lost
 
@@ -402,7 +402,7 @@ module _ {Doc Op : Type 0} (e : Editing Doc Op) where
       let left = links_without net.links s t in
       let is_left = taken_out net.links s t sound.forest between in
       let before : (x y : Name) → AreLinked left x y
-          → side (after e net (lost s t)) x y ≡ side net x y =
+      → side (after e net (lost s t)) x y ≡ side net x y =
       λ x y h. as_before net left s t [] [] x y
       (λ f g. is_left.parted (sym (ap (part left) f) ∙ linked_joined left x y h
       ∙ ap (part left) g))
@@ -434,7 +434,7 @@ module _ {Doc Op : Type 0} (e : Editing Doc Op) where
   step_keeps net (lost s t) may meets sound = lost_keeps net s t may sound
 
   all_keep : (net : Net Doc Op) (steps : List (Step Op)) → AllMayBe e net steps
-      → AllMeet e net steps → IsSound e net → IsSound e (after_all e net steps)
+      → StepsMeet e net steps → IsSound e net → IsSound e (after_all e net steps)
   all_keep net [] may meets sound = sound
   all_keep net (step ∷ steps) may meets sound =
       all_keep (after e net step) steps may.1 meets.1 (step_keeps net step may.0 meets.0 sound)
@@ -504,20 +504,20 @@ module _ {Doc Op : Type 0} (e : Editing Doc Op) where
   meeting d net (lost s t) may sound = tt
 
   all_meeting : HasDiamond e → (net : Net Doc Op) (steps : List (Step Op)) → AllMayBe e net steps
-      → IsSound e net → AllMeet e net steps
+      → IsSound e net → StepsMeet e net steps
   all_meeting d net [] may sound = tt
   all_meeting d net (step ∷ steps) may sound =
       let met = meeting d net step may.0 sound in
       (met, all_meeting d (after e net step) steps may.1 (step_keeps net step may.0 met sound))
 
-  pub all_meet_by_diamond : AllMeetByDiamond e
-  all_meet_by_diamond d start steps none may =
+  pub steps_meet_by_diamond : StepsMeetByDiamond e
+  steps_meet_by_diamond d start steps none may =
       all_meeting d start steps may (without_links start none)
 
   pub all_goes_well : TheWayIsAWalk → AllGoesWell e
   all_goes_well is_a_walk d start steps none may =
       let net = after_all e start steps in
-      let met = all_meet_by_diamond d start steps none may in
+      let met = steps_meet_by_diamond d start steps none may in
       let sound = links_are_in_flight start steps none may met in
       record {
         sound = sound;
