@@ -17,8 +17,8 @@ pub record Editing (Doc Op : Type 0) : Type 1 where
   pub is_nothing : Op → Bool
   pub nothing_stays : (s : Doc) (op : Op) → is_nothing op ≡ true → done s op ≡ s
 
--- the diamond of two operations that were made in s: it plays no part which is done first, and what
--- becomes of the other can be made behind it
+-- the diamond of two operations that were made in s: it plays no part which is done first, and
+-- what becomes of the other can be made behind it
 pub record Meet {Doc Op : Type 0} (e : Editing Doc Op) (s : Doc) (a b : Op) : Type 0 where
   pub same : e.done (e.done s a) (e.crossed s b a) ≡ e.done (e.done s b) (e.crossed s a b)
   pub b_may : e.may (e.done s a) (e.crossed s b a)

@@ -1,9 +1,9 @@
 -- One end of a link: what it keeps, what it writes, and what it makes of what it reads.
 --
 -- The register is 0 at both ends, one writes 3 and the other 5, and each message says that nothing
--- was read so far. The first reads the 5, which goes through its log, the 3: it does 5, and its log
--- is now nothing, an operation that does nothing, behind the 5. It writes 8, in a message that says
--- that one was read: the other then takes the 5 out of its log, and the 8 is made where it stands.
+-- was read so far. The first reads the 5, which goes through its log, the 3: it does 5, and its
+-- log is now nothing, an operation that does nothing, behind the 5. It writes 8, in a message that
+-- says that one was read: the other then takes the 5 out of its log, and the 8 stands as it is.
 use Rattle.std.specs.Prelude.{ℕ, suc, ◌-◌, List, [], ◌∷◌, ◌++◌, take, drop}
 use Rattle.irc_documents.specs.Editing.{Editing}
 use Rattle.irc_documents.specs.Lists.{all_done, through, behind}

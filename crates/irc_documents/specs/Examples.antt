@@ -1,5 +1,6 @@
 -- A register of which the greater of two writes that cross stays, on a line of three servers.
-use Rattle.std.specs.Prelude.{◌≡◌, ◌≢◌, ℕ, Bool, true, false, if◌then◌else◌, nat_lt, codes, MatchBool}
+use Rattle.std.specs.Prelude.{◌≡◌, ◌≢◌, ℕ, Bool, true, false, MatchBool, if◌then◌else◌, nat_lt}
+use Rattle.std.specs.Prelude.{codes}
 use Rattle.std.specs.Prelude.{List, [], ◌∷◌, ◌++◌, length, map}
 use Rattle.std.proofs.Common.{refl, subst}
 use Rattle.irc_relay.specs.Links.{Name, same, Link}

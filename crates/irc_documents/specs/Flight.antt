@@ -11,7 +11,7 @@ use Rattle.irc_documents.specs.Lists.{all_done, AllMay, Meets}
 use Rattle.irc_documents.specs.Ends.{Message, told, only_count, End, with_more, counted_off}
 use Rattle.irc_documents.specs.Ends.{after_message, all_became}
 
--- one side of a link: the server's document, its end, and the messages that are on their way from it
+-- one side of a link: the server's document, its end, and what is on its way from it
 pub record Side (Doc Op : Type 0) : Type 0 where
   pub doc : Doc
   pub end : End Doc Op

@@ -1,4 +1,5 @@
--- The laws of documents that two ends edit. Each is the contract of a public function of this crate.
+-- The laws of documents that two ends edit. Each is the contract of a public function of this
+-- crate.
 use Rattle.std.specs.Prelude.{◌≡◌, ℕ, List, [], ◌∷◌}
 use Rattle.irc_relay.specs.Links.{Name, AreLinked, AreJoined, IsForest}
 use Rattle.irc_documents.specs.Editing.{Editing, Meet, HasDiamond}

@@ -1,7 +1,7 @@
 -- Operations one behind another, and lists of them that cross.
 --
--- In the register 0 one end writes 3 and then 7 (its log), and the other 5. The 5 through the log is
--- 5 behind 3, and nothing behind 7; the log behind the 5 is nothing, and then 7. Both have 7.
+-- In the register 0 one end writes 3 and then 7 (its log), and the other 5. The 5 through the log
+-- is 5 behind 3, and nothing behind 7; the log behind the 5 is nothing, and then 7. Both have 7.
 use Rattle.std.specs.Prelude.{◌≡◌, List, [], ◌∷◌}
 use Rattle.irc_documents.specs.Editing.{Editing, Meet}
 
@@ -46,8 +46,8 @@ module _ {Doc Op : Type 0} (e : Editing Doc Op) where
   AllMeet s log [] = Unit
   AllMeet s log (b ∷ more) = Meets s log b × AllMeet (e.done s b) (behind s log b) more
 
-  -- ours and theirs, both made in s: each list behind the other leads to the same document, and can
-  -- be made there
+  -- ours and theirs, both made in s: each list behind the other leads to the same document, and
+  -- can be made there
   pub record ListsCross (s : Doc) (ours theirs : List Op) : Type 0 where
     pub same : all_done (all_done s ours) (all_through s theirs ours)
         ≡ all_done (all_done s theirs) (behind_all s ours theirs)

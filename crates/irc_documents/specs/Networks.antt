@@ -1,7 +1,7 @@
 -- Servers with a document each, on a forest of links, each of which is such a document.
 --
--- a - b - c, all registers with 0: a writes 3 and c writes 5, both told to b. When b has read the 3
--- and then the 5, it has given the 3 to c, where it becomes nothing, and the 5 to a. All have 5.
+-- a - b - c, all registers with 0: a writes 3 and c writes 5, both told to b. When b has read the
+-- 3 and then the 5, it has given the 3 to c, where it becomes nothing, and the 5 to a. All have 5.
 use Rattle.std.specs.Prelude.{◌≡◌, ◌≢◌, Bool, not, ◌&&◌, if◌then◌else◌, List, [], ◌∷◌, ◌++◌}
 use Rattle.std.specs.Prelude.{map}
 use Rattle.irc_relay.specs.Links.{Name, same, Link, part, linked, AreLinked, links_without}

@@ -1,8 +1,8 @@
 //! The laws of documents that two ends edit, and of networks of such links, and examples that are
 //! computed.
 //!
-//! A law of any documents and operations is one of a type that tells them by [`Edited`]; whoever has
-//! them in `specs/` alone takes the lemma of `specs/Lemmas` that proves it.
+//! A law of any documents and operations is one of a type that tells them by [`Edited`]; whoever
+//! has them in `specs/` alone takes the lemma of `specs/Lemmas` that proves it.
 
 ghost use Rattle.irc_documents.specs.Editing.{Editing};
 ghost use Rattle.irc_documents.specs.Examples.{LineRests, WritesCross};
@@ -17,8 +17,8 @@ pub trait Edited<Op> {
     ghost editing: { Editing Self Op };
 }
 
-/// Two lists of operations that were made in one document, each two of which have the diamond: each
-/// behind the other leads to the same document, and may be made there.
+/// Two lists of operations that were made in one document, of which each two have the diamond:
+/// each behind the other leads to the same document, and may be made there.
 pub fn lists_meet<Doc: Edited<Op>, Op>()
     ensures { ListsMeet Doc.editing }
 {}
@@ -39,8 +39,8 @@ pub fn pieces_have_diamond<Doc: Edited<Op>, Op>()
 {}
 
 /// Whatever happens, from any network without links, if each two that cross have the diamond: the
-/// links are a forest, and from each link's common document each end's is reached by what the other
-/// has not read.
+/// links are a forest, and from each link's common document each end's is reached by what the
+/// other has not read.
 pub fn links_are_in_flight<Doc: Edited<Op>, Op>()
     ensures { LinksAreInFlight Doc.editing }
 {}
@@ -68,16 +68,16 @@ pub fn steps_meet_by_diamond<Doc: Edited<Op>, Op>()
     ensures { StepsMeetByDiamond Doc.editing }
 {}
 
-/// So then, whatever happens, from any network without links: all servers of a part in which nothing
-/// is on its way have one document, and whatever a server is asked to do may be made there.
+/// So then, whatever happens, from any network without links: all servers of a part in which
+/// nothing is on its way have one document, and whatever a server is asked to do may be made there.
 pub fn all_goes_well<Doc: Edited<Op>, Op>()
     ensures { AllGoesWell Doc.editing }
 {
     laws_of_forests::the_way_is_a_walk();
 }
 
-/// Writes to a register, of which the greater stays: the diamond holds, and 3 and 5 cross, and lists
-/// of such.
+/// Writes to a register, of which the greater stays: the diamond holds; a 3 and a 5 cross, and
+/// lists of such.
 pub fn writes_cross()
     ensures { WritesCross }
 {}

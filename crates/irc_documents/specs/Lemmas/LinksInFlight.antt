@@ -1,5 +1,6 @@
 -- A link stays in flight.
-use Rattle.std.proofs.Common.{◌≡◌, ℕ, ◌+◌, ◌-◌, ◌≤◌, suc, Bool, true, false, not, if◌then◌else◌, List, [], ◌∷◌, ◌++◌, length, take, drop}
+use Rattle.std.proofs.Common.{◌≡◌, ℕ, ◌+◌, ◌-◌, ◌≤◌, suc, Bool, true, false, not}
+use Rattle.std.proofs.Common.{if◌then◌else◌, List, [], ◌∷◌, ◌++◌, length, take, drop}
 use Rattle.std.proofs.Common.{refl, sym, ap, subst, ◌∙◌, append_assoc, arith}
 use Rattle.irc_documents.specs.Editing.{Editing, Meet, HasDiamond}
 use Rattle.irc_documents.specs.Lists.{all_done, AllMay, through, behind, Meets}
@@ -9,8 +10,10 @@ use Rattle.irc_documents.specs.Flight.{Side, IsCount, IsOperation, AreGood, IsOn
 use Rattle.irc_documents.specs.Networks.{begun, sent, Makes}
 use Rattle.irc_documents.specs.Lemmas.CrossingLists.{done_behind, may_join, may_front, may_rest}
 use Rattle.irc_documents.specs.Lemmas.CrossingLists.{through_both, both_behind, as_many_behind}
-use Rattle.irc_documents.specs.Lemmas.CrossingLists.{crosses, turn, meets_all, meets_join, meets_rest}
-use Rattle.std.proofs.lemmas.List.{take-append-drop, take-append-le, drop-append-le, length-drop, length-append}
+use Rattle.irc_documents.specs.Lemmas.CrossingLists.{crosses, turn, meets_all, meets_join}
+use Rattle.irc_documents.specs.Lemmas.CrossingLists.{meets_rest}
+use Rattle.std.proofs.lemmas.List.{take-append-drop, take-append-le, drop-append-le, length-drop}
+use Rattle.std.proofs.lemmas.List.{length-append}
 
 -- what is left of a log once a count is taken off
 left_over : {A : Type 0} (counted count : ℕ) (log : List A) → counted ≤ count
