@@ -4,7 +4,12 @@ use Rattle.std.proofs.Common.{inl, inr, refl, arith}
 use Rattle.std.proofs.lemmas.Bool.Decides.{nat_tests}
 use Rattle.irc_relay.specs.Links.{Name, same, part}
 use Rattle.irc_relay.specs.Lemmas.TellingNames.{same_when}
+use Rattle.irc_relay.specs.Laws.{TheWayIsAWalk}
 use Rattle.irc_documents.specs.Editing.{HasDiamond}
+use Rattle.irc_documents.specs.Pieces.{in_pieces}
+use Rattle.irc_documents.specs.Lemmas.CrossingLists.{pieces_have_diamond}
+use Rattle.irc_documents.specs.Lemmas.NetworksRun.{all_goes_well}
+use Rattle.irc_documents.specs.Examples.{RegisterGoesWell, WrongOnesDiffer}
 use Rattle.irc_documents.specs.Examples.{Act, write, nothing, written_to, MayWrite, greater}
 use Rattle.irc_documents.specs.Examples.{register, WritesCross, LineRests, a_net, b_net, c_net}
 
@@ -50,6 +55,15 @@ writes_cross = record {
   log_behind = refl;
   theirs = refl;
   ours = refl;
+}
+
+-- ---- all goes well with it
+
+pub register_goes_well : TheWayIsAWalk → RegisterGoesWell
+register_goes_well is_a_walk = record {
+  one_by_one = all_goes_well register is_a_walk diamond;
+  in_any_pieces = λ cut. all_goes_well (in_pieces register cut) is_a_walk
+      (pieces_have_diamond register diamond cut);
 }
 
 -- ---- the line
@@ -112,3 +126,6 @@ line_rests = record {
   three = refl;
   at_rest = refl;
 }
+
+pub wrong_ones_differ : WrongOnesDiffer
+wrong_ones_differ = record { by_greater = refl; as_they_came = refl; neither = refl }

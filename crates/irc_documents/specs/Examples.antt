@@ -1,11 +1,13 @@
 -- A register of which the greater of two writes that cross stays, on a line of three servers.
-use Rattle.std.specs.Prelude.{◌≡◌, ◌≢◌, ℕ, Bool, true, false, MatchBool, if◌then◌else◌, nat_lt}
+use Rattle.std.specs.Prelude.{◌≡◌, ◌≢◌, ℕ, if◌then◌else◌, nat_lt}
 use Rattle.std.specs.Prelude.{codes}
 use Rattle.std.specs.Prelude.{List, [], ◌∷◌, ◌++◌, length, map}
-use Rattle.std.proofs.Common.{refl, subst}
+use Rattle.std.proofs.Common.{refl}
 use Rattle.irc_relay.specs.Links.{Name, same, Link}
-use Rattle.irc_documents.specs.Editing.{Editing, HasDiamond}
+use Rattle.irc_documents.specs.Editing.{DoTheSame, Editing, HasDiamond}
 use Rattle.irc_documents.specs.Lists.{through, behind, all_through, behind_all}
+use Rattle.irc_documents.specs.Pieces.{Cut, in_pieces}
+use Rattle.irc_documents.specs.Laws.{AlwaysGoesWell}
 use Rattle.irc_documents.specs.Networks.{Net, Step, given, counts_to, read_from, made, begun}
 use Rattle.irc_documents.specs.Networks.{after_all, AllMayBe}
 
@@ -30,13 +32,15 @@ greater n (write b) (write a) = if nat_lt a b then write b else nothing
 greater n (write b) nothing = write b
 greater n nothing ours = nothing
 
-abbrev pub says_nothing : Act → Bool
-says_nothing (write m) = false
-says_nothing nothing = true
+-- nothing is not passed on
+abbrev pub as_writes : Act → List Act
+as_writes (write m) = write m ∷ []
+as_writes nothing = []
 
-pub stays : (n : ℕ) (act : Act) → says_nothing act ≡ true → written_to n act ≡ n
-stays n nothing e = refl
-stays n (write m) e = subst (λ b. MatchBool b (m ≡ n) Unit) e tt
+pub as_whole : (n : ℕ) (act : Act) → MayWrite n act
+    → DoTheSame written_to MayWrite n act (as_writes act)
+as_whole n (write m) may = record { same = refl; may_all = (may, tt) }
+as_whole n nothing may = record { same = refl; may_all = tt }
 
 abbrev pub register : Editing ℕ Act
 register = record {
@@ -44,8 +48,8 @@ register = record {
   done = written_to;
   may = MayWrite;
   crossed = greater;
-  is_nothing = says_nothing;
-  nothing_stays = stays;
+  told_as = as_writes;
+  told_whole = as_whole;
 }
 
 -- ---- two writes that cross, and two lists of them
@@ -60,6 +64,11 @@ pub record WritesCross : Type 0 where
       ≡ nothing ∷ nothing ∷ []
   pub ours : behind_all register 0 (write 3 ∷ write 7 ∷ []) (write 5 ∷ write 1 ∷ [])
       ≡ nothing ∷ write 7 ∷ []
+
+-- so all goes well with it, one by one and in pieces, however they are cut
+pub record RegisterGoesWell : Type 0 where
+  pub one_by_one : AlwaysGoesWell register
+  pub in_any_pieces : (cut : Cut register) → AlwaysGoesWell (in_pieces register cut)
 
 -- ---- networks
 
@@ -115,3 +124,29 @@ pub record LineRests : Type 0 where
   pub none_on_way : waiting (after_all register start (crossing ++ read)) ≡ 0 ∷ 0 ∷ []
   pub three : docs (after_all register start (crossing ++ read ++ later)) ≡ 3 ∷ 3 ∷ 3 ∷ []
   pub at_rest : waiting (after_all register start (crossing ++ read ++ later)) ≡ 0 ∷ 0 ∷ []
+
+-- ---- what is no diamond
+
+-- the same, but for what becomes of one behind another
+abbrev pub by_crossing : (ℕ → Act → Act → Act) → Editing ℕ Act
+by_crossing crossed = record register { crossed = crossed }
+
+-- 3 at a and 5 at b cross, and both are read
+abbrev pub both_ways : List (Step Act)
+both_ways =
+    made (link a_net b_net) [] [] ∷ given a_net (write 3) ∷ given b_net (write 5)
+    ∷ read_from a_net b_net ∷ read_from b_net a_net ∷ []
+
+abbrev pub blank_start : Net ℕ Act
+blank_start = record start { doc = λ s. 0 }
+
+-- at a and at b in the end
+abbrev pub docs_by : (ℕ → Act → Act → Act) → List ℕ
+docs_by crossed =
+    map (after_all (by_crossing crossed) blank_start both_ways).doc (a_net ∷ b_net ∷ [])
+
+-- the greater stays; both are done as they came; neither is
+pub record WrongOnesDiffer : Type 0 where
+  pub by_greater : docs_by greater ≡ 5 ∷ 5 ∷ []
+  pub as_they_came : docs_by (λ n theirs ours. theirs) ≡ 5 ∷ 3 ∷ []
+  pub neither : docs_by (λ n theirs ours. nothing) ≡ 3 ∷ 5 ∷ []

@@ -4,7 +4,7 @@ use Rattle.std.specs.Prelude.{◌≡◌, ℕ, List, [], ◌∷◌}
 use Rattle.irc_relay.specs.Links.{Name, AreLinked, AreJoined, IsForest}
 use Rattle.irc_documents.specs.Editing.{Editing, Meet, HasDiamond}
 use Rattle.irc_documents.specs.Lists.{AllMay, all_through, behind_all, AllMeet, ListsCross}
-use Rattle.irc_documents.specs.Pieces.{in_pieces}
+use Rattle.irc_documents.specs.Pieces.{Cut, in_pieces}
 use Rattle.irc_documents.specs.Ends.{Message, told, became}
 use Rattle.irc_documents.specs.Flight.{IsInFlight}
 use Rattle.irc_documents.specs.Networks.{Net, Step, side, after_all, AllMayBe, IsMet}
@@ -24,10 +24,10 @@ module _ {Doc Op : Type 0} (e : Editing Doc Op) where
   -- so pieces have the diamond if each two of theirs have it, and all laws below are of pieces too
   abbrev pub PiecesMeet : Type 0
   PiecesMeet = (s : Doc) (ours theirs : List Op) → AllMay e s ours → AllMay e s theirs
-      → AllMeet e s ours theirs → Meet (in_pieces e) s ours theirs
+      → AllMeet e s ours theirs → (cut : Cut e) → Meet (in_pieces e cut) s ours theirs
 
   abbrev pub PiecesHaveDiamond : Type 0
-  PiecesHaveDiamond = HasDiamond e → HasDiamond (in_pieces e)
+  PiecesHaveDiamond = HasDiamond e → (cut : Cut e) → HasDiamond (in_pieces e cut)
 
   -- ---- networks
 
@@ -100,6 +100,9 @@ module _ {Doc Op : Type 0} (e : Editing Doc Op) where
     pub parts : PartsAreAlike net
     pub asked : MayBeAsked net
 
-  abbrev pub AllGoesWell : Type 0
-  AllGoesWell = HasDiamond e → (start : Net Doc Op) (steps : List (Step Op)) → start.links ≡ []
+  abbrev pub AlwaysGoesWell : Type 0
+  AlwaysGoesWell = (start : Net Doc Op) (steps : List (Step Op)) → start.links ≡ []
       → AllMayBe e start steps → GoesWell (after_all e start steps)
+
+  abbrev pub AllGoesWell : Type 0
+  AllGoesWell = HasDiamond e → AlwaysGoesWell

@@ -3,18 +3,16 @@
 -- In the register 0 one end writes 3 and then 7 (its log), and the other 5. The 5 through the log
 -- is 5 behind 3, and nothing behind 7; the log behind the 5 is nothing, and then 7. Both have 7.
 use Rattle.std.specs.Prelude.{◌≡◌, List, [], ◌∷◌}
-use Rattle.irc_documents.specs.Editing.{Editing, Meet}
+use Rattle.irc_documents.specs.Editing.{made_of, CanBeMade, Editing, Meet}
 
 module _ {Doc Op : Type 0} (e : Editing Doc Op) where
   -- a document after operations, one behind another
   abbrev pub all_done : Doc → List Op → Doc
-  all_done s [] = s
-  all_done s (a ∷ more) = all_done (e.done s a) more
+  all_done s ops = made_of e.done s ops
 
   -- each of them can be made where it stands
   abbrev pub AllMay : Doc → List Op → Type 0
-  AllMay s [] = Unit
-  AllMay s (a ∷ more) = e.may s a × AllMay (e.done s a) more
+  AllMay s ops = CanBeMade e.done e.may s ops
 
   -- what becomes of b behind all of a log, where b and the log were made in s
   abbrev pub through : Doc → Op → List Op → Op

@@ -38,18 +38,16 @@ pub data Step (Op : Type 0) : Type 0 where
   lost : (s t : Name) → Step Op
 
 module _ {Doc Op : Type 0} (e : Editing Doc Op) where
-  -- the server s does an operation, and gives it to those whom hears tells, as its own, unless it
-  -- is nothing
+  -- the server s does an operation, and gives it to those whom hears tells, as its own
   abbrev pub done_at : Net Doc Op → Name → (Name → Bool) → Op → Net Doc Op
   done_at net s hears op = record {
     links = net.links;
     doc = λ x. if same x s then e.done (net.doc x) op else net.doc x;
     end = λ x y.
-        if same x s && hears y && not (e.is_nothing op) then with_more (net.end x y) (op ∷ [])
-        else net.end x y;
+        if same x s && hears y then with_more (net.end x y) (e.told_as op) else net.end x y;
     queue = λ x y.
-        if same x s && hears y && not (e.is_nothing op) then
-        net.queue x y ++ written (net.end x y) op ∷ []
+        if same x s && hears y then
+        net.queue x y ++ map (written (net.end x y)) (e.told_as op)
         else net.queue x y;
   }
 

@@ -5,7 +5,8 @@
 //! has them in `specs/` alone takes the lemma of `specs/Lemmas` that proves it.
 
 ghost use Rattle.irc_documents.specs.Editing.{Editing};
-ghost use Rattle.irc_documents.specs.Examples.{LineRests, WritesCross};
+ghost use Rattle.irc_documents.specs.Examples.{LineRests, RegisterGoesWell, WritesCross};
+ghost use Rattle.irc_documents.specs.Examples.{WrongOnesDiffer};
 ghost use Rattle.irc_documents.specs.Laws.{AllGoesWell, AskedMayBeMade, EndsRestAlike, GridTurns};
 ghost use Rattle.irc_documents.specs.Laws.{LinksAreInFlight, ListsMeet, PartsRestAlike};
 ghost use Rattle.irc_documents.specs.Laws.{PiecesHaveDiamond, PiecesMeet, StepsMeetByDiamond};
@@ -69,7 +70,7 @@ pub fn steps_meet_by_diamond<Doc: Edited<Op>, Op>()
 {}
 
 /// So then, whatever happens, from any network without links: all servers of a part in which
-/// nothing is on its way have one document, and whatever a server is asked to do may be made there.
+/// nothing is on its way have one document, and whatever a server is asked to do may be made.
 pub fn all_goes_well<Doc: Edited<Op>, Op>()
     ensures { AllGoesWell Doc.editing }
 {
@@ -82,7 +83,20 @@ pub fn writes_cross()
     ensures { WritesCross }
 {}
 
+/// So all goes well with the register, one by one and in pieces.
+pub fn register_goes_well()
+    ensures { RegisterGoesWell }
+{
+    laws_of_forests::the_way_is_a_walk();
+}
+
 /// In a line of three a 7 and a 5 cross: all three have 7, and 3 once that is written over it.
 pub fn line_rests()
     ensures { LineRests }
+{}
+
+/// Where both of two writes that cross are done as they came, or neither is, two ends differ at
+/// rest: it is the diamond that the laws rest on.
+pub fn wrong_ones_differ()
+    ensures { WrongOnesDiffer }
 {}

@@ -6,25 +6,6 @@ use Rattle.irc_documents.specs.Lists.{all_through, behind_all, AllMeet}
 use Rattle.irc_documents.specs.Laws.{ListsMeet, GridTurns, PiecesMeet, PiecesHaveDiamond}
 
 module _ {Doc Op : Type 0} (e : Editing Doc Op) where
-  pub done_behind : (s : Doc) (xs ys : List Op)
-      → all_done e s (xs ++ ys) ≡ all_done e (all_done e s xs) ys
-  done_behind s [] ys = refl
-  done_behind s (x ∷ xs) ys = done_behind (e.done s x) xs ys
-
-  pub may_join : (s : Doc) (xs ys : List Op) → AllMay e s xs → AllMay e (all_done e s xs) ys
-      → AllMay e s (xs ++ ys)
-  may_join s [] ys m n = n
-  may_join s (x ∷ xs) ys m n = (m.0, may_join (e.done s x) xs ys m.1 n)
-
-  pub may_front : (s : Doc) (xs ys : List Op) → AllMay e s (xs ++ ys) → AllMay e s xs
-  may_front s [] ys m = tt
-  may_front s (x ∷ xs) ys m = (m.0, may_front (e.done s x) xs ys m.1)
-
-  pub may_rest : (s : Doc) (xs ys : List Op) → AllMay e s (xs ++ ys)
-      → AllMay e (all_done e s xs) ys
-  may_rest s [] ys m = m
-  may_rest s (x ∷ xs) ys m = may_rest (e.done s x) xs ys m.1
-
   pub through_both : (s : Doc) (b : Op) (xs ys : List Op)
       → through e s b (xs ++ ys) ≡ through e (all_done e s xs) (through e s b xs) ys
   through_both s b [] ys = refl
@@ -157,7 +138,7 @@ module _ {Doc Op : Type 0} (e : Editing Doc Op) where
       (grid_turns (e.done s a) ours (behind e s theirs a) (others_meet s a ours theirs met))
 
   pub pieces_meet : PiecesMeet e
-  pieces_meet s ours theirs m n met =
+  pieces_meet s ours theirs m n met cut =
       let cross = lists_meet s ours theirs m n met in
       let turned = grid_turns s ours theirs met in
       record {
@@ -167,7 +148,7 @@ module _ {Doc Op : Type 0} (e : Editing Doc Op) where
       }
 
   pub pieces_have_diamond : PiecesHaveDiamond e
-  pieces_have_diamond d = record {
-    same = λ s a b m n. (pieces_meet s a b m n (all_meet d s a b m n)).same;
-    may_behind = λ s a b m n. (pieces_meet s a b m n (all_meet d s a b m n)).b_may;
+  pieces_have_diamond d cut = record {
+    same = λ s a b m n. (pieces_meet s a b m n (all_meet d s a b m n) cut).same;
+    may_behind = λ s a b m n. (pieces_meet s a b m n (all_meet d s a b m n) cut).b_may;
   }

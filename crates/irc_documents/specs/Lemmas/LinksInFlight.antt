@@ -1,6 +1,6 @@
 -- A link stays in flight.
-use Rattle.std.proofs.Common.{◌≡◌, ℕ, ◌+◌, ◌-◌, ◌≤◌, suc, Bool, true, false, not}
-use Rattle.std.proofs.Common.{if◌then◌else◌, List, [], ◌∷◌, ◌++◌, length, take, drop}
+use Rattle.std.proofs.Common.{◌≡◌, ℕ, ◌+◌, ◌-◌, ◌≤◌, suc, map}
+use Rattle.std.proofs.Common.{List, [], ◌∷◌, ◌++◌, length, take, drop}
 use Rattle.std.proofs.Common.{refl, sym, ap, subst, ◌∙◌, append_assoc, arith}
 use Rattle.irc_documents.specs.Editing.{Editing, Meet, HasDiamond}
 use Rattle.irc_documents.specs.Lists.{all_done, AllMay, through, behind, Meets}
@@ -8,12 +8,13 @@ use Rattle.irc_documents.specs.Ends.{Message, told, only_count, End, with_more, 
 use Rattle.irc_documents.specs.Ends.{counted_off, became, after_told, all_became}
 use Rattle.irc_documents.specs.Flight.{Side, IsCount, IsOperation, AreGood, IsOnTheWay, IsInFlight}
 use Rattle.irc_documents.specs.Networks.{begun, sent, Makes}
-use Rattle.irc_documents.specs.Lemmas.CrossingLists.{done_behind, may_join, may_front, may_rest}
+use Rattle.irc_documents.specs.Lemmas.OneBehindAnother.{done_behind, may_join, may_front}
+use Rattle.irc_documents.specs.Lemmas.OneBehindAnother.{may_rest}
 use Rattle.irc_documents.specs.Lemmas.CrossingLists.{through_both, both_behind, as_many_behind}
 use Rattle.irc_documents.specs.Lemmas.CrossingLists.{crosses, turn, meets_all, meets_join}
 use Rattle.irc_documents.specs.Lemmas.CrossingLists.{meets_rest}
 use Rattle.std.proofs.lemmas.List.{take-append-drop, take-append-le, drop-append-le, length-drop}
-use Rattle.std.proofs.lemmas.List.{length-append}
+use Rattle.std.proofs.lemmas.List.{length-append, append-nil}
 
 -- what is left of a log once a count is taken off
 left_over : {A : Type 0} (counted count : ℕ) (log : List A) → counted ≤ count
@@ -306,7 +307,7 @@ module _ {Doc Op : Type 0} (e : Editing Doc Op) where
         (may_rest e writer.base writer.log unread way.may);
   }
 
-  -- the side once its server has done an operation, and given it to this link
+  -- the side once its server has done an operation, and given just it to this link
   abbrev pub telling : Op → Side Doc Op → Side Doc Op
   telling op side = record {
     doc = e.done side.doc op;
@@ -353,29 +354,57 @@ module _ {Doc Op : Type 0} (e : Editing Doc Op) where
         back = link.back;
       }
 
-  -- it has done it, and given it to this link unless it is nothing
+  -- it has done these, and given each of them
+  abbrev all_telling : List Op → Side Doc Op → Side Doc Op
+  all_telling ops side = record {
+    doc = all_done e side.doc ops;
+    end = with_more side.end ops;
+    queue = side.queue ++ map (written side.end) ops;
+  }
+
+  stays_all_told : (ops : List Op) (near far : Side Doc Op) → IsInFlight e near far
+      → AllMay e near.doc ops → IsInFlight e (all_telling ops near) far
+  stays_all_told [] near far link may =
+      subst (λ side. IsInFlight e side far)
+      (ap (λ log. record near { end = record near.end { log = log } })
+      (sym (append-nil near.end.log))
+      ∙ ap (λ queue. record near {
+        end = record near.end { log = near.end.log ++ [] };
+        queue = queue;
+      }) (sym (append-nil near.queue))) link
+  stays_all_told (op ∷ ops) near far link may =
+      let rest = map (written near.end) ops in
+      subst (λ side. IsInFlight e side far)
+      (ap (λ log. record {
+        doc = all_done e (e.done near.doc op) ops;
+        end = record near.end { log = log };
+        queue = (near.queue ++ written near.end op ∷ []) ++ rest;
+      }) (append_assoc near.end.log (op ∷ []) ops)
+      ∙ ap (λ queue. record {
+        doc = all_done e (e.done near.doc op) ops;
+        end = with_more near.end (op ∷ ops);
+        queue = queue;
+      }) (append_assoc near.queue (written near.end op ∷ []) rest))
+      (stays_all_told ops (telling op near) far (stays_told near far op link may.0) may.1)
+
+  -- it has done it, and given this link what it is passed on as
   abbrev pub changing : Op → Side Doc Op → Side Doc Op
   changing op side = record {
     doc = e.done side.doc op;
-    end = if not (e.is_nothing op) then with_more side.end (op ∷ []) else side.end;
-    queue = if not (e.is_nothing op) then side.queue ++ written side.end op ∷ [] else side.queue;
+    end = with_more side.end (e.told_as op);
+    queue = side.queue ++ map (written side.end) (e.told_as op);
   }
 
   pub stays_changing : (near far : Side Doc Op) (op : Op) → IsInFlight e near far
       → e.may near.doc op → IsInFlight e (changing op near) far
-  stays_changing near far op link may = go (e.is_nothing op) refl
-    where
-      as_told : Bool → Side Doc Op
-      as_told b = record {
-        doc = e.done near.doc op;
-        end = if not b then with_more near.end (op ∷ []) else near.end;
-        queue = if not b then near.queue ++ written near.end op ∷ [] else near.queue;
-      }
-
-      go : (b : Bool) → e.is_nothing op ≡ b → IsInFlight e (as_told b) far
-      go false _ = stays_told near far op link may
-      go true none = subst (λ s. IsInFlight e (record near { doc = s }) far)
-          (sym (e.nothing_stays near.doc op none)) link
+  stays_changing near far op link may =
+      let whole = e.told_whole near.doc op may in
+      subst (λ s. IsInFlight e (record {
+        doc = s;
+        end = with_more near.end (e.told_as op);
+        queue = near.queue ++ map (written near.end) (e.told_as op);
+      }) far) whole.same
+      (stays_all_told (e.told_as op) near far link whole.may_all)
 
   -- it tells how many it has read
   abbrev pub counting : Side Doc Op → Side Doc Op

@@ -1,6 +1,6 @@
 -- A network stays sound, whatever happens.
 use Rattle.std.proofs.Common.{◌≡◌, ◌≢◌, ℕ, Bool, true, false, not, ◌&&◌, if◌then◌else◌}
-use Rattle.std.proofs.Common.{List, [], ◌∷◌, ◌++◌, inl, inr, refl, sym, ap, subst, ◌∙◌}
+use Rattle.std.proofs.Common.{List, [], ◌∷◌, ◌++◌, map, inl, inr, refl, sym, ap, subst, ◌∙◌}
 use Rattle.irc_relay.specs.Links.{Name, same, Link, AreLinked, IsForest, IsWalk}
 use Rattle.irc_relay.specs.Links.{part, linked, links_without, has_ends, way}
 use Rattle.irc_relay.specs.Laws.{TheWayIsAWalk}
@@ -69,11 +69,9 @@ module _ {Doc Op : Type 0} (e : Editing Doc Op) where
   abbrev changed : Bool → Bool → Op → Side Doc Op → Side Doc Op
   changed mine hears op side = record {
     doc = if mine then e.done side.doc op else side.doc;
-    end =
-        if mine && hears && not (e.is_nothing op) then with_more side.end (op ∷ [])
-        else side.end;
+    end = if mine && hears then with_more side.end (e.told_as op) else side.end;
     queue =
-        if mine && hears && not (e.is_nothing op) then side.queue ++ written side.end op ∷ []
+        if mine && hears then side.queue ++ map (written side.end) (e.told_as op)
         else side.queue;
   }
 
@@ -257,53 +255,55 @@ module _ {Doc Op : Type 0} (e : Editing Doc Op) where
               (sound.in_flight s t linked_here)
 
           -- a side of this network, as it is then
-        abbrev seen : Bool → Bool → Bool → Bool → Name → Name → Side Doc Op
-        seen mine toward hears theirs x y =
-            read_side mine toward hears theirs outcome message queue (side net x y)
+          abbrev seen : Bool → Bool → Bool → Bool → Name → Name → Side Doc Op
+          seen mine toward hears theirs x y =
+              read_side mine toward hears theirs outcome message queue (side net x y)
 
-        untouched : (x y : Name) → x ≢ t → (x ≡ s → y ≡ t → ⊥) → side new x y ≡ side net x y
-        untouched x y m n =
-            ap (λ b. seen b (same y s) (linked net.links t y) (is_from s t x y) x y)
-            (same_unless x t m)
-            ∙ ap (λ b. seen false (same y s) (linked net.links t y) b x y)
-            (is_from_others s t x y n)
+          untouched : (x y : Name) → x ≢ t → (x ≡ s → y ≡ t → ⊥) → side new x y ≡ side net x y
+          untouched x y m n =
+              ap (λ b. seen b (same y s) (linked net.links t y) (is_from s t x y) x y)
+              (same_unless x t m)
+              ∙ ap (λ b. seen false (same y s) (linked net.links t y) b x y)
+              (is_from_others s t x y n)
 
-        at_reader : side new t s ≡ reader_after e count first (side net t s)
-        at_reader =
-            ap (λ b. seen b (same s s) (linked net.links t s) (is_from s t t s) t s)
-            (same_when t t refl)
-            ∙ ap (λ b. seen true b (linked net.links t s) (is_from s t t s) t s)
-            (same_when s s refl)
-            ∙ ap (λ b. seen true true b (is_from s t t s) t s)
-            ((linked_tells net.links t s).1 (linked_back net.links s t linked_here))
-            ∙ ap (λ b. seen true true true b t s) (is_from_others s t t s (λ f g. s_not_t g))
+          at_reader : side new t s ≡ reader_after e count first (side net t s)
+          at_reader =
+              ap (λ b. seen b (same s s) (linked net.links t s) (is_from s t t s) t s)
+              (same_when t t refl)
+              ∙ ap (λ b. seen true b (linked net.links t s) (is_from s t t s) t s)
+              (same_when s s refl)
+              ∙ ap (λ b. seen true true b (is_from s t t s) t s)
+              ((linked_tells net.links t s).1 (linked_back net.links s t linked_here))
+              ∙ ap (λ b. seen true true true b t s) (is_from_others s t t s (λ f g. s_not_t g))
 
-        at_writer : side new s t ≡ writer_after e queue (side net s t)
-        at_writer =
-            ap (λ b. seen b (same t s) (linked net.links t t) (is_from s t s t) s t)
-            (same_unless s t s_not_t)
-            ∙ ap (λ b. seen false (same t s) (linked net.links t t) b s t) (is_from_itself s t)
+          at_writer : side new s t ≡ writer_after e queue (side net s t)
+          at_writer =
+              ap (λ b. seen b (same t s) (linked net.links t t) (is_from s t s t) s t)
+              (same_unless s t s_not_t)
+              ∙ ap (λ b. seen false (same t s) (linked net.links t t) b s t) (is_from_itself s t)
 
-        at_told : (y : Name) → y ≢ s → AreLinked net.links t y
-            → side new t y ≡ changing e outcome (side net t y)
-        at_told y n h =
-            ap (λ b. seen b (same y s) (linked net.links t y) (is_from s t t y) t y)
-            (same_when t t refl)
-            ∙ ap (λ b. seen true b (linked net.links t y) (is_from s t t y) t y) (same_unless y s n)
-            ∙ ap (λ b. seen true false b (is_from s t t y) t y) ((linked_tells net.links t y).1 h)
-            ∙ ap (λ b. seen true false true b t y)
-            (is_from_others s t t y (λ f g. s_not_t (sym f)))
+          at_told : (y : Name) → y ≢ s → AreLinked net.links t y
+              → side new t y ≡ changing e outcome (side net t y)
+          at_told y n h =
+              ap (λ b. seen b (same y s) (linked net.links t y) (is_from s t t y) t y)
+              (same_when t t refl)
+              ∙ ap (λ b. seen true b (linked net.links t y) (is_from s t t y) t y)
+              (same_unless y s n)
+              ∙ ap (λ b. seen true false b (is_from s t t y) t y)
+              ((linked_tells net.links t y).1 h)
+              ∙ ap (λ b. seen true false true b t y)
+              (is_from_others s t t y (λ f g. s_not_t (sym f)))
 
-        onward : (y : Name) → y ≢ s → AreLinked net.links t y
-            → IsInFlight e (side new t y) (side new y t)
-        onward y n h =
-            let other = linked_other net.links t y sound.forest h in
-            of_sides (side new t y) (side new y t) (changing e outcome (side net t y))
-            (side net y t) (at_told y n h) (untouched y t (λ f. other (sym f)) (λ f g. n f))
-            (stays_changing e (side net t y) (side net y t) outcome (sound.in_flight t y h)
-            is_read.may)
+          onward : (y : Name) → y ≢ s → AreLinked net.links t y
+              → IsInFlight e (side new t y) (side new y t)
+          onward y n h =
+              let other = linked_other net.links t y sound.forest h in
+              of_sides (side new t y) (side new y t) (changing e outcome (side net t y))
+              (side net y t) (at_told y n h) (untouched y t (λ f. other (sym f)) (λ f g. n f))
+              (stays_changing e (side net t y) (side net y t) outcome (sound.in_flight t y h)
+              is_read.may)
 
-        from_reader : (x y : Name) → x ≡ t → y ≢ s → AreLinked net.links x y
+          from_reader : (x y : Name) → x ≡ t → y ≢ s → AreLinked net.links x y
               → IsInFlight e (side new x y) (side new y x)
           from_reader x y f n h =
               subst (λ v. IsInFlight e (side new v y) (side new y v)) (sym f)
