@@ -14,6 +14,12 @@ pub data Message (Op : Type 0) : Type 0 where
   told : (count : ℕ) (op : Op) → Message Op
   only_count : (count : ℕ) → Message Op
 
+-- no operation is among these
+abbrev pub AreCounts : {Op : Type 0} → List (Message Op) → Type 0
+AreCounts [] = Unit
+AreCounts (told count op ∷ queue) = ⊥
+AreCounts (only_count count ∷ queue) = AreCounts queue
+
 -- The log is the end's own operations that the other end has not counted as read, as they are now:
 -- behind all that this end has read. It begins in the document base, which the other end had as
 -- well. So many of its own are counted as read, and so many of the other's it has read.

@@ -5,10 +5,10 @@ use Rattle.irc_relay.specs.Links.{Name, AreLinked, AreJoined, IsForest}
 use Rattle.irc_documents.specs.Editing.{Editing, Meet, HasDiamond}
 use Rattle.irc_documents.specs.Lists.{AllMay, all_through, behind_all, AllMeet, ListsCross}
 use Rattle.irc_documents.specs.Pieces.{Cut, in_pieces}
-use Rattle.irc_documents.specs.Ends.{Message, told, became}
+use Rattle.irc_documents.specs.Ends.{Message, told, AreCounts, became}
 use Rattle.irc_documents.specs.Flight.{IsInFlight}
-use Rattle.irc_documents.specs.Networks.{Net, Step, side, after_all, AllMayBe, IsMet}
-use Rattle.irc_documents.specs.Networks.{StepsMeet}
+use Rattle.irc_documents.specs.Networks.{Net, Step, side, after, after_all, MayBe, AllMayBe}
+use Rattle.irc_documents.specs.Networks.{IsMet, Meeting, StepsMeet}
 
 module _ {Doc Op : Type 0} (e : Editing Doc Op) where
   -- lists of which each two operations have the diamond cross as single operations do
@@ -37,10 +37,10 @@ module _ {Doc Op : Type 0} (e : Editing Doc Op) where
     pub in_flight : (s t : Name) → AreLinked net.links s t
         → IsInFlight e (side net s t) (side net t s)
 
-  -- nothing is on its way between s and t
+  -- nothing is on its way between s and t, or counts alone
   pub record IsQuiet (net : Net Doc Op) (s t : Name) : Type 0 where
-    pub forth : net.queue s t ≡ []
-    pub back : net.queue t s ≡ []
+    pub forth : AreCounts (net.queue s t)
+    pub back : AreCounts (net.queue t s)
 
   -- nor in the part of s
   abbrev pub IsQuietPart : Net Doc Op → Name → Type 0
@@ -75,6 +75,11 @@ module _ {Doc Op : Type 0} (e : Editing Doc Op) where
   abbrev pub OfMetRuns : (Net Doc Op → Type 0) → Type 0
   OfMetRuns Fact = (start : Net Doc Op) (steps : List (Step Op)) → start.links ≡ []
       → AllMayBe e start steps → StepsMeet e start steps → Fact (after_all e start steps)
+
+  -- that is so step by step
+  abbrev pub StepKeepsSound : Type 0
+  StepKeepsSound = (net : Net Doc Op) (step : Step Op) → MayBe e net step → Meeting e net step
+      → IsSound net → IsSound (after e net step)
 
   abbrev pub LinksAreInFlight : Type 0
   LinksAreInFlight = OfMetRuns IsSound

@@ -9,7 +9,7 @@ ghost use Rattle.irc_documents.specs.Examples.{LineRests, RegisterGoesWell, Writ
 ghost use Rattle.irc_documents.specs.Examples.{WrongOnesDiffer};
 ghost use Rattle.irc_documents.specs.Laws.{AllGoesWell, AskedMayBeMade, EndsRestAlike, GridTurns};
 ghost use Rattle.irc_documents.specs.Laws.{LinksAreInFlight, ListsMeet, PartsRestAlike};
-ghost use Rattle.irc_documents.specs.Laws.{PiecesHaveDiamond, PiecesMeet, StepsMeetByDiamond};
+ghost use Rattle.irc_documents.specs.Laws.{PiecesHaveDiamond, PiecesMeet, StepKeepsSound, StepsMeetByDiamond};
 
 use irc_relay::laws_of_forests;
 
@@ -37,6 +37,12 @@ pub fn pieces_meet<Doc: Edited<Op>, Op>()
 /// So all pieces have it, if all operations have it.
 pub fn pieces_have_diamond<Doc: Edited<Op>, Op>()
     ensures { PiecesHaveDiamond Doc.editing }
+{}
+
+/// Each step keeps it so that the links are a forest, and that each is in flight, if what is read
+/// has the diamond with what it crosses.
+pub fn step_keeps_sound<Doc: Edited<Op>, Op>()
+    ensures { StepKeepsSound Doc.editing }
 {}
 
 /// Whatever happens, from any network without links, if each two that cross have the diamond: the

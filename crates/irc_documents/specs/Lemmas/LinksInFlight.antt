@@ -4,8 +4,8 @@ use Rattle.std.proofs.Common.{List, [], ◌∷◌, ◌++◌, length, take, drop}
 use Rattle.std.proofs.Common.{refl, sym, ap, subst, ◌∙◌, append_assoc, arith}
 use Rattle.irc_documents.specs.Editing.{Editing, Meet, HasDiamond}
 use Rattle.irc_documents.specs.Lists.{all_done, AllMay, through, behind, Meets}
-use Rattle.irc_documents.specs.Ends.{Message, told, only_count, End, with_more, written}
-use Rattle.irc_documents.specs.Ends.{counted_off, became, after_told, all_became}
+use Rattle.irc_documents.specs.Ends.{Message, told, only_count, AreCounts, End, with_more}
+use Rattle.irc_documents.specs.Ends.{written, counted_off, became, after_told, all_became}
 use Rattle.irc_documents.specs.Flight.{Side, IsCount, IsOperation, AreGood, IsOnTheWay, IsInFlight}
 use Rattle.irc_documents.specs.Networks.{begun, sent, Makes}
 use Rattle.irc_documents.specs.Lemmas.OneBehindAnother.{done_behind, may_join, may_front}
@@ -457,20 +457,33 @@ module _ {Doc Op : Type 0} (e : Editing Doc Op) where
   FarMeets far count op =
       Meets e (counted_off e far.end count).base (counted_off e far.end count).log op
 
+  -- with no diamond it may be made where it then stands, and so may the log
+  pub record AtReading (far : Side Doc Op) (count : ℕ) (op : Op) : Type 0 where
+    pub may : e.may (counted_off e far.end count).base op
+    pub log_may : AllMay e (counted_off e far.end count).base (counted_off e far.end count).log
+
+  pub at_reading : (near far : Side Doc Op) (count : ℕ) (op : Op) (queue : List (Message Op))
+      → near.queue ≡ told count op ∷ queue → IsInFlight e near far → AtReading far count op
+  at_reading near far count op queue first link =
+      let r = link.far_end in
+      let more = link.far_unread in
+      let good = subst (AreGood e r) first link.forth.good in
+      record {
+        may = subst (λ end. e.may (counted_off e end count).base op) (sym link.far_is)
+            (subst (λ off. e.may off.base op) (sym (off_more r more count good.0.counts.most))
+            good.0.may);
+        log_may = subst
+            (λ end. AllMay e (counted_off e end count).base (counted_off e end count).log)
+            (sym link.far_is) (off_may (with_more r more) count link.back.may);
+      }
+
   pub meets_far : HasDiamond e → (near far : Side Doc Op) (count : ℕ) (op : Op)
       (queue : List (Message Op)) → near.queue ≡ told count op ∷ queue → IsInFlight e near far
       → FarMeets far count op
   meets_far d near far count op queue first link =
-      let r = link.far_end in
-      let more = link.far_unread in
-      let good = subst (AreGood e r) first link.forth.good in
-      subst (λ end. Meets e (counted_off e end count).base (counted_off e end count).log op)
-      (sym link.far_is)
-      (meets_all e d (counted_off e (with_more r more) count).base
-      (counted_off e (with_more r more) count).log op
-      (off_may (with_more r more) count link.back.may)
-      (subst (λ off. e.may off.base op) (sym (off_more r more count good.0.counts.most))
-      good.0.may))
+      let off = counted_off e far.end count in
+      let now = at_reading near far count op queue first link in
+      meets_all e d off.base off.log op now.log_may now.may
 
   pub stays_read : (near far : Side Doc Op) (count : ℕ) (op : Op) (queue : List (Message Op))
       → near.queue ≡ told count op ∷ queue → FarMeets far count op → IsInFlight e near far
@@ -659,10 +672,19 @@ module _ {Doc Op : Type 0} (e : Editing Doc Op) where
         };
       }
 
-  pub rests : (near far : Side Doc Op) → IsInFlight e near far → near.queue ≡ [] → far.queue ≡ []
-      → near.doc ≡ far.doc
-  rests near far link none nil =
+  none_became : (end : End Doc Op) (queue : List (Message Op)) → AreCounts queue
+      → all_became e end queue ≡ []
+  none_became end [] counts = refl
+  none_became end (told count op ∷ queue) counts = absurd counts
+  none_became end (only_count count ∷ queue) counts =
+      none_became (counted_off e end count) queue counts
+
+  pub rests : (near far : Side Doc Op) → IsInFlight e near far → AreCounts near.queue
+      → AreCounts far.queue → near.doc ≡ far.doc
+  rests near far link here there =
       link.near_reached
-      ∙ ap (all_done e link.common) (link.forth.unread_is ∙ ap (all_became e link.far_end) none)
+      ∙ ap (all_done e link.common)
+      (link.forth.unread_is ∙ none_became link.far_end near.queue here)
       ∙ sym (link.far_reached
-      ∙ ap (all_done e link.common) (link.back.unread_is ∙ ap (all_became e link.near_end) nil))
+      ∙ ap (all_done e link.common)
+      (link.back.unread_is ∙ none_became link.near_end far.queue there))

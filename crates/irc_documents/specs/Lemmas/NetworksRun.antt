@@ -17,7 +17,7 @@ use Rattle.irc_documents.specs.Networks.{side, is_from, read_as, begun, sent, an
 use Rattle.irc_documents.specs.Networks.{after_all}
 use Rattle.irc_documents.specs.Networks.{MayBeMade, MayBe, AllMayBe, IsMet, Meeting, StepsMeet}
 use Rattle.irc_documents.specs.Laws.{IsSound, IsQuietPart, EndsAreAlike, PartsAreAlike}
-use Rattle.irc_documents.specs.Laws.{LinksAreInFlight, EndsRestAlike, PartsRestAlike}
+use Rattle.irc_documents.specs.Laws.{StepKeepsSound, LinksAreInFlight, EndsRestAlike, PartsRestAlike}
 use Rattle.irc_documents.specs.Laws.{AskedMayBeMade, StepsMeetByDiamond, AllGoesWell}
 use Rattle.irc_documents.specs.Lemmas.LinksInFlight.{changing, stays_changing, counting}
 use Rattle.irc_documents.specs.Lemmas.LinksInFlight.{stays_counting, writer_after, reader_after}
@@ -423,11 +423,10 @@ module _ {Doc Op : Type 0} (e : Editing Doc Op) where
 
   -- ---- whatever happens
 
-  step_keeps : (net : Net Doc Op) (step : Step Op) → MayBe e net step → Meeting e net step
-      → IsSound e net → IsSound e (after e net step)
-  step_keeps net (given s op) may meets sound = given_keeps net s op may sound
-  step_keeps net (counts_to s t) may meets sound = counts_keep net s t may sound
-  step_keeps net (read_from s t) may meets sound = go (net.queue s t) refl meets
+  pub step_keeps_sound : StepKeepsSound e
+  step_keeps_sound net (given s op) may meets sound = given_keeps net s op may sound
+  step_keeps_sound net (counts_to s t) may meets sound = counts_keep net s t may sound
+  step_keeps_sound net (read_from s t) may meets sound = go (net.queue s t) refl meets
     where
       go : (queue : List (Message Op)) → net.queue s t ≡ queue → IsMet e (net.end t s) queue
           → IsSound e (read_as e queue net s t)
@@ -435,16 +434,16 @@ module _ {Doc Op : Type 0} (e : Editing Doc Op) where
       go (told count op ∷ queue) first met =
           read_keeps net s t queue may sound count op first met
       go (only_count count ∷ queue) first met = count_keeps net s t queue may sound count first
-  step_keeps net (made l near far) may meets sound = made_keeps net l near far may sound
-  step_keeps net (lost s t) may meets sound = lost_keeps net s t may sound
+  step_keeps_sound net (made l near far) may meets sound = made_keeps net l near far may sound
+  step_keeps_sound net (lost s t) may meets sound = lost_keeps net s t may sound
 
   all_keep : (net : Net Doc Op) (steps : List (Step Op)) → AllMayBe e net steps
       → StepsMeet e net steps → IsSound e net → IsSound e (after_all e net steps)
   all_keep net [] may meets sound = sound
   all_keep net (step ∷ steps) may meets sound =
-      all_keep (after e net step) steps may.1 meets.1 (step_keeps net step may.0 meets.0 sound)
+      all_keep (after e net step) steps may.1 meets.1 (step_keeps_sound net step may.0 meets.0 sound)
 
-  without_links : (start : Net Doc Op) → start.links ≡ [] → IsSound e start
+  pub without_links : (start : Net Doc Op) → start.links ≡ [] → IsSound e start
   without_links start none = record {
     forest = subst IsForest (sym none) tt;
     in_flight = λ s t h. absurd (subst (λ ls. AreLinked ls s t) none h);
@@ -456,7 +455,7 @@ module _ {Doc Op : Type 0} (e : Editing Doc Op) where
 
   -- ---- at rest
 
-  ends_are_alike : (net : Net Doc Op) → IsSound e net → EndsAreAlike e net
+  pub ends_are_alike : (net : Net Doc Op) → IsSound e net → EndsAreAlike e net
   ends_are_alike net sound s t h quiet =
       rests e (side net s t) (side net t s) (sound.in_flight s t h) quiet.forth quiet.back
 
@@ -469,7 +468,7 @@ module _ {Doc Op : Type 0} (e : Editing Doc Op) where
       ∙ walk_alike net next path t sound walk.1
       (λ x y j. quiet x y (linked_joined net.links s next walk.0 ∙ j))
 
-  parts_are_alike : TheWayIsAWalk → (net : Net Doc Op) → IsSound e net → PartsAreAlike e net
+  pub parts_are_alike : TheWayIsAWalk → (net : Net Doc Op) → IsSound e net → PartsAreAlike e net
   parts_are_alike is_a_walk net sound s t j quiet =
       walk_alike net s (way net.links s t) t sound (is_a_walk net.links s t sound.forest j).0 quiet
 
@@ -513,7 +512,7 @@ module _ {Doc Op : Type 0} (e : Editing Doc Op) where
   all_meeting d net [] may sound = tt
   all_meeting d net (step ∷ steps) may sound =
       let met = meeting d net step may.0 sound in
-      (met, all_meeting d (after e net step) steps may.1 (step_keeps net step may.0 met sound))
+      (met, all_meeting d (after e net step) steps may.1 (step_keeps_sound net step may.0 met sound))
 
   pub steps_meet_by_diamond : StepsMeetByDiamond e
   steps_meet_by_diamond d start steps none may =
