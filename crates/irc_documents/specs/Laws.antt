@@ -57,6 +57,11 @@ module _ {Doc Op : Type 0} (e : Editing Doc Op) where
   PartsAreAlike net = (s t : Name) → AreJoined net.links s t → IsQuietPart net s
       → net.doc s ≡ net.doc t
 
+  -- while no operation is on its way from t to s, t would make of what s writes just what it is
+  abbrev pub UncrossedAsMade : Net Doc Op → Type 0
+  UncrossedAsMade net = (s t : Name) (op : Op) → AreLinked net.links s t
+      → AreCounts (net.queue t s) → became e (net.end t s) (net.end s t).read op ≡ op
+
   -- what t is asked to do by the message from s that it reads next may be made there
   abbrev pub MayBeAsked : Net Doc Op → Type 0
   MayBeAsked net =
@@ -90,6 +95,9 @@ module _ {Doc Op : Type 0} (e : Editing Doc Op) where
   abbrev pub PartsRestAlike : Type 0
   PartsRestAlike = OfMetRuns PartsAreAlike
 
+  abbrev pub UncrossedIsAsMade : Type 0
+  UncrossedIsAsMade = OfMetRuns UncrossedAsMade
+
   abbrev pub AskedMayBeMade : Type 0
   AskedMayBeMade = OfMetRuns MayBeAskedIfMet
 
@@ -103,6 +111,7 @@ module _ {Doc Op : Type 0} (e : Editing Doc Op) where
     pub sound : IsSound net
     pub ends : EndsAreAlike net
     pub parts : PartsAreAlike net
+    pub uncrossed : UncrossedAsMade net
     pub asked : MayBeAsked net
 
   abbrev pub AlwaysGoesWell : Type 0

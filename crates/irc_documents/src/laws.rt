@@ -9,7 +9,8 @@ ghost use Rattle.irc_documents.specs.Examples.{LineRests, RegisterGoesWell, Writ
 ghost use Rattle.irc_documents.specs.Examples.{WrongOnesDiffer};
 ghost use Rattle.irc_documents.specs.Laws.{AllGoesWell, AskedMayBeMade, EndsRestAlike, GridTurns};
 ghost use Rattle.irc_documents.specs.Laws.{LinksAreInFlight, ListsMeet, PartsRestAlike};
-ghost use Rattle.irc_documents.specs.Laws.{PiecesHaveDiamond, PiecesMeet, StepKeepsSound, StepsMeetByDiamond};
+ghost use Rattle.irc_documents.specs.Laws.{PiecesHaveDiamond, PiecesMeet, StepKeepsSound};
+ghost use Rattle.irc_documents.specs.Laws.{StepsMeetByDiamond, UncrossedIsAsMade};
 
 use irc_relay::laws_of_forests;
 
@@ -63,6 +64,12 @@ pub fn parts_rest_alike<Doc: Edited<Op>, Op>()
 {
     laws_of_forests::the_way_is_a_walk();
 }
+
+/// While no operation is on its way to an end, the other would make of what it writes just what it
+/// is: where nothing crosses, nothing is changed.
+pub fn uncrossed_is_as_made<Doc: Edited<Op>, Op>()
+    ensures { UncrossedIsAsMade Doc.editing }
+{}
 
 /// What a server is asked to do by the message that it reads next may be made there.
 pub fn asked_may_be_made<Doc: Edited<Op>, Op>()

@@ -688,3 +688,15 @@ module _ {Doc Op : Type 0} (e : Editing Doc Op) where
       ∙ sym (link.far_reached
       ∙ ap (all_done e link.common)
       (link.back.unread_is ∙ none_became link.near_end far.queue there))
+
+  -- what the near side would write now would be read as it is
+  pub uncrossed : (near far : Side Doc Op) (op : Op) → IsInFlight e near far
+      → AreCounts far.queue → became e far.end near.end.read op ≡ op
+  uncrossed near far op link there =
+      let r = link.far_end in
+      let n = near.end.read in
+      let none = link.back.unread_is ∙ none_became link.near_end far.queue there in
+      let all = link.back.counts ∙ sym (ap (λ end. end.read) link.near_is) in
+      ap (λ end. became e end n op) (link.far_is ∙ ap (with_more r) none)
+      ∙ became_more r [] n op (count_of_all r n all)
+      ∙ ap (through e (counted_off e r n).base op) (none_stays r n all)

@@ -17,13 +17,16 @@ use Rattle.irc_documents.specs.Networks.{side, is_from, read_as, begun, sent, an
 use Rattle.irc_documents.specs.Networks.{after_all}
 use Rattle.irc_documents.specs.Networks.{MayBeMade, MayBe, AllMayBe, IsMet, Meeting, StepsMeet}
 use Rattle.irc_documents.specs.Laws.{IsSound, IsQuietPart, EndsAreAlike, PartsAreAlike}
-use Rattle.irc_documents.specs.Laws.{StepKeepsSound, LinksAreInFlight, EndsRestAlike, PartsRestAlike}
+use Rattle.irc_documents.specs.Laws.{UncrossedAsMade, UncrossedIsAsMade}
+use Rattle.irc_documents.specs.Laws.{StepKeepsSound, LinksAreInFlight, EndsRestAlike}
+use Rattle.irc_documents.specs.Laws.{PartsRestAlike}
 use Rattle.irc_documents.specs.Laws.{AskedMayBeMade, StepsMeetByDiamond, AllGoesWell}
 use Rattle.irc_documents.specs.Lemmas.LinksInFlight.{changing, stays_changing, counting}
 use Rattle.irc_documents.specs.Lemmas.LinksInFlight.{stays_counting, writer_after, reader_after}
 use Rattle.irc_documents.specs.Lemmas.LinksInFlight.{FarMeets, meets_far, IsRead, stays_read}
 use Rattle.irc_documents.specs.Lemmas.LinksInFlight.{counter_after, stays_counted, turned}
 use Rattle.irc_documents.specs.Lemmas.LinksInFlight.{begun_side, starts, rests}
+use Rattle.irc_documents.specs.Lemmas.LinksInFlight.{uncrossed}
 
 -- ---- who is who
 
@@ -441,7 +444,8 @@ module _ {Doc Op : Type 0} (e : Editing Doc Op) where
       → StepsMeet e net steps → IsSound e net → IsSound e (after_all e net steps)
   all_keep net [] may meets sound = sound
   all_keep net (step ∷ steps) may meets sound =
-      all_keep (after e net step) steps may.1 meets.1 (step_keeps_sound net step may.0 meets.0 sound)
+      all_keep (after e net step) steps may.1 meets.1
+      (step_keeps_sound net step may.0 meets.0 sound)
 
   pub without_links : (start : Net Doc Op) → start.links ≡ [] → IsSound e start
   without_links start none = record {
@@ -481,6 +485,14 @@ module _ {Doc Op : Type 0} (e : Editing Doc Op) where
       parts_are_alike is_a_walk (after_all e start steps)
       (links_are_in_flight start steps none may meets)
 
+  uncrossed_now : (net : Net Doc Op) → IsSound e net → UncrossedAsMade e net
+  uncrossed_now net sound s t op h there =
+      uncrossed e (side net s t) (side net t s) op (sound.in_flight s t h) there
+
+  pub uncrossed_is_as_made : UncrossedIsAsMade e
+  uncrossed_is_as_made start steps none may meets =
+      uncrossed_now (after_all e start steps) (links_are_in_flight start steps none may meets)
+
   pub asked_may_be_made : AskedMayBeMade e
   asked_may_be_made start steps none may meets s t count op queue h first met =
       let net = after_all e start steps in
@@ -511,8 +523,10 @@ module _ {Doc Op : Type 0} (e : Editing Doc Op) where
       → IsSound e net → StepsMeet e net steps
   all_meeting d net [] may sound = tt
   all_meeting d net (step ∷ steps) may sound =
-      let met = meeting d net step may.0 sound in
-      (met, all_meeting d (after e net step) steps may.1 (step_keeps_sound net step may.0 met sound))
+      let met = meeting d net step may.0 sound in (
+        met,
+        all_meeting d (after e net step) steps may.1 (step_keeps_sound net step may.0 met sound),
+      )
 
   pub steps_meet_by_diamond : StepsMeetByDiamond e
   steps_meet_by_diamond d start steps none may =
@@ -527,6 +541,7 @@ module _ {Doc Op : Type 0} (e : Editing Doc Op) where
         sound = sound;
         ends = ends_are_alike net sound;
         parts = parts_are_alike is_a_walk net sound;
+        uncrossed = uncrossed_now net sound;
         asked = λ s t count op queue h first.
             (stays_read e (side net s t) (side net t s) count op queue first
             (meets_far e d (side net s t) (side net t s) count op queue first
