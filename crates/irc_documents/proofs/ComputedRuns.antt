@@ -1,17 +1,19 @@
 -- The examples.
 use Rattle.std.proofs.Common.{◌≡◌, ◌≢◌, ℕ, Bool, true, false, nat_lt, if◌then◌else◌}
-use Rattle.std.proofs.Common.{inl, inr, refl, arith}
+use Rattle.std.proofs.Common.{◌++◌, inl, inr, refl, arith}
 use Rattle.std.proofs.lemmas.Bool.Decides.{nat_tests}
-use Rattle.irc_relay.specs.Links.{Name, same, part}
-use Rattle.irc_relay.specs.Lemmas.TellingNames.{same_when}
+use Rattle.irc_relay.specs.Links.{Name, same, part, links_without}
 use Rattle.irc_relay.specs.Laws.{TheWayIsAWalk}
+use Rattle.irc_relay.specs.Lemmas.TellingNames.{same_when}
 use Rattle.irc_documents.specs.Editing.{HasDiamond}
 use Rattle.irc_documents.specs.Pieces.{in_pieces}
+use Rattle.irc_documents.specs.Networks.{after_all, AllMayBe}
+use Rattle.irc_documents.specs.Examples.{Act, write, nothing, written_to, MayWrite, greater}
+use Rattle.irc_documents.specs.Examples.{register, WritesCross, RegisterGoesWell, a_net, b_net}
+use Rattle.irc_documents.specs.Examples.{c_net, start, crossing, read, later, again, LineRests}
+use Rattle.irc_documents.specs.Examples.{WrongOnesDiffer}
 use Rattle.irc_documents.specs.Lemmas.CrossingLists.{pieces_have_diamond}
 use Rattle.irc_documents.specs.Lemmas.NetworksRun.{all_goes_well}
-use Rattle.irc_documents.specs.Examples.{RegisterGoesWell, WrongOnesDiffer}
-use Rattle.irc_documents.specs.Examples.{Act, write, nothing, written_to, MayWrite, greater}
-use Rattle.irc_documents.specs.Examples.{register, WritesCross, LineRests, a_net, b_net, c_net}
 
 -- ---- the register
 
@@ -80,8 +82,47 @@ five e = omega arith
 three : ◌≢◌ {A = ℕ} 3 7
 three e = omega arith
 
+nine : ◌≢◌ {A = ℕ} 9 3
+nine e = omega arith
+
+four : ◌≢◌ {A = ℕ} 4 3
+four e = omega arith
+
+nine_of_none : ◌≢◌ {A = ℕ} 9 0
+nine_of_none e = omega arith
+
+four_of_none : ◌≢◌ {A = ℕ} 4 0
+four_of_none e = omega arith
+
+-- both write while they are apart, and tell that
+again_may : AllMayBe register (after_all register start (crossing ++ read ++ later)) again
+unfolding part links_without
+again_may = (
+  inl (inl (refl, refl)),
+  (
+    nine,
+    (
+      four,
+      (
+        record {
+          apart = differ c_net a_net refl;
+          near_makes = record { may = (nine_of_none, tt); made = refl };
+          far_makes = record { may = (four_of_none, tt); made = refl };
+        },
+        (
+          inl (inl (refl, refl)),
+          (
+            inl (inr (refl, refl)),
+            (inr (inl (inr (refl, refl))), (inr (inl (inr (refl, refl))), tt)),
+          ),
+        ),
+      ),
+    ),
+  ),
+)
+
 pub line_rests : LineRests
-unfolding part
+unfolding part links_without
 line_rests = record {
   may = (
     record {
@@ -109,7 +150,7 @@ line_rests = record {
                   three,
                   (
                     inr (inl (inr (refl, refl))),
-                    (inr (inl (inl (refl, refl))), (inl (inl (refl, refl)), tt)),
+                    (inr (inl (inl (refl, refl))), (inl (inl (refl, refl)), again_may)),
                   ),
                 ),
               ),
@@ -125,6 +166,7 @@ line_rests = record {
   none_on_way = refl;
   three = refl;
   at_rest = refl;
+  nine = refl;
 }
 
 pub wrong_ones_differ : WrongOnesDiffer

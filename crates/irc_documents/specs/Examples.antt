@@ -8,7 +8,7 @@ use Rattle.irc_documents.specs.Editing.{DoTheSame, Editing, HasDiamond}
 use Rattle.irc_documents.specs.Lists.{through, behind, all_through, behind_all}
 use Rattle.irc_documents.specs.Pieces.{Cut, in_pieces}
 use Rattle.irc_documents.specs.Laws.{AlwaysGoesWell}
-use Rattle.irc_documents.specs.Networks.{Net, Step, given, counts_to, read_from, made, begun}
+use Rattle.irc_documents.specs.Networks.{Net, Step, given, counts_to, read_from, made, lost, begun}
 use Rattle.irc_documents.specs.Networks.{after_all, AllMayBe}
 
 -- ---- the register
@@ -109,6 +109,13 @@ later =
     counts_to b_net a_net ∷ given a_net (write 3) ∷ read_from b_net a_net ∷ read_from a_net b_net
     ∷ read_from b_net c_net ∷ []
 
+-- the link between b and c is lost, both write, and it is made again, where each tells its own
+abbrev pub again : List (Step Act)
+again =
+    lost b_net c_net ∷ given c_net (write 9) ∷ given b_net (write 4)
+    ∷ made (link c_net b_net) (write 9 ∷ []) (write 4 ∷ []) ∷ read_from c_net b_net
+    ∷ read_from b_net c_net ∷ read_from b_net a_net ∷ read_from b_net a_net ∷ []
+
 abbrev pub docs : Net ℕ Act → List ℕ
 docs net = map net.doc (a_net ∷ b_net ∷ c_net ∷ [])
 
@@ -117,13 +124,14 @@ waiting net = map (λ s. length (net.queue s b_net ++ net.queue b_net s)) (a_net
 
 -- the 5, which crossed the 7, becomes nothing at b, and is not passed on to a
 pub record LineRests : Type 0 where
-  pub may : AllMayBe register start (crossing ++ read ++ later)
+  pub may : AllMayBe register start (crossing ++ read ++ later ++ again)
   pub crossed : docs (after_all register start crossing) ≡ 7 ∷ 7 ∷ 5 ∷ []
   pub on_way : waiting (after_all register start crossing) ≡ 0 ∷ 2 ∷ []
   pub seven : docs (after_all register start (crossing ++ read)) ≡ 7 ∷ 7 ∷ 7 ∷ []
   pub none_on_way : waiting (after_all register start (crossing ++ read)) ≡ 0 ∷ 0 ∷ []
   pub three : docs (after_all register start (crossing ++ read ++ later)) ≡ 3 ∷ 3 ∷ 3 ∷ []
   pub at_rest : waiting (after_all register start (crossing ++ read ++ later)) ≡ 0 ∷ 0 ∷ []
+  pub nine : docs (after_all register start (crossing ++ read ++ later ++ again)) ≡ 9 ∷ 9 ∷ 9 ∷ []
 
 -- ---- what is no diamond
 

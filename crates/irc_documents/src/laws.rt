@@ -103,7 +103,8 @@ pub fn register_goes_well()
     laws_of_forests::the_way_is_a_walk();
 }
 
-/// In a line of three a 7 and a 5 cross: all three have 7, and 3 once that is written over it.
+/// In a line of three a 7 and a 5 cross: all three have 7, and 3 once that is written over it. A
+/// link is lost, and made again between a 9 and a 4: all have 9.
 pub fn line_rests()
     ensures { LineRests }
 {}
