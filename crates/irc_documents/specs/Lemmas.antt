@@ -1,0 +1,4 @@
+pub mod OneBehindAnother
+pub mod CrossingLists
+pub mod LinksInFlight
+pub mod NetworksRun

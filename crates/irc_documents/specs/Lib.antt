@@ -1,0 +1,9 @@
+pub mod Editing
+pub mod Lists
+pub mod Pieces
+pub mod Ends
+pub mod Flight
+pub mod Networks
+pub mod Laws
+pub mod Examples
+pub mod Lemmas
