@@ -3,18 +3,21 @@
 -- line for every link.
 --
 -- What a.net writes; bo is a user of b.net, one link away, to which a.net has given the number 2:
--- a user comes `NICK bo 2 u b.example 2 + :Bo` the distance is the reader's, one more than a.net's
--- own; the number is a.net's
--- `NICK al 1 u a.example 1 +i :Al` a user of a.net itself, whose number is always 1, with mode i
--- of a user `:bo NICK by`, `:bo QUIT :gone` from the nickname alone, where clients see
--- nick!user@host
---                    `:bo MODE bo -i`
--- of a channel `:bo JOIN #c^Go` the byte 7 and `o` behind the name: bo becomes an operator
---                    `:bo PART #c :gone`, `:bo KICK #c al :out`
--- `:bo MODE #c +o-v al cy` letters, then words; `AL` would be written `al`, as that user is stored
---                    `:bo TOPIC #c :x`                  of a.net itself it is `:a.net TOPIC #c :x`
---   a text           `:bo PRIVMSG #c :hi`, `:bo NOTICE al :hi`
---                    `:bo INVITE al #c`
+--   a user comes    `NICK bo 2 u b.example 2 + :Bo`    the distance is the reader's, one more than
+--                                                      a.net's own; the number is a.net's
+--                   `NICK al 1 u a.example 1 +i :Al`   a user of a.net itself, whose number is
+--                                                      always 1, with mode i
+--   of a user       `:bo NICK by`, `:bo QUIT :gone`    from the nickname alone, where clients see
+--                                                      nick!user@host
+--                   `:bo MODE bo -i`
+--   of a channel    `:bo JOIN #c^Go`                   the byte 7 and `o` behind the name: bo
+--                                                      becomes an operator
+--                   `:bo PART #c :gone`, `:bo KICK #c al :out`
+--                   `:bo MODE #c +o-v al cy`           letters, then words; `AL` would be written
+--                                                      `al`, as that user is stored
+--                   `:bo TOPIC #c :x`                  of a.net itself it is `:a.net TOPIC #c :x`
+--   a text          `:bo PRIVMSG #c :hi`, `:bo NOTICE al :hi`
+--                   `:bo INVITE al #c`
 use Rattle.std.specs.Prelude.{ℕ, suc, Option, Some, None, List, [], ◌∷◌, codes, decimal, unwrap_or}
 use Rattle.std.specs.Prelude.{if◌then◌else◌}
 use Rattle.irc_line.specs.Messages.{Written, nobody, named}
