@@ -1,0 +1,89 @@
+-- What a line of a link changes of who has which nickname, and of who is in which channel; and what
+-- becomes of a change that has crossed another one. Both ends of a link have the same users; each
+-- does something, and then reads what the other did. Behind its own change and what becomes of the
+-- other's, each has the same users again.
+--
+-- A user of a.net is al, one of b.net is bo; both write before they read.
+--   names are followed      a.net   :al NICK ally          b.net   :bo KICK #c al :out
+--                           a.net does      :bo KICK #c ally :out
+--   who is gone is left     a.net   :a.net KILL bo :..     b.net   :bo NICK bob
+--                           a.net does      nothing, and b.net kills bob
+--   out of a channel once   a.net   :al KICK #c bo :out    b.net   :bo PART #c :bye
+--                           both do         nothing more
+--   two to one name         a.net   :al NICK zed           b.net   :bo NICK zed
+--                           a.net kills     zed, who was al, and bo
+--                           b.net kills     zed, who was bo, and al
+-- Who takes a nickname is not the one who had it: that one is gone, also where no line has told so,
+-- as where a server is lost.
+use Rattle.std.specs.Prelude.{ℕ, Bool, false, ◌&&◌, ◌||◌, Option, Some, None, List}
+use Rattle.std.specs.Prelude.{if◌then◌else◌}
+use Rattle.std.specs.Option.{option_and_then, option_map, option_map_or}
+use Rattle.irc_names.specs.Fold.{same}
+use Rattle.irc_crossing.specs.declared.change.Change.{Change}
+use Rattle.irc_crossing.specs.declared.change.Change.TheVariants.{Come, Rename, Go, Out}
+
+-- the nickname that somebody has by a change, and had not before; another spelling is no other one
+abbrev pub taken_by : Change → Option (List ℕ)
+taken_by (Come nick) = Some nick
+taken_by (Rename nick new) = if same nick new then None else Some new
+taken_by (Go nick other) = None
+taken_by (Out nick channel) = None
+
+-- the nickname now of whoever had this one, behind a change; none where it is gone
+abbrev pub renamed_now : (old new nick : List ℕ) → Option (List ℕ)
+renamed_now old new nick =
+    if same old new then Some nick
+    else (if same old nick then Some new
+    else (if same new nick then None else Some nick))
+
+abbrev pub is_gone : (gone : List ℕ) → (other : Option (List ℕ)) → (nick : List ℕ) → Bool
+is_gone gone other nick =
+    same gone nick || option_map_or (λ one. same one nick) other false
+
+abbrev pub nick_now : Change → List ℕ → Option (List ℕ)
+nick_now (Come taken) nick = if same taken nick then None else Some nick
+nick_now (Rename old new) nick = renamed_now old new nick
+nick_now (Go gone other) nick = if is_gone gone other nick then None else Some nick
+nick_now (Out out channel) nick = Some nick
+
+-- the same of a member of a channel; none also where it is out of that
+abbrev pub member_now : Change → (channel nick : List ℕ) → Option (List ℕ)
+member_now (Out out from) channel nick =
+    if same out nick && same from channel then None else Some nick
+member_now (Come taken) channel nick = nick_now (Come taken) nick
+member_now (Rename old new) channel nick = nick_now (Rename old new) nick
+member_now (Go gone other) channel nick = nick_now (Go gone other) nick
+
+-- whether two changes give one nickname to two users
+abbrev pub are_met : (theirs ours : Option (List ℕ)) → Bool
+are_met None ours = false
+are_met (Some theirs) None = false
+are_met (Some theirs) (Some ours) = same theirs ours
+
+-- both of them go: who has the nickname by then, and who was to take it
+abbrev pub both_go : Change → Change
+both_go (Come nick) = Go nick None
+both_go (Rename nick new) = Go new (Some nick)
+both_go (Go nick other) = Go nick other
+both_go (Out nick channel) = Out nick channel
+
+-- those of two who are there
+abbrev pub gone_of : (one other : Option (List ℕ)) → Option Change
+gone_of (Some one) other = Some (Go one other)
+gone_of None (Some other) = Some (Go other None)
+gone_of None None = None
+
+-- what becomes of a change behind another one, where they do not give one nickname to two
+abbrev pub behind : (theirs ours : Change) → Option Change
+behind (Come nick) ours = Some (Come nick)
+behind (Rename nick new) ours = option_map (λ now. Rename now new) (nick_now ours nick)
+behind (Go nick other) ours =
+    gone_of (nick_now ours nick) (option_and_then (nick_now ours) other)
+behind (Out nick channel) ours =
+    option_map (λ now. Out now channel) (member_now ours channel nick)
+
+-- what becomes of a change of one end behind one of the other
+abbrev pub crossed : (theirs ours : Change) → Option Change
+crossed theirs ours =
+    if are_met (taken_by theirs) (taken_by ours) then Some (both_go theirs)
+    else behind theirs ours

@@ -1,0 +1,5 @@
+pub mod Changes
+pub mod Hearing
+pub mod Lines
+pub mod Logs
+pub mod Loops

@@ -1,0 +1,14 @@
+//! What crossed on a link: an end keeps a log of what it has put out and the other end had not read
+//! when it wrote last, and by that a line that comes is given to the server as it is meant here.
+//! Definitions are in `specs/`.
+#![tactic(auto)]
+
+mod change;
+mod hearing;
+mod lines;
+mod log;
+mod mode_words;
+
+pub use change::{Change, Standing};
+pub use hearing::Given;
+pub use log::{Entry, Log};

@@ -1,0 +1,193 @@
+//! What an end of a link has put out, and the other end had not read when it wrote last.
+ghost use Rattle.std.specs.Prelude.{◌≡◌, [], drop, length, OnOk, OnErr};
+ghost use Rattle.std.specs.Option.{option_copied};
+ghost use Rattle.irc_crossing.specs.Logs.{crossed_if, log_behind, means, means_in, member_behind};
+ghost use Rattle.irc_crossing.specs.Logs.{is_first_read, nick_behind, put_out, through, unread};
+
+use crate::change::Change;
+use std::alloc::{AllocError, Global};
+use std::collections::VecDeque;
+use std::marker::Model;
+
+/// A change that was put out.
+#[derive(Drop)]
+pub struct Entry {
+    /// The piece in which it was put out, counted from 1.
+    pub piece: u64,
+    /// What is left of it, behind what has come since.
+    pub change: Option<Change>,
+}
+
+/// What was put out and is not read, in order.
+#[derive(Drop)]
+pub struct Log {
+    entries: VecDeque<Entry, Global>,
+}
+
+/// In a clause it is the list of its entries.
+impl Model for Log {
+    ghost use Rattle.std.specs.Prelude.{List};
+    ghost use Rattle.irc_crossing.specs.declared.log.Entry.{Entry};
+
+    ghost Value = { List Entry };
+
+    ghost view = { λ log. log.entries.items };
+}
+
+impl Log {
+    /// Nothing.
+    pub fn new(alloc: Global) -> Self
+        ensures { result ≡ [] }
+    {
+        Log {
+            entries: VecDeque::new(alloc),
+        }
+    }
+
+    /// How many changes are in it.
+    pub fn len(&self) -> usize
+        ensures { result ≡ length self.now }
+    {
+        self.entries.len()
+    }
+
+    /// A piece is put out, which changes this, if anything.
+    ///
+    /// # Errors
+    /// Where memory runs out; nothing has changed then.
+    pub fn put_out(&mut self, piece: u64, change: Option<Change>) -> Result<(), AllocError>
+        ensures ok { OnOk result (self.new ≡ put_out piece change self.old) }
+        ensures refused { OnErr result (self.new ≡ self.old) }
+    {
+        match change {
+            Some(change) => self.push(piece, change),
+            None => Ok(()),
+        }
+    }
+
+    fn push(&mut self, piece: u64, change: Change) -> Result<(), AllocError>
+        ensures ok { OnOk result (self.new ≡ put_out piece (Some change) self.old) }
+        ensures refused { OnErr result (self.new ≡ self.old) }
+    {
+        let entry = Entry {
+            piece,
+            change: Some(change),
+        };
+        match self.entries.push_back(entry) {
+            Ok(()) => Ok(()),
+            Err(_) => Err(AllocError),
+        }
+    }
+
+    /// The other end has read so many pieces.
+    pub fn count(&mut self, read: u64)
+        ensures { self.new ≡ unread read self.old }
+    {
+        while self.is_first_read(read) {
+            self.drop_first();
+        }
+    }
+
+    /// Whether the first change is read, where so many pieces are.
+    fn is_first_read(&self, read: u64) -> bool
+        ensures { result ≡ is_first_read read self.now }
+    {
+        match self.entries.front() {
+            Some(entry) => entry.piece <= read,
+            None => false,
+        }
+    }
+
+    fn drop_first(&mut self)
+        ensures { self.new ≡ drop 1 self.old }
+    {
+        let _read = self.entries.pop_front();
+    }
+
+    /// The other end has changed this, if anything: what becomes of it here. What becomes of the
+    /// log by it stays in the log.
+    pub fn pass(&mut self, theirs: Option<Change>) -> Option<Change>
+        ensures became { result ≡ through theirs self.old }
+        ensures behind { self.new ≡ log_behind theirs self.old }
+    {
+        if theirs.is_none() {
+            return None;
+        }
+        pass_all(theirs, self.entries.make_contiguous())
+    }
+
+    /// The nickname now of whom the other end means by this one; none where it is gone.
+    pub fn means<'a>(&'a self, nick: &'a [u8]) -> Option<&'a [u8]>
+        ensures { option_copied result ≡ means self.now nick.now }
+    {
+        let mut now = nick;
+        for entry in self.entries.iter() {
+            now = entry.nick_behind(now)?;
+        }
+        Some(now)
+    }
+
+    /// The nickname now of whom the other end means by this one as a member of a channel; none
+    /// where it is gone, or out of that.
+    pub fn means_in<'a>(&'a self, channel: &[u8], nick: &'a [u8]) -> Option<&'a [u8]>
+        ensures { option_copied result ≡ means_in self.now channel.now nick.now }
+    {
+        let mut now = nick;
+        for entry in self.entries.iter() {
+            now = entry.member_behind(channel, now)?;
+        }
+        Some(now)
+    }
+}
+
+impl Entry {
+    fn nick_behind<'a>(&'a self, nick: &'a [u8]) -> Option<&'a [u8]>
+        ensures { option_copied result ≡ nick_behind self.now nick.now }
+    {
+        match &self.change {
+            Some(change) => change.standing(nick).word(nick),
+            None => Some(nick),
+        }
+    }
+
+    fn member_behind<'a>(&'a self, channel: &[u8], nick: &'a [u8]) -> Option<&'a [u8]>
+        ensures { option_copied result ≡ member_behind self.now channel.now nick.now }
+    {
+        match &self.change {
+            Some(change) => change.standing_in(channel, nick).word(nick),
+            None => Some(nick),
+        }
+    }
+}
+
+/// A change of the other end passes all that was put out, and each of these passes it.
+fn pass_all(theirs: Option<Change>, entries: &mut [Entry]) -> Option<Change>
+    ensures became { result ≡ through theirs entries.old }
+    ensures behind { entries.new ≡ log_behind theirs entries.old }
+{
+    let mut theirs = theirs;
+    for entry in entries.iter_mut() {
+        theirs = pass_one(theirs, &mut entry.change);
+    }
+    theirs
+}
+
+/// Two changes pass one another: what becomes of the first.
+fn pass_one(theirs: Option<Change>, ours: &mut Option<Change>) -> Option<Change>
+    ensures became { result ≡ crossed_if theirs ours.old }
+    ensures behind { ours.new ≡ crossed_if ours.old theirs }
+{
+    let became = crossed_if(theirs.as_ref(), ours.as_ref());
+    *ours = crossed_if(ours.as_ref(), theirs.as_ref());
+    became
+}
+
+fn crossed_if(one: Option<&Change>, other: Option<&Change>) -> Option<Change>
+    ensures { result ≡ crossed_if (option_copied one.entry) (option_copied other.entry) }
+{
+    match (one, other) {
+        (Some(one), Some(other)) => one.crossed(other),
+        (Some(one), None) => Some(one.copy()),
+        (None, _) => None,
+    }
+}
