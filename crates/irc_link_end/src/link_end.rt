@@ -83,6 +83,27 @@ impl LinkEnd {
         self.pieces.unread()
     }
 
+    /// How many pieces this end has put out.
+    pub fn sent(&self) -> u64
+        ensures { result ≡ self.now.pieces.counts.sent }
+    {
+        self.pieces.counts().sent
+    }
+
+    /// How many of these the other end has said to have read.
+    pub fn taken(&self) -> u64
+        ensures { result ≡ self.now.pieces.counts.taken }
+    {
+        self.pieces.counts().taken
+    }
+
+    /// Whether the other end has named itself.
+    pub fn is_met(&self) -> bool
+        ensures { result ≡ self.now.is_met }
+    {
+        self.is_met
+    }
+
     /// The other end has named itself.
     pub fn meet(&mut self)
         ensures { self.new ≡ met self.old }

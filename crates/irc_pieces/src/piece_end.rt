@@ -86,6 +86,13 @@ impl PieceEnd {
         }
     }
 
+    /// How many pieces there were.
+    pub fn counts(&self) -> &Counts
+        ensures { result.now ≡ self.now.counts }
+    {
+        &self.counts
+    }
+
     /// How many pieces the other end had not read when it wrote its last count.
     pub fn unread(&self) -> u64
         ensures { result ≡ unread self.now.counts }

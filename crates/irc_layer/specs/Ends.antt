@@ -1,0 +1,69 @@
+-- The ends of a server's links, each with what it has put out that the other end may not have read.
+use Rattle.std.specs.Prelude.{ℕ, Bool, not, Option, Some, None, List, [], nat_eq, if◌then◌else◌}
+use Rattle.std.specs.List.{list_any}
+use Rattle.std.specs.Option.{option_map}
+use Rattle.std.specs.Ordering.{nat_cmp}
+use Rattle.std.specs.BTreeMap.{BTreeMap, get}
+use Rattle.irc_names.specs.Fold.{same}
+use Rattle.irc_crossing.specs.Hearing.{log_after}
+use Rattle.irc_crossing.specs.Logs.{unread}
+use Rattle.irc_link_end.specs.LinkEnds.{after_hearing, called, calling, heard_at, met}
+use Rattle.irc_pieces.specs.declared.piece_end.Heard.{Heard}
+use Rattle.irc_pieces.specs.declared.piece_end.Heard.TheVariants.{Nothing}
+use Rattle.irc_server.specs.declared.event.Event.{Event}
+use Rattle.irc_server.specs.declared.event.Event.TheVariants.{Connect, Line, Gone, LinkUp, LinkLine}
+use Rattle.irc_server.specs.declared.event.Event.TheVariants.{LinkDown}
+use Rattle.irc_layer.specs.declared.end.End.{End}
+
+-- the end of each link that is there
+abbrev pub Ends : Type 0
+Ends = ℕ → Option End
+
+abbrev pub end_at : BTreeMap ℕ End → Ends
+end_at ends link = get nat_cmp ends link
+
+-- an end is there from now on, or is not
+abbrev pub with_end : ℕ → Option End → Ends → Ends
+with_end link end ends q = if nat_eq link q then end else ends q
+
+-- an end has changed so, if it is there
+abbrev pub change_end : ℕ → (End → End) → Ends → Ends
+change_end link change ends q = if nat_eq link q then option_map change (ends q) else ends q
+
+-- whether a server is one of those that are known to know no pieces
+abbrev pub is_plain : List (List ℕ) → List ℕ → Bool
+is_plain plain name = list_any (λ one. same one name) plain
+
+-- The end of a link that begins: of a server that calls this one, or is called.
+abbrev pub new_end : Option (List ℕ) → List (List ℕ) → End
+new_end None plain = record { link = called; log = [] }
+new_end (Some name) plain = record { link = calling (not (is_plain plain name)); log = [] }
+
+-- an end that has heard a line: what the other end says to have read leaves the log
+abbrev pub end_hearing : List ℕ → End → End
+end_hearing line end = record {
+  link = after_hearing line end.link;
+  log = unread (after_hearing line end.link).pieces.counts.taken end.log;
+}
+
+-- an end whose other end has named itself, if it has
+abbrev pub met_if : Bool → End → End
+met_if is_met end = if is_met then record end { link = met end.link } else end
+
+-- an end whose log is as a line leaves it
+abbrev pub with_log_after : List ℕ → End → End
+with_log_after line end = record end { log = log_after end.log line }
+
+-- what of a line is for the server, where the link has an end
+abbrev pub heard_if : List ℕ → Option End → Heard
+heard_if line None = Nothing
+heard_if line (Some end) = heard_at line end.link
+
+-- A link that begins has an end, and one that is lost has none.
+abbrev pub ends_followed : Event → List (List ℕ) → Ends → Ends
+ends_followed (LinkUp link name) plain ends = with_end link (Some (new_end name plain)) ends
+ends_followed (LinkDown link) plain ends = with_end link None ends
+ends_followed (LinkLine link line) plain ends = ends
+ends_followed (Connect conn host) plain ends = ends
+ends_followed (Line conn line) plain ends = ends
+ends_followed (Gone conn) plain ends = ends

@@ -1,0 +1,217 @@
+-- A layer around a server: an event machine that sees what comes by a link before the server does,
+-- and what is put out on links behind it.
+--
+-- What becomes of an event:
+--   a client's, a link that begins, a link that is lost    the server is given it
+--   a line of a link that is none of a piece yet           the server is given nothing
+--   a line that makes a piece whole                        the server is given each line of it as it
+--                                                          is meant here
+--   a count of more than was put out                       the link is closed, and the server told
+--                                                          that it is lost
+use Rattle.std.specs.Prelude.{◌≡◌, ℕ, Bool, true, false, Option, Some, None, Result, Ok, Err, List}
+use Rattle.std.specs.Prelude.{[], ◌∷◌, ◌++◌, is_some}
+use Rattle.irc_line.specs.Messages.{text}
+use Rattle.irc_batch.specs.declared.close_reason.CloseReason.{CloseReason}
+use Rattle.irc_batch.specs.Batches.{Batch, Sent, end_of_link}
+use Rattle.irc_burst_lines.specs.DeedLines.{kill_parts}
+use Rattle.irc_pieces.specs.declared.piece_end.Heard.{Heard}
+use Rattle.irc_pieces.specs.declared.piece_end.Heard.TheVariants as heard
+use Rattle.irc_crossing.specs.declared.hearing.Given.{Given}
+use Rattle.irc_crossing.specs.declared.hearing.Given.TheVariants.{AsItCame, Changed, LeftOut}
+use Rattle.irc_crossing.specs.declared.hearing.Given.TheVariants.{Kills}
+use Rattle.irc_crossing.specs.Hearing.{given}
+use Rattle.irc_stage.specs.View.{View}
+use Rattle.irc_server.specs.declared.event.Event.{Event}
+use Rattle.irc_server.specs.declared.event.Event.TheVariants.{Connect, Line, Gone, LinkUp, LinkLine}
+use Rattle.irc_server.specs.declared.event.Event.TheVariants.{LinkDown}
+use Rattle.irc_server.specs.declared.event.ServerFault.{ServerFault}
+use Rattle.irc_server.specs.declared.event.ServerFault.TheVariants.{Memory}
+use Rattle.irc_server.specs.ReadEvents.{IsHandled}
+use Rattle.irc_engine.specs.Machines.{is_out_of_memory}
+use Rattle.irc_engine.specs.Noting.{far_of}
+use Rattle.irc_layer.specs.declared.end.End.{End}
+use Rattle.irc_layer.specs.declared.layer.Layer.{Layer}
+use Rattle.irc_layer.specs.Ends.{change_end, end_at, end_hearing, ends_followed, heard_if, met_if}
+use Rattle.irc_layer.specs.Ends.{with_log_after, Ends}
+use Rattle.irc_layer.specs.Putting.{all_put, body, count_at, ends_behind_all, with_count_out}
+
+-- the server, the ends of its links, and the servers whose calls are without the word
+pub record LayerView : Type 0 where
+  pub server : Option View
+  pub ends : Ends
+  pub plain : List (List ℕ)
+
+abbrev pub layer_view : Layer → LayerView
+layer_view layer = record {
+  server = layer.server;
+  ends = end_at layer.ends;
+  plain = layer.plain.items;
+}
+
+abbrev pub server_of : Layer → Option View
+server_of layer = layer.server
+
+-- what a layer was, and what was put out, before something and behind it
+pub record State : Type 0 where
+  pub layer : LayerView
+  pub outs : List Sent
+
+abbrev pub state_of : Layer → Batch → State
+state_of layer out = record { layer = layer_view layer; outs = out.outs }
+
+abbrev pub with_ends : Ends → State → State
+with_ends ends state = record state { layer = record state.layer { ends = ends } }
+
+abbrev pub putting : List Sent → State → State
+putting more state = record state { outs = state.outs ++ more }
+
+-- ---- the server is given an event
+
+-- what the server puts out goes on
+pub record Passes (arrival : Option ℕ) (event : Event) (old new : State) : Type 0 where
+  pub outs : List Sent
+  pub is_handled : IsHandled old.layer.server event [] (Ok tt) new.layer.server outs
+  pub ends_are : new.layer.ends ≡ ends_behind_all arrival outs (ends_followed event old.layer.plain old.layer.ends)
+  pub plain_is : new.layer.plain ≡ old.layer.plain
+  pub outs_are : new.outs ≡ old.outs ++ all_put arrival outs (ends_followed event old.layer.plain old.layer.ends)
+
+-- the server refuses it, and nothing has changed
+pub record IsRefusedBy (event : Event) (old new : State) (fault : ServerFault) : Type 0 where
+  pub is_refused : IsHandled old.layer.server event [] (Err fault) new.layer.server []
+  pub ends_stay : new.layer.ends ≡ old.layer.ends
+  pub plain_is : new.layer.plain ≡ old.layer.plain
+  pub outs_stay : new.outs ≡ old.outs
+
+-- it is handled; or it is refused, for another reason than want of memory
+abbrev pub PassesOrNot : Bool → (arrival : Option ℕ) (event : Event) (old new : State) → Type 0
+PassesOrNot true arrival event old new = Passes arrival event old new
+PassesOrNot false arrival event old new = (fault : ServerFault) × (is_out_of_memory fault ≡ false)
+    × IsRefusedBy event old new fault
+
+-- ---- a line of a link
+
+-- an end is met once the server knows who is at the other one
+abbrev pub meets : ℕ → State → State
+meets link state =
+    with_ends (change_end link (met_if (is_some (far_of state.layer.server link)))
+    state.layer.ends) state
+
+-- the server is given a line
+pub record Gives (link : ℕ) (line : List ℕ) (old new : State) : Type 0 where
+  pub between : State
+  pub is_taken : Bool
+  pub passes : PassesOrNot is_taken (Some link) (LinkLine link (record { items = line })) old
+      between
+  pub new_is : new ≡ meets link between
+
+-- Users of one nickname are killed, as by the server at the other end.
+abbrev pub kill_by : List ℕ → List ℕ → List ℕ
+kill_by peer nick = body (text (kill_parts peer nick))
+
+abbrev pub GivesKillBy : Option (List ℕ) → ℕ → List ℕ → State → State → Type 0
+GivesKillBy None link nick old new = new ≡ old
+GivesKillBy (Some peer) link nick old new = Gives link (kill_by peer nick) old new
+
+abbrev pub GivesKill : ℕ → List ℕ → State → State → Type 0
+GivesKill link nick old new = GivesKillBy (far_of old.layer.server link) link nick old new
+
+abbrev pub GivesKillIf : ℕ → Option (List ℕ) → State → State → Type 0
+GivesKillIf link None old new = new ≡ old
+GivesKillIf link (Some nick) old new = GivesKill link nick old new
+
+pub record GivesKills (link : ℕ) (nick : List ℕ) (other : Option (List ℕ)) (old new : State)
+    : Type 0 where
+  pub between : State
+  pub first : GivesKill link nick old between
+  pub second : GivesKillIf link other between new
+
+abbrev pub GivesAs : Given → ℕ → List ℕ → State → State → Type 0
+GivesAs AsItCame link line old new = Gives link line old new
+GivesAs (Changed text) link line old new = Gives link (body text.items) old new
+GivesAs LeftOut link line old new = new ≡ old
+GivesAs (Kills nick other) link line old new = GivesKills link nick other old new
+
+-- what the server is given for a line of a piece; nothing where the link was closed before it
+abbrev pub HearsFrom : Option End → ℕ → List ℕ → State → State → Type 0
+HearsFrom None link line old new = new ≡ old
+HearsFrom (Some end) link line old new =
+    GivesAs (given end.log line) link line
+    (with_ends (change_end link (with_log_after line) old.layer.ends) old) new
+
+abbrev pub HearsOne : ℕ → List ℕ → State → State → Type 0
+HearsOne link line old new = HearsFrom (old.layer.ends link) link line old new
+
+-- all lines of a piece, in order
+pub data HearsAll (link : ℕ) : List (List ℕ) → State → State → Type 0 where
+  all_heard : {state : State} → HearsAll link [] state state
+  hears_more : {line : List ℕ} {lines : List (List ℕ)} {old between new : State}
+      → HearsOne link line old between → HearsAll link lines between new
+      → HearsAll link (line ∷ lines) old new
+
+-- the count goes alone, where so much was read that it is to
+abbrev pub tells_count : ℕ → State → State
+tells_count link state =
+    putting (count_at link (state.layer.ends link))
+    (with_ends (change_end link with_count_out state.layer.ends) state)
+
+pub record HearsPiece (link : ℕ) (lines : List (List ℕ)) (old new : State) : Type 0 where
+  pub between : State
+  pub heard : HearsAll link lines old between
+  pub new_is : new ≡ tells_count link between
+
+-- the link is closed, and the server is told that it is lost; one that it does not know is none
+abbrev pub closing : Bool → ℕ → CloseReason → List Sent
+closing true link reason = end_of_link link reason ∷ []
+closing false link reason = []
+
+pub record Shuts (link : ℕ) (reason : CloseReason) (old new : State) : Type 0 where
+  pub between : State
+  pub is_taken : Bool
+  pub passes : PassesOrNot is_taken None (LinkDown link) old between
+  pub new_is : new ≡ putting (closing is_taken link reason) between
+
+abbrev pub HearsAs : Heard → ℕ → State → State → Type 0
+HearsAs heard.Nothing link old new = new ≡ old
+HearsAs (heard.Piece piece) link old new = HearsPiece link piece.lines old new
+HearsAs (heard.Fault reason) link old new = Shuts link reason old new
+
+abbrev pub HearsIf : Option End → ℕ → List ℕ → State → State → Type 0
+HearsIf end link line old new =
+    HearsAs (heard_if line end) link
+    (with_ends (change_end link (end_hearing line) old.layer.ends) old) new
+
+-- ---- an event
+
+-- whether an event is a line of a link that has an end
+abbrev pub is_heard : Event → Ends → Bool
+is_heard (LinkLine link line) ends = is_some (ends link)
+is_heard (LinkUp link name) ends = false
+is_heard (LinkDown link) ends = false
+is_heard (Connect conn host) ends = false
+is_heard (Line conn line) ends = false
+is_heard (Gone conn) ends = false
+
+pub data Handles (old : State) (event : Event) (new : State) : Result (Unit {0}) ServerFault
+    → Type 0 where
+  passes : is_heard event old.layer.ends ≡ false → Passes None event old new
+      → Handles old event new (Ok tt)
+  hears : (link : ℕ) (line : List ℕ) → event ≡ LinkLine link (record { items = line })
+      → is_some (old.layer.ends link) ≡ true → HearsIf (old.layer.ends link) link line old new
+      → Handles old event new (Ok tt)
+  refuses : (fault : ServerFault) → is_heard event old.layer.ends ≡ false
+      → IsRefusedBy event old new fault → Handles old event new (Err fault)
+  wants_memory : Handles old event new (Err Memory)
+
+-- what comes of an event that a layer is asked for
+abbrev pub IsLayered : Layer → Event → List Sent → Result (Unit {0}) ServerFault → Layer
+    → List Sent → Type 0
+IsLayered old event before result new after =
+    Handles (record { layer = layer_view old; outs = before }) event
+    (record { layer = layer_view new; outs = after }) result
+
+-- a layer around a server that no link is at
+pub record IsAround (server : Option View) (plain : List (List ℕ)) (layer : Layer)
+    : Type 0 where
+  pub server_is : layer.server ≡ server
+  pub plain_is : layer.plain.items ≡ plain
+  pub no_ends : layer.ends.entries ≡ []

@@ -1,0 +1,171 @@
+//! The end of a link, and what it has put out that the other end may not have read.
+ghost use Rattle.std.specs.Prelude.{◌≡◌, ◌++◌, ◌≤◌, length, IfOk, OnOk};
+ghost use Rattle.std.specs.Option.{option_copied};
+ghost use Rattle.irc_line.specs.Limits.{max_text};
+ghost use Rattle.irc_line.specs.Reading.{read_of};
+ghost use Rattle.irc_crossing.specs.Hearing.{given};
+ghost use Rattle.irc_link_end.specs.LinkEnds.{heard_at};
+ghost use Rattle.irc_layer.specs.Ends.{end_hearing, is_plain, met_if, new_end, with_log_after};
+ghost use Rattle.irc_layer.specs.Putting.{behind_line, behind_piece, body, count_at, count_out};
+ghost use Rattle.irc_layer.specs.Putting.{is_echo, is_kill_read, line_out, piece_out};
+ghost use Rattle.irc_layer.specs.Putting.{with_count_out};
+
+use irc_batch::Batch;
+use irc_crossing::{Given, Log, change_told};
+use irc_line::{Line, parse};
+use irc_link_end::{LinkEnd, WayOut, with_word};
+use irc_link_words::is_command;
+use irc_names::{ServerName, same};
+use irc_pieces::{Count, Heard, count_text};
+use std::alloc::{AllocError, Global};
+
+/// One end of a link.
+#[derive(Drop)]
+pub(crate) struct End {
+    pub link: LinkEnd,
+    /// What it has put out, and the other end had not read when it wrote last.
+    pub log: Log,
+}
+
+impl End {
+    /// That of a link that begins: of a server that calls the one of this name, which may be known
+    /// to know no pieces, or is called.
+    pub fn new(alloc: Global, name: Option<&ServerName>, plain: &[ServerName]) -> Self
+        ensures { result ≡ new_end (option_copied name.entry) plain.now }
+    {
+        let link = match name {
+            Some(name) => LinkEnd::calling(alloc, !is_plain(plain, name)),
+            None => LinkEnd::called(alloc),
+        };
+        End {
+            link,
+            log: Log::new(alloc),
+        }
+    }
+
+    /// Takes a line that has come: what of it is for the server.
+    ///
+    /// # Errors
+    /// Where memory runs out.
+    pub fn hear(&mut self, line: Line) -> Result<Heard, AllocError>
+        ensures heard { IfOk result (λ heard. heard ≡ heard_at line.items self.old.link) }
+        ensures after { OnOk result (self.new ≡ end_hearing line.items self.old) }
+    {
+        let heard = self.link.hear(line)?;
+        self.log.count(self.link.taken());
+        Ok(heard)
+    }
+
+    /// What the server is given for a line.
+    pub fn give(&mut self, line: &[u8]) -> Given
+        ensures given { result ≡ given self.old.log line.now }
+        ensures after { self.new ≡ with_log_after line.now self.old }
+    {
+        self.log.hear(line)
+    }
+
+    /// The other end has named itself, if it has.
+    pub fn meet_if(&mut self, is_met: bool)
+        ensures { self.new ≡ met_if is_met self.old }
+    {
+        if is_met {
+            self.link.meet();
+        }
+    }
+
+    /// Puts out a line on this link; `arrival` is the link by which the line came that the server
+    /// handles.
+    ///
+    /// # Errors
+    /// Where memory runs out.
+    pub fn put_line(
+        &mut self,
+        arrival: Option<u64>,
+        link: u64,
+        line: &[u8],
+        out: &mut Batch,
+    ) -> Result<(), AllocError>
+        requires fits { length line.now ≤ max_text }
+        ensures outs { OnOk result
+            (out.new.outs ≡ out.old.outs ++ line_out arrival link line.now self.old) }
+        ensures after { OnOk result (self.new ≡ behind_line arrival link line.now self.old) }
+    {
+        match self.link.put_out_line() {
+            WayOut::Plain => out.put_on(link, line),
+            WayOut::WithWord => out.put_on(link, with_word(body(line)).as_slice()),
+            WayOut::InPiece if is_echo(arrival, link, body(line)) => Ok(()),
+            WayOut::InPiece => self.put_piece(link, line, out),
+        }
+    }
+
+    /// Puts out a piece of one line.
+    fn put_piece(&mut self, link: u64, line: &[u8], out: &mut Batch) -> Result<(), AllocError>
+        requires fits { length line.now ≤ max_text }
+        ensures outs { OnOk result
+            (out.new.outs ≡ out.old.outs ++ piece_out link line.now self.old) }
+        ensures after { OnOk result (self.new ≡ behind_piece line.now self.old) }
+    {
+        let count = self.link.put_out_piece(1, None);
+        put_count(link, count, out)?;
+        self.log.put_out(self.link.sent(), change_told(body(line)))?;
+        out.put_on(link, line)
+    }
+
+    /// Puts out the count alone, where so much was read that it is to go.
+    ///
+    /// # Errors
+    /// Where memory runs out.
+    pub fn tell_count(&mut self, link: u64, out: &mut Batch) -> Result<(), AllocError>
+        ensures outs { OnOk result
+            (out.new.outs ≡ out.old.outs ++ count_at link (Some self.old)) }
+        ensures after { OnOk result (self.new ≡ with_count_out self.old) }
+    {
+        let count = self.link.put_out_count();
+        put_count(link, count, out)
+    }
+}
+
+/// Puts out what stands in front of a piece, if anything does.
+fn put_count(link: u64, count: Option<Count>, out: &mut Batch) -> Result<(), AllocError>
+    ensures { OnOk result (out.new.outs ≡ out.old.outs ++ count_out link count) }
+{
+    match count {
+        Some(count) => out.put_on(link, count_text(count).as_slice()),
+        None => Ok(()),
+    }
+}
+
+/// Whether a server is one of those that are known to know no pieces.
+fn is_plain(plain: &[ServerName], name: &ServerName) -> bool
+    ensures { result ≡ is_plain plain.now name.now }
+{
+    plain
+        .iter()
+        .any(|one| same(one.as_bytes(), name.as_bytes()))
+}
+
+/// A line without its CR LF.
+pub(crate) fn body(line: &[u8]) -> &[u8]
+    ensures { result.now ≡ body line.now }
+{
+    &line[..line.len().saturating_sub(2)]
+}
+
+/// Whether a line is a KILL on the link by which the line came that is being done.
+fn is_echo(arrival: Option<u64>, link: u64, line: &[u8]) -> bool
+    ensures { result ≡ is_echo arrival link line.now }
+{
+    match arrival {
+        Some(came) if came == link => is_kill(line),
+        _ => false,
+    }
+}
+
+fn is_kill(line: &[u8]) -> bool
+    ensures { result ≡ is_kill_read (read_of line.now) }
+{
+    match parse(line) {
+        Ok(message) => is_command(b"KILL", message.command),
+        Err(_) => false,
+    }
+}

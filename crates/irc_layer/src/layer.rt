@@ -1,0 +1,338 @@
+//! A layer around a server.
+ghost use Rattle.std.specs.Prelude.{◌≡◌, ◌++◌, is_some, true, false, IfErr, IfOk, OnOk};
+ghost use Rattle.std.specs.Option.{option_copied, option_map};
+ghost use Rattle.irc_crossing.specs.Hearing.{given};
+ghost use Rattle.irc_engine.specs.Machines.{is_out_of_memory, IsConnectedBy, IsRefusal};
+ghost use Rattle.irc_engine.specs.Machines.{IsStillConnected};
+ghost use Rattle.irc_engine.specs.Noting.{far_of};
+ghost use Rattle.irc_pieces.specs.Pieces.{lines_of};
+ghost use Rattle.irc_layer.specs.Ends.{change_end, end_at, end_hearing, ends_followed, heard_if};
+ghost use Rattle.irc_layer.specs.Ends.{met_if, with_log_after};
+ghost use Rattle.irc_layer.specs.Layers.{state_of, Gives, GivesKill, GivesKills, HearsAll, HearsIf};
+ghost use Rattle.irc_layer.specs.Layers.{HearsOne, IsAround, IsRefusedBy, Passes, PassesOrNot};
+ghost use Rattle.irc_layer.specs.Layers.{Shuts};
+ghost use Rattle.irc_layer.specs.Putting.{body, count_at, with_count_out};
+ghost use Rattle.irc_layer.specs.declared.end.End.{End as LinksEnd};
+
+use crate::end::{End, body};
+use crate::putting::{Ends, begin, end, put_all};
+use irc_batch::{Batch, CloseReason};
+use irc_burst_lines::kill_text;
+use irc_crossing::Given;
+use irc_engine::Machine;
+use irc_line::{Line, Text};
+use irc_moments::Moment;
+use irc_names::{Nick, ServerName, copied};
+use irc_pieces::Heard;
+use irc_server::{Event, Server, ServerFault};
+use std::alloc::{AllocError, Global};
+use std::collections::BTreeMap;
+
+/// The number that each server has for itself on a link (RFC 2813 section 4.1.2).
+const ITS_OWN: u32 = 1;
+
+/// A layer around a server.
+#[derive(Drop)]
+pub struct Layer {
+    server: Server,
+    /// The end of each link.
+    ends: Ends,
+    /// The servers that are called without the word, since they know no pieces.
+    plain: Vec<ServerName, Global>,
+    /// What the server has put out by the event at hand.
+    held: Batch,
+    alloc: Global,
+}
+
+impl Layer {
+    /// A layer around a server that has no link; these servers are called without the word by which
+    /// two ends agree to count pieces.
+    pub fn new(alloc: Global, server: Server, plain: Vec<ServerName, Global>) -> Self
+        ensures { IsAround server plain.items result }
+    {
+        Layer {
+            server,
+            ends: BTreeMap::new(alloc),
+            plain,
+            held: Batch::new(alloc),
+            alloc,
+        }
+    }
+
+    /// The server is given an event, and what it puts out goes on; `arrival` is the link by which
+    /// the line came that it is.
+    fn pass(
+        &mut self,
+        arrival: Option<u64>,
+        event: &Event,
+        out: &mut Batch,
+    ) -> Result<(), ServerFault>
+        ensures passes { OnOk result
+            (Passes arrival event.now (state_of self.old out.old) (state_of self.new out.new)) }
+        ensures connected { OnOk result (IsConnectedBy self.old.server event.now out.old.outs
+            self.new.server out.new.outs) }
+        ensures refused { IfErr result (λ fault. is_out_of_memory fault ≡ false
+            → IsRefusedBy event.now (state_of self.old out.old) (state_of self.new out.new) fault) }
+        ensures owed { IfErr result (IsRefusal self.old.server event.now) }
+    {
+        self.held.clear();
+        Machine::handle(&mut self.server, event, &mut self.held)?;
+        follow(&mut self.ends, self.alloc, self.plain.as_slice(), event)?;
+        put_all(&mut self.ends, arrival, &self.held, out)?;
+        Ok(())
+    }
+
+    /// The same, where the server may refuse it: then nothing has changed.
+    fn pass_if_taken(
+        &mut self,
+        arrival: Option<u64>,
+        event: &Event,
+        out: &mut Batch,
+    ) -> Result<bool, AllocError>
+        ensures passes { IfOk result (λ is_taken. PassesOrNot is_taken arrival event.now
+            (state_of self.old out.old) (state_of self.new out.new)) }
+        ensures connected { IfOk result (λ is_taken. is_taken ≡ true
+            → IsConnectedBy self.old.server event.now out.old.outs self.new.server out.new.outs) }
+    {
+        match self.pass(arrival, event, out) {
+            Ok(()) => Ok(true),
+            Err(ServerFault::Memory | ServerFault::Failed) => Err(AllocError),
+            Err(_) => Ok(false),
+        }
+    }
+
+    /// A line of a link has come.
+    fn hear(&mut self, link: u64, line: &Line, out: &mut Batch) -> Result<(), AllocError> 
+        ensures heard { OnOk result
+            (HearsIf (end_at self.old.ends link) link line.now.items (state_of self.old out.old) (state_of self.new out.new)) }
+        ensures connected { OnOk result (IsStillConnected self.old.server out.old.outs
+            self.new.server out.new.outs) }
+    {
+        match hear_at(&mut self.ends, link, line)? {
+            Heard::Nothing => Ok(()),
+            Heard::Fault(reason) => self.shut(link, reason, out),
+            Heard::Piece(piece) => {
+                self.hear_all(link, piece.lines, out)?;
+                tell_count(&mut self.ends, link, out)
+            }
+        }
+    }
+
+    /// A link is closed, and the server is told that it is lost.
+    fn shut(&mut self, link: u64, reason: CloseReason, out: &mut Batch) -> Result<(), AllocError> 
+        ensures heard { OnOk result
+            (Shuts link reason (state_of self.old out.old) (state_of self.new out.new)) }
+        ensures connected { OnOk result (IsStillConnected self.old.server out.old.outs
+            self.new.server out.new.outs) }
+    {
+        if self.pass_if_taken(None, &Event::LinkDown(link), out)? {
+            out.close_link(link, reason)?;
+        }
+        Ok(())
+    }
+
+    /// The lines of a piece have come.
+    fn hear_all(
+        &mut self,
+        link: u64,
+        lines: Vec<Line, Global>,
+        out: &mut Batch,
+    ) -> Result<(), AllocError> 
+        ensures heard { OnOk result
+            (HearsAll link (lines_of lines.items) (state_of self.old out.old) (state_of self.new out.new)) }
+        ensures connected { OnOk result (IsStillConnected self.old.server out.old.outs
+            self.new.server out.new.outs) }
+    {
+        let mut rest = lines.into_iter();
+        while let Some(line) = rest.next() {
+            self.hear_one(link, line, out)?;
+        }
+        Ok(())
+    }
+
+    /// A line of a piece has come. Where the link was closed before it, it is left out.
+    fn hear_one(&mut self, link: u64, line: Line, out: &mut Batch) -> Result<(), AllocError> 
+        ensures heard { OnOk result
+            (HearsOne link line.items (state_of self.old out.old) (state_of self.new out.new)) }
+        ensures connected { OnOk result (IsStillConnected self.old.server out.old.outs
+            self.new.server out.new.outs) }
+    {
+        match give_at(&mut self.ends, link, &line) {
+            Some(Given::AsItCame) => self.give(link, line, out),
+            Some(Given::Changed(text)) => self.give(link, line_of(&text), out),
+            Some(Given::Kills(nick, other)) => self.give_kills(link, &nick, other.as_ref(), out),
+            Some(Given::LeftOut) | None => Ok(()),
+        }
+    }
+
+    /// The server is given a line.
+    fn give(&mut self, link: u64, line: Line, out: &mut Batch) -> Result<(), AllocError> 
+        ensures heard { OnOk result
+            (Gives link line.items (state_of self.old out.old) (state_of self.new out.new)) }
+        ensures connected { OnOk result (IsStillConnected self.old.server out.old.outs
+            self.new.server out.new.outs) }
+    {
+        self.pass_if_taken(Some(link), &Event::LinkLine(link, line), out)?;
+        self.meet(link);
+        Ok(())
+    }
+
+    /// An end is met once the server knows who is at the other one.
+    fn meet(&mut self, link: u64)
+        ensures server { self.new.server ≡ self.old.server }
+        ensures plain { self.new.plain ≡ self.old.plain }
+        ensures ends { end_at self.new.ends ≡ change_end link
+            (met_if (is_some (far_of self.old.server link))) (end_at self.old.ends) }
+    {
+        let is_met = self.far(link).is_some();
+        meet_at(&mut self.ends, link, is_met);
+    }
+
+    /// The server that is known at the other end of a link.
+    fn far(&self, link: u64) -> Option<&ServerName>
+        ensures { option_copied result ≡ far_of self.now.server link }
+    {
+        match self.server.routes() {
+            Some(routes) => routes.token_in(link, ITS_OWN),
+            None => None,
+        }
+    }
+
+    /// Two users of one nickname are killed, or one.
+    fn give_kills(
+        &mut self,
+        link: u64,
+        nick: &Nick,
+        other: Option<&Nick>,
+        out: &mut Batch,
+    ) -> Result<(), AllocError> 
+        ensures heard { OnOk result
+            (GivesKills link nick.now (option_copied other.entry) (state_of self.old out.old) (state_of self.new out.new)) }
+        ensures connected { OnOk result (IsStillConnected self.old.server out.old.outs
+            self.new.server out.new.outs) }
+    {
+        self.give_kill(link, nick, out)?;
+        match other {
+            Some(other) => self.give_kill(link, other, out),
+            None => Ok(()),
+        }
+    }
+
+    /// A user is killed, as by the server at the other end.
+    fn give_kill(&mut self, link: u64, nick: &Nick, out: &mut Batch) -> Result<(), AllocError> 
+        ensures heard { OnOk result
+            (GivesKill link nick.now (state_of self.old out.old) (state_of self.new out.new)) }
+        ensures connected { OnOk result (IsStillConnected self.old.server out.old.outs
+            self.new.server out.new.outs) }
+    {
+        let Some(peer) = self.far(link) else {
+            return Ok(());
+        };
+        let line = line_of(&kill_text(peer, nick));
+        self.give(link, line, out)
+    }
+}
+
+/// A link that begins has an end, and one that is lost has none.
+fn follow(
+    ends: &mut Ends,
+    alloc: Global,
+    plain: &[ServerName],
+    event: &Event,
+) -> Result<(), AllocError>
+    ensures { OnOk result
+        (end_at ends.new ≡ ends_followed event.now plain.now (end_at ends.old)) }
+{
+    match event {
+        Event::LinkUp(link, name) => begin(ends, *link, End::new(alloc, name.as_ref(), plain)),
+        Event::LinkDown(link) => {
+            end(ends, *link);
+            Ok(())
+        }
+        Event::Connect(_, _) | Event::Line(_, _) | Event::Gone(_) | Event::LinkLine(_, _) => Ok(()),
+    }
+}
+
+/// The end of a link takes a line, if there is one.
+fn hear_at(ends: &mut Ends, link: u64, line: &Line) -> Result<Heard, AllocError>
+    ensures heard { IfOk result
+        (λ heard. heard ≡ heard_if line.now.items (end_at ends.old link)) }
+    ensures ends { OnOk result
+        (end_at ends.new ≡ change_end link (end_hearing line.now.items) (end_at ends.old)) }
+{
+    match ends.get_mut(&link) {
+        Some(end) => end.hear(copied(line.as_slice())),
+        None => Ok(Heard::Nothing),
+    }
+}
+
+/// What the server is given for a line, if the link has an end.
+fn give_at(ends: &mut Ends, link: u64, line: &Line) -> Option<Given>
+    ensures given { result
+        ≡ option_map (λ (end : LinksEnd). given end.log line.now.items) (end_at ends.old link) }
+    ensures ends { end_at ends.new
+        ≡ change_end link (with_log_after line.now.items) (end_at ends.old) }
+{
+    match ends.get_mut(&link) {
+        Some(end) => Some(end.give(line.as_slice())),
+        None => None,
+    }
+}
+
+/// The other end of a link has named itself, if it has.
+fn meet_at(ends: &mut Ends, link: u64, is_met: bool)
+    ensures { end_at ends.new ≡ change_end link (met_if is_met) (end_at ends.old) }
+{
+    if let Some(end) = ends.get_mut(&link) {
+        end.meet_if(is_met);
+    }
+}
+
+/// The count goes alone, where so much was read of a link that it is to.
+fn tell_count(ends: &mut Ends, link: u64, out: &mut Batch) -> Result<(), AllocError>
+    ensures outs { OnOk result
+        (out.new.outs ≡ out.old.outs ++ count_at link (end_at ends.old link)) }
+    ensures ends { OnOk result
+        (end_at ends.new ≡ change_end link with_count_out (end_at ends.old)) }
+{
+    match ends.get_mut(&link) {
+        Some(end) => end.tell_count(link, out),
+        None => Ok(()),
+    }
+}
+
+/// A line without its CR LF.
+fn line_of(text: &Text) -> Line
+    ensures { result.items ≡ body text.now.items }
+{
+    copied(body(text.as_slice()))
+}
+
+impl Machine for Layer {
+    ghost use Rattle.irc_engine.specs.Machines.{never_due};
+    ghost use Rattle.irc_layer.specs.Layers.{server_of, IsLayered};
+
+    ghost server_of = { server_of };
+
+    ghost handles = { IsLayered };
+
+    ghost dues = { never_due };
+
+    fn handle(&mut self, event: &Event, out: &mut Batch) -> Result<(), ServerFault> {
+        if let Event::LinkLine(link, line) = event
+            && self.ends.contains_key(link)
+        {
+            self.hear(*link, line, out)?;
+            return Ok(());
+        }
+        self.pass(None, event, out)
+    }
+
+    fn due(&mut self, _moment: Moment, _out: &mut Batch) -> Result<(), ServerFault> {
+        Ok(())
+    }
+
+    fn server(&self) -> &Server {
+        &self.server
+    }
+}
