@@ -22,7 +22,7 @@ use Rattle.ircd.specs.Loops.SettingUp.{FindsCallee, FindsCallees, FindsName, Fin
 use Rattle.ircd.specs.Serving.{AreCalled, Configures, IsAddress, IsNoAddress, IsReadSetup}
 use Rattle.ircd.specs.Serving.{IsRefused, IsSomeUncalled, SetsUp}
 use Rattle.ircd.specs.Serving.{nobody, uncalled, called, no_address, no_name, this, later, links}
-use Rattle.ircd.specs.Serving.{own_name, server, refused}
+use Rattle.ircd.specs.Serving.{server, refused}
 use Rattle.ircd.specs.Serving.IsRefused.{called as uncallable}
 use Rattle.irc_endings.specs.Statuses.{stop_of_config}
 
@@ -160,11 +160,6 @@ links_refused settings r stop found failed =
     let none : NotFound (option_map string_bytes settings.listen_links) stop =
     not_found (option_map string_bytes settings.listen_links) stop found in
     refused_by settings r stop failed none.stop_is (links none.written_is none.is_none)
-
-pub own_refused : (settings : Settings) (r : Result Setup Stop) (stop : Stop) → FindsName
-    (string_bytes settings.name) (Err stop) → IsErrAnd r (λ e. e ≡ stop) → SetsUp settings r
-own_refused settings r stop found failed =
-    refused_by settings r stop failed found.0 (own_name found.1)
 
 pub server_refused : (settings : Settings) (config : Config) (r : Result Setup Stop)
     (fault : ConfigFault) → Configures settings config → IsMade config (Err fault)

@@ -1,11 +1,13 @@
 -- What a configuration sets up, and how serving ends.
 use Rattle.std.specs.Prelude.{◌≡◌, ℕ, true, false, Option, Some, None, Result, Ok, Err, List, []}
 use Rattle.std.specs.Prelude.{◌∷◌, map, option_map, is_some, string_bytes, ⊤}
+use Rattle.std.specs.Prelude.{◌&&◌, if◌then◌else◌}
+use Rattle.std.specs.List.{filter_map}
 use Rattle.std.specs.Io.KnownBytes.{Appends}
 use Rattle.std.specs.Net.Grammar.{IsSocketText}
 use Rattle.std.specs.declared.net.socket_addr.SocketAddr.{SocketAddr}
 use Rattle.irc_outbox.specs.Calls.{Call}
-use Rattle.irc_names.specs.Names.{IsServer}
+use Rattle.irc_names.specs.Names.{IsServer, is_server}
 use Rattle.irc_settings.specs.declared.settings.Settings.{Settings}
 use Rattle.irc_settings.specs.declared.settings.LinesPace.{LinesPace as SettingsPace}
 use Rattle.irc_settings.specs.declared.settings.PeerSettings.{PeerSettings}
@@ -13,12 +15,13 @@ use Rattle.irc_settings.specs.Configuration.{AreSettingsOf, is_configuration}
 use Rattle.irc_server.specs.declared.config.Config.{Config}
 use Rattle.irc_server.specs.Configuring.{config_fault, made_view}
 use Rattle.irc_stage.specs.View.{KnownPeer, known_peer}
+use Rattle.irc_engine.specs.Machines.{never_due}
 use Rattle.irc_engine.specs.Turning.{IsNew}
-use Rattle.irc_engine.specs.EngineView.{EngineView}
-use Rattle.irc_engine.specs.Telling.{ToldTurns}
+use Rattle.irc_engine.specs.EngineView.{EngineViewOf}
+use Rattle.irc_engine.specs.Telling.{ToldTurnsBy}
 use Rattle.irc_journal.specs.Saying.{AreSomeSaid}
-use Rattle.irc_late.specs.declared.late_wire.LateWire.{LateWire}
-use Rattle.irc_late.specs.Around.{IsAround}
+use Rattle.irc_layer.specs.declared.layer.Layer.{Layer}
+use Rattle.irc_layer.specs.Layers.{server_of, IsAround, IsLayered}
 use Rattle.irc_turns.specs.Spreads.{name_spread}
 use Rattle.irc_turns.specs.declared.allowance.LinesPace.{LinesPace}
 use Rattle.irc_sockets.specs.declared.calls.Callee.{Callee}
@@ -80,6 +83,14 @@ pub data IsSomeUncalled : List PeerSettings → Type 0 where
 abbrev pub peer_set : PeerSettings → KnownPeer
 peer_set peer = record { name = string_bytes peer.name; password = string_bytes peer.password }
 
+-- the name of a peer that knows no pieces, and the names of all such peers, in order
+abbrev pub plain_name : PeerSettings → Option (List ℕ)
+plain_name peer = if peer.plain && is_server (string_bytes peer.name)
+    then Some (string_bytes peer.name) else None
+
+abbrev pub plain_names : List PeerSettings → List (List ℕ)
+plain_names peers = filter_map plain_name peers
+
 -- what the server of the settings is configured to be
 pub record Configures (settings : Settings) (config : Config) : Type 0 where
   pub name : config.own.name.items ≡ string_bytes settings.name
@@ -93,18 +104,18 @@ pace_set None = None
 pace_set (Some pace) = Some (record { per_second = pace.per_second; burst = pace.burst })
 
 -- The server is made of the settings, without clients, and of their name; where it listens, whom it
--- calls, and again when, by its own name too, how many connections an address may have, how many of
--- these for links without a name and for how long, to which pace of lines clients keep, and how much
--- may wait is theirs.
+-- calls, without the word by which pieces are counted too, and again when, by its own name too, how
+-- many connections an address may have, how many of these for links without a name and for how long,
+-- to which pace of lines clients keep, and how much may wait is theirs.
 pub record IsSetUp (settings : Settings) (setup : Setup) : Type 0 where
   pub config : Config
   pub configures : Configures settings config
   pub no_fault : config_fault config ≡ None
   pub server_is : setup.server ≡ Some (made_view config)
-  pub own : setup.own ≡ string_bytes settings.name
   pub clients : IsSocketText (string_bytes settings.listen) setup.clients
   pub links : IsAddress (option_map string_bytes settings.listen_links) setup.links
   pub called : AreCalled settings.peers.items setup.callees.items
+  pub plain : setup.plain.items ≡ plain_names settings.peers.items
   pub spread : setup.spread ≡ name_spread (string_bytes settings.name)
   pub connections_per_address : setup.connections_per_address ≡ settings.connections_per_address
   pub name_within : setup.name_within ≡ settings.name_within
@@ -114,14 +125,13 @@ pub record IsSetUp (settings : Settings) (setup : Setup) : Type 0 where
   pub client_room : setup.client_room ≡ settings.client_room
   pub link_room : setup.link_room ≡ settings.link_room
 
--- why nothing is set up by settings: an address that is none, a peer that cannot be called, a name
--- that is no server's, or a server that is refused
+-- why nothing is set up by settings: an address that is none, a peer that cannot be called, or is
+-- named as no server is, or a server that is refused
 pub data IsRefused (settings : Settings) : Type 0 where
   clients : IsNoAddress (string_bytes settings.listen) → IsRefused settings
   links : {text : List ℕ} → option_map string_bytes settings.listen_links ≡ Some text
       → IsNoAddress text → IsRefused settings
   called : IsSomeUncalled settings.peers.items → IsRefused settings
-  own_name : ¬ (IsServer (string_bytes settings.name)) → IsRefused settings
   server : (config : Config) → Configures settings config → is_some (config_fault config) ≡ true
       → IsRefused settings
 
@@ -168,18 +178,17 @@ listening_of setup =
       pace = setup.pace;
     }
 
--- An engine is open: it has served nobody, its server is the one that was set up, an outbox has
--- room for as much as was set up, and its wire is one around a wire that listens where that was,
--- and calls whom that was to call, again by that spread; KILLs are written back from the server of
--- that name.
-pub record IsOpened (setup : Setup) (engine : EngineView (LateWire MioWire)) : Type 0 where
-  pub wire : LateWire MioWire
+-- An engine is open: it has served nobody, its layer is one around the server that was set up, an
+-- outbox has room for as much as was set up, and its wire listens where that was, and calls whom
+-- that was to call, again by that spread.
+pub record IsOpened (setup : Setup) (engine : EngineViewOf MioWire Layer) : Type 0 where
+  pub layer : Layer
+  pub is_around : IsAround setup.server setup.plain.items layer
   pub sockets : MioWire
-  pub is_around : IsAround sockets setup.own wire
   pub listens : ListensAt (listening_of setup) sockets
   pub callees : sockets.calls.asked ≡ setup.callees
   pub spread : sockets.calls.retries.spread ≡ setup.spread
-  pub is_new : IsNew setup.server wire setup.client_room setup.link_room engine
+  pub is_new : IsNew layer sockets setup.client_room setup.link_room engine
 
 -- None is: nothing was said; or that it cannot listen where clients, or servers, are to come.
 pub data IsUnopened (setup : Setup) (errors errors_after : Option (List ℕ)) : Type 0 where
@@ -189,13 +198,21 @@ pub data IsUnopened (setup : Setup) (errors errors_after : Option (List ℕ)) : 
   links_closed : (address : SocketAddr) → setup.links ≡ Some address
       → SaysClosed address errors errors_after → IsUnopened setup errors errors_after
 
+-- so many turns of an engine with a layer, with what is said behind each
+abbrev pub LayeredTurns : {W : Type 0} → (W → List Call → Type 0) → EngineViewOf W Layer
+    → Option (List ℕ) → ℕ → EngineViewOf W Layer → Option (List ℕ) → Type 0
+LayeredTurns is_after old held turns new after =
+    ToldTurnsBy is_after server_of IsLayered never_due old held turns new after
+
 -- `ready` was printed, all turns were taken, and behind each what there was to tell was said; else
 -- a front of `ready` was printed, the program failed, and what was said is lines of the journal
-abbrev pub Serves : {W : Type 0} → (W → List Call → Type 0) → ℕ → EngineView W → EngineView W
+abbrev pub Serves : {W : Type 0} → (W → List Call → Type 0) → ℕ → EngineViewOf W Layer
+    → EngineViewOf W Layer
     → Option (List ℕ) → Option (List ℕ) → Option (List ℕ) → Option (List ℕ) → Result (Unit {0}) Stop
     → Type 0
 Serves is_after turns old new printed printed_after errors errors_after (Ok _) =
-    Appends printed printed_after ready_text × ToldTurns is_after old errors turns new errors_after
+    Appends printed printed_after ready_text
+    × LayeredTurns is_after old errors turns new errors_after
 Serves is_after turns old new printed printed_after errors errors_after (Err Failed) =
     Wrote printed printed_after ready_text × AreSomeSaid errors errors_after
 Serves is_after turns old new printed printed_after errors errors_after (Err BadConfiguration) = ⊥
@@ -221,11 +238,11 @@ pub record IsServed (text : List ℕ) (turns : ℕ)
     (printed printed_after errors errors_after : Option (List ℕ)) : Type 0 where
   pub setup : Setup
   pub is_text_of : IsTextOf text setup
-  pub first : EngineView (LateWire MioWire)
-  pub last : EngineView (LateWire MioWire)
+  pub first : EngineViewOf MioWire Layer
+  pub last : EngineViewOf MioWire Layer
   pub is_opened : IsOpened setup first
   pub is_ready : Appends printed printed_after ready_text
-  pub taken : ToldTurns (λ wire calls. ⊤) first errors turns last errors_after
+  pub taken : LayeredTurns (λ wire calls. ⊤) first errors turns last errors_after
 
 -- How serving by a text ends: anything was printed or said only where the text sets up a server; a
 -- bad text is refused, and nothing printed or said.

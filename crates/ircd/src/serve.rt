@@ -11,7 +11,7 @@ use crate::closed_door::say_closed;
 use crate::setup::{Setup, read_setup};
 use irc_endings::{Stop, say_ready};
 use irc_engine::Engine;
-use irc_late::LateWire;
+use irc_layer::Layer;
 use irc_outbox::Wire;
 use irc_sockets::{ListenFault, Listening, MioWire};
 use std::alloc::Global;
@@ -77,7 +77,7 @@ fn open<T: Net, E: Write>(
     alloc: Global,
     setup: Setup,
     errors: &mut E,
-) -> Result<Engine<LateWire<MioWire>>, Stop>
+) -> Result<Engine<MioWire, Layer>, Stop>
     requires { HasNobody setup.server }
     ensures { Opens setup result (E.contents errors.old) (E.contents errors.new) }
 {
@@ -96,13 +96,8 @@ fn open<T: Net, E: Write>(
         Ok(wire) => wire,
         Err(fault) => return Err(stop_for(fault, errors)),
     };
-    let engine = Engine::new(
-        alloc,
-        setup.server,
-        LateWire::new(alloc, wire, setup.own),
-        setup.client_room,
-        setup.link_room,
-    )?;
+    let layer = Layer::new(alloc, setup.server, setup.plain);
+    let engine = Engine::new(alloc, layer, wire, setup.client_room, setup.link_room)?;
     Ok(engine)
 }
 
@@ -123,7 +118,7 @@ fn stop_for<E: Write>(fault: ListenFault, errors: &mut E) -> Stop
 
 /// Says `ready`, and takes so many turns.
 fn run_engine<W: Wire, O: Write, E: Write>(
-    engine: &mut Engine<W>,
+    engine: &mut Engine<W, Layer>,
     turns: u64,
     output: &mut O,
     errors: &mut E,
@@ -138,7 +133,7 @@ fn run_engine<W: Wire, O: Write, E: Write>(
 
 /// Takes so many turns, up to the first that is not done: it is the last, and the program fails.
 fn take_turns<W: Wire, E: Write>(
-    engine: &mut Engine<W>,
+    engine: &mut Engine<W, Layer>,
     turns: u64,
     errors: &mut E,
 ) -> Result<(), Stop>

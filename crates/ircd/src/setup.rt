@@ -4,6 +4,7 @@ ghost use Rattle.std.specs.Prelude.{option_to_list, string_bytes};
 ghost use Rattle.irc_stage.specs.View.{known_peer};
 ghost use Rattle.irc_turns.specs.Spreads.{name_spread};
 ghost use Rattle.ircd.specs.Serving.{Configures, IsReadSetup, SetsUp, pace_set, peer_set};
+ghost use Rattle.ircd.specs.Serving.{plain_name, plain_names};
 ghost use Rattle.ircd.specs.Loops.SettingUp.{FindsAddress, FindsCallee, FindsCallees, FindsName};
 ghost use Rattle.ircd.specs.Loops.SettingUp.{FindsOptional};
 
@@ -22,14 +23,14 @@ use std::net::SocketAddr;
 pub struct Setup {
     /// The server, which nobody is connected to.
     pub server: Server,
-    /// Its name.
-    pub own: ServerName,
     /// Where it listens for clients.
     pub clients: SocketAddr,
     /// Where it listens for servers, if it does.
     pub links: Option<SocketAddr>,
     /// The servers that it calls, in the order of its peers.
     pub callees: Vec<Callee, Global>,
+    /// Those of its peers that know no pieces, and are called without the word for them.
+    pub plain: Vec<ServerName, Global>,
     /// How many milliseconds more it waits before the first call that it makes again, by its own
     /// name.
     pub spread: u64,
@@ -72,7 +73,7 @@ fn set_up(alloc: Global, settings: &Settings) -> Result<Setup, Stop>
         clients: address(settings.listen.as_str())?,
         links: optional_address(settings.listen_links.as_ref())?,
         server: Server::new(alloc, config(alloc, settings)?)?,
-        own: server_name(settings.name.as_str())?,
+        plain: plain_names(alloc, &settings.peers)?,
         spread: own_spread(settings),
         connections_per_address: settings.connections_per_address,
         name_within: settings.name_within,
@@ -184,6 +185,46 @@ fn callee_of(peer: &PeerSettings) -> Result<Option<Callee>, Stop>
             }))
         }
         None => Ok(None),
+    }
+}
+
+/// The names of those peers that know no pieces.
+fn plain_names(
+    alloc: Global,
+    peers: &[PeerSettings],
+) -> Result<Vec<ServerName, Global>, AllocError>
+    ensures { IfOk result (λ names. names.items ≡ plain_names peers.now) }
+{
+    let mut names = Vec::new(alloc);
+    for peer in peers {
+        add_name(&mut names, plain_name(peer))?;
+    }
+    Ok(names)
+}
+
+fn add_name(
+    names: &mut Vec<ServerName, Global>,
+    name: Option<ServerName>,
+) -> Result<(), AllocError>
+    ensures { OnOk result (names.new.items ≡ names.old.items ++ option_to_list name) }
+{
+    match name {
+        Some(name) => {
+            names.push(name)?;
+            Ok(())
+        }
+        None => Ok(()),
+    }
+}
+
+/// The name of a peer that knows no pieces. A name that is no server's is of nobody who is called.
+fn plain_name(peer: &PeerSettings) -> Option<ServerName>
+    ensures { result ≡ plain_name peer.now }
+{
+    if peer.plain {
+        ServerName::read(peer.name.as_bytes())
+    } else {
+        None
     }
 }
 

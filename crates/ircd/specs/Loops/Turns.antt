@@ -1,20 +1,18 @@
 -- What comes of opening a server, and of turns, one after another.
 use Rattle.std.specs.Prelude.{◌≡◌, ℕ, ◌⊎◌, Option, Result, Ok, Err, List}
 use Rattle.irc_outbox.specs.Calls.{Call}
-use Rattle.irc_late.specs.declared.late_wire.LateWire.{LateWire}
 use Rattle.irc_sockets.specs.declared.mio_wire.MioWire.{MioWire}
 use Rattle.irc_engine.specs.declared.engine.Engine.{Engine}
-use Rattle.irc_engine.specs.EngineView.{EngineView, engine_view}
-use Rattle.irc_engine.specs.Telling.{ToldTurns}
-use Rattle.irc_stage.specs.View.{View}
+use Rattle.irc_engine.specs.EngineView.{EngineViewOf, engine_view}
+use Rattle.irc_layer.specs.declared.layer.Layer.{Layer}
 use Rattle.irc_journal.specs.Saying.{AreSomeSaid}
 use Rattle.irc_endings.specs.declared.fault.Stop.{Stop}
 use Rattle.irc_endings.specs.declared.fault.Stop.TheVariants.{BadConfiguration, Failed}
 use Rattle.ircd.specs.declared.setup.Setup.{Setup}
-use Rattle.ircd.specs.Serving.{IsOpened, IsUnopened, Serves}
+use Rattle.ircd.specs.Serving.{IsOpened, IsUnopened, LayeredTurns, Serves}
 
 -- what was set up is open, and nothing was said; or the program failed
-abbrev pub Opens : {g : _} → Setup → Result (Engine (LateWire MioWire) (Option View) g) Stop
+abbrev pub Opens : {g : _} → Setup → Result (Engine MioWire Layer g) Stop
     → (errors errors_after : Option (List ℕ)) → Type 0
 Opens setup (Ok engine) errors errors_after =
     IsOpened setup (engine_view engine) × (errors_after ≡ errors)
@@ -22,16 +20,16 @@ Opens setup (Err stop) errors errors_after = (stop ≡ Failed) × IsUnopened set
 
 -- all of so many turns were taken, or one was not, and the program failed; what was said is of
 -- links
-abbrev pub TakesTurns : {W : Type 0} → (W → List Call → Type 0) → EngineView W → ℕ → EngineView W
-    → Option (List ℕ) → Option (List ℕ) → Result (Unit {0}) Stop → Type 0
+abbrev pub TakesTurns : {W : Type 0} → (W → List Call → Type 0) → EngineViewOf W Layer → ℕ
+    → EngineViewOf W Layer → Option (List ℕ) → Option (List ℕ) → Result (Unit {0}) Stop → Type 0
 TakesTurns is_after old turns new errors errors_after (Ok _) =
-    ToldTurns is_after old errors turns new errors_after
+    LayeredTurns is_after old errors turns new errors_after
 TakesTurns is_after old turns new errors errors_after (Err stop) =
     (stop ≡ Failed) × AreSomeSaid errors errors_after
 
 -- how serving by an engine ends, once it is open
 abbrev pub IsRun : {W : Type 0} {g : _} → (W → List Call → Type 0) → ℕ
-    → (old new : Engine W (Option View) g)
+    → (old new : Engine W Layer g)
     → (printed printed_after errors errors_after : Option (List ℕ)) → Result (Unit {0}) Stop
     → Type 0
 IsRun is_after turns old new printed printed_after errors errors_after result =

@@ -1,0 +1,2 @@
+pub mod Connecting
+pub mod Kept
