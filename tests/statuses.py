@@ -84,7 +84,8 @@ GOOD = [
     written(OWN | {"lines_per_second": "2", "burst_lines": "1"}), written(OWN | {"burst_lines": "1000", "lines_per_second": "1"}),
     with_own("peer", '[{name = "b.net", password = "pw"}, {\n  name = "c.net", # the other\n  password = "\\x70w",\n}]'),
     with_peer(password='"!"'), with_peer(password='"' + 19 * "~" + ':"'), with_peer(connect='"127.0.0.1:1"', retry="1"),
-    with_peer(connect='"[::ffff:127.0.0.1%0]:01"', retry="3600"), written(OWN, PEER, PEER | {"name": '"c.net"'}),
+    with_peer(connect='"[::ffff:127.0.0.1%0]:01"', retry="3600"),
+    *[with_peer(connect='"127.0.0.1:1"', plain=plain) for plain in ("true", "false")], written(OWN, PEER, PEER | {"name": '"c.net"'}),
 ]
 
 # the key or peer that is to be named, and a file that is refused
@@ -119,6 +120,8 @@ BAD = [
     ("peer 1: connect", with_peer(connect="3")), ("peer 1: connect", with_peer(connect='"b.net:1"')),
     ("peer 1: retry", with_peer(connect='"127.0.0.1:1"', retry="0")), ("peer 1: retry", with_peer(connect='"127.0.0.1:1"', retry="3601")),
     ("peer 1: retry", with_peer(connect='"127.0.0.1:1"', retry='"1"')), ("peer 1: retry", with_peer(retry="1")),
+    *[("peer 1: plain", with_peer(connect='"127.0.0.1:1"', plain=plain)) for plain in ("1", '"true"', "[true]")],
+    *[("peer 1: plain", with_peer(plain=plain)) for plain in ("true", "false")], ("plain", with_own("plain", "true")),
     ("peer 1: listen_links", with_peer(listen_links='"127.0.0.1:0"')), ("peer 1: port", with_peer(port="1")),
     ("it is no TOML", written(OWN) + "client_room\n"), ("name", written(OWN) + 'name = "a.net"\n'),
     ("client_room", written(OWN) + "# another one\n  client_room\t= 4096 # again\n"), ("listen", written(OWN) + '"listen" = """\n127.0.0.1:0"""\n'),

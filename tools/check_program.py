@@ -148,7 +148,7 @@ def free_port():
 def own_addresses(configuration):
     """A configuration that listens at a port that the system chooses, and calls nobody."""
     configuration = re.sub(r"(?m)^(listen\w* *=).*", r'\1 "127.0.0.1:0"', configuration)
-    return re.sub(r"(?m)^(connect|retry) *=.*\n", "", configuration)
+    return re.sub(r"(?m)^(connect|retry|plain) *=.*\n", "", configuration)
 
 
 def try_configurations(tried, program):

@@ -4,7 +4,8 @@ use Rattle.std.specs.Prelude.{Result, Ok, Err}
 use Rattle.std.specs.Prelude.{option_map, option_and_then, List, [], map, codes, string_bytes}
 use Rattle.std.specs.List.{filter_map}
 use Rattle.std.specs.Option.{option_map_or, unwrap_or}
-use Rattle.toml.specs.Data.{Data, Members, get_member, as_str, as_integer, as_array, as_table}
+use Rattle.toml.specs.Data.{Data, Members, get_member, as_str, as_integer, as_bool, as_array}
+use Rattle.toml.specs.Data.{as_table}
 use Rattle.toml.specs.Parse.{parse_document}
 use Rattle.irc_settings.specs.declared.settings.Settings.{Settings}
 use Rattle.irc_settings.specs.declared.settings.PeerSettings.{PeerSettings}
@@ -19,6 +20,10 @@ text_at key table = option_and_then as_str (get_member key table)
 
 abbrev pub integer_at : List ℕ → Members → Option ℤ
 integer_at key table = option_and_then as_integer (get_member key table)
+
+-- whether a table says so at a key: where it has nothing there, it does not
+abbrev pub flag_at : List ℕ → Members → Bool
+flag_at key table = unwrap_or (option_and_then as_bool (get_member key table)) false
 
 -- the limit that a number sets: 0 is no limit
 abbrev pub limit_set : ℤ → Option ℤ
@@ -42,6 +47,7 @@ pub record PeerTold : Type 0 where
   pub password : Option (List ℕ)
   pub connect : Option (List ℕ)
   pub retry : Option ℤ
+  pub plain : Bool
 
 abbrev pub peer_at : Members → PeerTold
 peer_at table = record {
@@ -49,6 +55,7 @@ peer_at table = record {
   password = text_at (codes "password") table;
   connect = text_at (codes "connect") table;
   retry = integer_at (codes "retry") table;
+  plain = flag_at (codes "plain") table;
 }
 
 abbrev pub peer_told : PeerSettings → PeerTold
@@ -57,6 +64,7 @@ peer_told peer = record {
   password = Some (string_bytes peer.password);
   connect = option_map string_bytes peer.connect;
   retry = option_map pos peer.retry;
+  plain = peer.plain;
 }
 
 -- how many lines of a client a table lets through: in a second, where it says so, and at once,

@@ -5,13 +5,14 @@ use Rattle.std.specs.List.{list_any, list_all}
 use Rattle.std.specs.Str.{bytes_eq}
 use Rattle.std.specs.Option.{option_map_or}
 use Rattle.toml.specs.Data.{Data, Items, no_items, item, Members, no_members, member, get_member}
-use Rattle.toml.specs.Data.{as_str, as_integer, as_array, as_table}
+use Rattle.toml.specs.Data.{as_str, as_integer, as_bool, as_array, as_table}
 
 -- what may stand at a key
 pub data Kind : Type 0 where
   text : Kind
   -- an integer from the first of these numbers to the second
   integer : ℕ → ℕ → Kind
+  flag : Kind
   -- an array of tables that all pass this test
   tables : (Members → Bool) → Kind
 
@@ -52,6 +53,7 @@ abbrev pub is_of_kind : Kind → Data → Bool
 is_of_kind text value = is_some (as_str value)
 is_of_kind (integer least most) value =
     option_map_or (is_number_between least most) (as_integer value) false
+is_of_kind flag value = is_some (as_bool value)
 is_of_kind (tables test) value = option_map_or (are_tables test) (as_array value) false
 
 -- whether what a table has at a key may stand there: where it has nothing, whether the key may be
@@ -73,19 +75,22 @@ is_in_form keys table =
 abbrev pub peer_keys : List SettingKey
 peer_keys =
     needed (codes "name") text ∷ needed (codes "password") text
-    ∷ optional (codes "connect") text ∷ optional (codes "retry") (integer 1 3600) ∷ []
+    ∷ optional (codes "connect") text ∷ optional (codes "retry") (integer 1 3600)
+    ∷ optional (codes "plain") flag ∷ []
 
 -- whether a table has something at a key
 abbrev pub has_key : List ℕ → Members → Bool
 has_key key table = is_some (get_member key table)
 
--- whether a server that is called again is one that is called
-abbrev pub retries_calls_alone : Members → Bool
-retries_calls_alone table = not (has_key (codes "retry") table) || has_key (codes "connect") table
+-- whether a server of which it is said how it is called is one that is called
+abbrev pub is_called_if_told_how : Members → Bool
+is_called_if_told_how table =
+    (not (has_key (codes "retry") table) && not (has_key (codes "plain") table))
+    || has_key (codes "connect") table
 
 -- whether a table is one `peer`
 abbrev pub is_peer : Members → Bool
-is_peer table = is_in_form peer_keys table && retries_calls_alone table
+is_peer table = is_in_form peer_keys table && is_called_if_told_how table
 
 -- the keys of the document
 abbrev pub server_keys : List SettingKey

@@ -6,9 +6,10 @@ ghost use Rattle.std.specs.BTreeMap.{keys};
 ghost use Rattle.toml.specs.Data.{get_member};
 ghost use Rattle.toml.specs.View.{view, table_view};
 ghost use Rattle.irc_settings.specs.Configuration.{limit_set};
-ghost use Rattle.irc_settings.specs.Loops.Finding.{FindsLimit, FindsOptionalNumber};
+ghost use Rattle.irc_settings.specs.Loops.Finding.{FindsFlag, FindsLimit, FindsOptionalNumber};
 ghost use Rattle.irc_settings.specs.Loops.Finding.{FindsOptionalText, FindsRoom, FindsText};
-ghost use Rattle.irc_settings.specs.Loops.Finding.{ReadsAsNumber, ReadsAsRoom, ReadsAsText};
+ghost use Rattle.irc_settings.specs.Loops.Finding.{ReadsAsFlag, ReadsAsNumber, ReadsAsRoom};
+ghost use Rattle.irc_settings.specs.Loops.Finding.{ReadsAsText};
 ghost use Rattle.irc_settings.specs.Loops.Finding.{is_allowed, view_now};
 
 use crate::{LEAST_ROOM, SettingsFault};
@@ -72,6 +73,29 @@ fn copied(alloc: Global, value: &Value) -> Result<String, SettingsFault>
 {
     match value.as_str() {
         Some(text) => Ok(String::from_str(alloc, text)?),
+        None => Err(SettingsFault::BadConfiguration),
+    }
+}
+
+/// Whether a table says so at a key: where that is left out, it does not.
+///
+/// # Errors
+/// Where something else than a boolean is there.
+pub(crate) fn flag(table: &Table, key: &str) -> Result<bool, SettingsFault>
+    ensures { FindsFlag key.now (table_view table.now) result }
+{
+    match value_at(table, key) {
+        Some(value) => flag_in(value),
+        None => Ok(false),
+    }
+}
+
+/// The boolean that a value is.
+fn flag_in(value: &Value) -> Result<bool, SettingsFault>
+    ensures { ReadsAsFlag (view value.now) result }
+{
+    match value.as_bool() {
+        Some(flag) => Ok(flag),
         None => Err(SettingsFault::BadConfiguration),
     }
 }

@@ -1,17 +1,17 @@
 //! The servers that may be linked to.
 ghost use Rattle.std.specs.Prelude.{◌≡◌, ◌++◌, ◌∷◌, [], OnOk, map};
 ghost use Rattle.toml.specs.View.{view, table_view};
-ghost use Rattle.irc_settings.specs.Keys.{retries_calls_alone};
+ghost use Rattle.irc_settings.specs.Keys.{is_called_if_told_how};
 ghost use Rattle.irc_settings.specs.Loops.Finding.{FindsPeers, ReadsAsPeer, ReadsAsPeers};
 ghost use Rattle.irc_settings.specs.Loops.Finding.{ReadsEachPeer, ReadsPeer};
 
-use crate::finding::{has_only, optional_number, optional_text, text, value_at};
+use crate::finding::{flag, has_only, optional_number, optional_text, text, value_at};
 use crate::{MOST_RETRY, PeerSettings, SettingsFault};
 use std::alloc::{AllocError, Global};
 use toml::{Table, Value};
 
 /// The keys of a table `peer`.
-const PEER_KEYS: [&str; 4] = ["name", "password", "connect", "retry"];
+const PEER_KEYS: [&str; 5] = ["name", "password", "connect", "retry", "plain"];
 
 /// What the tables `peer` tell; nothing where there are none.
 ///
@@ -75,7 +75,7 @@ fn peer_of(alloc: Global, table: &Table) -> Result<PeerSettings, SettingsFault>
     if !has_only(table, &PEER_KEYS) {
         return Err(SettingsFault::BadConfiguration);
     }
-    if !retries_calls_alone(table) {
+    if !is_called_if_told_how(table) {
         return Err(SettingsFault::BadConfiguration);
     }
     Ok(PeerSettings {
@@ -83,12 +83,14 @@ fn peer_of(alloc: Global, table: &Table) -> Result<PeerSettings, SettingsFault>
         password: text(alloc, table, "password")?,
         connect: optional_text(alloc, table, "connect")?,
         retry: optional_number(table, "retry", MOST_RETRY)?,
+        plain: flag(table, "plain")?,
     })
 }
 
-/// Whether a server that is called again is one that is called.
-fn retries_calls_alone(table: &Table) -> bool
-    ensures { result ≡ retries_calls_alone (table_view table.now) }
+/// Whether a server of which it is said how it is called is one that is called.
+fn is_called_if_told_how(table: &Table) -> bool
+    ensures { result ≡ is_called_if_told_how (table_view table.now) }
 {
-    value_at(table, "retry").is_none() || value_at(table, "connect").is_some()
+    (value_at(table, "retry").is_none() && value_at(table, "plain").is_none())
+        || value_at(table, "connect").is_some()
 }

@@ -87,14 +87,19 @@ pub struct PeerSettings {
     /// After how many seconds it is called again, if it is: 1 to [`crate::MOST_RETRY`]. Only a
     /// server that is called has it.
     pub retry: Option<u16>,
+    /// Whether it is called without the word by which two servers agree to count pieces (`exact1`
+    /// in PASS): one that does not know the word refuses a call that has it. Only a server that is
+    /// called has it.
+    pub plain: bool,
 }
 
 /// Reads a configuration file: a TOML document with the keys that [`Settings`] and [`PeerSettings`]
 /// have as fields, and no others; the pace stands at `lines_per_second` and `burst_lines`.
-/// What is an `Option` or a list here may be left out. `name_within` is [`NAME_WITHIN`] then,
-/// `links_per_address` [`LINKS_PER_ADDRESS`], and `burst_lines` [`crate::BURST_LINES`]; 0 at the
-/// first two is no limit. `burst_lines` stands only beside `lines_per_second`, and a peer's `retry`
-/// beside `connect`. Names, passwords and addresses are any texts here.
+/// What is an `Option`, a list or a `bool` here may be left out. `name_within` is [`NAME_WITHIN`]
+/// then, `links_per_address` [`LINKS_PER_ADDRESS`], `burst_lines` [`crate::BURST_LINES`], and
+/// `plain` false; 0 at the first two is no limit. `burst_lines` stands only beside
+/// `lines_per_second`, and a peer's `retry` and `plain` beside `connect`. Names, passwords and
+/// addresses are any texts here.
 ///
 /// # Errors
 /// Where the text is no such document; where memory runs out, which may come first.

@@ -40,7 +40,7 @@ const READY: &[u8] = b"ready\n";
 /// The file that each configuration is written to.
 const FILE: &str = "serve_tests.toml";
 
-static ROWS: [ServeRow; 36] = [
+static ROWS: [ServeRow; 39] = [
     ServeRow {
         room: ROOM,
         more: "",
@@ -262,6 +262,35 @@ static ROWS: [ServeRow; 36] = [
     ServeRow {
         room: ROOM,
         more: "[[peer]]\nname = \"b.net\"\npassword = \"pw\"\nretry = 1\n",
+        words: &["serve", FILE, "0"],
+        status: 3,
+        output: b"",
+        errors: BAD,
+    },
+    // one that is called without the word by which two count pieces
+    ServeRow {
+        room: ROOM,
+        more: "[[peer]]\nname = \"b.net\"\npassword = \"pw\"\nconnect = \"127.0.0.1:1\"\n\
+            plain = true\n",
+        words: &["serve", FILE, "3"],
+        status: 0,
+        output: READY,
+        errors: b"ircd: link to b.net: not reached: Connection refused (os error 111)\n",
+    },
+    // one that would be, and is not called
+    ServeRow {
+        room: ROOM,
+        more: "[[peer]]\nname = \"b.net\"\npassword = \"pw\"\nplain = true\n",
+        words: &["serve", FILE, "0"],
+        status: 3,
+        output: b"",
+        errors: BAD,
+    },
+    // one of which that is said by a number
+    ServeRow {
+        room: ROOM,
+        more: "[[peer]]\nname = \"b.net\"\npassword = \"pw\"\nconnect = \"127.0.0.1:1\"\n\
+            plain = 1\n",
         words: &["serve", FILE, "0"],
         status: 3,
         output: b"",

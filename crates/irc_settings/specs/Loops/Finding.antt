@@ -5,16 +5,18 @@ use Rattle.std.specs.Prelude.{string_bytes}
 use Rattle.std.specs.List.{filter_map, list_all, list_any}
 use Rattle.std.specs.Option.{unwrap_or}
 use Rattle.std.specs.Str.{bytes_eq}
-use Rattle.toml.specs.Data.{Data, Members, as_integer, as_str, as_table}
+use Rattle.toml.specs.Data.{Data, Members, as_bool, as_integer, as_str, as_table}
 use Rattle.toml.specs.Parse.{parse_document}
 use Rattle.toml.specs.View.{table_view, view}
 use Rattle.toml.specs.declared.value.Value.{Value}
 use Rattle.std.specs.BTreeMap.{BTreeMap}
 use Rattle.std.specs.declared.alloc.Global.{Global}
-use Rattle.irc_settings.specs.Configuration.{Tells, integer_at, limit_at, pace_at, pace_told}
-use Rattle.irc_settings.specs.Configuration.{peer_at, peer_told, tables_at, tables_in, text_at}
-use Rattle.irc_settings.specs.Keys.{integer, is_in_form, is_kept, is_of_kind, is_peer, is_server}
-use Rattle.irc_settings.specs.Keys.{is_table, needed, optional, server_keys, tables, text}
+use Rattle.irc_settings.specs.Configuration.{Tells, flag_at, integer_at, limit_at, pace_at}
+use Rattle.irc_settings.specs.Configuration.{pace_told, peer_at, peer_told, tables_at, tables_in}
+use Rattle.irc_settings.specs.Configuration.{text_at}
+use Rattle.irc_settings.specs.Keys.{flag, integer, is_in_form, is_kept, is_of_kind, is_peer}
+use Rattle.irc_settings.specs.Keys.{is_server, is_table, needed, optional, server_keys, tables}
+use Rattle.irc_settings.specs.Keys.{text}
 use Rattle.irc_settings.specs.declared.settings.LinesPace.{LinesPace}
 use Rattle.irc_settings.specs.declared.settings.PeerSettings.{PeerSettings}
 use Rattle.irc_settings.specs.declared.settings.Settings.{Settings}
@@ -59,6 +61,10 @@ abbrev pub ReadsAsNumber : ℕ → ℕ → Data → Result ℕ SettingsFault →
 ReadsAsNumber least most value =
     FindsValue (is_of_kind (integer least most) value) (λ found. as_integer value ≡ Some (pos found))
 
+-- a boolean
+abbrev pub ReadsAsFlag : Data → Result Bool SettingsFault → Type 0
+ReadsAsFlag value = FindsValue (is_of_kind flag value) (λ found. as_bool value ≡ Some found)
+
 -- ---- what stands at a key
 
 -- a text that has to be there
@@ -86,6 +92,11 @@ FindsOptionalNumber key most table = FindsValue (is_kept table (optional key (in
 abbrev pub FindsLimit : List ℕ → ℕ → ℕ → Members → Result (Option ℕ) SettingsFault → Type 0
 FindsLimit key most left_out table = FindsValue (is_kept table (optional key (integer 0 most)))
     (λ found. limit_at key left_out table ≡ option_map pos found)
+
+-- a boolean that may be left out
+abbrev pub FindsFlag : List ℕ → Members → Result Bool SettingsFault → Type 0
+FindsFlag key table =
+    FindsValue (is_kept table (optional key flag)) (λ found. flag_at key table ≡ found)
 
 -- ---- the pace of lines
 
