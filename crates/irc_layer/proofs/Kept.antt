@@ -1,6 +1,6 @@
 -- What a layer puts out closes just whom its server closes: what it adds is lines on links.
 use Rattle.std.proofs.Common.{◌≡◌, ℕ, Bool, true, false, ◌||◌, Option, Some, None, List, [], ◌∷◌}
-use Rattle.std.proofs.Common.{◌++◌, refl, sym, ◌∙◌, ap, if◌then◌else◌}
+use Rattle.std.proofs.Common.{◌++◌, refl, sym, ◌∙◌, ap, nat_eq, if◌then◌else◌}
 use Rattle.std.specs.List.{list_any}
 use Rattle.std.proofs.lemmas.List.Folds.{list_any-append}
 use Rattle.irc_batch.specs.Batches.{Sent, end_of, end_of_link, line_on, line_to}
@@ -11,8 +11,9 @@ use Rattle.irc_link_end.specs.declared.greeting.WayOut.{WayOut}
 use Rattle.irc_link_end.specs.declared.greeting.WayOut.TheVariants.{Plain, WithWord, InPiece}
 use Rattle.irc_layer.specs.declared.end.End.{End}
 use Rattle.irc_layer.specs.Ends.{Ends}
-use Rattle.irc_layer.specs.Putting.{all_put, body, count_at, count_out, ends_behind, is_echo, line_put}
-use Rattle.irc_layer.specs.Putting.{one_put, out_by, piece_out, with_line_out}
+use Rattle.irc_layer.specs.Putting.{all_put, body, count_at, count_before, count_out, ends_behind}
+use Rattle.irc_layer.specs.Putting.{is_echo, line_put, one_put, out_by, piece_lines, piece_out}
+use Rattle.irc_layer.specs.Putting.{with_line_out}
 
 or_false : (b : Bool) → b ≡ (b || false)
 or_false true = refl
@@ -34,48 +35,55 @@ module _ (test : Sent → Bool) (none : (link : ℕ) (line : List ℕ) → test 
   count_at_fails link None = refl
   count_at_fails link (Some end) = count_fails link _
 
-  piece_fails : (link : ℕ) (line : List ℕ) (end : End)
-      → list_any test (piece_out link line end) ≡ false
-  piece_fails link line end =
-      list_any-append test (count_out link (count_for 1 None end.link.pieces.counts))
-      (line_on link line ∷ [])
-      ∙ ap (λ b. b || list_any test (line_on link line ∷ []))
-      (count_fails link (count_for 1 None end.link.pieces.counts))
-      ∙ one_fails link line
-
   unless_fails : (is : Bool) (outs : List Sent) → list_any test outs ≡ false
       → list_any test (if is then [] else outs) ≡ false
   unless_fails true outs fails = refl
   unless_fails false outs fails = fails
 
-  out_fails : (way : WayOut) (arrival : Option ℕ) (link : ℕ) (line : List ℕ) (end : End)
-      → list_any test (out_by way arrival link line end) ≡ false
-  out_fails Plain arrival link line end = one_fails link line
-  out_fails WithWord arrival link line end = one_fails link _
-  out_fails InPiece arrival link line end =
-      unless_fails (is_echo arrival link (body line)) (piece_out link line end)
-      (piece_fails link line end)
+  if_fails : (is : Bool) (outs : List Sent) → list_any test outs ≡ false
+      → list_any test (if is then outs else []) ≡ false
+  if_fails true outs fails = fails
+  if_fails false outs fails = refl
 
-  line_fails : (arrival : Option ℕ) (link : ℕ) (line : List ℕ) (end : Option End)
-      → list_any test (line_put arrival link line end) ≡ false
-  line_fails arrival link line None = one_fails link line
-  line_fails arrival link line (Some end) =
-      out_fails (way_out end.link) arrival link line (with_line_out end)
+  piece_fails : (link lines : ℕ) (line : List ℕ) (end : End)
+      → list_any test (piece_out link lines line end) ≡ false
+  piece_fails link lines line end =
+      list_any-append test (count_before link lines end) (line_on link line ∷ [])
+      ∙ ap (λ b. b || list_any test (line_on link line ∷ []))
+      (if_fails (nat_eq end.left 0)
+      (count_out link (count_for lines None end.link.pieces.counts))
+      (count_fails link (count_for lines None end.link.pieces.counts)))
+      ∙ one_fails link line
 
-  one_kept : (arrival : Option ℕ) (sent : Sent) (ends : Ends)
-      → list_any test (one_put arrival sent ends) ≡ test sent
-  one_kept arrival (line_on link line) ends =
-      line_fails arrival link line (ends link) ∙ sym (none link line)
-  one_kept arrival (line_to conn line) ends = sym (or_false (test (line_to conn line)))
-  one_kept arrival (end_of conn) ends = sym (or_false (test (end_of conn)))
-  one_kept arrival (end_of_link link reason) ends =
+  out_fails : (way : WayOut) (arrival : Option ℕ) (link lines : ℕ) (line : List ℕ) (end : End)
+      → list_any test (out_by way arrival link lines line end) ≡ false
+  out_fails Plain arrival link lines line end = one_fails link line
+  out_fails WithWord arrival link lines line end = one_fails link _
+  out_fails InPiece arrival link lines line end =
+      unless_fails (is_echo arrival link (body line)) (piece_out link lines line end)
+      (piece_fails link lines line end)
+
+  line_fails : (arrival : Option ℕ) (link lines : ℕ) (line : List ℕ) (end : Option End)
+      → list_any test (line_put arrival link lines line end) ≡ false
+  line_fails arrival link lines line None = one_fails link line
+  line_fails arrival link lines line (Some end) =
+      out_fails (way_out end.link) arrival link lines line (with_line_out end)
+
+  one_kept : (arrival : Option ℕ) (sent : Sent) (outs : List Sent) (ends : Ends)
+      → list_any test (one_put arrival sent outs ends) ≡ test sent
+  one_kept arrival (line_on link line) outs ends =
+      line_fails arrival link (piece_lines link line outs) line (ends link)
+      ∙ sym (none link line)
+  one_kept arrival (line_to conn line) outs ends = sym (or_false (test (line_to conn line)))
+  one_kept arrival (end_of conn) outs ends = sym (or_false (test (end_of conn)))
+  one_kept arrival (end_of_link link reason) outs ends =
       sym (or_false (test (end_of_link link reason)))
 
   pub all_kept : (arrival : Option ℕ) (outs : List Sent) (ends : Ends)
       → list_any test (all_put arrival outs ends) ≡ list_any test outs
   all_kept arrival [] ends = refl
   all_kept arrival (sent ∷ outs) ends =
-      list_any-append test (one_put arrival sent ends)
-      (all_put arrival outs (ends_behind arrival sent ends))
-      ∙ (λ i. one_kept arrival sent ends i
-      || all_kept arrival outs (ends_behind arrival sent ends) i)
+      list_any-append test (one_put arrival sent outs ends)
+      (all_put arrival outs (ends_behind arrival sent outs ends))
+      ∙ (λ i. one_kept arrival sent outs ends i
+      || all_kept arrival outs (ends_behind arrival sent outs ends) i)

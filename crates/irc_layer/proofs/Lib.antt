@@ -1,2 +1,4 @@
 pub mod Connecting
+pub mod Following
 pub mod Kept
+pub mod Numbers

@@ -36,12 +36,13 @@ is_plain plain name = list_any (λ one. same one name) plain
 
 -- The end of a link that begins: of a server that calls this one, or is called.
 abbrev pub new_end : Option (List ℕ) → List (List ℕ) → End
-new_end None plain = record { link = called; log = [] }
-new_end (Some name) plain = record { link = calling (not (is_plain plain name)); log = [] }
+new_end None plain = record { link = called; left = 0; log = [] }
+new_end (Some name) plain =
+    record { link = calling (not (is_plain plain name)); left = 0; log = [] }
 
 -- an end that has heard a line: what the other end says to have read leaves the log
 abbrev pub end_hearing : List ℕ → End → End
-end_hearing line end = record {
+end_hearing line end = record end {
   link = after_hearing line end.link;
   log = unread (after_hearing line end.link).pieces.counts.taken end.log;
 }

@@ -1,3 +1,4 @@
 pub mod Ends
 pub mod Layers
+pub mod Loops
 pub mod Putting

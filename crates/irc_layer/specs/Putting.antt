@@ -5,10 +5,15 @@
 --                                                     :al JOIN #c
 --     to b.net    :al PART #c :bye    a.net writes    :al PART #c :bye
 --     to c.net    :al PART #c :bye    a.net writes    :al PART #c :bye
+-- The servers that are lost together are told of in one piece: else one could seem to be linked to
+-- one that is not there.
+--     to b.net    :a.net SQUIT c.net :..     a.net writes    COUNT 5 2
+--                 :a.net SQUIT d.net :..                     :a.net SQUIT c.net :..
+--                                                            :a.net SQUIT d.net :..
 -- Not put out is one kind of line: a KILL on the link by which the NICK came that it answers. The
 -- other end finds the two users with one nickname as it reads this one's NICK.
-use Rattle.std.specs.Prelude.{ℕ, ◌-◌, Bool, false, ◌&&◌, Option, Some, None, Result, Ok, Err, List}
-use Rattle.std.specs.Prelude.{[], ◌∷◌, ◌++◌, length, take, nat_eq, if◌then◌else◌}
+use Rattle.std.specs.Prelude.{ℕ, suc, ◌-◌, Bool, false, ◌&&◌, Option, Some, None, Result, Ok, Err}
+use Rattle.std.specs.Prelude.{List, [], ◌∷◌, ◌++◌, codes, length, take, min, nat_eq, if◌then◌else◌}
 use Rattle.std.specs.Option.{option_map_or}
 use Rattle.irc_line.specs.declared.reading.LineFault.{LineFault}
 use Rattle.irc_line.specs.Messages.{Parsed, text}
@@ -21,10 +26,13 @@ use Rattle.irc_link_end.specs.LinkEnds.{after_count_out, after_line_out, after_p
 use Rattle.irc_link_end.specs.Offers.{with_word}
 use Rattle.irc_link_end.specs.declared.greeting.WayOut.{WayOut}
 use Rattle.irc_link_end.specs.declared.greeting.WayOut.TheVariants.{Plain, WithWord, InPiece}
+use Rattle.irc_link_words.specs.Words.{is_command}
 use Rattle.irc_crossing.specs.Hearing.{change_told}
 use Rattle.irc_crossing.specs.Lines.{is_kill_line}
 use Rattle.irc_crossing.specs.Logs.{put_out}
 use Rattle.irc_layer.specs.declared.end.End.{End}
+use Rattle.irc_layer.specs.declared.putting.NextLine.{NextLine}
+use Rattle.irc_layer.specs.declared.putting.NextLine.TheVariants.{Another, Elsewhere, Squit}
 use Rattle.irc_layer.specs.Ends.{change_end, with_end, Ends}
 
 -- a line without its CR LF
@@ -40,6 +48,37 @@ abbrev pub is_echo : Option ℕ → ℕ → List ℕ → Bool
 is_echo arrival link line =
     option_map_or (λ came. nat_eq came link) arrival false && is_kill_read (read_of line)
 
+-- whether a line tells that a server is lost
+abbrev pub is_squit_read : Result Parsed LineFault → Bool
+is_squit_read (Ok message) = is_command (codes "SQUIT") message.command
+is_squit_read (Err fault) = false
+
+abbrev pub is_squit : List ℕ → Bool
+is_squit line = is_squit_read (read_of line)
+
+-- what something that is put out is for a link: a line that tells so, another, or none of its lines
+abbrev pub next_on : ℕ → Sent → NextLine
+next_on link (line_on other line) =
+    if nat_eq other link then (if is_squit (body line) then Squit else Another) else Elsewhere
+next_on link (line_to conn line) = Elsewhere
+next_on link (end_of conn) = Elsewhere
+next_on link (end_of_link other reason) = Elsewhere
+
+abbrev pub with_next : NextLine → ℕ → ℕ
+with_next Elsewhere more = more
+with_next Squit more = suc more
+with_next Another more = 0
+
+-- how many of the next lines on a link tell that more servers are lost
+abbrev pub squits_ahead : ℕ → List Sent → ℕ
+squits_ahead link [] = 0
+squits_ahead link (sent ∷ outs) = with_next (next_on link sent) (squits_ahead link outs)
+
+-- how many lines a piece has that begins with this one; `outs` is what is put out behind it
+abbrev pub piece_lines : ℕ → List ℕ → List Sent → ℕ
+piece_lines link line outs =
+    if is_squit (body line) then min 16 (suc (squits_ahead link outs)) else 1
+
 -- ---- a line on a link
 
 -- what stands in front of a line, if anything does
@@ -47,70 +86,84 @@ abbrev pub count_out : ℕ → Option Count → List Sent
 count_out link None = []
 count_out link (Some count) = line_on link (text (count_parts count)) ∷ []
 
--- a piece of one line
-abbrev pub piece_out : ℕ → List ℕ → End → List Sent
-piece_out link line end =
-    count_out link (count_for 1 None end.link.pieces.counts) ++ line_on link line ∷ []
+-- a piece of so many lines begins, unless one has begun
+abbrev pub count_before : ℕ → ℕ → End → List Sent
+count_before link lines end =
+    if nat_eq end.left 0 then count_out link (count_for lines None end.link.pieces.counts) else []
 
--- it is in the log from now on, by its number
-abbrev pub behind_piece : List ℕ → End → End
-behind_piece line end = record {
-  link = after_piece_out end.link;
-  log = put_out (after_piece_out end.link).pieces.counts.sent (change_told (body line)) end.log;
+abbrev pub with_begun : ℕ → End → End
+with_begun lines end =
+    if nat_eq end.left 0 then record end { link = after_piece_out end.link; left = lines } else end
+
+abbrev pub piece_out : ℕ → ℕ → List ℕ → End → List Sent
+piece_out link lines line end = count_before link lines end ++ line_on link line ∷ []
+
+-- a line of it is in the log from now on, by the number of its piece
+abbrev pub with_logged : List ℕ → End → End
+with_logged line end = record end {
+  left = end.left - 1;
+  log = put_out end.link.pieces.counts.sent (change_told (body line)) end.log;
 }
 
-abbrev pub out_by : WayOut → Option ℕ → ℕ → List ℕ → End → List Sent
-out_by Plain arrival link line end = line_on link line ∷ []
-out_by WithWord arrival link line end = line_on link (with_word (body line)) ∷ []
-out_by InPiece arrival link line end =
-    if is_echo arrival link (body line) then [] else piece_out link line end
+abbrev pub behind_piece : ℕ → List ℕ → End → End
+behind_piece lines line end = with_logged line (with_begun lines end)
 
-abbrev pub end_by : WayOut → Option ℕ → ℕ → List ℕ → End → End
-end_by InPiece arrival link line end =
-    if is_echo arrival link (body line) then end else behind_piece line end
-end_by Plain arrival link line end = end
-end_by WithWord arrival link line end = end
+-- `lines` is how many lines a piece has that begins here
+abbrev pub out_by : WayOut → Option ℕ → ℕ → ℕ → List ℕ → End → List Sent
+out_by Plain arrival link lines line end = line_on link line ∷ []
+out_by WithWord arrival link lines line end = line_on link (with_word (body line)) ∷ []
+out_by InPiece arrival link lines line end =
+    if is_echo arrival link (body line) then [] else piece_out link lines line end
+
+abbrev pub end_by : WayOut → Option ℕ → ℕ → ℕ → List ℕ → End → End
+end_by InPiece arrival link lines line end =
+    if is_echo arrival link (body line) then end else behind_piece lines line end
+end_by Plain arrival link lines line end = end
+end_by WithWord arrival link lines line end = end
 
 -- an end that has put out a line more of those with which a link begins
 abbrev pub with_line_out : End → End
 with_line_out end = record end { link = after_line_out end.link }
 
 -- what a line on a link is put out as, and the end behind it
-abbrev pub line_out : Option ℕ → ℕ → List ℕ → End → List Sent
-line_out arrival link line end =
-    out_by (way_out end.link) arrival link line (with_line_out end)
+abbrev pub line_out : Option ℕ → ℕ → ℕ → List ℕ → End → List Sent
+line_out arrival link lines line end =
+    out_by (way_out end.link) arrival link lines line (with_line_out end)
 
-abbrev pub behind_line : Option ℕ → ℕ → List ℕ → End → End
-behind_line arrival link line end =
-    end_by (way_out end.link) arrival link line (with_line_out end)
+abbrev pub behind_line : Option ℕ → ℕ → ℕ → List ℕ → End → End
+behind_line arrival link lines line end =
+    end_by (way_out end.link) arrival link lines line (with_line_out end)
 
 -- ---- all that a server puts out; `arrival` is the link by which the line came that it handles
 
-abbrev pub line_put : Option ℕ → ℕ → List ℕ → Option End → List Sent
-line_put arrival link line None = line_on link line ∷ []
-line_put arrival link line (Some end) = line_out arrival link line end
+abbrev pub line_put : Option ℕ → ℕ → ℕ → List ℕ → Option End → List Sent
+line_put arrival link lines line None = line_on link line ∷ []
+line_put arrival link lines line (Some end) = line_out arrival link lines line end
 
-abbrev pub one_put : Option ℕ → Sent → Ends → List Sent
-one_put arrival (line_on link line) ends = line_put arrival link line (ends link)
-one_put arrival (line_to conn line) ends = line_to conn line ∷ []
-one_put arrival (end_of conn) ends = end_of conn ∷ []
-one_put arrival (end_of_link link reason) ends = end_of_link link reason ∷ []
+-- one thing, behind which this is put out
+abbrev pub one_put : Option ℕ → Sent → List Sent → Ends → List Sent
+one_put arrival (line_on link line) outs ends =
+    line_put arrival link (piece_lines link line outs) line (ends link)
+one_put arrival (line_to conn line) outs ends = line_to conn line ∷ []
+one_put arrival (end_of conn) outs ends = end_of conn ∷ []
+one_put arrival (end_of_link link reason) outs ends = end_of_link link reason ∷ []
 
-abbrev pub ends_behind : Option ℕ → Sent → Ends → Ends
-ends_behind arrival (line_on link line) ends = change_end link (behind_line arrival link line) ends
-ends_behind arrival (end_of_link link reason) ends = with_end link None ends
-ends_behind arrival (line_to conn line) ends = ends
-ends_behind arrival (end_of conn) ends = ends
+abbrev pub ends_behind : Option ℕ → Sent → List Sent → Ends → Ends
+ends_behind arrival (line_on link line) outs ends =
+    change_end link (behind_line arrival link (piece_lines link line outs) line) ends
+ends_behind arrival (end_of_link link reason) outs ends = with_end link None ends
+ends_behind arrival (line_to conn line) outs ends = ends
+ends_behind arrival (end_of conn) outs ends = ends
 
 abbrev pub all_put : Option ℕ → List Sent → Ends → List Sent
 all_put arrival [] ends = []
 all_put arrival (sent ∷ outs) ends =
-    one_put arrival sent ends ++ all_put arrival outs (ends_behind arrival sent ends)
+    one_put arrival sent outs ends ++ all_put arrival outs (ends_behind arrival sent outs ends)
 
 abbrev pub ends_behind_all : Option ℕ → List Sent → Ends → Ends
 ends_behind_all arrival [] ends = ends
 ends_behind_all arrival (sent ∷ outs) ends =
-    ends_behind_all arrival outs (ends_behind arrival sent ends)
+    ends_behind_all arrival outs (ends_behind arrival sent outs ends)
 
 -- ---- a count alone
 

@@ -6,9 +6,9 @@ ghost use Rattle.irc_line.specs.Reading.{read_of};
 ghost use Rattle.irc_crossing.specs.Hearing.{given};
 ghost use Rattle.irc_link_end.specs.LinkEnds.{heard_at};
 ghost use Rattle.irc_layer.specs.Ends.{end_hearing, is_plain, met_if, new_end, with_log_after};
-ghost use Rattle.irc_layer.specs.Putting.{behind_line, behind_piece, body, count_at, count_out};
-ghost use Rattle.irc_layer.specs.Putting.{is_echo, is_kill_read, line_out, piece_out};
-ghost use Rattle.irc_layer.specs.Putting.{with_count_out};
+ghost use Rattle.irc_layer.specs.Putting.{behind_line, behind_piece, body, count_at, count_before};
+ghost use Rattle.irc_layer.specs.Putting.{count_out, is_echo, is_kill_read, is_squit, line_out};
+ghost use Rattle.irc_layer.specs.Putting.{piece_out, with_begun, with_count_out};
 
 use irc_batch::Batch;
 use irc_crossing::{Given, Log, change_told};
@@ -23,8 +23,17 @@ use std::alloc::{AllocError, Global};
 #[derive(Drop)]
 pub(crate) struct End {
     pub link: LinkEnd,
+    /// How many lines are still to come of the piece that it is putting out.
+    pub left: u64,
     /// What it has put out, and the other end had not read when it wrote last.
     pub log: Log,
+}
+
+/// On which link a line goes, and how many lines a piece has that begins with it.
+#[derive(Clone, Copy, Drop)]
+pub(crate) struct PieceOn {
+    pub link: u64,
+    pub lines: u64,
 }
 
 impl End {
@@ -39,6 +48,7 @@ impl End {
         };
         End {
             link,
+            left: 0,
             log: Log::new(alloc),
         }
     }
@@ -56,12 +66,13 @@ impl End {
         Ok(heard)
     }
 
-    /// What the server is given for a line.
-    pub fn give(&mut self, line: &[u8]) -> Given
-        ensures given { result ≡ given self.old.log line.now }
+    /// What the server is given for a line; `is_held` is whether somebody who is not behind this
+    /// link has the nickname that it brings.
+    pub fn give(&mut self, line: &[u8], is_held: bool) -> Given
+        ensures given { result ≡ given self.old.log is_held line.now }
         ensures after { self.new ≡ with_log_after line.now self.old }
     {
-        self.log.hear(line)
+        self.log.hear(line, is_held)
     }
 
     /// The other end has named itself, if it has.
@@ -73,42 +84,57 @@ impl End {
         }
     }
 
-    /// Puts out a line on this link; `arrival` is the link by which the line came that the server
-    /// handles.
+    /// Puts out a line on this link, with which a piece of so many lines begins if none has begun;
+    /// `arrival` is the link by which the line came that the server handles.
     ///
     /// # Errors
     /// Where memory runs out.
     pub fn put_line(
         &mut self,
         arrival: Option<u64>,
-        link: u64,
+        to: PieceOn,
         line: &[u8],
         out: &mut Batch,
     ) -> Result<(), AllocError>
         requires fits { length line.now ≤ max_text }
         ensures outs { OnOk result
-            (out.new.outs ≡ out.old.outs ++ line_out arrival link line.now self.old) }
-        ensures after { OnOk result (self.new ≡ behind_line arrival link line.now self.old) }
+            (out.new.outs ≡ out.old.outs ++ line_out arrival to.link to.lines line.now self.old) }
+        ensures after { OnOk result
+            (self.new ≡ behind_line arrival to.link to.lines line.now self.old) }
     {
         match self.link.put_out_line() {
-            WayOut::Plain => out.put_on(link, line),
-            WayOut::WithWord => out.put_on(link, with_word(body(line)).as_slice()),
-            WayOut::InPiece if is_echo(arrival, link, body(line)) => Ok(()),
-            WayOut::InPiece => self.put_piece(link, line, out),
+            WayOut::Plain => out.put_on(to.link, line),
+            WayOut::WithWord => out.put_on(to.link, with_word(body(line)).as_slice()),
+            WayOut::InPiece if is_echo(arrival, to.link, body(line)) => Ok(()),
+            WayOut::InPiece => self.put_piece(to, line, out),
         }
     }
 
-    /// Puts out a piece of one line.
-    fn put_piece(&mut self, link: u64, line: &[u8], out: &mut Batch) -> Result<(), AllocError>
+    /// Puts out a line of a piece.
+    fn put_piece(&mut self, to: PieceOn, line: &[u8], out: &mut Batch) -> Result<(), AllocError>
         requires fits { length line.now ≤ max_text }
         ensures outs { OnOk result
-            (out.new.outs ≡ out.old.outs ++ piece_out link line.now self.old) }
-        ensures after { OnOk result (self.new ≡ behind_piece line.now self.old) }
+            (out.new.outs ≡ out.old.outs ++ piece_out to.link to.lines line.now self.old) }
+        ensures after { OnOk result (self.new ≡ behind_piece to.lines line.now self.old) }
     {
-        let count = self.link.put_out_piece(1, None);
-        put_count(link, count, out)?;
+        self.begin(to, out)?;
+        self.left = self.left.saturating_sub(1);
         self.log.put_out(self.link.sent(), change_told(body(line)))?;
-        out.put_on(link, line)
+        out.put_on(to.link, line)
+    }
+
+    /// A piece begins, unless one has begun.
+    fn begin(&mut self, to: PieceOn, out: &mut Batch) -> Result<(), AllocError>
+        ensures outs { OnOk result
+            (out.new.outs ≡ out.old.outs ++ count_before to.link to.lines self.old) }
+        ensures after { OnOk result (self.new ≡ with_begun to.lines self.old) }
+    {
+        if self.left > 0 {
+            return Ok(());
+        }
+        self.left = to.lines;
+        let count = self.link.put_out_piece(to.lines, None);
+        put_count(to.link, count, out)
     }
 
     /// Puts out the count alone, where so much was read that it is to go.
@@ -158,6 +184,16 @@ fn is_echo(arrival: Option<u64>, link: u64, line: &[u8]) -> bool
     match arrival {
         Some(came) if came == link => is_kill(line),
         _ => false,
+    }
+}
+
+/// Whether a line tells that a server is lost.
+pub(crate) fn is_squit(line: &[u8]) -> bool
+    ensures { result ≡ is_squit line.now }
+{
+    match parse(line) {
+        Ok(message) => is_command(b"SQUIT", message.command),
+        Err(_) => false,
     }
 }
 

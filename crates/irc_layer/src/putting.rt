@@ -4,10 +4,13 @@ ghost use Rattle.irc_line.specs.Limits.{max_text};
 ghost use Rattle.irc_batch.specs.Batches.{sent_of, IsText};
 ghost use Rattle.irc_layer.specs.Ends.{change_end, end_at, with_end};
 ghost use Rattle.irc_layer.specs.Putting.{all_put, behind_line, ends_behind, ends_behind_all};
-ghost use Rattle.irc_layer.specs.Putting.{line_put, one_put};
+ghost use Rattle.irc_layer.specs.Putting.{line_put, next_on, one_put, piece_lines, squits_ahead};
+ghost use Rattle.irc_layer.specs.Putting.{with_next};
+ghost use Rattle.irc_layer.specs.Loops.Rests.{rest_of};
 
-use crate::end::End;
+use crate::end::{End, PieceOn, body, is_squit};
 use irc_batch::{Batch, Out};
+use irc_pieces::MOST_LINES;
 use std::alloc::{AllocError, Global};
 use std::collections::BTreeMap;
 
@@ -52,10 +55,27 @@ fn put_at(
         (ends_behind_all arrival (drop (place + 1) held.now.outs) (end_at ends.new)
         ≡ ends_behind_all arrival (drop place held.now.outs) (end_at ends.old)) }
 {
+    let behind = place_behind(held, place);
     match held.get(place) {
-        Some(sent) => put_one(ends, arrival, sent, out),
+        Some(sent) => put_one(ends, arrival, sent, Rest { held, place: behind }, out),
         None => Ok(()),
     }
+}
+
+/// The place behind one.
+fn place_behind(held: &Batch, place: usize) -> usize
+    requires there { place < length held.now.outs }
+    ensures { result ≡ place + 1 }
+{
+    place.saturating_add(1).min(held.len())
+}
+
+/// What is put out behind something.
+#[derive(Clone, Copy)]
+struct Rest<'a> {
+    held: &'a Batch,
+    /// From this place on.
+    place: usize,
 }
 
 /// Puts out one thing.
@@ -63,18 +83,22 @@ fn put_one(
     ends: &mut Ends,
     arrival: Option<u64>,
     sent: Out<'_>,
+    rest: Rest<'_>,
     out: &mut Batch,
 ) -> Result<(), AllocError>
     requires fits { IsText (sent_of sent) }
-    ensures outs { OnOk result
-        (out.new.outs ≡ out.old.outs ++ one_put arrival (sent_of sent.entry) (end_at ends.old)) }
-    ensures ends { OnOk result
-        (end_at ends.new ≡ ends_behind arrival (sent_of sent.entry) (end_at ends.old)) }
+    ensures outs { OnOk result (out.new.outs
+        ≡ out.old.outs ++ one_put arrival (sent_of sent.entry) (rest_of rest.entry) (end_at ends.old)) }
+    ensures ends { OnOk result (end_at ends.new
+        ≡ ends_behind arrival (sent_of sent.entry) (rest_of rest.entry) (end_at ends.old)) }
 {
     match sent {
         Out::Line(conn, line) => out.put(conn, line),
         Out::Close(conn) => out.close(conn),
-        Out::LinkLine(link, line) => put_line(ends, arrival, link, line, out),
+        Out::LinkLine(link, line) => {
+            let lines = piece_lines(link, line, rest);
+            put_line(ends, arrival, PieceOn { link, lines }, line, out)
+        }
         Out::LinkClose(link, reason) => {
             end(ends, link);
             out.close_link(link, reason)
@@ -86,19 +110,83 @@ fn put_one(
 fn put_line(
     ends: &mut Ends,
     arrival: Option<u64>,
-    link: u64,
+    to: PieceOn,
     line: &[u8],
     out: &mut Batch,
 ) -> Result<(), AllocError>
     requires fits { length line.now ≤ max_text }
-    ensures outs { OnOk result
-        (out.new.outs ≡ out.old.outs ++ line_put arrival link line.now (end_at ends.old link)) }
-    ensures ends { OnOk result
-        (end_at ends.new ≡ change_end link (behind_line arrival link line.now) (end_at ends.old)) }
+    ensures outs { OnOk result (out.new.outs ≡ out.old.outs
+        ++ line_put arrival to.link to.lines line.now (end_at ends.old to.link)) }
+    ensures ends { OnOk result (end_at ends.new
+        ≡ change_end to.link (behind_line arrival to.link to.lines line.now) (end_at ends.old)) }
 {
-    match ends.get_mut(&link) {
-        Some(end) => end.put_line(arrival, link, line, out),
-        None => out.put_on(link, line),
+    match ends.get_mut(&to.link) {
+        Some(end) => end.put_line(arrival, to, line, out),
+        None => out.put_on(to.link, line),
+    }
+}
+
+/// How many lines a piece has that begins with this one.
+fn piece_lines(link: u64, line: &[u8], rest: Rest<'_>) -> u64
+    ensures { result ≡ piece_lines link line.now (rest_of rest.entry) }
+{
+    if is_squit(body(line)) {
+        MOST_LINES.min(squits_ahead(link, rest.held, rest.place).saturating_add(1))
+    } else {
+        1
+    }
+}
+
+/// How many of the next lines on a link, from a place on, tell that more servers are lost.
+fn squits_ahead(link: u64, held: &Batch, from: usize) -> u64
+    ensures { result ≡ squits_ahead link (drop from held.now.outs) }
+{
+    let mut count = 0;
+    for place in from..held.len() {
+        match next_at(link, held, place) {
+            NextLine::Elsewhere => {}
+            NextLine::Squit => count += 1,
+            NextLine::Another => return count,
+        }
+    }
+    count
+}
+
+/// What something that is put out is for a link.
+#[derive(Clone, Copy)]
+enum NextLine {
+    /// None of its lines.
+    Elsewhere,
+    /// A line that tells that a server is lost.
+    Squit,
+    /// Another line.
+    Another,
+}
+
+/// What stands at a place is for a link.
+fn next_at(link: u64, held: &Batch, place: usize) -> NextLine
+    requires there { place < length held.now.outs }
+    ensures { squits_ahead link (drop place held.now.outs)
+        ≡ with_next result (squits_ahead link (drop (place + 1) held.now.outs)) }
+{
+    match held.get(place) {
+        Some(out) => next_on(link, out),
+        None => NextLine::Elsewhere,
+    }
+}
+
+fn next_on(link: u64, out: Out<'_>) -> NextLine
+    ensures { result ≡ next_on link (sent_of out.entry) }
+{
+    match out {
+        Out::LinkLine(other, line) if other == link => {
+            if is_squit(body(line)) {
+                NextLine::Squit
+            } else {
+                NextLine::Another
+            }
+        }
+        _ => NextLine::Elsewhere,
     }
 }
 
@@ -116,8 +204,8 @@ pub(crate) fn end(ends: &mut Ends, link: u64)
 pub(crate) fn begin(ends: &mut Ends, link: u64, end: End) -> Result<(), AllocError>
     ensures { OnOk result (end_at ends.new ≡ with_end link (Some end) (end_at ends.old)) }
 {
-    match ends.insert(link, end) {
-        Ok(_) => Ok(()),
-        Err(_) => Err(AllocError),
-    }
+    let Ok(_before) = ends.insert(link, end) else {
+        return Err(AllocError);
+    };
+    Ok(())
 }

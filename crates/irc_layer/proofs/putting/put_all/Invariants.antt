@@ -1,0 +1,13 @@
+use Rattle.std.proofs.Common.{◌≡◌, ◌++◌, drop}
+use Rattle.irc_layer.specs.Ends.{end_at}
+use Rattle.irc_layer.specs.Putting.{all_put, ends_behind_all}
+use Rattle.irc_layer.proofs.putting.put_all.Given as goal
+
+-- what is put out so far, with what is still to be put out behind it, is all
+abbrev pub invariant-loop-place : goal.invariant-loop-place
+invariant-loop-place l = record {
+  outs : l.out.outs ++ all_put l.arrival (drop l.place l.held.outs) (end_at l.ends)
+      ≡ l.initial.out.outs ++ all_put l.arrival l.held.outs (end_at l.initial.ends);
+  ends : ends_behind_all l.arrival (drop l.place l.held.outs) (end_at l.ends)
+      ≡ ends_behind_all l.arrival l.held.outs (end_at l.initial.ends);
+}
