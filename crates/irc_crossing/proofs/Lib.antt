@@ -1,0 +1,5 @@
+mod Counting
+mod KeptModes
+mod Passing
+mod Placing
+mod WrittenAgain
