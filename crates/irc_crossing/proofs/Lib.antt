@@ -1,5 +1,6 @@
 mod Counting
 mod KeptModes
+mod ModesGiven
 mod Passing
 mod Placing
 mod WrittenAgain

@@ -1,5 +1,5 @@
 //! What becomes of a line that comes by a link.
-ghost use Rattle.std.specs.Prelude.{◌≡◌, ◌-◌, ◌+◌, ◌≤◌, ◌∷◌, length, slice_get, take};
+ghost use Rattle.std.specs.Prelude.{◌≡◌, ◌-◌, ◌+◌, ◌≤◌, ◌&&◌, ◌∷◌, drop, length, slice_get, take};
 ghost use Rattle.std.specs.Cmp.Lexicographic.{pointwise};
 ghost use Rattle.std.specs.Option.{option_copied, option_map_or};
 ghost use Rattle.std.specs.Str.{bytes_eq};
@@ -256,7 +256,7 @@ fn met_given(message: &Message<'_>, nick: Nick, other: Option<Nick>) -> Given
 
 /// What a MODE of a channel is given as, of which these letters and words are left.
 fn given_with_modes(message: &Message<'_>, prefix: Option<&[u8]>, modes: &ModeWords<'_>) -> Given
-    requires two { 2 ≤ length (params_now message.now.params) }
+    requires two { 2 ≤ length message.now.params.items }
     requires few { length (params_now modes.now.words) + 2 ≤ max_parameters }
     ensures { (left : ModesLeft)
         → kept_of modes.now ≡ kept (word_at 1 (parsed message.now)) left
@@ -266,19 +266,31 @@ fn given_with_modes(message: &Message<'_>, prefix: Option<&[u8]>, modes: &ModeWo
     if modes.are_signs {
         return Given::LeftOut;
     }
-    let are_same = modes.is_whole && are_same(modes.words.as_slice(), &message.params.as_slice()[2..]);
-    if are_same && is_same_prefix(prefix, message.prefix) {
+    if is_as_it_came(message, prefix, modes) {
         return Given::AsItCame;
     }
-    let words = mode_words(message.params.as_slice()[0], modes);
+    let words = mode_words(word_at(message, 0), modes);
     Given::Changed(written_with(prefix, message, words.as_slice()))
+}
+
+/// Whether nothing of a MODE of a channel is another now.
+fn is_as_it_came(message: &Message<'_>, prefix: Option<&[u8]>, modes: &ModeWords<'_>) -> bool
+    requires two { 2 ≤ length message.now.params.items }
+    ensures { result
+        ≡ (is_same_prefix (optional_now prefix.entry) (optional_now message.now.prefix)
+        && (modes.now.is_whole && pointwise bytes_eq (params_now modes.now.words)
+        (words_now (drop 2 message.now.params.items)))) }
+{
+    is_same_prefix(prefix, message.prefix)
+        && modes.is_whole
+        && are_same(modes.words.as_slice(), &message.params.as_slice()[2..])
 }
 
 /// The parameters of a MODE of a channel.
 fn mode_words<'a>(channel: &'a [u8], modes: &'a ModeWords<'a>) -> LineWords<'a>
-    requires few { length (params_now modes.words) + 2 ≤ max_parameters }
+    requires few { length (params_now modes.now.words) + 2 ≤ max_parameters }
     ensures { params_now result
-        ≡ channel.now ∷ modes.letters.items ∷ params_now modes.words }
+        ≡ channel.now ∷ modes.now.letters.items ∷ params_now modes.now.words }
 {
     let mut words = LineWords::new();
     let _ = words.try_push(channel);
