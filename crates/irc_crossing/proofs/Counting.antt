@@ -1,6 +1,6 @@
 -- A log whose front is read.
-use Rattle.std.proofs.Common.{◌≡◌, ℕ, Bool, true, false, List, [], ◌∷◌, drop, length, refl, sym, ◌∙◌}
-use Rattle.std.proofs.Common.{ap, nat_le, if◌then◌else◌, ◌<◌, arith}
+use Rattle.std.proofs.Common.{◌≡◌, ℕ, Bool, true, false, List, [], ◌∷◌, drop, length, refl, sym}
+use Rattle.std.proofs.Common.{ap, if◌then◌else◌, ◌<◌, arith}
 use Rattle.irc_crossing.specs.declared.log.Entry.{Entry}
 use Rattle.irc_crossing.specs.Logs.{is_first_read, unread}
 

@@ -8,14 +8,13 @@ use Rattle.irc_names.specs.FoldLaws.{same-tells}
 use Rattle.irc_names.specs.Names.{is_nick}
 use Rattle.irc_crossing.specs.declared.change.Change.{Change}
 use Rattle.irc_crossing.specs.declared.change.Change.TheVariants.{Come, Rename, Go, Out}
-use Rattle.irc_crossing.specs.declared.hearing.Given.{Given}
-use Rattle.irc_crossing.specs.declared.hearing.Given.TheVariants.{AsItCame, LeftOut}
+use Rattle.irc_crossing.specs.declared.hearing.Given.TheVariants.{AsItCame}
 use Rattle.irc_crossing.specs.declared.log.Entry.{Entry}
-use Rattle.irc_crossing.specs.Changes.{are_met, behind, both_go, crossed, is_gone, renamed_now}
+use Rattle.irc_crossing.specs.Changes.{are_met, behind, both_go, crossed}
 use Rattle.irc_crossing.specs.Changes.{taken_by}
 use Rattle.irc_crossing.specs.Hearing.{doer_now, given_by, given_from, nick_given, read_given}
 use Rattle.irc_crossing.specs.Hearing.{word_now}
-use Rattle.irc_crossing.specs.Laws.{BothGo, ComersAreOthers, NamesAreFollowed, TakersAreOthers}
+use Rattle.irc_crossing.specs.Laws.{ComersAreOthers, NamesAreFollowed, TakersAreOthers}
 use Rattle.irc_crossing.specs.Laws.{TwoToOneNameGo, WhoIsGoneIsLeftOut, put_out_in, taker}
 use Rattle.irc_crossing.specs.Lines.{change_of, is_part_line, word_at}
 use Rattle.irc_crossing.specs.Logs.{means, means_in, through}

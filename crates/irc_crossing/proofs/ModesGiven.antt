@@ -1,11 +1,10 @@
 -- A MODE of a channel, by what is left of its letters.
-use Rattle.std.proofs.Common.{◌≡◌, ℕ, zero, suc, ◌-◌, ◌+◌, ◌≤◌, Bool, true, false, ◌&&◌, Option, Some}
+use Rattle.std.proofs.Common.{◌≡◌, ℕ, zero, suc, ◌-◌, ◌≤◌, Bool, true, false, ◌&&◌, Option, Some}
 use Rattle.std.proofs.Common.{None, List, [], ◌∷◌, ◌++◌, length, take, drop, refl, sym, ◌∙◌, ap, arith}
 use Rattle.std.proofs.Common.{append_assoc, get_or, slice_get, if◌then◌else◌, bytes_eq}
 use Rattle.std.proofs.lemmas.Slice.Eq.{bytes_eq-Decides}
 use Rattle.std.specs.Borrow.{Bor}
 use Rattle.std.specs.Cmp.Lexicographic.{pointwise}
-use Rattle.std.specs.List.{list_all}
 use Rattle.irc_line.specs.Bytes.{crlf, cut, space, colon}
 use Rattle.irc_line.specs.Lemmas.CutLaws.{cut-cut_append}
 use Rattle.irc_line.specs.Limits.{max_line}
@@ -14,9 +13,9 @@ use Rattle.irc_line.specs.Messages.{Parsed, joined_text, last_text, line_text, m
 use Rattle.irc_line.specs.Messages.{Written, prefix_of, prefix_text, text}
 use Rattle.irc_line.specs.PartViews.{words_now}
 use Rattle.irc_line.specs.declared.reading.Message.{Message}
-use Rattle.irc_crossing.specs.Hearing.{ModesLeft, given_if, given_with, is_same_prefix, modes_left}
+use Rattle.irc_crossing.specs.Hearing.{ModesLeft, given_if, is_same_prefix, modes_left}
 use Rattle.irc_crossing.specs.Hearing.{sender_again, written_with}
-use Rattle.irc_crossing.specs.Lines.{is_sign, word_at}
+use Rattle.irc_crossing.specs.Lines.{word_at}
 use Rattle.irc_crossing.specs.Loops.Modes.{ModesKept, kept}
 use Rattle.arrayvec.specs.ArrayVec.{ArrayVec}
 use Rattle.irc_crossing.specs.declared.hearing.Given.{Given}

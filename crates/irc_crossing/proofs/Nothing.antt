@@ -12,10 +12,10 @@ use Rattle.irc_line.specs.declared.reading.LineFault.{LineFault}
 use Rattle.irc_names.specs.Names.{is_nick}
 use Rattle.irc_link_words.specs.Words.{is_for_channel}
 use Rattle.irc_crossing.specs.declared.change.Change.{Change}
-use Rattle.irc_crossing.specs.declared.change.Change.TheVariants.{Come, Rename, Go, Out}
+use Rattle.irc_crossing.specs.declared.change.Change.TheVariants.{Come, Rename}
 use Rattle.irc_crossing.specs.declared.hearing.Given.{Given}
-use Rattle.irc_crossing.specs.declared.hearing.Given.TheVariants.{AsItCame, Changed, LeftOut}
-use Rattle.irc_crossing.specs.Hearing.{ModesLeft, doer_now, given_by, given_from, given_if, given_with}
+use Rattle.irc_crossing.specs.declared.hearing.Given.TheVariants.{AsItCame, Changed}
+use Rattle.irc_crossing.specs.Hearing.{doer_now, given_by, given_from, given_if, given_with}
 use Rattle.irc_crossing.specs.Hearing.{is_same_prefix, letter_word, log_after_read, message_given}
 use Rattle.irc_crossing.specs.Hearing.{mode_words_now, modes_left, modes_now, nick_given, read_given}
 use Rattle.irc_crossing.specs.Hearing.{with_letter, with_worded, word_now, words_left, words_now_at}
@@ -25,7 +25,7 @@ use Rattle.irc_crossing.specs.Laws.{is_mode_of_signs}
 use Rattle.irc_crossing.specs.Lines.{change_of, has_word, is_for_somebody, is_kick_line}
 use Rattle.irc_crossing.specs.Lines.{is_mode_line, is_nick_line, is_part_line, is_sign, names_member}
 use Rattle.irc_crossing.specs.Lines.{nick_change, plus_behind, word_at}
-use Rattle.irc_crossing.specs.Logs.{means, means_as, means_in}
+use Rattle.irc_crossing.specs.Logs.{means, means_in}
 
 either : {A : Type 0} (b : Bool) (x y is : A) → x ≡ is → y ≡ is → (if b then x else y) ≡ is
 either true x y is one other = one

@@ -1,5 +1,5 @@
 -- Lines of wire that cross: the examples of `Changes.antt`, `Logs.antt` and `Hearing.antt`.
-use Rattle.std.specs.Prelude.{◌≡◌, ℕ, suc, Option, Some, None, List, [], ◌∷◌, ◌++◌, codes}
+use Rattle.std.specs.Prelude.{◌≡◌, ℕ, suc, Some, None, List, [], ◌∷◌, ◌++◌, codes}
 use Rattle.irc_line.specs.Bytes.{crlf}
 use Rattle.irc_crossing.specs.Hearing.{change_told, given, log_after}
 use Rattle.irc_crossing.specs.Logs.{put_out, unread}

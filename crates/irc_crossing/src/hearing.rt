@@ -197,11 +197,7 @@ impl Log {
 
     /// The nickname now of whom a word means, as a member of a channel if there is one; a word that
     /// is no nickname stays.
-    pub(crate) fn word_now<'a>(
-        &'a self,
-        channel: Option<&[u8]>,
-        word: &'a [u8],
-    ) -> Option<&'a [u8]>
+    pub(crate) fn word_now<'a>(&'a self, channel: Option<&[u8]>, word: &'a [u8]) -> Option<&'a [u8]>
         ensures { option_copied result
             ≡ word_now (means_as self.now (optional_now channel.entry)) word.now }
     {

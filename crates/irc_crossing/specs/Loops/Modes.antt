@@ -1,7 +1,7 @@
 -- Letters of a MODE, of which some are left, as they are put together. What a line has no room for
 -- is cut off of them; so it is noted beside them whether all of them are left, and whether any but
 -- signs are.
-use Rattle.std.specs.Prelude.{◌≡◌, ℕ, suc, Bool, true, false, ◌&&◌, Option, Some, None, List, []}
+use Rattle.std.specs.Prelude.{ℕ, suc, Bool, true, false, ◌&&◌, Option, Some, None, List, []}
 use Rattle.std.specs.Prelude.{◌∷◌, ◌++◌, drop}
 use Rattle.std.specs.Borrow.{Bor}
 use Rattle.std.specs.List.{list_all}
