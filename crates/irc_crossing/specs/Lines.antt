@@ -1,10 +1,10 @@
 -- What a line of a link changes (RFC 2813 section 4), and the nicknames in it.
-use Rattle.std.specs.Prelude.{ℕ, Bool, true, false, ◌&&◌, ◌||◌, Option, Some, None, List, [], ◌∷◌}
+use Rattle.std.specs.Prelude.{ℕ, Bool, true, false, ◌&&◌, ◌||◌, Option, Some, None, List, []}
 use Rattle.std.specs.Prelude.{codes, get_or, nat_eq, if◌then◌else◌}
-use Rattle.std.specs.Option.{option_map_or, option_and_then}
+use Rattle.std.specs.Option.{option_and_then}
 use Rattle.irc_line.specs.Messages.{Parsed}
 use Rattle.irc_names.specs.Names.{is_channel, is_nick}
-use Rattle.irc_link_words.specs.Words.{is_command, is_for_channel}
+use Rattle.irc_link_words.specs.Words.{is_command}
 use Rattle.irc_crossing.specs.declared.change.Change.{Change}
 use Rattle.irc_crossing.specs.declared.change.Change.TheVariants.{Come, Rename, Go, Out}
 

@@ -1,2 +1,3 @@
 pub mod Hearings
+pub mod Modes
 pub mod Standings

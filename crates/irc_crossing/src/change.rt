@@ -76,7 +76,10 @@ impl Change {
         ensures { name_of result nick.now ≡ member_now self.now channel.now nick.now }
     {
         match self {
-            Change::Out { nick: out, channel: from } => {
+            Change::Out {
+                nick: out,
+                channel: from,
+            } => {
                 if same(out.as_bytes(), nick) && same(from.as_bytes(), channel) {
                     Standing::Gone
                 } else {
@@ -147,9 +150,10 @@ impl Change {
                 let new = new.copy();
                 Some(Change::Rename { nick, new })
             }
-            Change::Go { nick, other: second } => {
-                gone_of(other.nick_now(nick), other.second_now(second.as_ref()))
-            }
+            Change::Go {
+                nick,
+                other: second,
+            } => { gone_of(other.nick_now(nick), other.second_now(second.as_ref())) }
             Change::Out { nick, channel } => {
                 let nick = other.member_now(channel, nick)?;
                 let channel = channel.copy();
@@ -179,7 +183,8 @@ impl Change {
     fn member_now(&self, channel: &ChannelName, nick: &Nick) -> Option<Nick>
         ensures { result ≡ member_now self.now channel.now nick.now }
     {
-        self.standing_in(channel.as_bytes(), nick.as_bytes()).name(nick)
+        self.standing_in(channel.as_bytes(), nick.as_bytes())
+            .name(nick)
     }
 }
 

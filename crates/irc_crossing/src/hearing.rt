@@ -1,5 +1,5 @@
 //! What becomes of a line that comes by a link.
-ghost use Rattle.std.specs.Prelude.{◌≡◌, ◌-◌, ◌≤◌, length, slice_get, take};
+ghost use Rattle.std.specs.Prelude.{◌≡◌, ◌-◌, ◌+◌, ◌≤◌, ◌&&◌, ◌∷◌, drop, length, slice_get, take};
 ghost use Rattle.std.specs.Cmp.Lexicographic.{pointwise};
 ghost use Rattle.std.specs.Option.{option_copied, option_map_or};
 ghost use Rattle.std.specs.Str.{bytes_eq};
@@ -10,17 +10,19 @@ ghost use Rattle.irc_line.specs.PartViews.{sender, words_now};
 ghost use Rattle.irc_crossing.specs.Hearing.{change_heard, doer_now, given, given_by};
 ghost use Rattle.irc_crossing.specs.Hearing.{given_if, given_with, is_by_nobody, is_same_prefix};
 ghost use Rattle.irc_crossing.specs.Hearing.{log_after, message_given, met_given, mode_words_now};
-ghost use Rattle.irc_crossing.specs.Hearing.{modes_left, words_now_at};
+ghost use Rattle.irc_crossing.specs.Hearing.{modes_left, words_now_at, ModesLeft};
 ghost use Rattle.irc_crossing.specs.Hearing.{nick_given, sender_again, word_now, words_left};
 ghost use Rattle.irc_crossing.specs.Hearing.{written_with};
 ghost use Rattle.irc_crossing.specs.Logs.{log_behind, means_as, through};
-ghost use Rattle.irc_crossing.specs.Loops.Hearings.{mode_words_of, IsPutRight};
+ghost use Rattle.irc_crossing.specs.Lines.{word_at};
+ghost use Rattle.irc_crossing.specs.Loops.Hearings.{IsPutRight};
+ghost use Rattle.irc_crossing.specs.Loops.Modes.{kept, kept_of};
 ghost use Rattle.irc_crossing.specs.declared.hearing.Given.TheVariants.{AsItCame};
 
 use crate::change::Change;
 use crate::lines::{change_of, is_for_somebody, word_at};
 use crate::log::Log;
-use crate::mode_words::{ModeWords, are_signs};
+use crate::mode_words::ModeWords;
 use arrayvec::ArrayVec;
 use irc_line::limits::MAX_PARAMETERS;
 use irc_line::{Message, Parts, Prefix, Text, parse, write_message};
@@ -77,10 +79,10 @@ impl Log {
             change AsItCame }
         ensures behind { self.new ≡ log_behind change self.old }
     {
-        if change.is_none() {
+        let Some(change) = change else {
             return Given::AsItCame;
-        }
-        let became = self.pass(change);
+        };
+        let became = self.pass(Some(change));
         nick_given(message, became)
     }
 
@@ -137,9 +139,9 @@ impl Log {
 
     /// What a line is given as of which the word at a place is somebody's, as a member of a channel
     /// if there is one.
-    fn given_at(
-        &self,
-        message: &Message<'_>,
+    fn given_at<'a>(
+        &'a self,
+        message: &Message<'a>,
         prefix: Option<&[u8]>,
         place: usize,
         channel: Option<&[u8]>,
@@ -157,19 +159,18 @@ impl Log {
     }
 
     /// What a MODE is given as.
-    fn given_modes(&self, message: &Message<'_>, prefix: Option<&[u8]>) -> Given
+    fn given_modes<'a>(&'a self, message: &Message<'a>, prefix: Option<&[u8]>) -> Given
         ensures { result ≡ given_if (parsed message.now) (optional_now prefix.entry)
             (mode_words_now self.now (parsed message.now).params) }
     {
-        let words = message.params.as_slice();
-        if words.len() < 2 {
-            return given_with(message, prefix, words);
-        }
-        if !is_for_channel(words[0]) {
+        let [channel, letters, words @ ..] = message.params.as_slice() else {
+            return given_with(message, prefix, message.params.as_slice());
+        };
+        if !is_for_channel(channel) {
             return self.given_at(message, prefix, 0, None);
         }
-        let modes = self.modes_now(words[0], words[1], &words[2..]);
-        given_with_modes(message, prefix, words[0], &modes)
+        let modes = self.modes_now(channel, letters, words);
+        given_with_modes(message, prefix, &modes)
     }
 
     /// The word at a place is put right: whether somebody is there whom it names.
@@ -196,11 +197,7 @@ impl Log {
 
     /// The nickname now of whom a word means, as a member of a channel if there is one; a word that
     /// is no nickname stays.
-    pub(crate) fn word_now<'a>(
-        &'a self,
-        channel: Option<&[u8]>,
-        word: &'a [u8],
-    ) -> Option<&'a [u8]>
+    pub(crate) fn word_now<'a>(&'a self, channel: Option<&[u8]>, word: &'a [u8]) -> Option<&'a [u8]>
         ensures { option_copied result
             ≡ word_now (means_as self.now (optional_now channel.entry)) word.now }
     {
@@ -253,24 +250,49 @@ fn met_given(message: &Message<'_>, nick: Nick, other: Option<Nick>) -> Given
     }
 }
 
-/// What a MODE is given as, of which these letters and words are left.
-fn given_with_modes(
-    message: &Message<'_>,
-    prefix: Option<&[u8]>,
-    channel: &[u8],
-    modes: &ModeWords<'_>,
-) -> Given
-    ensures { result ≡ given_if (parsed message.now) (optional_now prefix.entry)
-        (modes_left channel.now (mode_words_of modes.now)) }
+/// What a MODE of a channel is given as, of which these letters and words are left.
+fn given_with_modes(message: &Message<'_>, prefix: Option<&[u8]>, modes: &ModeWords<'_>) -> Given
+    requires two { 2 ≤ length message.now.params.items }
+    requires few { length (params_now modes.now.words) + 2 ≤ max_parameters }
+    ensures { (left : ModesLeft)
+        → kept_of modes.now ≡ kept (word_at 1 (parsed message.now)) left
+        → result ≡ given_if (parsed message.now) (optional_now prefix.entry)
+        (modes_left (word_at 0 (parsed message.now)) left) }
 {
-    if are_signs(modes.letters.as_slice()) {
+    if modes.are_signs {
         return Given::LeftOut;
     }
+    if is_as_it_came(message, prefix, modes) {
+        return Given::AsItCame;
+    }
+    let words = mode_words(word_at(message, 0), modes);
+    Given::Changed(written_with(prefix, message, words.as_slice()))
+}
+
+/// Whether nothing of a MODE of a channel is another now.
+fn is_as_it_came(message: &Message<'_>, prefix: Option<&[u8]>, modes: &ModeWords<'_>) -> bool
+    requires two { 2 ≤ length message.now.params.items }
+    ensures { result
+        ≡ (is_same_prefix (optional_now prefix.entry) (optional_now message.now.prefix)
+        && (modes.now.is_whole && pointwise bytes_eq (params_now modes.now.words)
+        (words_now (drop 2 message.now.params.items)))) }
+{
+    is_same_prefix(prefix, message.prefix)
+        && modes.is_whole
+        && are_same(modes.words.as_slice(), &message.params.as_slice()[2..])
+}
+
+/// The parameters of a MODE of a channel.
+fn mode_words<'a>(channel: &'a [u8], modes: &'a ModeWords<'a>) -> LineWords<'a>
+    requires few { length (params_now modes.now.words) + 2 ≤ max_parameters }
+    ensures { params_now result
+        ≡ channel.now ∷ modes.now.letters.items ∷ params_now modes.now.words }
+{
     let mut words = LineWords::new();
     let _ = words.try_push(channel);
     let _ = words.try_push(modes.letters.as_slice());
     let _ = words.try_extend_from_slice(modes.words.as_slice());
-    given_with(message, prefix, words.as_slice())
+    words
 }
 
 /// The line from this one, with these parameters; as it came, where both are as they were.

@@ -5,6 +5,7 @@
 
 mod change;
 mod hearing;
+pub mod laws;
 mod lines;
 mod log;
 mod mode_words;

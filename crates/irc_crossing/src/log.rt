@@ -110,10 +110,10 @@ impl Log {
         ensures became { result ≡ through theirs self.old }
         ensures behind { self.new ≡ log_behind theirs self.old }
     {
-        if theirs.is_none() {
+        let Some(theirs) = theirs else {
             return None;
-        }
-        pass_all(theirs, self.entries.make_contiguous())
+        };
+        pass_all(Some(theirs), self.entries.make_contiguous())
     }
 
     /// The nickname now of whom the other end means by this one; none where it is gone.
@@ -122,7 +122,10 @@ impl Log {
     {
         let mut now = nick;
         for entry in self.entries.iter() {
-            now = entry.nick_behind(now)?;
+            let Some(next) = entry.nick_behind(now) else {
+                return None;
+            };
+            now = next;
         }
         Some(now)
     }
@@ -134,7 +137,10 @@ impl Log {
     {
         let mut now = nick;
         for entry in self.entries.iter() {
-            now = entry.member_behind(channel, now)?;
+            let Some(next) = entry.member_behind(channel, now) else {
+                return None;
+            };
+            now = next;
         }
         Some(now)
     }

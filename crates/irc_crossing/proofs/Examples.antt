@@ -1,0 +1,78 @@
+-- Lines in known forms.
+use Rattle.std.proofs.Common.{refl}
+use Rattle.irc_line.specs.Bytes.{cut}
+use Rattle.irc_line.specs.Messages.{line_text}
+use Rattle.irc_line.specs.Reading.{read_of}
+use Rattle.irc_names.specs.Fold.{fold, fold_table}
+use Rattle.irc_names.specs.Names.{is_channel, is_nick}
+use Rattle.irc_crossing.specs.Examples.{GoneIsLeftOut, InviteIsLeftOut, KeyStays, KickIsFollowed}
+use Rattle.irc_crossing.specs.Examples.{KickIsLeftOut, KillIsFollowed, KilledIsFollowed}
+use Rattle.irc_crossing.specs.Examples.{LetterIsLeftOut, MetGoes, MetIsGiven, MetIsKilled}
+use Rattle.irc_crossing.specs.Examples.{ModeIsLeftOut, NextIsSpared, PartIsLeftOut, TextIsLeftOut}
+
+pub kick_is_followed : KickIsFollowed
+unfolding read_of is_nick is_channel fold fold_table line_text cut
+kick_is_followed = refl
+
+pub kill_is_followed : KillIsFollowed
+unfolding read_of is_nick is_channel fold fold_table line_text cut
+kill_is_followed = refl
+
+pub gone_is_left_out : GoneIsLeftOut
+unfolding read_of is_nick is_channel fold fold_table
+gone_is_left_out = refl
+
+pub part_is_left_out : PartIsLeftOut
+unfolding read_of is_nick is_channel fold fold_table
+part_is_left_out = refl
+
+pub kick_is_left_out : KickIsLeftOut
+unfolding read_of is_nick is_channel fold fold_table
+kick_is_left_out = refl
+
+pub text_is_left_out : TextIsLeftOut
+unfolding read_of is_nick is_channel fold fold_table
+text_is_left_out = refl
+
+pub invite_is_left_out : InviteIsLeftOut
+unfolding read_of is_nick is_channel fold fold_table
+invite_is_left_out = refl
+
+pub next_is_spared : NextIsSpared
+unfolding read_of is_nick is_channel fold fold_table
+next_is_spared = refl
+
+pub met_is_given : MetIsGiven
+unfolding read_of is_nick is_channel fold fold_table
+met_is_given = refl
+
+pub met_goes : MetGoes
+unfolding read_of is_nick is_channel fold fold_table
+met_goes = refl
+
+pub met_is_killed : MetIsKilled
+unfolding read_of is_nick is_channel fold fold_table
+met_is_killed = refl
+
+pub letter_is_left_out : LetterIsLeftOut
+unfolding read_of is_nick is_channel fold fold_table line_text cut
+letter_is_left_out = refl
+
+pub mode_is_left_out : ModeIsLeftOut
+unfolding read_of is_nick is_channel fold fold_table
+mode_is_left_out = refl
+
+pub key_stays : KeyStays
+unfolding read_of is_nick is_channel fold fold_table
+key_stays = refl
+
+pub killed_is_followed : KilledIsFollowed
+unfolding read_of is_nick is_channel fold fold_table
+killed_is_followed = record {
+  before = refl;
+  bob = refl;
+  log_bob = refl;
+  rob = refl;
+  log_rob = refl;
+  read = refl;
+}

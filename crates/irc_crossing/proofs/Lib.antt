@@ -1,0 +1,9 @@
+mod Counting
+mod Examples
+mod Following
+mod KeptModes
+mod ModesGiven
+mod Nothing
+mod Passing
+mod Placing
+mod WrittenAgain

@@ -1,0 +1,115 @@
+-- Lines of wire that cross: the examples of `Changes.antt`, `Logs.antt` and `Hearing.antt`.
+use Rattle.std.specs.Prelude.{◌≡◌, ℕ, suc, Some, None, List, [], ◌∷◌, ◌++◌, codes}
+use Rattle.irc_line.specs.Bytes.{crlf}
+use Rattle.irc_crossing.specs.Hearing.{change_told, given, log_after}
+use Rattle.irc_crossing.specs.Logs.{put_out, unread}
+use Rattle.irc_crossing.specs.declared.change.Change.TheVariants.{Go, Rename}
+use Rattle.irc_crossing.specs.declared.hearing.Given.{Given}
+use Rattle.irc_crossing.specs.declared.hearing.Given.TheVariants.{AsItCame, Changed, LeftOut, Kills}
+use Rattle.irc_crossing.specs.declared.log.Entry.{Entry}
+
+-- the log of an end that has put out these lines, each in a piece of its own from a number on
+abbrev pub log_of : ℕ → List (List ℕ) → List Entry → List Entry
+log_of piece [] log = log
+log_of piece (line ∷ lines) log = log_of (suc piece) lines (put_out piece (change_told line) log)
+
+-- what a line is given as, where this one was put out
+abbrev pub given_after : (out line : List ℕ) → Given
+given_after out line = given (log_of 1 (out ∷ []) []) line
+
+-- a line in place of the one that has come
+abbrev pub changed_to : List ℕ → Given
+changed_to line = Changed (record { items = line ++ crlf })
+
+-- ---- of two lines
+
+-- names are followed
+abbrev pub KickIsFollowed : Type 0
+KickIsFollowed = given_after (codes ":al NICK ally") (codes ":bo KICK #c al :out")
+    ≡ changed_to (codes ":bo KICK #c ally :out")
+
+-- who is gone is left out
+abbrev pub GoneIsLeftOut : Type 0
+GoneIsLeftOut = given_after (codes ":a.net KILL bo :bad") (codes ":bo NICK bob") ≡ LeftOut
+
+abbrev pub KillIsFollowed : Type 0
+KillIsFollowed = given_after (codes ":bo NICK bob") (codes ":a.net KILL bo :bad")
+    ≡ changed_to (codes ":a.net KILL bob :bad")
+
+-- out of a channel once
+abbrev pub PartIsLeftOut : Type 0
+PartIsLeftOut =
+    given_after (codes ":al KICK #c bo :out") (codes ":bo PART #c :bye") ≡ LeftOut
+
+abbrev pub KickIsLeftOut : Type 0
+KickIsLeftOut =
+    given_after (codes ":bo PART #c :bye") (codes ":al KICK #c bo :out") ≡ LeftOut
+
+-- two to one name: the server kills both upon the line; what is noted of this end's is that both go
+abbrev pub MetIsGiven : Type 0
+MetIsGiven = given_after (codes ":al NICK zed") (codes ":bo NICK zed") ≡ AsItCame
+
+abbrev pub MetGoes : Type 0
+MetGoes = log_after (log_of 1 (codes ":al NICK zed" ∷ []) []) (codes ":bo NICK zed")
+    ≡ record { piece = 1; change = Some (Go (codes "zed") (Some (codes "al"))) } ∷ []
+
+-- where who has taken it has yet another one by now, the server is told whom to kill
+abbrev pub MetIsKilled : Type 0
+MetIsKilled =
+    given (log_of 1 (codes ":al NICK zed" ∷ codes ":zed NICK zoe" ∷ []) []) (codes ":bo NICK zed")
+    ≡ Kills (codes "zoe") (Some (codes "bo"))
+
+-- ---- letters of a MODE
+
+-- those of somebody who is out of the channel are left out
+abbrev pub LetterIsLeftOut : Type 0
+LetterIsLeftOut = given_after (codes ":al PART #c :bye") (codes ":bo MODE #c +ol al 5")
+    ≡ changed_to (codes ":bo MODE #c +l :5")
+
+-- and the line, where none is left
+abbrev pub ModeIsLeftOut : Type 0
+ModeIsLeftOut = given_after (codes ":al PART #c :bye") (codes ":bo MODE #c +o al") ≡ LeftOut
+
+-- a key that is spelled like a nickname
+abbrev pub KeyStays : Type 0
+KeyStays = given_after (codes ":al NICK ally") (codes ":bo MODE #c +k al") ≡ AsItCame
+
+-- ---- of whom a line is, and for whom
+
+abbrev pub TextIsLeftOut : Type 0
+TextIsLeftOut =
+    given_after (codes ":a.net KILL bo :bad") (codes ":bo PRIVMSG #c :hello") ≡ LeftOut
+
+abbrev pub InviteIsLeftOut : Type 0
+InviteIsLeftOut = given_after (codes ":a.net KILL bo :bad") (codes ":bea INVITE bo #c") ≡ LeftOut
+
+-- somebody else who has the nickname by now is not killed
+abbrev pub NextIsSpared : Type 0
+NextIsSpared =
+    given_after (codes "NICK al 1 u h 1 + :Al") (codes ":b.net KILL al :bad") ≡ LeftOut
+
+-- ---- a log
+
+-- a.net has put out a change of a nickname and a KILL, as its pieces 5 and 6
+abbrev pub two_put_out : List Entry
+two_put_out = log_of 5 (codes ":al NICK ally" ∷ codes ":a.net KILL bo :bad" ∷ []) []
+
+-- these, of which the second kills this nickname
+abbrev pub two_of : List ℕ → List Entry
+two_of nick = record { piece = 5; change = Some (Rename (codes "al") (codes "ally")) }
+    ∷ record { piece = 6; change = Some (Go nick None) } ∷ []
+
+abbrev pub bob_comes : List Entry
+bob_comes = log_after two_put_out (codes ":bo NICK bob")
+
+abbrev pub rob_comes : List Entry
+rob_comes = log_after bob_comes (codes ":bob NICK rob")
+
+-- who is killed goes on to another nickname and another one, and both times nothing is given
+pub record KilledIsFollowed : Type 0 where
+  pub before : two_put_out ≡ two_of (codes "bo")
+  pub bob : given two_put_out (codes ":bo NICK bob") ≡ LeftOut
+  pub log_bob : bob_comes ≡ two_of (codes "bob")
+  pub rob : given bob_comes (codes ":bob NICK rob") ≡ LeftOut
+  pub log_rob : rob_comes ≡ two_of (codes "rob")
+  pub read : unread 6 rob_comes ≡ []

@@ -1,0 +1,67 @@
+//! What holds of lines that cross, whatever is in the log and whatever comes. Each law is a function
+//! that does nothing, and its contract is the law: the check proves it, and a crate above may cite
+//! it.
+ghost use Rattle.irc_crossing.specs.Examples.{GoneIsLeftOut, InviteIsLeftOut, KeyStays};
+ghost use Rattle.irc_crossing.specs.Examples.{KickIsFollowed, KickIsLeftOut, KillIsFollowed};
+ghost use Rattle.irc_crossing.specs.Examples.{KilledIsFollowed, LetterIsLeftOut, MetGoes};
+ghost use Rattle.irc_crossing.specs.Examples.{MetIsGiven, MetIsKilled, ModeIsLeftOut};
+ghost use Rattle.irc_crossing.specs.Examples.{NextIsSpared, PartIsLeftOut, TextIsLeftOut};
+ghost use Rattle.irc_crossing.specs.Laws.{ComersAreOthers, NamesAreFollowed, NothingIsChanged};
+ghost use Rattle.irc_crossing.specs.Laws.{NothingIsLogged, TakersAreOthers, TwoToOneNameGo};
+ghost use Rattle.irc_crossing.specs.Laws.{WhoIsGoneIsLeftOut};
+
+/// Where nothing has crossed, a line is given as it came, and the log stays empty; but for a MODE
+/// that has no letter.
+pub fn nothing_crossed()
+    ensures changed { NothingIsChanged }
+    ensures logged { NothingIsLogged }
+{}
+
+/// Whom the other end means by a nickname: who had it when it wrote, under the nickname now, and
+/// nobody who has taken it since.
+pub fn names_are_followed()
+    ensures renamed { NamesAreFollowed }
+    ensures comers { ComersAreOthers }
+    ensures takers { TakersAreOthers }
+{}
+
+/// A line from somebody who is gone is left out, where it is no NICK.
+pub fn who_is_gone_is_left_out()
+    ensures { WhoIsGoneIsLeftOut }
+{}
+
+/// Where two take one nickname, each at another end, both are gone behind both changes.
+pub fn two_to_one_name_go()
+    ensures { TwoToOneNameGo }
+{}
+
+/// Lines that cross one of this end's.
+pub fn crossing_lines()
+    ensures kick { KickIsFollowed }
+    ensures kill { KillIsFollowed }
+    ensures gone { GoneIsLeftOut }
+    ensures part { PartIsLeftOut }
+    ensures kick_twice { KickIsLeftOut }
+    ensures text { TextIsLeftOut }
+    ensures invite { InviteIsLeftOut }
+    ensures next { NextIsSpared }
+{}
+
+/// Two who take one nickname.
+pub fn met_lines()
+    ensures given { MetIsGiven }
+    ensures goes { MetGoes }
+    ensures killed { MetIsKilled }
+{}
+
+/// Letters of a MODE.
+pub fn mode_lines()
+    ensures letter { LetterIsLeftOut }
+    ensures line { ModeIsLeftOut }
+    ensures key { KeyStays }
+{}
+
+/// Two lines behind one another, and the log.
+pub fn log_lines()
+    ensures { KilledIsFollowed }
+{}
